@@ -1,0 +1,42 @@
+-- The verdict on the bytes of a check (fio's manual, "verify"; the order of the tests is of this project). The header
+-- that is compared is the one that was written, never the one that was read.
+use Rattle.std.specs.Prelude.{ℕ, suc, ◌%◌, ◌==◌, nat_eq, Bool, List, [], ◌∷◌, length, take, drop, slice_index, slice_range, Option, Some, None, if◌then◌else◌}
+use Rattle.std.specs.Option.{option_map}
+use Rattle.std.specs.Cmp.Lexicographic.{pointwise}
+use Rattle.jr_model.specs.declared.contents.VerifyKind.{VerifyKind}
+use Rattle.jr_model.specs.declared.contents.Expected.{Expected}
+use Rattle.jr_model.specs.declared.contents.Expected.TheVariants as expected
+use Rattle.jr_model.specs.declared.events.What.{What}
+use Rattle.jr_model.specs.declared.events.What.TheVariants.{Header, Digest, DataArea, Byte}
+use Rattle.jr_model.specs.declared.events.Verdict.{Verdict}
+use Rattle.jr_model.specs.declared.events.Verdict.TheVariants.{Good, Bad}
+use Rattle.jr_model.specs.Content.{header_back, pattern_bytes}
+
+-- the same bytes
+abbrev pub same_bytes : List ℕ → List ℕ → Bool
+same_bytes a b = pointwise nat_eq a b
+
+-- the verdict by the header that was written, for a kind with a digest
+abbrev pub header_verdict : VerifyKind → List ℕ → List ℕ → Verdict
+header_verdict kind header bytes =
+    if same_bytes (take 32 bytes) (take 32 header)
+    then (if same_bytes (slice_range bytes 32 64) (drop 32 header)
+    then (if same_bytes (header_back kind (drop 64 bytes)) (drop 32 header) then Good else Bad DataArea)
+    else Bad Digest)
+    else Bad Header
+
+-- the first place at which two lists of bytes differ, if there is one
+abbrev pub first_difference : List ℕ → List ℕ → Option ℕ
+first_difference [] ys = None
+first_difference (x ∷ xs) [] = None
+first_difference (x ∷ xs) (y ∷ ys) = if x == y then option_map suc (first_difference xs ys) else Some 0
+
+abbrev pub byte_verdict : Option ℕ → Verdict
+byte_verdict None = Good
+byte_verdict (Some i) = Bad (Byte i)
+
+-- the verdict on the bytes of a check, by what is expected of it
+abbrev pub verdict_of : VerifyKind → Expected → List ℕ → Verdict
+verdict_of kind expected.Nothing bytes = Good
+verdict_of kind (expected.Pattern pattern) bytes = byte_verdict (first_difference bytes (pattern_bytes pattern (length bytes)))
+verdict_of kind (expected.Header header) bytes = header_verdict kind header bytes

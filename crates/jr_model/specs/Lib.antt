@@ -1,0 +1,10 @@
+pub mod CellSet
+pub mod Content
+pub mod Draws
+pub mod Judgement
+pub mod PatternBytes
+pub mod Pieces
+pub mod Plan
+pub mod Replies
+pub mod Tickets
+pub mod Words

@@ -1,0 +1,91 @@
+-- What an engine with a known memory does at a call, and what a scripted reply makes of it (of this project).
+use Rattle.std.specs.Prelude.{ℕ, zero, suc, ◌+◌, ◌-◌, ◌<◌, ◌≤◌, ◌≡◌, min, nat_le, nat_eq, ◌==◌, bit_xor, Bool, true, false, ◌&&◌, List, [], ◌∷◌, ◌++◌, length, take, drop, slice_index, slice_set, slice_get, slice_range, Option, Some, None, if◌then◌else◌}
+use Rattle.jr_model.specs.declared.replies.Reply.{Reply}
+use Rattle.jr_model.specs.declared.replies.Reply.TheVariants.{Pass, Fail, Short, Torn, Flip, Drop, Bytes}
+
+-- the bytes that an engine keeps of one file, from low up to high
+pub record FileBytes : Type 0 where
+  pub low : ℕ
+  pub high : ℕ
+  pub bytes : List ℕ
+
+-- the file has all bytes from offset on, n of them
+abbrev pub covers_range : FileBytes → ℕ → ℕ → Bool
+covers_range file offset n =
+    nat_le file.low offset && nat_le (offset + n) file.high && (length file.bytes == file.high - file.low)
+
+-- the memory has this file, and all of these bytes of it
+abbrev pub covers : List FileBytes → ℕ → ℕ → ℕ → Bool
+covers memory file offset n = covered (slice_get memory file) offset n
+  where
+    covered : Option FileBytes → ℕ → ℕ → Bool
+    covered None offset n = false
+    covered (Some bytes) offset n = covers_range bytes offset n
+
+-- n bytes of a file from offset on
+abbrev pub range_of : FileBytes → ℕ → ℕ → List ℕ
+range_of file offset n = take n (drop (offset - file.low) file.bytes)
+
+-- n bytes of the memory's file from offset on
+abbrev pub stored : List FileBytes → ℕ → ℕ → ℕ → List ℕ
+stored memory file offset n = stored_in (slice_get memory file) offset n
+  where
+    stored_in : Option FileBytes → ℕ → ℕ → List ℕ
+    stored_in None offset n = []
+    stored_in (Some bytes) offset n = range_of bytes offset n
+
+-- the file once data stands in it from offset on
+abbrev pub file_with : FileBytes → ℕ → List ℕ → FileBytes
+file_with file offset «data» =
+    let at = offset - file.low in
+    record file { bytes = take at file.bytes ++ «data» ++ drop (at + length «data») file.bytes }
+
+-- the memory once data stands in this file from offset on
+abbrev pub memory_with : List FileBytes → ℕ → ℕ → List ℕ → List FileBytes
+memory_with [] file offset «data» = []
+memory_with (first ∷ files) zero offset «data» = file_with first offset «data» ∷ files
+memory_with (first ∷ files) (suc file) offset «data» = first ∷ memory_with files file offset «data»
+
+-- byte i the other way round, where there is one
+abbrev pub flipped : List ℕ → ℕ → List ℕ
+flipped bytes i = slice_set bytes i (bit_xor (slice_index bytes i) 0xff)
+
+-- new bytes over the first ones of old, as many as old has
+abbrev pub overlaid : List ℕ → List ℕ → List ℕ
+overlaid new old = take (length old) new ++ drop (length new) old
+
+-- what a read answers: how many bytes it gave, or nothing where it failed; and the buffer that it leaves
+pub record ReadReply : Type 0 where
+  pub count : Option ℕ
+  pub buffer : List ℕ
+
+-- a read of these stored bytes into a buffer of as many
+abbrev pub reply_to_read : Reply → List ℕ → List ℕ → ReadReply
+reply_to_read Pass bytes buffer = record { count = Some (length bytes); buffer = bytes }
+reply_to_read Fail bytes buffer = record { count = None; buffer = buffer }
+reply_to_read (Short n) bytes buffer = record { count = Some (min n (length bytes)); buffer = take n bytes ++ drop n buffer }
+reply_to_read (Torn n) bytes buffer = record { count = None; buffer = buffer }
+reply_to_read (Flip i) bytes buffer = record { count = Some (length bytes); buffer = flipped bytes i }
+reply_to_read Drop bytes buffer = record { count = Some (length bytes); buffer = bytes }
+reply_to_read (Bytes new) bytes buffer = record { count = Some (length bytes); buffer = overlaid new bytes }
+
+-- what a write answers: how many bytes it took, or nothing where it failed; and the bytes that it stored, from the
+-- piece's first on
+pub record WriteReply : Type 0 where
+  pub count : Option ℕ
+  pub stored : List ℕ
+
+-- a write of these bytes
+abbrev pub reply_to_write : Reply → List ℕ → WriteReply
+reply_to_write Pass «data» = record { count = Some (length «data»); stored = «data» }
+reply_to_write Fail «data» = record { count = None; stored = [] }
+reply_to_write (Short n) «data» = record { count = Some (min n (length «data»)); stored = take n «data» }
+reply_to_write (Torn n) «data» = record { count = None; stored = take n «data» }
+reply_to_write (Flip i) «data» = record { count = Some (length «data»); stored = flipped «data» i }
+reply_to_write Drop «data» = record { count = Some (length «data»); stored = [] }
+reply_to_write (Bytes new) «data» = record { count = Some (length «data»); stored = «data» }
+
+-- the reply to call number n of a script: that of its first entry for it, else Pass
+abbrev pub scripted_reply : List (ℕ × Reply) → ℕ → Reply
+scripted_reply [] n = Pass
+scripted_reply (entry ∷ script) n = if entry.0 == n then entry.1 else scripted_reply script n

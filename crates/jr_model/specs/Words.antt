@@ -1,0 +1,36 @@
+-- The words that a job's draws use: Xoshiro256++ (Blackman and Vigna), seeded through SplitMix64.
+use Rattle.std.specs.Prelude.{ℕ, zero, suc, ◌+◌, ◌*◌, ◌/◌, ◌%◌, ◌^◌, List, [], ◌∷◌, slice_index, flat_map}
+use Rattle.std.specs.Int.{w64, to_le_bytes}
+use Rattle.rand_xoshiro.specs.SplitMix64.{splitmix_seed}
+use Rattle.rand_xoshiro.specs.Xoshiro256.{of_seed, plus_plus}
+use Rattle.jr_model.specs.Plan.{SubJob}
+
+-- the generator's state once it is seeded by a number (`seed_from_u64`)
+abbrev pub seeded : ℕ → List ℕ
+seeded seed = of_seed (splitmix_seed 32 seed)
+
+-- the next n words of a generator in this state
+unfoldable pub words_from : List ℕ → ℕ → List ℕ
+words_from state zero = []
+words_from state (suc n) = (plus_plus state).0 ∷ words_from (plus_plus state).1 n
+
+-- its state after n words
+unfoldable pub state_after : List ℕ → ℕ → List ℕ
+state_after state zero = state
+state_after state (suc n) = state_after (plus_plus state).1 n
+
+-- what a clone's generator is seeded by in a pass (of this project)
+abbrev pub pass_seed : SubJob → ℕ → ℕ
+pass_seed job pass = (job.seed + 1000003 * job.clone + pass) % 2 ^ 64
+
+-- word j of a clone's pass
+abbrev pub word : SubJob → ℕ → ℕ → ℕ
+word job pass j = slice_index (words_from (seeded (pass_seed job pass)) (suc j)) j
+
+-- the first n words of a clone's pass
+abbrev pub pass_words : SubJob → ℕ → ℕ → List ℕ
+pass_words job pass n = words_from (seeded (pass_seed job pass)) n
+
+-- words as bytes, 8 each, the low byte first
+abbrev pub word_bytes : List ℕ → List ℕ
+word_bytes words = flat_map (to_le_bytes w64) words

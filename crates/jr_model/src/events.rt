@@ -1,0 +1,78 @@
+use crate::blocks::{Dir, Piece};
+
+/// The number of an I/O or a check, counted from 0 over all that a run starts.
+pub type IoId = u32;
+
+/// A write of a run: the clone that issues it, the pass, and the draw's number in that pass.
+#[derive(Clone, Copy, Debug, PartialEq, Eq, PartialOrd, Ord, Hash)]
+pub struct WriteId {
+    pub clone: u32,
+    pub pass: u32,
+    pub number: u32,
+}
+
+/// How an I/O ended.
+#[derive(Clone, Copy, Debug, PartialEq, Eq)]
+pub enum Outcome {
+    /// All bytes were moved.
+    Whole,
+    /// The engine answered an error.
+    Failed,
+    /// The engine moved only this many bytes, fewer than the piece has.
+    Short(u32),
+}
+
+/// What is wrong first with the bytes of a check.
+#[derive(Clone, Copy, Debug, PartialEq, Eq)]
+pub enum What {
+    /// The first half of the header isn't the one that was written.
+    Header,
+    /// The digest in the header isn't the one that was written.
+    Digest,
+    /// The bytes after the header don't have the digest that was written.
+    DataArea,
+    /// The byte at this place is the first that differs from the pattern.
+    Byte(u32),
+}
+
+/// What is said of a check.
+#[derive(Clone, Copy, Debug, PartialEq, Eq)]
+pub enum Verdict {
+    Good,
+    Bad(What),
+}
+
+/// One step of a run, with the worker or verifier that made it.
+#[derive(Clone, Copy, Debug, PartialEq, Eq)]
+pub enum Event {
+    /// A read or write of the job was started: the draw that `write` names, over `piece`.
+    Issue {
+        worker: u32,
+        dir: Dir,
+        write: WriteId,
+        piece: Piece,
+    },
+    /// The check of a write was started, over the piece that it wrote.
+    Probe {
+        worker: u32,
+        write: WriteId,
+        piece: Piece,
+    },
+    /// A write is not checked, since a later write took some of its blocks.
+    Skip {
+        worker: u32,
+        write: WriteId,
+    },
+    /// An I/O or a check ended.
+    End {
+        worker: u32,
+        io: IoId,
+        outcome: Outcome,
+    },
+    /// A check got its verdict.
+    Verdict {
+        worker: u32,
+        io: IoId,
+        verdict: Verdict,
+    },
+}

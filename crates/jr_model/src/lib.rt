@@ -1,0 +1,19 @@
+// What a run of fio jobs is made of: pieces of files, I/Os, events, verdicts. The definitions that
+// every other crate's contracts cite stand in `specs/`.
+#![tactic(auto)]
+
+mod blocks;
+mod contents;
+mod events;
+mod memory;
+mod replies;
+mod tickets;
+mod workloads;
+
+pub use blocks::{Dir, LARGEST_BLOCK, LARGEST_END, Piece, SECTOR, overlaps};
+pub use contents::{Expected, Method, Pattern, VerifyKind};
+pub use events::{Event, IoId, Outcome, Verdict, What, WriteId};
+pub use memory::Memory;
+pub use replies::{Reply, ReplyBytes};
+pub use tickets::{Ticket, TicketKind};
+pub use workloads::{Draw, EngineKind, IoType};
