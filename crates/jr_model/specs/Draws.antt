@@ -141,10 +141,11 @@ draws_over job words = draws_from job (fresh_progress job) words
 abbrev pub draws_of_job : SubJob → ℕ → List Draw
 draws_of_job job pass = draws_over job (pass_words job pass (4 * job.cells))
 
+-- the draws of a clone, if there is one
+abbrev pub draws_of_clone : Option SubJob → ℕ → List Draw
+draws_of_clone None pass = []
+draws_of_clone (Some job) pass = draws_of_job job pass
+
 -- the draws of clone c in a pass; none where the plan has no such clone
 abbrev pub draws_of : Plan → ℕ → ℕ → List Draw
 draws_of plan c pass = draws_of_clone (clone_of plan c) pass
-  where
-    draws_of_clone : Option SubJob → ℕ → List Draw
-    draws_of_clone None pass = []
-    draws_of_clone (Some job) pass = draws_of_job job pass

@@ -1,7 +1,12 @@
 -- What an engine with a known memory does at a call, and what a scripted reply makes of it (of this project).
 use Rattle.std.specs.Prelude.{ℕ, zero, suc, ◌+◌, ◌-◌, ◌<◌, ◌≤◌, ◌≡◌, min, nat_le, nat_eq, ◌==◌, bit_xor, Bool, true, false, ◌&&◌, List, [], ◌∷◌, ◌++◌, length, take, drop, slice_index, slice_set, slice_get, slice_range, Option, Some, None, if◌then◌else◌}
+use Rattle.jr_model.specs.declared.blocks.Piece.{Piece}
+use Rattle.jr_model.specs.declared.events.Outcome.{Outcome}
+use Rattle.jr_model.specs.declared.events.Outcome.TheVariants as outcome
 use Rattle.jr_model.specs.declared.replies.Reply.{Reply}
 use Rattle.jr_model.specs.declared.replies.Reply.TheVariants.{Pass, Fail, Short, Torn, Flip, Drop, Bytes}
+use Rattle.jr_model.specs.declared.tickets.TicketKind.{TicketKind}
+use Rattle.jr_model.specs.declared.tickets.TicketKind.TheVariants as ticket
 
 -- the bytes that an engine keeps of one file, from low up to high
 pub record FileBytes : Type 0 where
@@ -89,3 +94,49 @@ reply_to_write (Bytes new) «data» = record { count = Some (length «data»); s
 abbrev pub scripted_reply : List (ℕ × Reply) → ℕ → Reply
 scripted_reply [] n = Pass
 scripted_reply (entry ∷ script) n = if entry.0 == n then entry.1 else scripted_reply script n
+
+-- what contracts see of an engine: its calls so far and how many of them failed; and, where they are known, its memory
+-- and the replies to its calls
+pub record EngineState : Type 0 where
+  pub calls : ℕ
+  pub failures : ℕ
+  pub is_known : Bool
+  pub memory : List FileBytes
+  pub script : List (ℕ × Reply)
+
+-- the reply to its next call
+abbrev pub next_reply : EngineState → Reply
+next_reply engine = scripted_reply engine.script engine.calls
+
+-- how a call over n bytes ended that moved so many, or failed
+abbrev pub outcome_of : Option ℕ → ℕ → Outcome
+outcome_of None n = outcome.Failed
+outcome_of (Some count) n = if count == n then outcome.Whole else outcome.Short count
+
+-- what a ticket's call leaves: its outcome, the bytes of its buffer, and the memory
+pub record Asked : Type 0 where
+  pub outcome : Outcome
+  pub bytes : List ℕ
+  pub memory : List FileBytes
+
+-- a read of the piece into this buffer
+abbrev pub asked_read : Reply → List FileBytes → Piece → List ℕ → Asked
+asked_read reply memory piece buffer =
+    let answer = reply_to_read reply (stored memory piece.file piece.offset piece.len) buffer in
+    record { outcome = outcome_of answer.count piece.len; bytes = answer.buffer; memory = memory }
+
+-- a write of this buffer over the piece
+abbrev pub asked_write : Reply → List FileBytes → Piece → List ℕ → Asked
+asked_write reply memory piece buffer =
+    let answer = reply_to_write reply buffer in
+    record {
+      outcome = outcome_of answer.count piece.len;
+      bytes = buffer;
+      memory = memory_with memory piece.file piece.offset answer.stored;
+    }
+
+-- one call for a ticket of this kind, over a memory that covers the piece
+abbrev pub asked : Reply → List FileBytes → TicketKind → Piece → List ℕ → Asked
+asked reply memory ticket.Read piece buffer = asked_read reply memory piece buffer
+asked reply memory ticket.Probe piece buffer = asked_read reply memory piece buffer
+asked reply memory ticket.Write piece buffer = asked_write reply memory piece buffer

@@ -19,9 +19,19 @@ unfoldable pub state_after : List ℕ → ℕ → List ℕ
 state_after state zero = state
 state_after state (suc n) = state_after (plus_plus state).1 n
 
--- what a clone's generator is seeded by in a pass (of this project)
+-- the next n words of a list of words; zeros after its last
+abbrev pub listed_words : List ℕ → ℕ → List ℕ
+listed_words words zero = []
+listed_words [] (suc n) = 0 ∷ listed_words [] n
+listed_words (word ∷ words) (suc n) = word ∷ listed_words words n
+
+-- what a clone's generator is seeded by in a pass, from the job's `randseed` (of this project)
+abbrev pub seed_of_pass : ℕ → ℕ → ℕ → ℕ
+seed_of_pass randseed clone pass = (randseed + 1000003 * clone + pass) % 2 ^ 64
+
+-- the same of a planned clone
 abbrev pub pass_seed : SubJob → ℕ → ℕ
-pass_seed job pass = (job.seed + 1000003 * job.clone + pass) % 2 ^ 64
+pass_seed job pass = seed_of_pass job.seed job.clone pass
 
 -- word j of a clone's pass
 abbrev pub word : SubJob → ℕ → ℕ → ℕ

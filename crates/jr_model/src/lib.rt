@@ -7,7 +7,9 @@ mod contents;
 mod events;
 mod memory;
 mod replies;
+mod steps;
 mod tickets;
+mod totals;
 mod workloads;
 
 pub use blocks::{Dir, LARGEST_BLOCK, LARGEST_END, Piece, SECTOR, overlaps};
@@ -15,5 +17,7 @@ pub use contents::{Expected, Method, Pattern, VerifyKind};
 pub use events::{Event, IoId, Outcome, Verdict, What, WriteId};
 pub use memory::Memory;
 pub use replies::{Reply, ReplyBytes};
+pub use steps::{DeskFault, Step, StepReply};
 pub use tickets::{Ticket, TicketKind};
+pub use totals::Totals;
 pub use workloads::{Draw, EngineKind, IoType};

@@ -1,0 +1,53 @@
+-- The plans of worked job files.
+use Rattle.std.specs.Prelude.{ℕ, List, [], ◌∷◌, Bool, true, false, codes, Option, Some, None}
+use Rattle.jr_model.specs.declared.contents.Method.{Method}
+use Rattle.jr_model.specs.declared.contents.VerifyKind.TheVariants as verify
+use Rattle.jr_model.specs.declared.workloads.EngineKind.TheVariants as engine
+use Rattle.jr_model.specs.declared.workloads.IoType.TheVariants as io
+use Rattle.jr_model.specs.Plan.{Plan, SubJob, FileSpec}
+
+-- verify=pattern verify_pattern=1
+abbrev pub ones : Method
+ones = record { kind = verify.Pattern; pattern = Some (1 ∷ []) }
+
+abbrev pub no_verify : Method
+no_verify = record { kind = verify.Plain; pattern = None }
+
+abbrev pub by_md5 : Method
+by_md5 = record { kind = verify.Md5; pattern = None }
+
+-- `[w] rw=write bs=4k`, with so many cells and this verify method
+abbrev pub sequential_writes : ℕ → Method → SubJob
+sequential_writes cells method = record {
+  job = codes "w";
+  clone = 0;
+  phase = 0;
+  file = 0;
+  start = 0;
+  cell = 4096;
+  cells = cells;
+  io_type = io.Write;
+  read_percent = 50;
+  read_split = (4096, 100) ∷ [];
+  write_split = (4096, 100) ∷ [];
+  has_map = true;
+  seed = 1;
+  depth = 1;
+  passes = 1;
+  method = method;
+  checks_writes = true;
+  backlog = 0;
+  is_fatal = false;
+}
+
+abbrev pub in_memory : List SubJob → ℕ → Plan
+in_memory jobs high = record {
+  clones = jobs;
+  files = record { name = codes "w.0.0"; low = 0; high = high } ∷ [];
+  engine = engine.Memory;
+  verifiers = 0;
+}
+
+-- `[w] ioengine=memory rw=write size=8k verify=pattern verify_pattern=1`
+abbrev pub two_checked_writes : Plan
+two_checked_writes = in_memory (sequential_writes 2 ones ∷ []) 8192

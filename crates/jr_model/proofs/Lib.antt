@@ -1,0 +1,2 @@
+pub mod ExamplePlans
+pub mod ExampleRuns

@@ -1,0 +1,239 @@
+-- Which event may happen after a history (fio's manual, "iodepth", "serialize_overlap", "stonewall", "verify_fatal"; the
+-- halt after a fault and the serialising over all jobs are of this project).
+use Rattle.std.specs.Prelude.{ℕ, ◌==◌, nat_lt, nat_le, Bool, true, false, not, ◌&&◌, ◌||◌, List, [], ◌∷◌, ◌++◌, length, slice_get, Option, Some, None, if◌then◌else◌}
+use Rattle.std.specs.List.{list_any, list_all}
+use Rattle.jr_model.specs.declared.blocks.Dir.{Dir}
+use Rattle.jr_model.specs.declared.blocks.Dir.TheVariants as direction
+use Rattle.jr_model.specs.declared.blocks.Piece.{Piece}
+use Rattle.jr_model.specs.declared.contents.VerifyKind.{VerifyKind}
+use Rattle.jr_model.specs.declared.contents.VerifyKind.TheVariants as verify
+use Rattle.jr_model.specs.declared.events.Event.{Event}
+use Rattle.jr_model.specs.declared.events.Event.TheVariants.{Issue, Probe, Skip, End, Verdict}
+use Rattle.jr_model.specs.declared.events.Outcome.{Outcome}
+use Rattle.jr_model.specs.declared.events.Outcome.TheVariants.{Whole, Failed, Short}
+use Rattle.jr_model.specs.declared.events.Verdict.{Verdict as GivenVerdict}
+use Rattle.jr_model.specs.declared.events.Verdict.TheVariants.{Good, Bad}
+use Rattle.jr_model.specs.declared.events.What.{What}
+use Rattle.jr_model.specs.declared.events.What.TheVariants.{Header, Digest, DataArea, Byte}
+use Rattle.jr_model.specs.declared.events.WriteId.{WriteId}
+use Rattle.jr_model.specs.declared.workloads.Draw.{Draw}
+use Rattle.jr_model.specs.History.{Started, started, flies, outcome_of, in_flight, in_flight_of, awaiting, is_of_clone, is_judged, is_probe, is_write, ended_whole, same_write, same_piece}
+use Rattle.jr_model.specs.LastWrite.{is_intact}
+use Rattle.jr_model.specs.Pieces.{pieces_overlap}
+use Rattle.jr_model.specs.Plan.{Plan, SubJob, clone_of}
+use Rattle.jr_model.specs.Rounds.{Pass, pass_of, write_id, is_write_draw, issued_count, has_rounds, group_index, is_open, waits_for_round, clone_finished, is_current, nothing_flies_of}
+
+-- the I/O is the clone's
+abbrev pub is_io_of : ℕ → Option Started → Bool
+is_io_of c None = false
+is_io_of c (Some io) = is_of_clone c io
+
+-- the outcome is a fault
+abbrev pub is_fault : Outcome → Bool
+is_fault Whole = false
+is_fault Failed = true
+is_fault (Short n) = true
+
+abbrev pub is_bad : GivenVerdict → Bool
+is_bad Good = false
+is_bad (Bad what) = true
+
+-- the event halts the clone, where these I/Os are started: a fault, or a bad verdict where that is fatal
+abbrev pub halts : List Started → SubJob → Event → Bool
+halts ios job (End worker io outcome) = is_io_of job.clone (slice_get ios io) && is_fault outcome
+halts ios job (Verdict worker io verdict) = is_io_of job.clone (slice_get ios io) && job.is_fatal && is_bad verdict
+halts ios job (Issue worker dir write piece) = false
+halts ios job (Probe worker write piece) = false
+halts ios job (Skip worker write) = false
+
+-- nothing more of the clone is issued, checked or skipped
+abbrev pub is_halted : List Event → SubJob → Bool
+is_halted history job =
+    let ios = started history in
+    list_any (halts ios job) history
+
+-- finished or halted
+abbrev pub is_over : List Event → SubJob → Bool
+is_over history job = is_halted history job || clone_finished history job
+
+-- over, with nothing in flight and no verdict to come
+abbrev pub is_at_rest : List Event → SubJob → Bool
+is_at_rest history job =
+    is_over history job && nothing_flies_of history job.clone
+    && not (list_any (is_of_clone job.clone) (awaiting history))
+
+-- all clones of earlier phases are at rest
+abbrev pub phase_is_open : Plan → List Event → SubJob → Bool
+phase_is_open plan history job =
+    list_all (λ (other : SubJob). nat_le job.phase other.phase || is_at_rest history other) plan.clones
+
+-- the clone has fewer in flight than its depth
+abbrev pub has_room : List Event → SubJob → Bool
+has_room history job = nat_lt (length (in_flight_of history job.clone)) job.depth
+
+-- the two overlap, and one of them writes
+abbrev pub conflicts : Bool → Piece → Started → Bool
+conflicts writes piece io = (writes || is_write io.kind) && pieces_overlap io.piece piece
+
+-- nothing in flight overlaps the piece where one of the two writes
+abbrev pub is_clear : List Event → Bool → Piece → Bool
+is_clear history writes piece = not (list_any (conflicts writes piece) (in_flight history))
+
+-- draw k of the pass may be issued
+abbrev pub may_issue : Plan → List Event → Pass → Draw → Bool
+may_issue plan history pass draw =
+    (draw.number == issued_count history pass)
+    && not (is_halted history pass.job)
+    && has_room history pass.job
+    && is_clear history (is_write_draw draw) draw.piece
+    && is_current history pass
+    && not (waits_for_round history pass)
+    && phase_is_open plan history pass.job
+
+-- the event checks or skips the write
+abbrev pub takes_up : WriteId → Event → Bool
+takes_up write (Probe worker probed piece) = same_write probed write
+takes_up write (Skip worker skipped) = same_write skipped write
+takes_up write (Issue worker dir issued piece) = false
+takes_up write (End worker io outcome) = false
+takes_up write (Verdict worker io verdict) = false
+
+-- the write may be checked, or skipped, now: its round is open, it was neither checked nor skipped, and there is room
+abbrev pub may_take_up : List Event → Pass → Draw → Bool
+may_take_up history pass draw =
+    is_write_draw draw
+    && has_rounds pass.job
+    && not (list_any (takes_up (write_id pass draw)) history)
+    && not (is_halted history pass.job)
+    && has_room history pass.job
+    && is_clear history false draw.piece
+    && is_open history pass (group_index pass draw.number)
+
+-- the check of a write where it is intact, else its skip
+abbrev pub check_or_skip : List Event → ℕ → Pass → Draw → Event
+check_or_skip history worker pass draw =
+    let write = write_id pass draw in
+    if is_intact history write draw.piece then Probe worker write draw.piece else Skip worker write
+
+-- the step that may happen with a draw now, if there is one: its check or skip, or its issue
+abbrev pub step_of : Plan → List Event → ℕ → Pass → Draw → Option Event
+step_of plan history worker pass draw =
+    if may_take_up history pass draw
+    then Some (check_or_skip history worker pass draw)
+    else (if may_issue plan history pass draw then Some (Issue worker draw.dir (write_id pass draw) draw.piece) else None)
+
+-- the same for a draw that may not be there
+abbrev pub step_of_draw : Plan → List Event → ℕ → Pass → Option Draw → Option Event
+step_of_draw plan history worker pass None = None
+step_of_draw plan history worker pass (Some draw) = step_of plan history worker pass draw
+
+abbrev pub step_of_clone : Plan → List Event → ℕ → WriteId → Option SubJob → Option Event
+step_of_clone plan history worker write None = None
+step_of_clone plan history worker write (Some job) =
+    let pass = pass_of job write.pass in
+    step_of_draw plan history worker pass (slice_get pass.draws write.number)
+
+-- the step that may happen with the draw of this name, if there is one
+abbrev pub step_at : Plan → List Event → ℕ → WriteId → Option Event
+step_at plan history worker write = step_of_clone plan history worker write (clone_of plan write.clone)
+
+abbrev pub same_dir : Dir → Dir → Bool
+same_dir direction.Read direction.Read = true
+same_dir direction.Write direction.Write = true
+same_dir direction.Read direction.Write = false
+same_dir direction.Write direction.Read = false
+
+-- the step is this issue, this check, this skip
+abbrev pub is_this_issue : Dir → WriteId → Piece → Option Event → Bool
+is_this_issue dir write piece (Some (Issue worker d w p)) = same_dir d dir && same_write w write && same_piece p piece
+is_this_issue dir write piece (Some (Probe worker w p)) = false
+is_this_issue dir write piece (Some (Skip worker w)) = false
+is_this_issue dir write piece (Some (End worker io outcome)) = false
+is_this_issue dir write piece (Some (Verdict worker io verdict)) = false
+is_this_issue dir write piece None = false
+
+abbrev pub is_this_probe : WriteId → Piece → Option Event → Bool
+is_this_probe write piece (Some (Probe worker w p)) = same_write w write && same_piece p piece
+is_this_probe write piece (Some (Issue worker d w p)) = false
+is_this_probe write piece (Some (Skip worker w)) = false
+is_this_probe write piece (Some (End worker io outcome)) = false
+is_this_probe write piece (Some (Verdict worker io verdict)) = false
+is_this_probe write piece None = false
+
+abbrev pub is_this_skip : WriteId → Option Event → Bool
+is_this_skip write (Some (Skip worker w)) = same_write w write
+is_this_skip write (Some (Issue worker d w p)) = false
+is_this_skip write (Some (Probe worker w p)) = false
+is_this_skip write (Some (End worker io outcome)) = false
+is_this_skip write (Some (Verdict worker io verdict)) = false
+is_this_skip write None = false
+
+-- fewer bytes than the piece has, where the outcome is short
+abbrev pub outcome_fits : Outcome → ℕ → Bool
+outcome_fits Whole len = true
+outcome_fits Failed len = true
+outcome_fits (Short n) len = nat_lt n len
+
+-- the worker's own I/O may end so
+abbrev pub end_fits : ℕ → Outcome → Option Started → Bool
+end_fits worker outcome None = false
+end_fits worker outcome (Some io) = (io.worker == worker) && outcome_fits outcome io.piece.len
+
+-- what may be said of a check: good, or what its kind can find
+abbrev pub is_header_finding : What → Bool
+is_header_finding Header = true
+is_header_finding Digest = true
+is_header_finding DataArea = true
+is_header_finding (Byte i) = false
+
+abbrev pub is_byte_finding : ℕ → What → Bool
+is_byte_finding len (Byte i) = nat_lt i len
+is_byte_finding len Header = false
+is_byte_finding len Digest = false
+is_byte_finding len DataArea = false
+
+abbrev pub kind_finds : VerifyKind → ℕ → What → Bool
+kind_finds verify.Plain len what = false
+kind_finds verify.Pattern len what = is_byte_finding len what
+kind_finds verify.Md5 len what = is_header_finding what
+kind_finds verify.Sha1 len what = is_header_finding what
+kind_finds verify.Sha256 len what = is_header_finding what
+
+abbrev pub kind_says : VerifyKind → ℕ → GivenVerdict → Bool
+kind_says kind len Good = true
+kind_says kind len (Bad what) = kind_finds kind len what
+
+abbrev pub job_says : Option SubJob → ℕ → GivenVerdict → Bool
+job_says None len verdict = false
+job_says (Some job) len verdict = kind_says job.method.kind len verdict
+
+-- a check that may be said this of
+abbrev pub verdict_fits : Plan → GivenVerdict → Option Started → Bool
+verdict_fits plan verdict None = false
+verdict_fits plan verdict (Some io) = is_probe io.kind && job_says (clone_of plan io.write.clone) io.piece.len verdict
+
+-- the event may happen after the history
+abbrev pub may_happen : Plan → List Event → Event → Bool
+may_happen plan history (Issue worker dir write piece) = is_this_issue dir write piece (step_at plan history worker write)
+may_happen plan history (Probe worker write piece) = is_this_probe write piece (step_at plan history worker write)
+may_happen plan history (Skip worker write) = is_this_skip write (step_at plan history worker write)
+may_happen plan history (End worker io outcome) =
+    flies history io && end_fits worker outcome (slice_get (started history) io)
+may_happen plan history (Verdict worker io verdict) =
+    ended_whole (outcome_of history io) && not (is_judged history io)
+    && verdict_fits plan verdict (slice_get (started history) io)
+
+-- each of these events may happen in its turn, after those before
+abbrev pub legal_after : Plan → List Event → List Event → Bool
+legal_after plan before [] = true
+legal_after plan before (event ∷ events) =
+    may_happen plan before event && legal_after plan (before ++ event ∷ []) events
+
+abbrev pub is_legal : Plan → List Event → Bool
+is_legal plan history = legal_after plan [] history
+
+-- nothing is in flight, each check that ended whole has its verdict, and each clone is finished or halted
+abbrev pub is_complete : Plan → List Event → Bool
+is_complete plan history =
+    (length (in_flight history) == 0) && (length (awaiting history) == 0)
+    && list_all (is_over history) plan.clones

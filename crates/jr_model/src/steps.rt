@@ -1,0 +1,70 @@
+use crate::events::IoId;
+use crate::memory::Memory;
+use crate::replies::Reply;
+use std::error::Error;
+use std::fmt;
+
+/// Why the desk refuses a call. A refused call changes nothing.
+#[derive(Clone, Copy, Debug, PartialEq, Eq)]
+pub enum DeskFault {
+    /// A request for memory was refused.
+    Memory,
+    /// No I/O of this number was started, or its ticket is another one.
+    Stranger,
+    /// The I/O has ended already, or the check has its verdict already.
+    Twice,
+    /// A verdict on what is no check that ended whole.
+    WrongKind,
+    /// The desk was stopped.
+    Stopped,
+}
+
+impl fmt::Display for DeskFault {
+    fn fmt<W: fmt::Write>(&self, f: &mut fmt::Formatter<W>) -> fmt::Result {
+        let text = match self {
+            DeskFault::Memory => "out of memory",
+            DeskFault::Stranger => "not started here",
+            DeskFault::Twice => "a second time",
+            DeskFault::WrongKind => "not a check to judge",
+            DeskFault::Stopped => "stopped",
+        };
+        write!(f, "{text}")
+    }
+}
+
+impl Error for DeskFault {}
+
+impl From<Memory> for DeskFault {
+    fn from(_error: Memory) -> DeskFault {
+        DeskFault::Memory
+    }
+}
+
+/// One call on the desk, in a list of them.
+#[derive(Debug, Drop)]
+pub enum Step {
+    /// This worker asks for work.
+    Take(u32),
+    /// This I/O is carried out with this reply of the engine, and ends.
+    End(IoId, Reply),
+    /// This verifier judges this check.
+    Judge(u32, IoId),
+    Stop,
+}
+
+/// What a step is answered.
+#[derive(Clone, Copy, Debug, PartialEq, Eq)]
+pub enum StepReply {
+    /// A read or write of this number was handed out.
+    Io(IoId),
+    /// A check of this number was handed out.
+    Probe(IoId),
+    /// Nothing may be started until something ends.
+    Wait,
+    /// The run is complete, or the desk was stopped.
+    Finished,
+    Ended,
+    Judged,
+    Stopped,
+    Refused(DeskFault),
+}
