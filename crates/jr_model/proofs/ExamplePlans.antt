@@ -51,3 +51,31 @@ in_memory jobs high = record {
 -- `[w] ioengine=memory rw=write size=8k verify=pattern verify_pattern=1`
 abbrev pub two_checked_writes : Plan
 two_checked_writes = in_memory (sequential_writes 2 ones ∷ []) 8192
+
+-- `[w] ioengine=memory rw=write size=28k verify_backlog=3 verify=md5`
+abbrev pub seven_in_threes : Plan
+seven_in_threes = in_memory (record (sequential_writes 7 by_md5) { backlog = 3 } ∷ []) 28672
+
+-- `[w] ioengine=memory rw=write size=8k iodepth=2 verify=pattern verify_pattern=1`
+abbrev pub two_at_depth_2 : Plan
+two_at_depth_2 = in_memory (record (sequential_writes 2 ones) { depth = 2 } ∷ []) 8192
+
+-- `[w] ioengine=memory rw=write size=8k numjobs=2 filename=f verify=pattern verify_pattern=1`
+abbrev pub two_clones_one_file : Plan
+two_clones_one_file = record {
+  clones = sequential_writes 2 ones ∷ record (sequential_writes 2 ones) { clone = 1 } ∷ [];
+  files = record { name = codes "f"; low = 0; high = 8192 } ∷ [];
+  engine = engine.Memory;
+  verifiers = 0;
+}
+
+-- `[a] ioengine=memory rw=write size=4k`, `[b] ioengine=memory rw=write size=4k stonewall`
+abbrev pub stonewalled : Plan
+stonewalled = record {
+  clones =
+      record (sequential_writes 1 no_verify) { job = codes "a" }
+      ∷ record (sequential_writes 1 no_verify) { job = codes "b"; clone = 1; phase = 1; file = 1 } ∷ [];
+  files = record { name = codes "a.0.0"; low = 0; high = 4096 } ∷ record { name = codes "b.0.0"; low = 0; high = 4096 } ∷ [];
+  engine = engine.Memory;
+  verifiers = 0;
+}

@@ -1,5 +1,6 @@
 -- What an engine with a known memory does at a call, and what a scripted reply makes of it (of this project).
-use Rattle.std.specs.Prelude.{ℕ, zero, suc, ◌+◌, ◌-◌, ◌<◌, ◌≤◌, ◌≡◌, min, nat_le, nat_eq, ◌==◌, bit_xor, Bool, true, false, ◌&&◌, List, [], ◌∷◌, ◌++◌, length, take, drop, slice_index, slice_set, slice_get, slice_range, Option, Some, None, if◌then◌else◌}
+use Rattle.std.specs.Prelude.{ℕ, zero, suc, ◌+◌, ◌-◌, ◌<◌, ◌≤◌, ◌≡◌, min, nat_le, nat_eq, ◌==◌, bit_xor, Bool, true, false, ◌&&◌, List, [], ◌∷◌, ◌++◌, length, map, replicate, take, drop, slice_index, slice_set, slice_get, slice_range, Option, Some, None, if◌then◌else◌}
+use Rattle.jr_model.specs.Plan.{FileSpec}
 use Rattle.jr_model.specs.declared.blocks.Piece.{Piece}
 use Rattle.jr_model.specs.declared.events.Outcome.{Outcome}
 use Rattle.jr_model.specs.declared.events.Outcome.TheVariants as outcome
@@ -13,6 +14,18 @@ pub record FileBytes : Type 0 where
   pub low : ℕ
   pub high : ℕ
   pub bytes : List ℕ
+
+-- a file of zeros from low up to high
+abbrev pub zeros : ℕ → ℕ → FileBytes
+zeros low high = record { low = low; high = high; bytes = replicate (high - low) 0 }
+
+-- the bytes of a plan's file before anything was written
+abbrev pub fresh_file : FileSpec → FileBytes
+fresh_file file = zeros file.low file.high
+
+-- the bytes of these files before anything was written
+abbrev pub fresh_memory : List FileSpec → List FileBytes
+fresh_memory files = map fresh_file files
 
 -- the file has all bytes from offset on, n of them
 abbrev pub covers_range : FileBytes → ℕ → ℕ → Bool
@@ -108,10 +121,10 @@ pub record EngineState : Type 0 where
 abbrev pub next_reply : EngineState → Reply
 next_reply engine = scripted_reply engine.script engine.calls
 
--- how a call over n bytes ended that moved so many, or failed
-abbrev pub outcome_of : Option ℕ → ℕ → Outcome
-outcome_of None n = outcome.Failed
-outcome_of (Some count) n = if count == n then outcome.Whole else outcome.Short count
+-- how a call over so many bytes ended that moved n of them, or failed
+abbrev pub outcome_for : Option ℕ → ℕ → Outcome
+outcome_for None len = outcome.Failed
+outcome_for (Some n) len = if n == len then outcome.Whole else outcome.Short n
 
 -- what a ticket's call leaves: its outcome, the bytes of its buffer, and the memory
 pub record Asked : Type 0 where
@@ -123,14 +136,14 @@ pub record Asked : Type 0 where
 abbrev pub asked_read : Reply → List FileBytes → Piece → List ℕ → Asked
 asked_read reply memory piece buffer =
     let answer = reply_to_read reply (stored memory piece.file piece.offset piece.len) buffer in
-    record { outcome = outcome_of answer.count piece.len; bytes = answer.buffer; memory = memory }
+    record { outcome = outcome_for answer.count piece.len; bytes = answer.buffer; memory = memory }
 
 -- a write of this buffer over the piece
 abbrev pub asked_write : Reply → List FileBytes → Piece → List ℕ → Asked
 asked_write reply memory piece buffer =
     let answer = reply_to_write reply buffer in
     record {
-      outcome = outcome_of answer.count piece.len;
+      outcome = outcome_for answer.count piece.len;
       bytes = buffer;
       memory = memory_with memory piece.file piece.offset answer.stored;
     }
