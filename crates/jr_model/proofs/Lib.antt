@@ -1,2 +1,5 @@
+pub mod MachineLaws
+pub mod LegalLaws
+mod DrawRows
 pub mod ExamplePlans
 pub mod ExampleRuns

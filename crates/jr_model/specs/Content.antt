@@ -56,7 +56,7 @@ abbrev pub magic : List ℕ
 magic = 0x4a ∷ 0x52 ∷ 0x56 ∷ 0x31 ∷ []
 
 -- the first half of a header, 32 bytes: who wrote what, and where
-abbrev pub header_front : VerifyKind → WriteId → Piece → List ℕ
+unfoldable pub header_front : VerifyKind → WriteId → Piece → List ℕ
 header_front kind write piece =
     magic ++ (kind_code kind ∷ digest_length kind ∷ [])
     ++ to_le_bytes w16 write.pass ++ to_le_bytes w32 piece.len ++ to_le_bytes w32 write.clone

@@ -21,26 +21,49 @@ size_at (entry ∷ entries) t = if nat_lt t entry.1 then entry.0 else size_at en
 abbrev pub direction_at : ℕ → ℕ → Dir
 direction_at t percent = if nat_lt t percent then Read else Write
 
--- how a pass chooses its cells
-pub data Order : Type 0 where
-  sequential : Order
-  mapped : Order
-  unmapped : Order
+-- how a pass chooses its cells: one after another, of those that its map has free (a flag for each cell, true where it
+-- is taken), or of all
+pub data Places : Type 0 where
+  sequential : Places
+  mapped : List Bool → Places
+  unmapped : Places
 
-abbrev pub random_order : Bool → Order
-random_order true = mapped
-random_order false = unmapped
+abbrev pub random_places : Bool → ℕ → Places
+random_places true cells = mapped (no_cells cells)
+random_places false cells = unmapped
 
-abbrev pub order_by : IoType → Bool → Order
-order_by io.Read has_map = sequential
-order_by io.Write has_map = sequential
-order_by io.ReadWrite has_map = sequential
-order_by io.RandRead has_map = random_order has_map
-order_by io.RandWrite has_map = random_order has_map
-order_by io.RandRw has_map = random_order has_map
+-- at the start of a pass over so many cells, with a map or without
+abbrev pub fresh_places : IoType → Bool → ℕ → Places
+fresh_places io.Read has_map cells = sequential
+fresh_places io.Write has_map cells = sequential
+fresh_places io.ReadWrite has_map cells = sequential
+fresh_places io.RandRead has_map cells = random_places has_map cells
+fresh_places io.RandWrite has_map cells = random_places has_map cells
+fresh_places io.RandRw has_map cells = random_places has_map cells
 
-abbrev pub order_of : SubJob → Order
-order_of job = order_by job.io_type job.has_map
+-- whether all cells of a pass are drawn; without a map they are counted
+abbrev pub all_drawn : Places → ℕ → Bool
+all_drawn sequential left = left == 0
+all_drawn (mapped taken) left = is_none (first_free taken)
+all_drawn unmapped left = left == 0
+
+-- the cell at which a draw begins, where so many cells of its direction are drawn and its place word is `place`
+abbrev pub first_cell : Places → ℕ → ℕ → ℕ → ℕ
+first_cell sequential cells drawn place = drawn
+first_cell (mapped taken) cells drawn place = unwrap_or (free_cell_from taken (place % cells)) 0
+first_cell unmapped cells drawn place = place % cells
+
+-- how many cells it takes from cell x on, where it wants so many and so many are left to draw
+abbrev pub cell_count : Places → ℕ → ℕ → ℕ → ℕ → ℕ
+cell_count sequential cells left x want = min want left
+cell_count (mapped taken) cells left x want = free_run taken x want
+cell_count unmapped cells left x want = min want (min (cells - x) left)
+
+-- after a draw of m cells from cell x on
+abbrev pub places_after : Places → ℕ → ℕ → Places
+places_after sequential x m = sequential
+places_after (mapped taken) x m = mapped (with_cells taken x m)
+places_after unmapped x m = unmapped
 
 -- the direction of a draw whose direction word is t modulo 100
 abbrev pub direction_of : IoType → ℕ → ℕ → Dir
@@ -56,38 +79,29 @@ abbrev pub by_direction : {X : Type 0} → Dir → X → X → X
 by_direction Read x y = x
 by_direction Write x y = y
 
--- how far a pass has come: the draws made, the set of cells that they took, and how many cells each direction drew
+-- how far a pass has come: the draws made, where it may go on, and how many cells each direction drew
 pub record Progress : Type 0 where
   pub number : ℕ
-  pub taken : List Bool
+  pub places : Places
   pub reads : ℕ
   pub writes : ℕ
 
 -- at the start of a pass
 abbrev pub fresh_progress : SubJob → Progress
-fresh_progress job = record { number = 0; taken = no_cells job.cells; reads = 0; writes = 0 }
+fresh_progress job = record {
+  number = 0;
+  places = fresh_places job.io_type job.has_map job.cells;
+  reads = 0;
+  writes = 0;
+}
 
--- the cells that are still to be drawn
+-- how many cells are still to be drawn
 abbrev pub cells_left : SubJob → Progress → ℕ
 cells_left job done = job.cells - (done.reads + done.writes)
 
 -- all cells of the pass are drawn
-abbrev pub all_drawn : Order → SubJob → Progress → Bool
-all_drawn mapped job done = is_none (first_free done.taken)
-all_drawn unmapped job done = cells_left job done == 0
-all_drawn sequential job done = cells_left job done == 0
-
--- the cell at which a draw begins, given its direction and its place word
-abbrev pub first_cell : Order → SubJob → Progress → Dir → ℕ → ℕ
-first_cell mapped job done dir place = unwrap_or (free_cell_from done.taken (place % job.cells)) 0
-first_cell unmapped job done dir place = place % job.cells
-first_cell sequential job done dir place = by_direction dir done.reads done.writes
-
--- how many cells a draw takes that begins at cell x and wants so many
-abbrev pub cell_count : Order → SubJob → Progress → ℕ → ℕ → ℕ
-cell_count mapped job done x want = free_run done.taken x want
-cell_count unmapped job done x want = min want (min (job.cells - x) (cells_left job done))
-cell_count sequential job done x want = min want (cells_left job done)
+abbrev pub pass_over : SubJob → Progress → Bool
+pass_over job done = all_drawn done.places (cells_left job done)
 
 -- the cells of a clone as a piece of its file: m of them from cell x on
 abbrev pub cell_piece : SubJob → ℕ → ℕ → Piece
@@ -104,8 +118,8 @@ abbrev pub chosen_cells : SubJob → Progress → ℕ → ℕ → ℕ → Choice
 chosen_cells job done direction size place =
     let dir = direction_of job.io_type job.read_percent (direction % 100) in
     let want = size_at (by_direction dir job.read_split job.write_split) (size % 100) / job.cell in
-    let x = first_cell (order_of job) job done dir place in
-    record { dir = dir; first = x; count = cell_count (order_of job) job done x want }
+    let x = first_cell done.places job.cells (by_direction dir done.reads done.writes) place in
+    record { dir = dir; first = x; count = cell_count done.places job.cells (cells_left job done) x want }
 
 -- the draw itself
 abbrev pub draw_at : SubJob → Progress → Choice → ℕ → Draw
@@ -120,7 +134,7 @@ draw_at job done choice seed = record {
 abbrev pub progress_after : Progress → Choice → Progress
 progress_after done choice = record {
   number = suc done.number;
-  taken = with_cells done.taken choice.first choice.count;
+  places = places_after done.places choice.first choice.count;
   reads = done.reads + by_direction choice.dir choice.count 0;
   writes = done.writes + by_direction choice.dir 0 choice.count;
 }
@@ -130,7 +144,7 @@ abbrev pub draws_from : SubJob → Progress → List ℕ → List Draw
 draws_from job done (direction ∷ size ∷ place ∷ seed ∷ words) =
     let choice = chosen_cells job done direction size place in
     let rest = draws_from job (progress_after done choice) words in
-    if all_drawn (order_of job) job done then [] else (draw_at job done choice seed ∷ rest)
+    if pass_over job done then [] else (draw_at job done choice seed ∷ rest)
 draws_from job done words = []
 
 -- the draws of a pass over these words; each draw takes a cell at least, so four words a cell are enough

@@ -10,16 +10,10 @@ use Rattle.jr_model.specs.declared.events.Event.{Event}
 use Rattle.jr_model.specs.declared.events.Event.TheVariants.{Issue, Probe, Skip, End, Verdict}
 use Rattle.jr_model.specs.declared.events.Outcome.{Outcome}
 use Rattle.jr_model.specs.declared.events.Outcome.TheVariants.{Whole, Failed, Short}
+pub use Rattle.jr_model.specs.declared.events.Started.{Started}
 use Rattle.jr_model.specs.declared.events.WriteId.{WriteId}
 use Rattle.jr_model.specs.declared.tickets.TicketKind.{TicketKind}
 use Rattle.jr_model.specs.declared.tickets.TicketKind.TheVariants as ticket
-
--- an I/O of a job, or a check, as it was started
-pub record Started : Type 0 where
-  pub worker : ℕ
-  pub kind : TicketKind
-  pub write : WriteId
-  pub piece : Piece
 
 -- the kind of ticket for a draw of this direction
 abbrev pub kind_for : Dir → TicketKind
@@ -46,10 +40,14 @@ end_of io (Probe worker write piece) = None
 end_of io (Skip worker write) = None
 end_of io (Verdict worker id verdict) = None
 
+-- what f gives of the first item where it gives something
+abbrev pub first_given : {X Y : Type 0} → (X → Option Y) → List X → Option Y
+first_given f [] = None
+first_given f (x ∷ xs) = option_or (f x) (first_given f xs)
+
 -- how I/O io ended, if it has
 abbrev pub outcome_of : List Event → ℕ → Option Outcome
-outcome_of [] io = None
-outcome_of (event ∷ history) io = option_or (end_of io event) (outcome_of history io)
+outcome_of history io = first_given (end_of io) history
 
 -- I/O io is in flight: it was started and has not ended
 abbrev pub flies : List Event → ℕ → Bool

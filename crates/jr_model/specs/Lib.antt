@@ -6,6 +6,7 @@ pub mod History
 pub mod Honest
 pub mod Judgement
 pub mod LastWrite
+pub mod Laws
 pub mod Legal
 pub mod Machine
 pub mod PatternBytes

@@ -122,7 +122,7 @@ judge_refusal s io =
 -- the outcome of a call that answered this count for so many bytes
 abbrev pub outcome_for : Option ℕ → ℕ → Outcome
 outcome_for None len = Failed
-outcome_for (Some n) len = if n == len then Whole else Short n
+outcome_for (Some n) len = if nat_lt n len then Short n else Whole
 
 -- the seed of the filler of a draw
 abbrev pub seed_of_draw : Option Draw → ℕ

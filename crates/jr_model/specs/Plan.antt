@@ -1,6 +1,6 @@
 -- What a job file asks for, as the other definitions read it (fio's manual, "Job file format" and "Parameters").
 -- Names are lists of bytes; offsets and sizes are in bytes.
-use Rattle.std.specs.Prelude.{ℕ, ◌+◌, ◌*◌, Bool, true, false, not, List, Option, slice_get, length}
+use Rattle.std.specs.Prelude.{◌≡◌, ℕ, Bool, true, false, List, Option, Some, slice_get}
 use Rattle.jr_model.specs.declared.contents.Method.{Method}
 use Rattle.jr_model.specs.declared.contents.VerifyKind.{VerifyKind}
 use Rattle.jr_model.specs.declared.contents.VerifyKind.TheVariants as verify
@@ -45,6 +45,10 @@ pub record Plan : Type 0 where
 -- clone c of the plan
 abbrev pub clone_of : Plan → ℕ → Option SubJob
 clone_of plan c = slice_get plan.clones c
+
+-- each clone's number is its place
+abbrev pub IsNumbered : Plan → Type 0
+IsNumbered plan = (i : ℕ) (job : SubJob) → slice_get plan.clones i ≡ Some job → job.clone ≡ i
 
 -- whether blocks are verified at all
 abbrev pub is_verified : VerifyKind → Bool

@@ -6,7 +6,7 @@ use Rattle.jr_model.specs.declared.workloads.Draw.{Draw}
 use Rattle.jr_model.specs.Pieces.{pieces_overlap}
 use Rattle.jr_model.specs.Plan.{Plan, SubJob}
 use Rattle.jr_model.specs.Report.{totals_lines}
-use Rattle.jr_model.specs.Rounds.{Pass, pass_of, is_write_draw, writes_of, has_rounds, group_of, group_count}
+use Rattle.jr_model.specs.Rounds.{Pass, passes_of, is_write_draw, writes_of, has_rounds, group_of, group_count}
 
 -- how many writes of a group are checked: those that no later write of the group overlaps
 abbrev pub checked_among : List Draw → ℕ
@@ -21,9 +21,6 @@ checks_of_pass pass = sum (map (λ g. checked_among (group_of pass g)) (range_wi
 -- the bytes of these draws
 abbrev pub bytes_drawn : List Draw → ℕ
 bytes_drawn draws = sum (map (λ (draw : Draw). draw.piece.len) draws)
-
-abbrev pub passes_of : SubJob → List Pass
-passes_of job = map (pass_of job) (range_with_len 0 job.passes)
 
 -- each draw whole, no fault, and no bad verdict
 abbrev pub quiet_totals : SubJob → Totals

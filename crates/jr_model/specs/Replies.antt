@@ -32,31 +32,35 @@ abbrev pub covers_range : FileBytes → ℕ → ℕ → Bool
 covers_range file offset n =
     nat_le file.low offset && nat_le (offset + n) file.high && (length file.bytes == file.high - file.low)
 
+-- the file is there, with all of these bytes
+abbrev pub covered_in : Option FileBytes → ℕ → ℕ → Bool
+covered_in None offset n = false
+covered_in (Some bytes) offset n = covers_range bytes offset n
+
 -- the memory has this file, and all of these bytes of it
 abbrev pub covers : List FileBytes → ℕ → ℕ → ℕ → Bool
-covers memory file offset n = covered (slice_get memory file) offset n
-  where
-    covered : Option FileBytes → ℕ → ℕ → Bool
-    covered None offset n = false
-    covered (Some bytes) offset n = covers_range bytes offset n
+covers memory file offset n = covered_in (slice_get memory file) offset n
 
 -- n bytes of a file from offset on
 abbrev pub range_of : FileBytes → ℕ → ℕ → List ℕ
 range_of file offset n = take n (drop (offset - file.low) file.bytes)
 
+-- n bytes of a file, if it is there, from offset on
+abbrev pub stored_in : Option FileBytes → ℕ → ℕ → List ℕ
+stored_in None offset n = []
+stored_in (Some bytes) offset n = range_of bytes offset n
+
 -- n bytes of the memory's file from offset on
 abbrev pub stored : List FileBytes → ℕ → ℕ → ℕ → List ℕ
 stored memory file offset n = stored_in (slice_get memory file) offset n
-  where
-    stored_in : Option FileBytes → ℕ → ℕ → List ℕ
-    stored_in None offset n = []
-    stored_in (Some bytes) offset n = range_of bytes offset n
+
+-- the bytes once new ones stand in them from a place on
+abbrev pub placed : List ℕ → ℕ → List ℕ → List ℕ
+placed bytes place new = take place bytes ++ new ++ drop (place + length new) bytes
 
 -- the file once data stands in it from offset on
 abbrev pub file_with : FileBytes → ℕ → List ℕ → FileBytes
-file_with file offset «data» =
-    let at = offset - file.low in
-    record file { bytes = take at file.bytes ++ «data» ++ drop (at + length «data») file.bytes }
+file_with file offset «data» = record file { bytes = placed file.bytes (offset - file.low) «data» }
 
 -- the memory once data stands in this file from offset on
 abbrev pub memory_with : List FileBytes → ℕ → ℕ → List ℕ → List FileBytes

@@ -1,6 +1,6 @@
 -- Passes, and the rounds in which their writes are checked (fio's manual, "loops", "do_verify", "verify_backlog"; when a
 -- round opens and closes is of this project).
-use Rattle.std.specs.Prelude.{ℕ, ◌+◌, ◌-◌, ◌*◌, ◌/◌, ◌==◌, nat_lt, nat_le, Bool, true, false, not, ◌&&◌, ◌||◌, List, [], ◌∷◌, length, take, drop, filter, count_by, slice_get, find, Option, Some, None, if◌then◌else◌}
+use Rattle.std.specs.Prelude.{ℕ, ◌+◌, ◌-◌, ◌*◌, ◌/◌, ◌==◌, nat_lt, nat_le, Bool, true, false, not, ◌&&◌, ◌||◌, List, [], ◌∷◌, length, take, drop, map, filter, count_by, slice_get, find, Option, Some, None, if◌then◌else◌}
 use Rattle.std.specs.List.{list_any, list_all, range_with_len}
 use Rattle.jr_model.specs.declared.blocks.Dir.{Dir}
 use Rattle.jr_model.specs.declared.blocks.Dir.TheVariants as direction
@@ -20,6 +20,10 @@ pub record Pass : Type 0 where
 
 abbrev pub pass_of : SubJob → ℕ → Pass
 pass_of job pass = record { job = job; number = pass; draws = draws_of_job job pass }
+
+-- the passes of a clone, in order
+abbrev pub passes_of : SubJob → List Pass
+passes_of job = map (pass_of job) (range_with_len 0 job.passes)
 
 -- the draw's name in the run
 abbrev pub write_id : Pass → Draw → WriteId
@@ -141,11 +145,11 @@ pass_finished history pass =
 
 -- all passes of the clone are finished
 abbrev pub clone_finished : List Event → SubJob → Bool
-clone_finished history job = list_all (λ p. pass_finished history (pass_of job p)) (range_with_len 0 job.passes)
+clone_finished history job = list_all (pass_finished history) (passes_of job)
 
 -- it is the first pass of its clone that isn't finished
 abbrev pub is_current : List Event → Pass → Bool
 is_current history pass =
     nat_lt pass.number pass.job.passes
     && not (pass_finished history pass)
-    && list_all (λ p. pass_finished history (pass_of pass.job p)) (range_with_len 0 pass.number)
+    && list_all (pass_finished history) (take pass.number (passes_of pass.job))

@@ -1,4 +1,5 @@
 use crate::blocks::{Dir, Piece};
+use crate::tickets::TicketKind;
 
 /// The number of an I/O or a check, counted from 0 over all that a run starts.
 pub type IoId = u32;
@@ -9,6 +10,16 @@ pub struct WriteId {
     pub clone: u32,
     pub pass: u32,
     pub number: u32,
+}
+
+/// An I/O of a job, or a check, as it was started. Its number is its place among all that were.
+#[derive(Clone, Copy, Debug, PartialEq, Eq)]
+pub struct Started {
+    pub worker: u32,
+    pub kind: TicketKind,
+    /// The draw, and for a check the write that it reads back.
+    pub write: WriteId,
+    pub piece: Piece,
 }
 
 /// How an I/O ended.

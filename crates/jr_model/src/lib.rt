@@ -5,6 +5,7 @@
 mod blocks;
 mod contents;
 mod events;
+mod laws;
 mod memory;
 mod replies;
 mod steps;
@@ -14,7 +15,8 @@ mod workloads;
 
 pub use blocks::{Dir, LARGEST_BLOCK, LARGEST_END, Piece, SECTOR, overlaps};
 pub use contents::{Expected, Method, Pattern, VerifyKind};
-pub use events::{Event, IoId, Outcome, Verdict, What, WriteId};
+pub use events::{Event, IoId, Outcome, Started, Verdict, What, WriteId};
+pub use laws::{choice_may_happen, every_run_is_legal, front_is_legal};
 pub use memory::Memory;
 pub use replies::{Reply, ReplyBytes};
 pub use steps::{DeskFault, Step, StepReply};

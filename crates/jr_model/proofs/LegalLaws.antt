@@ -1,0 +1,181 @@
+-- Laws of legal histories: each prefix is legal, and a choice may happen.
+use Rattle.std.proofs.Common.{◌≡◌, ℕ, zero, suc, ◌+◌, ◌*◌, List, [], ◌∷◌, ◌++◌, Bool, true, false, cond, ◌&&◌, refl, sym, ◌∙◌, ap, subst, arith, inl, inr, append_assoc, append-nil, add-zero, zero-add}
+use Rattle.std.specs.Prelude.{◌⊎◌, Option, Some, None, slice_get, ◌==◌, map}
+use Rattle.std.specs.Option.{option_or}
+use Rattle.std.specs.List.{range_with_len}
+use Rattle.std.proofs.lemmas.Bool.{and_parts, and_from, cases_cond, eq-eqb}
+use Rattle.jr_model.specs.declared.blocks.Dir.{Dir}
+use Rattle.jr_model.specs.declared.blocks.Dir.TheVariants.{Read, Write}
+use Rattle.jr_model.specs.declared.blocks.Piece.{Piece}
+use Rattle.jr_model.specs.declared.events.Event.{Event}
+use Rattle.jr_model.specs.declared.events.Event.TheVariants.{Issue, Probe, Skip, End, Verdict}
+use Rattle.jr_model.specs.declared.events.WriteId.{WriteId}
+use Rattle.jr_model.specs.declared.workloads.Draw.{Draw}
+use Rattle.jr_model.specs.Choice.{choice, choice_of_clone, choice_of_pass}
+use Rattle.jr_model.specs.Draws.{Progress, draws_from, draws_of_job, fresh_progress, pass_over, chosen_cells, draw_at, progress_after}
+use Rattle.jr_model.specs.History.{first_given, same_write, same_piece}
+use Rattle.jr_model.specs.LastWrite.{is_intact}
+use Rattle.jr_model.specs.Legal.{may_happen, may_take_up, may_issue, check_or_skip, legal_after, is_legal, step_of, step_of_draw, step_of_clone, step_at, same_dir, is_this_issue, is_this_probe, is_this_skip}
+use Rattle.jr_model.specs.Plan.{Plan, SubJob, IsNumbered}
+use Rattle.jr_model.specs.Rounds.{Pass, pass_of, passes_of, write_id}
+use Rattle.jr_model.specs.Words.{pass_words}
+
+-- a front of a legal history is legal
+pub legal_front : (plan : Plan) (before xs ys : List Event) → legal_after plan before (xs ++ ys) ≡ true → legal_after plan before xs ≡ true
+legal_front plan before [] ys h = refl
+legal_front plan before (x ∷ xs) ys h =
+    let parts = and_parts (may_happen plan before x) (legal_after plan (before ++ x ∷ []) (xs ++ ys)) h in
+    and_from (may_happen plan before x) (legal_after plan (before ++ x ∷ []) xs) parts.0
+    (legal_front plan (before ++ x ∷ []) xs ys parts.1)
+
+-- an event that may happen makes a legal history longer
+pub legal_after-more : (plan : Plan) (before xs : List Event) (e : Event) → legal_after plan before xs ≡ true → may_happen plan (before ++ xs) e ≡ true → legal_after plan before (xs ++ e ∷ []) ≡ true
+legal_after-more plan before [] e h may =
+    and_from (may_happen plan before e) true (rw append-nil at may) refl
+legal_after-more plan before (x ∷ xs) e h may =
+    let parts = and_parts (may_happen plan before x) (legal_after plan (before ++ x ∷ []) xs) h in
+    and_from (may_happen plan before x) (legal_after plan (before ++ x ∷ []) (xs ++ e ∷ [])) parts.0
+    (legal_after-more plan (before ++ x ∷ []) xs e parts.1
+    (subst (λ (all : List Event). may_happen plan all e ≡ true) (sym (append_assoc before (x ∷ []) xs)) may))
+
+pub is_legal-more : (plan : Plan) (history : List Event) (e : Event) → is_legal plan history ≡ true → may_happen plan history e ≡ true → is_legal plan (history ++ e ∷ []) ≡ true
+is_legal-more plan history e h may = legal_after-more plan [] history e h may
+
+option_or-some : {Y : Type 0} (o p : Option Y) (y : Y) → option_or o p ≡ Some y → (o ≡ Some y) ⊎ (p ≡ Some y)
+option_or-some None p y h = inr h
+option_or-some (Some x) p y h = inl h
+
+-- what is given is given of some item
+pub first_given-some : {X Y : Type 0} (f : X → Option Y) (xs : List X) (y : Y) → first_given f xs ≡ Some y → (k : ℕ) × (x : X) × (slice_get xs k ≡ Some x) × (f x ≡ Some y)
+first_given-some f [] y h = cc
+first_given-some f (x ∷ xs) y h =
+    elim (option_or-some (f x) (first_given f xs) y h) [
+      | inl e ↦ (0, x, refl, e)
+      | inr e ↦ let found = first_given-some f xs y e in (suc found.0, found.1, found.2, found.3)
+    ]
+
+got_map : {X Y : Type 0} (f : X → Y) (xs : List X) (k : ℕ) (y : Y) → slice_get (map f xs) k ≡ Some y → (x : X) × (f x ≡ y)
+got_map f [] k y h = cc
+got_map f (x ∷ xs) zero y h = (x, some_same (f x) y h)
+  where
+    some_same : {Z : Type 0} (u v : Z) → Some u ≡ Some v → u ≡ v
+    some_same u v g = cc
+got_map f (x ∷ xs) (suc k) y h = got_map f xs k y h
+
+from_cond : {X : Type 0} (b : Bool) (xs : List X) (k : ℕ) (x : X) → slice_get (cond b [] xs) k ≡ Some x → slice_get xs k ≡ Some x
+from_cond true xs k x h = cc
+from_cond false xs k x h = h
+
+-- draws are numbered on from the draws made
+pub number-draws_from : (job : SubJob) (done : Progress) (words : List ℕ) (k : ℕ) (d : Draw) → slice_get (draws_from job done words) k ≡ Some d → d.number ≡ done.number + k
+number-draws_from job done [] k d h = cc
+number-draws_from job done (a ∷ []) k d h = cc
+number-draws_from job done (a ∷ b ∷ []) k d h = cc
+number-draws_from job done (a ∷ b ∷ c ∷ []) k d h = cc
+number-draws_from job done (a ∷ b ∷ c ∷ s ∷ words) zero d h =
+    let chosen = chosen_cells job done a b c in
+    let first : Some (draw_at job done chosen s) ≡ Some d =
+    from_cond (pass_over job done) (draw_at job done chosen s ∷ draws_from job (progress_after done chosen) words) 0 d h in
+    let same : draw_at job done chosen s ≡ d = cc in
+    ap (λ (x : Draw). x.number) (sym same) ∙ sym (add-zero done.number)
+number-draws_from job done (a ∷ b ∷ c ∷ s ∷ words) (suc k) d h =
+    let chosen = chosen_cells job done a b c in
+    let more = number-draws_from job (progress_after done chosen) words k d
+    (from_cond (pass_over job done) (draw_at job done chosen s ∷ draws_from job (progress_after done chosen) words) (suc k) d h) in
+    omega (arith, more)
+
+same_write_refl : (w : WriteId) → same_write w w ≡ true
+same_write_refl w =
+    and_from ((w.clone == w.clone) && (w.pass == w.pass)) (w.number == w.number)
+    (and_from (w.clone == w.clone) (w.pass == w.pass) (eq-eqb w.clone w.clone refl) (eq-eqb w.pass w.pass refl))
+    (eq-eqb w.number w.number refl)
+
+same_piece_refl : (p : Piece) → same_piece p p ≡ true
+same_piece_refl p =
+    and_from ((p.file == p.file) && (p.offset == p.offset)) (p.len == p.len)
+    (and_from (p.file == p.file) (p.offset == p.offset) (eq-eqb p.file p.file refl) (eq-eqb p.offset p.offset refl))
+    (eq-eqb p.len p.len refl)
+
+same_dir_refl : (d : Dir) → same_dir d d ≡ true
+same_dir_refl Read = refl
+same_dir_refl Write = refl
+
+-- a step of a draw is its check, its skip or its issue
+pub cases_step_of : (plan : Plan) (history : List Event) (worker : ℕ) (pass : Pass) (draw : Draw) (e : Event) → step_of plan history worker pass draw ≡ Some e → (e ≡ Probe worker (write_id pass draw) draw.piece) ⊎ ((e ≡ Skip worker (write_id pass draw)) ⊎ (e ≡ Issue worker draw.dir (write_id pass draw) draw.piece))
+cases_step_of plan history worker pass draw e h =
+    elim (two_conds (may_take_up history pass draw) (may_issue plan history pass draw) _ _ e h) [
+      | inl checked ↦
+          elim (cases_cond (is_intact history (write_id pass draw) draw.piece) _ _ e checked) [
+            | inl probe ↦ inl probe
+            | inr skip ↦ inr (inl skip)
+          ]
+      | inr issued ↦ inr (inr issued)
+    ]
+  where
+    two_conds : (a b : Bool) (x y z : Event) → cond a (Some x) (cond b (Some y) None) ≡ Some z → (z ≡ x) ⊎ (z ≡ y)
+    two_conds true b x y z g = inl (sym (some_same x z g))
+      where
+        some_same : (u v : Event) → Some u ≡ Some v → u ≡ v
+        some_same u v k = cc
+    two_conds false true x y z g = inr (sym (some_same y z g))
+      where
+        some_same : (u v : Event) → Some u ≡ Some v → u ≡ v
+        some_same u v k = cc
+    two_conds false false x y z g = cc
+
+-- the step of the draw that an event names may happen
+pub step_may_happen : (plan : Plan) (history : List Event) (worker : ℕ) (pass : Pass) (draw : Draw) (e : Event) → step_of plan history worker pass draw ≡ Some e → step_at plan history worker (write_id pass draw) ≡ Some e → may_happen plan history e ≡ true
+step_may_happen plan history worker pass draw e h here =
+    let w = write_id pass draw in
+    let p = draw.piece in
+    elim (cases_step_of plan history worker pass draw e h) [
+      | inl probe ↦
+          subst (λ (x : Event). may_happen plan history x ≡ true) (sym probe)
+          (subst (λ (o : Option Event). is_this_probe w p o ≡ true) (sym (here ∙ ap Some probe))
+          (and_from (same_write w w) (same_piece p p) (same_write_refl w) (same_piece_refl p)))
+      | inr other ↦
+          elim other [
+            | inl skip ↦
+                subst (λ (x : Event). may_happen plan history x ≡ true) (sym skip)
+                (subst (λ (o : Option Event). is_this_skip w o ≡ true) (sym (here ∙ ap Some skip)) (same_write_refl w))
+            | inr issue ↦
+                subst (λ (x : Event). may_happen plan history x ≡ true) (sym issue)
+                (subst (λ (o : Option Event). is_this_issue draw.dir w p o ≡ true) (sym (here ∙ ap Some issue))
+                (and_from (same_dir draw.dir draw.dir && same_write w w) (same_piece p p)
+                (and_from (same_dir draw.dir draw.dir) (same_write w w) (same_dir_refl draw.dir) (same_write_refl w))
+                (same_piece_refl p)))
+          ]
+    ]
+
+-- the step of a draw of a planned clone is the step at its name
+pub step_at-step_of : (plan : Plan) (history : List Event) (worker : ℕ) (i p k : ℕ) (job : SubJob) (draw : Draw) → IsNumbered plan → slice_get plan.clones i ≡ Some job → slice_get (draws_of_job job p) k ≡ Some draw → step_at plan history worker (write_id (pass_of job p) draw) ≡ step_of plan history worker (pass_of job p) draw
+step_at-step_of plan history worker i p k job draw numbered at drawn =
+    let place : slice_get plan.clones job.clone ≡ Some job =
+    subst (λ (n : ℕ). slice_get plan.clones n ≡ Some job) (sym (numbered i job at)) at in
+    let number : draw.number ≡ k = number-draws_from job (fresh_progress job) (pass_words job p (4 * job.cells)) k draw drawn ∙ zero-add k in
+    let there : slice_get (draws_of_job job p) draw.number ≡ Some draw =
+    subst (λ (n : ℕ). slice_get (draws_of_job job p) n ≡ Some draw) (sym number) drawn in
+    ap (step_of_clone plan history worker (write_id (pass_of job p) draw)) place
+    ∙ ap (step_of_draw plan history worker (pass_of job p)) there
+
+-- what the choice is: the step of a draw of a planned clone
+pub choice_is_step : (plan : Plan) (history : List Event) (worker : ℕ) (e : Event) → IsNumbered plan → choice plan history worker ≡ Some e → (job : SubJob) × (p : ℕ) × (draw : Draw) × (step_of plan history worker (pass_of job p) draw ≡ Some e) × (step_at plan history worker (write_id (pass_of job p) draw) ≡ Some e)
+choice_is_step plan history worker e numbered h =
+    let clone = first_given-some (choice_of_clone plan history worker) plan.clones e h in
+    let job = clone.1 in
+    let pass = first_given-some (choice_of_pass plan history worker) (passes_of job) e clone.3 in
+    let at = got_map (pass_of job) (range_with_len 0 job.passes) pass.0 pass.1 pass.2 in
+    let chosen = subst (λ (q : Pass). choice_of_pass plan history worker q ≡ Some e) (sym at.1) pass.3 in
+    let draw = first_given-some (step_of plan history worker (pass_of job at.0)) (draws_of_job job at.0) e chosen in (
+      job,
+      at.0,
+      draw.1,
+      draw.3,
+      step_at-step_of plan history worker clone.0 at.0 draw.0 job draw.1 numbered clone.2 draw.2 ∙ draw.3,
+    )
+
+-- the choice may happen
+pub choice_may_happen : (plan : Plan) (history : List Event) (worker : ℕ) (e : Event) → IsNumbered plan → choice plan history worker ≡ Some e → may_happen plan history e ≡ true
+choice_may_happen plan history worker e numbered h =
+    let step = choice_is_step plan history worker e numbered h in
+    step_may_happen plan history worker (pass_of step.0 step.1) step.2 e step.3 step.4

@@ -1,0 +1,27 @@
+-- Laws over the definitions alone: what holds of every plan, history and list of steps.
+use Rattle.std.specs.Prelude.{◌≡◌, ℕ, true, List, ◌++◌, Some}
+use Rattle.jr_model.specs.declared.events.Event.{Event}
+use Rattle.jr_model.specs.declared.steps.Step.{Step}
+use Rattle.jr_model.specs.Choice.{choice}
+use Rattle.jr_model.specs.Legal.{is_legal, may_happen}
+use Rattle.jr_model.specs.Machine.{first_state, machine_run}
+use Rattle.jr_model.specs.Plan.{Plan, IsNumbered}
+
+-- what is chosen to be started may happen
+abbrev pub ChoiceMayHappen : Type 0
+ChoiceMayHappen =
+    (plan : Plan) (history : List Event) (worker : ℕ) (event : Event)
+    → IsNumbered plan
+    → choice plan history worker ≡ Some event
+    → may_happen plan history event ≡ true
+
+-- what a legal history began with is legal
+abbrev pub FrontIsLegal : Type 0
+FrontIsLegal = (plan : Plan) (front rest : List Event) → is_legal plan (front ++ rest) ≡ true → is_legal plan front ≡ true
+
+-- whatever steps are made, in any order and refused ones among them, the machine's history is legal
+abbrev pub EveryRunIsLegal : Type 0
+EveryRunIsLegal =
+    (plan : Plan) (steps : List Step)
+    → IsNumbered plan
+    → is_legal plan (machine_run plan (first_state plan) steps).state.history ≡ true
