@@ -1,9 +1,13 @@
 -- The verdict on the bytes of a check (fio's manual, "verify"; the order of the tests is of this project). The header
 -- that is compared is the one that was written, never the one that was read.
-use Rattle.std.specs.Prelude.{ℕ, suc, ◌%◌, ◌==◌, nat_eq, Bool, List, [], ◌∷◌, length, take, drop, slice_index, slice_range, Option, Some, None, if◌then◌else◌}
+use Rattle.std.specs.Prelude.{◌≡◌, ℕ, suc, ◌%◌, ◌==◌, nat_eq, Bool, true, false, is_some, List, [], ◌∷◌, length, take, drop, slice_index, slice_range, Option, Some, None, if◌then◌else◌}
 use Rattle.std.specs.Option.{option_map}
 use Rattle.std.specs.Cmp.Lexicographic.{pointwise}
+use Rattle.md5.specs.Md5.{md5}
+use Rattle.sha1.specs.Sha1.{sha1}
+use Rattle.sha2.specs.Sha256.{sha256}
 use Rattle.jr_model.specs.declared.contents.VerifyKind.{VerifyKind}
+use Rattle.jr_model.specs.declared.contents.VerifyKind.TheVariants as verify
 use Rattle.jr_model.specs.declared.contents.Expected.{Expected}
 use Rattle.jr_model.specs.declared.contents.Expected.TheVariants as expected
 use Rattle.jr_model.specs.declared.events.What.{What}
@@ -40,3 +44,19 @@ abbrev pub verdict_of : VerifyKind → Expected → List ℕ → Verdict
 verdict_of kind expected.Nothing bytes = Good
 verdict_of kind (expected.Pattern pattern) bytes = byte_verdict (first_difference bytes (pattern_bytes pattern (length bytes)))
 verdict_of kind (expected.Header header) bytes = header_verdict kind header bytes
+
+-- the method's digest tells these two lists of bytes apart, where it has one
+abbrev pub TellsApart : VerifyKind → List ℕ → List ℕ → Type 0
+TellsApart verify.Md5 a b = md5 a ≡ md5 b → a ≡ b
+TellsApart verify.Sha1 a b = sha1 a ≡ sha1 b → a ≡ b
+TellsApart verify.Sha256 a b = sha256 a ≡ sha256 b → a ≡ b
+TellsApart verify.Plain a b = Unit {0}
+TellsApart verify.Pattern a b = Unit {0}
+
+-- writes of this kind and pattern are checked
+abbrev pub is_checked : VerifyKind → Option (List ℕ) → Bool
+is_checked verify.Plain pattern = false
+is_checked verify.Pattern pattern = is_some pattern
+is_checked verify.Md5 pattern = true
+is_checked verify.Sha1 pattern = true
+is_checked verify.Sha256 pattern = true

@@ -1,7 +1,7 @@
 -- The report of a run: a line for each clone, then a line for each bad verdict (the format is of this project).
 use Rattle.std.specs.Prelude.{ℕ, Bool, true, false, ◌&&◌, List, [], ◌∷◌, ◌++◌, Option, Some, None, codes, map, flat_map, slice_get, filter_map, length, if◌then◌else◌}
 use Rattle.std.specs.Fmt.{decimal}
-use Rattle.std.specs.List.{range_with_len, zip}
+use Rattle.std.specs.List.{range_with_len}
 use Rattle.jr_model.specs.declared.blocks.Piece.{Piece}
 use Rattle.jr_model.specs.declared.events.Event.{Event}
 use Rattle.jr_model.specs.declared.events.Event.TheVariants.{Issue, Probe, Skip, End, Verdict}
@@ -19,21 +19,34 @@ use Rattle.jr_model.specs.Totals.{totals_of}
 
 -- ` key=n`
 abbrev pub field : List ℕ → ℕ → List ℕ
-field key n = 32 ∷ key ++ (61 ∷ decimal n)
+field key n = codes " " ++ key ++ codes "=" ++ decimal n
+
+-- what was read and written
+abbrev pub moved_fields : Totals → List ℕ
+moved_fields t =
+    field (codes "reads") t.reads ++ field (codes "rbytes") t.rbytes
+    ++ field (codes "writes") t.writes ++ field (codes "wbytes") t.wbytes
+
+-- what was checked, and what went wrong
+abbrev pub judged_fields : Totals → List ℕ
+judged_fields t =
+    field (codes "checks") t.checks ++ field (codes "good") t.good ++ field (codes "bad") t.bad
+    ++ field (codes "skipped") t.skipped ++ field (codes "void") t.void ++ field (codes "faults") t.faults
 
 -- the line of a clone; it ends in a line feed
 abbrev pub totals_line : SubJob → Totals → List ℕ
 totals_line job t =
-    job.job ++ codes ":" ++ field (codes "clone") job.clone
-    ++ field (codes "reads") t.reads ++ field (codes "rbytes") t.rbytes
-    ++ field (codes "writes") t.writes ++ field (codes "wbytes") t.wbytes
-    ++ field (codes "checks") t.checks ++ field (codes "good") t.good ++ field (codes "bad") t.bad
-    ++ field (codes "skipped") t.skipped ++ field (codes "void") t.void ++ field (codes "faults") t.faults
-    ++ 10 ∷ []
+    job.job ++ codes ":" ++ field (codes "clone") job.clone ++ moved_fields t ++ judged_fields t ++ codes "\n"
 
--- the lines of all clones, by their totals
+-- the lines of these clones, by their totals
+abbrev pub lines_of : List SubJob → List Totals → List ℕ
+lines_of [] totals = []
+lines_of (job ∷ jobs) [] = []
+lines_of (job ∷ jobs) (t ∷ totals) = totals_line job t ++ lines_of jobs totals
+
+-- the lines of all clones
 abbrev pub totals_lines : Plan → List Totals → List ℕ
-totals_lines plan totals = flat_map (λ (line : SubJob × Totals). totals_line line.0 line.1) (zip plan.clones totals)
+totals_lines plan totals = lines_of plan.clones totals
 
 -- a bad verdict: on which write, over which piece, and what is wrong
 pub record Miscompare : Type 0 where
@@ -76,7 +89,7 @@ miscompare_line plan m =
     codes "miscompare:" ++ field (codes "clone") m.write.clone ++ field (codes "pass") m.write.pass
     ++ field (codes "number") m.write.number ++ codes " file=" ++ file_name plan m.piece.file
     ++ field (codes "offset") m.piece.offset ++ field (codes "length") m.piece.len
-    ++ codes " what=" ++ what_text m.what ++ 10 ∷ []
+    ++ codes " what=" ++ what_text m.what ++ codes "\n"
 
 -- those of these verdicts that are on this write
 abbrev pub on_write : WriteId → Miscompare → Option Miscompare

@@ -9,6 +9,8 @@ mod laws;
 mod memory;
 mod replies;
 mod steps;
+#[cfg(test)]
+mod tests;
 mod tickets;
 mod totals;
 mod workloads;

@@ -32,7 +32,8 @@ impl ReplyBytes {
     pub fn into_vec(self) -> Vec<u8>
         ensures { result.items ≡ self }
     {
-        self.bytes
+        let ReplyBytes { bytes } = self;
+        bytes
     }
 }
 
