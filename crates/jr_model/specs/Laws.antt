@@ -1,9 +1,14 @@
 -- Laws over the definitions alone: what holds of every plan, history and list of steps.
-use Rattle.std.specs.Prelude.{◌≡◌, ℕ, true, List, ◌++◌, Some}
+use Rattle.std.specs.Prelude.{◌≡◌, ◌≤◌, ℕ, true, List, [], ◌∷◌, ◌++◌, length, Some}
+use Rattle.jr_model.specs.declared.blocks.Piece.{Piece}
+use Rattle.jr_model.specs.declared.contents.Method.{Method}
 use Rattle.jr_model.specs.declared.events.Event.{Event}
+use Rattle.jr_model.specs.declared.events.WriteId.{WriteId}
 use Rattle.jr_model.specs.declared.steps.Step.{Step}
 use Rattle.jr_model.specs.Choice.{choice}
-use Rattle.jr_model.specs.Legal.{is_legal, may_happen}
+use Rattle.jr_model.specs.Content.{expected_of}
+use Rattle.jr_model.specs.Judgement.{verdict_of}
+use Rattle.jr_model.specs.Legal.{is_legal, may_happen, kind_says}
 use Rattle.jr_model.specs.Machine.{first_state, machine_run}
 use Rattle.jr_model.specs.Plan.{Plan, IsNumbered}
 
@@ -18,6 +23,21 @@ ChoiceMayHappen =
 -- what a legal history began with is legal
 abbrev pub FrontIsLegal : Type 0
 FrontIsLegal = (plan : Plan) (front rest : List Event) → is_legal plan (front ++ rest) ≡ true → is_legal plan front ≡ true
+
+-- an event that may happen makes a legal history a longer legal one
+abbrev pub LegalGoesOn : Type 0
+LegalGoesOn =
+    (plan : Plan) (history : List Event) (event : Event)
+    → is_legal plan history ≡ true
+    → may_happen plan history event ≡ true
+    → is_legal plan (history ++ event ∷ []) ≡ true
+
+-- the verdict on a check's bytes, no more than its piece has, is one that its kind can find
+abbrev pub VerdictIsOfItsKind : Type 0
+VerdictIsOfItsKind =
+    (method : Method) (write : WriteId) (piece : Piece) (seed : ℕ) (bytes : List ℕ)
+    → length bytes ≤ piece.len
+    → kind_says method.kind piece.len (verdict_of method.kind (expected_of method.kind method write piece seed) bytes) ≡ true
 
 -- whatever steps are made, in any order and refused ones among them, the machine's history is legal
 abbrev pub EveryRunIsLegal : Type 0

@@ -1,6 +1,6 @@
 // Laws over the definitions alone. Each function does nothing: its contract is the law, so that the
 // check proves it.
-ghost use Rattle.jr_model.specs.Laws.{ChoiceMayHappen, FrontIsLegal, EveryRunIsLegal};
+ghost use Rattle.jr_model.specs.Laws.{ChoiceMayHappen, LegalGoesOn, FrontIsLegal, VerdictIsOfItsKind, EveryRunIsLegal};
 
 /// What is chosen to be started may happen after the history.
 pub fn choice_may_happen()
@@ -15,4 +15,14 @@ pub fn front_is_legal()
 /// Whatever steps the machine is asked for, its history is legal.
 pub fn every_run_is_legal()
     ensures { EveryRunIsLegal }
+{}
+
+/// An event that may happen makes a legal history a longer legal one.
+pub fn legal_goes_on()
+    ensures { LegalGoesOn }
+{}
+
+/// The verdict on a check's bytes is one that its kind can find.
+pub fn verdict_is_of_its_kind()
+    ensures { VerdictIsOfItsKind }
 {}

@@ -18,7 +18,9 @@ mod workloads;
 pub use blocks::{Dir, LARGEST_BLOCK, LARGEST_END, Piece, SECTOR, overlaps};
 pub use contents::{Expected, Method, Pattern, VerifyKind};
 pub use events::{Event, IoId, Outcome, Started, Verdict, What, WriteId};
-pub use laws::{choice_may_happen, every_run_is_legal, front_is_legal};
+pub use laws::{
+    choice_may_happen, every_run_is_legal, front_is_legal, legal_goes_on, verdict_is_of_its_kind,
+};
 pub use memory::Memory;
 pub use replies::{Reply, ReplyBytes};
 pub use steps::{DeskFault, Step, StepReply};
