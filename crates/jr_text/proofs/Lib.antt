@@ -1,0 +1,6 @@
+pub mod CutLemmas
+pub mod Grouping
+pub mod LineLemmas
+pub mod NumberLemmas
+pub mod Pass
+mod Rows

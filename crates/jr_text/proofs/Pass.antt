@@ -1,0 +1,71 @@
+-- The reader's pass over the lines, which adds one line after another.
+use Rattle.std.proofs.Common.{◌≡◌, ℕ, ◌+◌, ◌<◌, ◌≤◌, List, [], ◌∷◌, length, get_or, drop, Result, Ok, Err, Bool, true, false, IsUtf8, refl, ap, ◌∙◌, sym, arith}
+use Rattle.std.specs.Str.{is_utf8}
+use Rattle.std.proofs.lemmas.Bool.Decides.{nat_tests}
+use Rattle.std.proofs.lemmas.List.{at_drop_more, at_drop_all}
+use Rattle.std.proofs.lemmas.Str.{IsUtf8-from_is_utf8, is_utf8-from_IsUtf8}
+use Rattle.jr_text.specs.declared.faults.TextFault.{TextFault}
+use Rattle.jr_text.specs.declared.faults.TextFault.TheVariants.{TooLong, NotUtf8, OpenBracket, EmptyName, Outside, Memory}
+use Rattle.jr_text.specs.Records.{SectionText}
+use Rattle.jr_text.specs.JobText.{Fault, content_of, lines_of, not_utf8, read_lines, sections_of, too_long}
+use Rattle.jr_text.specs.Reading.{and_line}
+use Rattle.jr_text.specs.Refusals.{IsRefusal}
+
+-- a step after an answer that is no fault
+abbrev pub after : {A B : Type 0} → Result A Fault → (A → Result B Fault) → Result B Fault
+after (Ok x) f = f x
+after (Err fault) f = Err fault
+
+-- a refusal is the refusal of all that follows
+pub IsRefusal-after : {A B : Type 0} (e : TextFault) (r : Result A Fault) (f : A → Result B Fault) → IsRefusal e r → IsRefusal e (after r f)
+IsRefusal-after TooLong r f h = ap (λ x. after x f) h
+IsRefusal-after NotUtf8 r f h = ap (λ x. after x f) h
+IsRefusal-after (OpenBracket line) r f h = ap (λ x. after x f) h
+IsRefusal-after (EmptyName line) r f h = ap (λ x. after x f) h
+IsRefusal-after (Outside line) r f h = ap (λ x. after x f) h
+IsRefusal-after Memory r f h = tt
+
+-- what the lines from this number on add to the sections found above them
+abbrev pub pass : List SectionText → ℕ → List (List ℕ) → Result (List SectionText) Fault
+pass found first [] = Ok found
+pass found first (line ∷ more) = after (and_line found (first, content_of line)) (λ next. pass next (first + 1) more)
+
+-- the next line
+pass_next : (found : List SectionText) (n : ℕ) (lines : List (List ℕ)) (line : List ℕ) → n < length lines → line ≡ get_or lines n line → pass found (n + 1) (drop n lines) ≡ after (and_line found (n + 1, content_of line)) (λ next. pass next (n + 1 + 1) (drop (n + 1) lines))
+pass_next found n lines line within here =
+    at_drop_more (λ rest. pass found (n + 1) rest) lines n line within
+    ∙ sym (ap (λ x. after (and_line found (n + 1, content_of x)) (λ next. pass next (n + 1 + 1) (drop (n + 1) lines))) here)
+
+pub pass_more : (found next : List SectionText) (n : ℕ) (lines : List (List ℕ)) (line : List ℕ) → n < length lines → line ≡ get_or lines n line → and_line found (n + 1, content_of line) ≡ Ok next → pass found (n + 1) (drop n lines) ≡ pass next (n + 1 + 1) (drop (n + 1) lines)
+pass_more found next n lines line within here added =
+    pass_next found n lines line within here ∙ ap (λ r. after r (λ next. pass next (n + 1 + 1) (drop (n + 1) lines))) added
+
+pub pass_refused : (e : TextFault) (found : List SectionText) (n : ℕ) (lines : List (List ℕ)) (line : List ℕ) → n < length lines → line ≡ get_or lines n line → IsRefusal e (and_line found (n + 1, content_of line)) → IsRefusal e (pass found (n + 1) (drop n lines))
+pass_refused e found n lines line within here refused =
+    let next = pass_next found n lines line within here in
+    rw next (IsRefusal-after e (and_line found (n + 1, content_of line)) (λ next. pass next (n + 1 + 1) (drop (n + 1) lines)) refused)
+
+-- no further line
+pub pass_end : (found : List SectionText) (n : ℕ) (lines : List (List ℕ)) → length lines ≤ n → pass found (n + 1) (drop n lines) ≡ Ok found
+pass_end found n lines past = at_drop_all (λ rest. pass found (n + 1) rest) lines n past
+
+not_true : (b : Bool) → (b ≡ true → ⊥) → b ≡ false
+not_true true h = absurd (h refl)
+not_true false h = refl
+
+-- what the length and UTF-8 say of a text
+pub sections_of-too_long : (text : List ℕ) → 1048576 < length text → sections_of text ≡ Err too_long
+unfolding sections_of
+sections_of-too_long text long = grind (arith, nat_tests)
+
+pub sections_of-lines : (text : List ℕ) → length text ≤ 1048576 → IsUtf8 text → sections_of text ≡ read_lines (lines_of text)
+unfolding sections_of
+sections_of-lines text short utf8 =
+    let test = is_utf8-from_IsUtf8 text utf8 in
+    grind (arith, nat_tests)
+
+pub sections_of-not_utf8 : (text : List ℕ) → length text ≤ 1048576 → (IsUtf8 text → ⊥) → sections_of text ≡ Err not_utf8
+unfolding sections_of
+sections_of-not_utf8 text short other =
+    let test = not_true (is_utf8 text) (λ e. other (IsUtf8-from_is_utf8 text e)) in
+    grind (arith, nat_tests)

@@ -1,0 +1,148 @@
+ghost use Rattle.std.specs.Prelude.{◌≡◌, Ok, IfErr, IfOk, OnErr, OnOk, option_copied};
+ghost use Rattle.jr_text.specs.JobText.{option_in};
+ghost use Rattle.jr_text.specs.Reading.{opened, with_option};
+ghost use Rattle.jr_text.specs.Refusals.{IsRefusal};
+
+use crate::cuts::trimmed;
+use crate::faults::TextFault;
+use std::alloc::{AllocError, AllocFailed, Global};
+use std::marker::Model;
+
+/// An option line of a section.
+#[derive(Debug, Drop)]
+pub struct Line {
+    number: u32,
+    key: String,
+    value: Option<String>,
+}
+
+impl Model for Line {
+    ghost use Rattle.std.specs.Prelude.{option_map, string_bytes};
+    ghost use Rattle.jr_text.specs.Records.{LineText};
+
+    ghost Value = { LineText };
+
+    ghost view = { λ l. record {
+      line = l.number;
+      key = string_bytes l.key;
+      value = option_map (λ text. string_bytes text) l.value;
+    } };
+}
+
+impl Line {
+    // The option that a line without its comment sets.
+    pub(crate) fn new(alloc: Global, number: u32, body: &str) -> Result<Self, AllocError>
+        ensures { IfOk result (λ option. option ≡ option_in number body.now) }
+    {
+        match body.split_once('=') {
+            Some((key, value)) => {
+                let key = String::from_str(alloc, trimmed(key))?;
+                let value = String::from_str(alloc, trimmed(value))?;
+                Ok(Line {
+                    number,
+                    key,
+                    value: Some(value),
+                })
+            }
+            None => {
+                let key = String::from_str(alloc, trimmed(body))?;
+                Ok(Line {
+                    number,
+                    key,
+                    value: None,
+                })
+            }
+        }
+    }
+
+    /// Its number in the text, from 1.
+    pub fn line(&self) -> u32
+        ensures { result ≡ self.now.line }
+    {
+        self.number
+    }
+
+    /// Its key, as written.
+    pub fn key(&self) -> &str
+        ensures { result.now ≡ self.now.key }
+    {
+        self.key.as_str()
+    }
+
+    /// What stands behind its `=`; nothing where it has none.
+    pub fn value(&self) -> Option<&str>
+        ensures { option_copied result ≡ self.now.value }
+    {
+        match &self.value {
+            Some(value) => Some(value.as_str()),
+            None => None,
+        }
+    }
+}
+
+/// A section: `global`, or a job.
+#[derive(Debug, Drop)]
+pub struct Section {
+    name: String,
+    line: u32,
+    options: Vec<Line>,
+}
+
+impl Model for Section {
+    ghost use Rattle.std.specs.Prelude.{string_bytes};
+    ghost use Rattle.jr_text.specs.Records.{SectionText};
+
+    ghost Value = { SectionText };
+
+    ghost view = { λ s. record { name = string_bytes s.name; line = s.line; lines = s.options.items } };
+}
+
+impl Section {
+    // The section that a line opens; `rest` is what follows its `[`.
+    pub(crate) fn open(alloc: Global, line: u32, rest: &str) -> Result<Self, TextFault>
+        ensures ok { IfOk result (λ section. opened line rest.now ≡ Ok section) }
+        ensures err { IfErr result (λ fault. IsRefusal fault (opened line rest.now)) }
+    {
+        let Some((name, _)) = rest.split_once(']') else {
+            return Err(TextFault::OpenBracket(line));
+        };
+        if name.is_empty() {
+            return Err(TextFault::EmptyName(line));
+        }
+        let name = String::from_str(alloc, name)?;
+        Ok(Section {
+            name,
+            line,
+            options: Vec::new(alloc),
+        })
+    }
+
+    // Adds an option line at the end.
+    pub(crate) fn push(&mut self, option: Line) -> Result<(), AllocFailed<Line>>
+        ensures ok { OnOk result (self.new ≡ with_option self.old option) }
+        ensures err { OnErr result (self.new ≡ self.old) }
+    {
+        self.options.push(option)
+    }
+
+    /// What stands between its brackets.
+    pub fn name(&self) -> &str
+        ensures { result.now ≡ self.now.name }
+    {
+        self.name.as_str()
+    }
+
+    /// The number of the line that opens it, from 1.
+    pub fn line(&self) -> u32
+        ensures { result ≡ self.now.line }
+    {
+        self.line
+    }
+
+    /// Its option lines, in order.
+    pub fn lines(&self) -> &[Line]
+        ensures { result.now ≡ self.now.lines }
+    {
+        self.options.as_slice()
+    }
+}

@@ -1,0 +1,180 @@
+ghost use Rattle.std.specs.Prelude.{◌≡◌, ◌*◌, ◌^◌, ◌<◌, All, IfOk, IfSome, length, map, SomeIff, true};
+ghost use Rattle.std.specs.Char.{is_ascii_digit, to_ascii_lowercase};
+ghost use Rattle.std.specs.Str.Parse.{digits_value};
+ghost use Rattle.jr_text.specs.Number.{binary_fault, digits_in, is_hexadecimal, number_of, power_of, small_number, unit_of};
+
+use crate::faults::NumFault;
+
+/// The number that a text writes: decimal digits, then nothing, `b`, or one of `k m g t p` with an
+/// optional `b`, in any case, for the powers 1 to 5 of 1024.
+pub fn number(text: &str) -> Result<u64, NumFault>
+    ensures { result ≡ number_of text.now }
+{
+    let bytes = text.as_bytes();
+    let count = digit_count(bytes);
+    if count == 0 {
+        return Err(NumFault::NoDigits);
+    }
+    if is_hexadecimal(bytes) {
+        return Err(NumFault::UnitOutOfScope);
+    }
+    let (digits, unit) = bytes.split_at(count);
+    let power = unit_power(unit)?;
+    scaled_number(digits, power)
+}
+
+// How many digits a text begins with.
+fn digit_count(text: &[u8]) -> usize
+    ensures { result ≡ length (digits_in text.now) }
+{
+    text.iter().take_while(|byte| byte.is_ascii_digit()).count()
+}
+
+// The text begins with `0x` or `0X`.
+fn is_hexadecimal(text: &[u8]) -> bool
+    ensures { result ≡ is_hexadecimal text.now }
+{
+    matches!(text, [b'0', b'x' | b'X', ..])
+}
+
+// The power of 1024 that a letter names.
+fn letter_power(letter: u8) -> Option<u32>
+    ensures value { result ≡ power_of (to_ascii_lowercase letter) }
+    ensures bound { IfSome result (λ power. power < 6) }
+{
+    match letter.to_ascii_lowercase() {
+        b'k' => Some(1),
+        b'm' => Some(2),
+        b'g' => Some(3),
+        b't' => Some(4),
+        b'p' => Some(5),
+        _ => None,
+    }
+}
+
+// What is wrong with a unit that begins with this letter and goes on with an `i`.
+fn binary_fault(letter: u8) -> NumFault
+    ensures { result ≡ binary_fault (to_ascii_lowercase letter) }
+{
+    match letter_power(letter) {
+        Some(_) => NumFault::UnitOutOfScope,
+        None => NumFault::BadUnit,
+    }
+}
+
+// The power of 1024 that a unit names.
+fn unit_power(unit: &[u8]) -> Result<u32, NumFault>
+    ensures value { result ≡ unit_of (map to_ascii_lowercase unit.now) }
+    ensures bound { IfOk result (λ power. power < 6) }
+{
+    match unit {
+        [] => Ok(0),
+        [letter] => match letter.to_ascii_lowercase() {
+            b'b' => Ok(0),
+            _ => letter_power(*letter).ok_or(NumFault::BadUnit),
+        },
+        [letter, second] => match second.to_ascii_lowercase() {
+            b'b' => letter_power(*letter).ok_or(NumFault::BadUnit),
+            b'i' => Err(binary_fault(*letter)),
+            _ => Err(NumFault::BadUnit),
+        },
+        [letter, second, third] => {
+            match (second.to_ascii_lowercase(), third.to_ascii_lowercase()) {
+                (b'i', b'b') => Err(binary_fault(*letter)),
+                _ => Err(NumFault::BadUnit),
+            }
+        }
+        _ => Err(NumFault::BadUnit),
+    }
+}
+
+// The value of digits, where it is below 2^64.
+fn digits_number(digits: &[u8]) -> Option<u64>
+    requires { All (λ b. is_ascii_digit b ≡ true) digits.now }
+    ensures { SomeIff result (digits_value 10 digits.now < 2 ^ 64) (digits_value 10 digits.now) }
+{
+    let mut number = 0u64;
+    for digit in digits {
+        number = number
+            .checked_mul(10)?
+            .checked_add(u64::from(*digit - b'0'))?;
+    }
+    Some(number)
+}
+
+// The value of digits in a unit, which is this power of 1024.
+fn scaled_number(digits: &[u8], power: u32) -> Result<u64, NumFault>
+    requires digits { All (λ b. is_ascii_digit b ≡ true) digits.now }
+    requires power { power < 6 }
+    ensures { result ≡ small_number (digits_value 10 digits.now * 1024 ^ power) }
+{
+    let scale = 1024u64.pow(power);
+    match digits_number(digits) {
+        Some(number) => number.checked_mul(scale).ok_or(NumFault::TooLarge),
+        None => Err(NumFault::TooLarge),
+    }
+}
+
+#[cfg(test)]
+mod tests {
+    use super::*;
+    use std::test::Fail;
+
+    #[test]
+    fn reads_every_unit_in_both_cases(rt: HostRuntime) {
+        let units = [
+            ("3", 3),
+            ("3b", 3),
+            ("3B", 3),
+            ("3K", 3 << 10),
+            ("3k", 3 << 10),
+            ("3Kb", 3 << 10),
+            ("3M", 3 << 20),
+            ("3m", 3 << 20),
+            ("3MB", 3 << 20),
+            ("3G", 3 << 30),
+            ("3g", 3 << 30),
+            ("3Gb", 3 << 30),
+            ("3T", 3 << 40),
+            ("3t", 3 << 40),
+            ("3TB", 3 << 40),
+            ("3P", 3 << 50),
+            ("3p", 3 << 50),
+            ("3PB", 3 << 50),
+            ("16777215t", 18_446_742_974_197_923_840),
+            ("18446744073709551615", u64::MAX),
+        ];
+        for (text, value) in units {
+            assert_eq!(rt; number(text), Ok(value), "at {text}");
+        }
+    }
+
+    #[test]
+    fn names_what_is_no_number(rt: HostRuntime) -> Result<(), Fail> {
+        let refused = [
+            ("", NumFault::NoDigits, "no digits"),
+            ("k", NumFault::NoDigits, "no digits"),
+            ("-1", NumFault::NoDigits, "no digits"),
+            ("0x10", NumFault::UnitOutOfScope, "unit out of scope"),
+            ("0X10", NumFault::UnitOutOfScope, "unit out of scope"),
+            ("1ki", NumFault::UnitOutOfScope, "unit out of scope"),
+            ("1PIB", NumFault::UnitOutOfScope, "unit out of scope"),
+            ("1x", NumFault::BadUnit, "no such unit"),
+            ("1i", NumFault::BadUnit, "no such unit"),
+            ("1kk", NumFault::BadUnit, "no such unit"),
+            ("1kbs", NumFault::BadUnit, "no such unit"),
+            ("16777216t", NumFault::TooLarge, "number too large"),
+            (
+                "18446744073709551616",
+                NumFault::TooLarge,
+                "number too large",
+            ),
+        ];
+        for (text, fault, printed) in refused {
+            assert_eq!(rt; number(text), Err(fault), "at {text}");
+            let shown = format!(in rt.alloc(); "{fault}")?;
+            assert_eq!(rt; shown.as_str(), printed, "at {text}");
+        }
+        Ok(())
+    }
+}
