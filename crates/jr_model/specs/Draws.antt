@@ -47,7 +47,8 @@ all_drawn sequential left = left == 0
 all_drawn (mapped taken) left = is_none (first_free taken)
 all_drawn unmapped left = left == 0
 
--- the cell at which a draw begins, where so many cells of its direction are drawn and its place word is `place`
+-- the cell at which a draw begins, where so many cells of its direction are drawn and its place word is `place`; only a
+-- pass that is over has no free cell in its map
 abbrev pub first_cell : Places → ℕ → ℕ → ℕ → ℕ
 first_cell sequential cells drawn place = drawn
 first_cell (mapped taken) cells drawn place = unwrap_or (free_cell_from taken (place % cells)) 0

@@ -1,0 +1,32 @@
+-- What a take appends, choice by choice.
+use Rattle.std.proofs.Common.{◌≡◌, ℕ, List, [], ◌∷◌, ◌++◌, Bool, true, false, refl, sym, ◌∙◌, ap, subst, append_assoc, append-nil}
+use Rattle.std.specs.Prelude.{Option, Some, None}
+use Rattle.std.specs.Bool.{MatchBool}
+use Rattle.jr_model.specs.declared.events.Event.{Event}
+use Rattle.jr_model.specs.Choice.{choice}
+use Rattle.jr_model.specs.Machine.{Appends, is_skip}
+use Rattle.jr_model.specs.Plan.{Plan}
+use Rattle.jr_desk.specs.Taken.{IsTaken}
+
+-- only skips were appended so far: what a take appends from here on, it may append behind them
+abbrev pub LeadsTo : Plan → ℕ → List Event → List Event → Type 0
+LeadsTo plan worker before history =
+    (rest : List Event) → Appends plan worker history rest → IsTaken plan worker before (history ++ rest)
+
+pub leads_first : (plan : Plan) (worker : ℕ) (before : List Event) → LeadsTo plan worker before before
+leads_first plan worker before rest appends = (rest, refl, appends)
+
+pub leads_on : (plan : Plan) (worker : ℕ) (before history : List Event) (e : Event) → LeadsTo plan worker before history → choice plan history worker ≡ Some e → is_skip e ≡ true → LeadsTo plan worker before (history ++ e ∷ [])
+leads_on plan worker before history e leads chosen skip rest appends =
+    subst (λ (all : List Event). IsTaken plan worker before all) (sym (append_assoc history (e ∷ []) rest))
+    (leads (e ∷ rest) (chosen, subst (λ (b : Bool). MatchBool b (Appends plan worker (history ++ e ∷ []) rest) (rest ≡ [])) (sym skip) appends))
+
+pub taken_none : (plan : Plan) (worker : ℕ) (before history : List Event) → LeadsTo plan worker before history → choice plan history worker ≡ None → IsTaken plan worker before history
+taken_none plan worker before history leads none =
+    subst (λ (all : List Event). IsTaken plan worker before all) (append-nil history) (leads [] none)
+
+pub taken_last : (plan : Plan) (worker : ℕ) (before history : List Event) (e : Event) → LeadsTo plan worker before history → choice plan history worker ≡ Some e → is_skip e ≡ false → IsTaken plan worker before (history ++ e ∷ [])
+taken_last plan worker before history e leads chosen started =
+    let nothing : List Event = [] in
+    let none_more : nothing ≡ nothing = refl in
+    leads (e ∷ []) (chosen, subst (λ (b : Bool). MatchBool b (Appends plan worker (history ++ e ∷ []) nothing) (nothing ≡ nothing)) (sym started) none_more)

@@ -1,0 +1,3 @@
+pub mod DeskState
+pub mod Taken
+pub mod Tickets

@@ -1,0 +1,5 @@
+pub mod Courses
+pub mod DrawFacts
+pub mod Drawing
+pub mod PassLaw
+pub mod PlacesSeen

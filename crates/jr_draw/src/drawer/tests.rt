@@ -1,0 +1,111 @@
+use super::*;
+use jr_model::{Dir, Piece};
+use jr_options::Plan;
+use jr_words::WordList;
+use std::test::Fail;
+
+fn plan_of(alloc: Global, text: &[u8]) -> Result<Plan, Fail> {
+    let sections = jr_text::sections(alloc, text)?;
+    Ok(jr_options::plan(alloc, &sections, None)?)
+}
+
+// A write of so many bytes at an offset.
+fn write(number: u32, offset: u64, len: u32, seed: u64) -> Option<Draw> {
+    Some(Draw {
+        number,
+        dir: Dir::Write,
+        piece: Piece {
+            file: 0,
+            offset,
+            len,
+        },
+        seed,
+    })
+}
+
+#[test]
+fn visits_each_cell_of_a_map_once(rt: HostRuntime) -> Result<(), Fail> {
+    let plan = plan_of(rt.alloc(), b"[w]\nrw=randwrite\nsize=16k\n")?;
+    assert_eq!(rt; plan.clones(), 1);
+    let words = [
+        0, 0, 2, 10, 1, 1, 2, 11, 2, 2, 3, 12, 3, 3, 6, 13, 4, 4, 0, 14,
+    ];
+    let source = WordList { rest: &words };
+    let mut drawer = Drawer::new(rt.alloc(), plan.clone_at(0), 7, source)?;
+    assert_eq!(rt; drawer.pass(), 7);
+    assert_eq!(rt; drawer.next(), write(0, 8192, 4096, 10));
+    assert_eq!(rt; drawer.next(), write(1, 12288, 4096, 11));
+    assert_eq!(rt; drawer.next(), write(2, 0, 4096, 12));
+    assert_eq!(rt; drawer.next(), write(3, 4096, 4096, 13));
+    assert_eq!(rt; drawer.next(), None);
+    assert_eq!(rt; drawer.next(), None);
+    Ok(())
+}
+
+// A read takes cell 3, and the write of four cells that follows is cut there.
+#[test]
+fn cuts_a_draw_at_a_taken_cell(rt: HostRuntime) -> Result<(), Fail> {
+    let plan = plan_of(rt.alloc(), b"[w]\nrw=randrw\nbs=1k,4k\nsize=8k\n")?;
+    assert_eq!(rt; plan.clones(), 1);
+    let words = [49, 0, 11, 1, 50, 0, 9, 2];
+    let source = WordList { rest: &words };
+    let mut drawer = Drawer::new(rt.alloc(), plan.clone_at(0), 0, source)?;
+    let first = drawer.next().ok_or("no draw")?;
+    assert_eq!(rt; first.dir, Dir::Read);
+    assert_eq!(rt; first.piece.offset, 3072);
+    assert_eq!(rt; first.piece.len, 1024);
+    assert_eq!(rt; drawer.next(), write(1, 1024, 2048, 2));
+    Ok(())
+}
+
+#[test]
+fn comes_back_to_a_cell_without_a_map(rt: HostRuntime) -> Result<(), Fail> {
+    let text = b"[w]\nrw=randwrite\nnorandommap=1\nsize=16k\n";
+    let plan = plan_of(rt.alloc(), text)?;
+    assert_eq!(rt; plan.clones(), 1);
+    let words = [0, 0, 2, 0, 0, 0, 2, 0, 0, 0, 2, 0, 0, 0, 0, 0];
+    let source = WordList { rest: &words };
+    let mut drawer = Drawer::new(rt.alloc(), plan.clone_at(0), 0, source)?;
+    for (number, offset) in [(0, 8192), (1, 8192), (2, 8192), (3, 0)] {
+        assert_eq!(rt; drawer.next(), write(number, offset, 4096, 0));
+    }
+    assert_eq!(rt; drawer.next(), None);
+    Ok(())
+}
+
+// Reads and writes each go on where their own direction stopped, and the last draw is cut.
+#[test]
+fn goes_on_in_order(rt: HostRuntime) -> Result<(), Fail> {
+    let text = b"[w]\nrw=rw\nbs=512,1k\noffset=4k\nsize=3k\n";
+    let plan = plan_of(rt.alloc(), text)?;
+    assert_eq!(rt; plan.clones(), 1);
+    let words = [50, 0, 4, 0, 49, 0, 4, 0, 99, 0, 4, 0, 150, 0, 4, 0];
+    let source = WordList { rest: &words };
+    let mut drawer = Drawer::new(rt.alloc(), plan.clone_at(0), 0, source)?;
+    assert_eq!(rt; drawer.next(), write(0, 4096, 1024, 0));
+    let second = drawer.next().ok_or("no draw")?;
+    assert_eq!(rt; second.dir, Dir::Read);
+    assert_eq!(rt; second.piece.offset, 4096);
+    assert_eq!(rt; drawer.next(), write(2, 5120, 1024, 0));
+    assert_eq!(rt; drawer.next(), write(3, 6144, 512, 0));
+    assert_eq!(rt; drawer.next(), None);
+    Ok(())
+}
+
+// Clone 1 draws its pass 3 from the seed 5 + 1000003 + 3.
+#[test]
+fn seeds_each_pass(rt: HostRuntime) -> Result<(), Fail> {
+    let text = b"[w]\nrw=randwrite\nrandseed=5\nnumjobs=2\nloops=4\nsize=64k\n";
+    let plan = plan_of(rt.alloc(), text)?;
+    assert_eq!(rt; plan.clones(), 2);
+    let mut drawer = Drawer::of_pass(rt.alloc(), plan.clone_at(1), 3)?;
+    let source = Words::new(1_000_011);
+    let mut same = Drawer::new(rt.alloc(), plan.clone_at(1), 3, source)?;
+    for _ in 0..16 {
+        let draw = drawer.next();
+        assert!(rt; draw.is_some());
+        assert_eq!(rt; draw, same.next());
+    }
+    assert_eq!(rt; drawer.next(), None);
+    Ok(())
+}

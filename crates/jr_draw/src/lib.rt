@@ -1,0 +1,8 @@
+// The draws of a pass: which I/Os a clone makes, in order.
+#![tactic(auto)]
+
+mod course;
+mod drawer;
+mod places;
+
+pub use drawer::Drawer;

@@ -1,0 +1,23 @@
+// Engines: what carries out reads and writes, and what one call of it did.
+#![tactic(auto)]
+
+mod answers;
+mod engines;
+mod faults;
+mod files;
+mod memory_engine;
+mod null_engine;
+mod scripted_engine;
+mod slices;
+mod tallies;
+
+pub use answers::{Answer, ask};
+pub use engines::Engine;
+pub use faults::EngineFault;
+pub use jr_model::{Reply, ReplyBytes};
+pub use memory_engine::MemoryEngine;
+pub use null_engine::NullEngine;
+pub use scripted_engine::ScriptedEngine;
+
+#[cfg(test)]
+mod tests;

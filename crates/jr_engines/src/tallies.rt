@@ -1,0 +1,59 @@
+ghost use Rattle.std.specs.Prelude.{◌≡◌, ◌-◌, ◌^◌, ◌<◌, ◌≤◌};
+ghost use Rattle.jr_engines.specs.Tally.{Notes};
+
+use crate::faults::EngineFault;
+use std::marker::Model;
+
+// The calls that an engine has had, and how many of them failed.
+#[derive(Debug, Drop)]
+pub struct Tally {
+    calls: u64,
+    failures: u64,
+}
+
+impl Model for Tally {
+    ghost use Rattle.std.specs.Prelude.{◌≤◌};
+    ghost use Rattle.jr_engines.specs.Tally.{Tally as TallyRecord};
+
+    ghost Value = { TallyRecord };
+
+    ghost view = { λ a. record { calls = a.calls; failures = a.failures } };
+
+    ghost invariant = { λ a. a.failures ≤ a.calls };
+}
+
+impl Tally {
+    pub fn new() -> Tally
+        ensures { result ≡ record { calls = 0; failures = 0 } }
+    {
+        Tally {
+            calls: 0,
+            failures: 0,
+        }
+    }
+
+    // Notes one more call and how it ended.
+    pub fn note(&mut self, answer: &Result<usize, EngineFault>)
+        requires { self.old.calls < 2 ^ 64 - 1 }
+        ensures notes { Notes self.old answer.now self.new }
+        ensures few { self.new.failures ≤ self.new.calls }
+    {
+        self.calls += 1;
+        if answer.is_err() {
+            self.failures += 1;
+        }
+    }
+
+    pub fn calls(&self) -> u64
+        ensures { result ≡ self.now.calls }
+    {
+        self.calls
+    }
+
+    pub fn failures(&self) -> u64
+        ensures value { result ≡ self.now.failures }
+        ensures few { self.now.failures ≤ self.now.calls }
+    {
+        self.failures
+    }
+}

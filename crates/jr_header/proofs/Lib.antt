@@ -1,0 +1,8 @@
+pub mod Differences
+pub mod Halves
+pub mod Headers
+pub mod Laws
+pub mod Patterns
+pub mod Rulings
+pub mod Verdicts
+mod WorkedBlocks

@@ -1,0 +1,16 @@
+//! What a write puts into its blocks, and what is wrong with the bytes that a check read.
+#![tactic(auto)]
+
+mod content;
+mod digests;
+mod filler;
+mod judgement;
+mod ruling;
+mod served;
+
+pub use content::fill;
+pub use ruling::{Ruling, rule};
+pub use served::{Served, serve};
+
+#[cfg(test)]
+mod tests;

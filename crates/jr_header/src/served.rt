@@ -1,0 +1,110 @@
+ghost use Rattle.std.specs.Prelude.{◌≡◌, ◌-◌, ◌^◌, ◌<◌, true, length, vec_len};
+ghost use Rattle.jr_model.specs.Tickets.{ticket_fits};
+ghost use Rattle.jr_engines.specs.Answers.{Answers};
+ghost use Rattle.jr_header.specs.Served.{asked_with, served_expected, is_whole_check, is_to_judge};
+
+use crate::content::fill;
+use jr_engines::{Answer, Engine, ask};
+use jr_model::{Expected, Outcome, Ticket, TicketKind};
+use std::marker::Model;
+
+/// A ticket that was carried out. Only `serve` makes it. Contracts see the engine's answer.
+#[derive(Debug, Drop)]
+pub struct Served {
+    answer: Answer,
+    expected: Expected,
+}
+
+impl Model for Served {
+    ghost use Rattle.jr_engines.specs.Answers.{AnswerParts};
+    ghost use Rattle.jr_header.specs.Served.{IsServed};
+
+    ghost Value = { AnswerParts };
+
+    ghost view = { λ s. s.answer };
+
+    ghost invariant = { λ s. IsServed s.answer s.expected };
+}
+
+impl Served {
+    /// The ticket that was carried out.
+    pub fn ticket(&self) -> &Ticket
+        ensures value { result.now ≡ self.now.ticket }
+        ensures fits { ticket_fits self.now.ticket ≡ true }
+    {
+        let _ = &self.expected;
+        self.answer.ticket()
+    }
+
+    /// The bytes that were read or written.
+    pub fn bytes(&self) -> &[u8]
+        ensures value { result.now ≡ self.now.bytes }
+        ensures room { length self.now.bytes ≡ self.now.ticket.piece.len }
+    {
+        let _ = &self.expected;
+        self.answer.bytes()
+    }
+
+    /// How the engine's call ended.
+    pub fn outcome(&self) -> Outcome
+        ensures { result ≡ self.now.outcome }
+    {
+        self.answer.outcome()
+    }
+
+    /// What a check of these bytes is judged by.
+    pub fn expected(&self) -> &Expected
+        ensures { result.now ≡ served_expected self.now.ticket.kind self.now.ticket }
+    {
+        &self.expected
+    }
+
+    /// Whether this is a check that ended whole.
+    pub fn to_judge(&self) -> bool
+        ensures { result ≡ is_to_judge self.now }
+    {
+        is_whole_check(self.answer.ticket().kind, self.answer.outcome())
+    }
+
+    /// The bytes, to use their room again.
+    pub fn into_buf(self) -> Vec<u8>
+        ensures { result.items ≡ self.bytes }
+    {
+        self.answer.into_buf()
+    }
+}
+
+fn is_whole_check(kind: TicketKind, outcome: Outcome) -> bool
+    ensures { result ≡ is_whole_check kind outcome }
+{
+    match (kind, outcome) {
+        (TicketKind::Probe, Outcome::Whole) => true,
+        _ => false,
+    }
+}
+
+/// Carries out a ticket: fills the buffer for a write, and asks the engine once.
+pub fn serve(engine: &mut dyn Engine, ticket: Ticket, buffer: Vec<u8>) -> Served
+    requires fits { ticket_fits ticket ≡ true }
+    requires room { vec_len buffer ≡ ticket.piece.len }
+    requires calls { (state engine.old).calls < 2 ^ 64 - 1 }
+    ensures { Answers (state engine.old) ticket (asked_with ticket.kind ticket buffer.items) result (state engine.new) }
+{
+    let mut buffer = buffer;
+    let expected = prepared(&ticket, buffer.as_mut_slice());
+    let answer = ask(engine, ticket, buffer);
+    Served { answer, expected }
+}
+
+// Fills the buffer for a write, and says what is known of the bytes.
+fn prepared(ticket: &Ticket, buffer: &mut [u8]) -> Expected
+    requires fits { ticket_fits ticket.now ≡ true }
+    requires room { length buffer.old ≡ ticket.now.piece.len }
+    ensures buffer { buffer.new ≡ asked_with ticket.now.kind ticket.now buffer.old }
+    ensures expected { result ≡ served_expected ticket.now.kind ticket.now }
+{
+    match ticket.kind {
+        TicketKind::Write => fill(ticket, buffer),
+        TicketKind::Read | TicketKind::Probe => ticket.expected,
+    }
+}

@@ -1,0 +1,6 @@
+// The random map of a clone: which cells of its region a pass has already drawn.
+#![tactic(auto)]
+
+mod cells;
+
+pub use cells::{CellMap, MOST_CELLS};

@@ -1,0 +1,11 @@
+pub mod Drafts
+pub mod Files
+pub mod OptionValues
+pub mod OptionWords
+pub mod Options
+pub mod FaultTexts
+pub mod PlanFacts
+pub mod PlanText
+pub mod Settings
+pub mod Shapes
+pub mod Surveys

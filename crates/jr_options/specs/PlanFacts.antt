@@ -1,0 +1,76 @@
+-- What holds of every plan that is made from a job file, whatever the file says (the limits are of this project).
+use Rattle.std.specs.Prelude.{◌≡◌, ℕ, ◌+◌, ◌*◌, ◌%◌, ◌^◌, ◌<◌, ◌≤◌, Bool, true, false, List, length, sum_by, Option, Some, slice_get}
+use Rattle.jr_model.specs.declared.workloads.IoType.{IoType}
+use Rattle.jr_model.specs.declared.workloads.IoType.TheVariants as io
+use Rattle.jr_model.specs.Draws.{size_at}
+use Rattle.jr_model.specs.Plan.{SubJob, FileSpec, Plan, is_verified}
+use Rattle.jr_model.specs.Tickets.{has_pattern}
+
+-- the I/O type has reads
+abbrev pub has_reads : IoType → Bool
+has_reads io.Read = true
+has_reads io.RandRead = true
+has_reads io.ReadWrite = true
+has_reads io.RandRw = true
+has_reads io.Write = false
+has_reads io.RandWrite = false
+
+-- the I/O type has writes
+abbrev pub has_writes : IoType → Bool
+has_writes io.Write = true
+has_writes io.RandWrite = true
+has_writes io.ReadWrite = true
+has_writes io.RandRw = true
+has_writes io.Read = false
+has_writes io.RandRead = false
+
+-- each size that the split gives is a multiple of the cell, from the cell on up to the largest block
+pub record SizesFit (cell : ℕ) (split : List (ℕ × ℕ)) : Type 0 where
+  pub multiple : (t : ℕ) → t < 100 → size_at split t % cell ≡ 0
+  pub least : (t : ℕ) → t < 100 → cell ≤ size_at split t
+  pub most : (t : ℕ) → t < 100 → size_at split t ≤ 4194304
+
+-- a planned clone keeps the limits: its cell is whole blocks of 512 bytes, its region has cells and lies within the
+-- furthest end, and its methods have what they need
+pub record KeepsLimits (job : SubJob) : Type 0 where
+  pub cell_sectors : job.cell % 512 ≡ 0
+  pub cell_least : 512 ≤ job.cell
+  pub cell_most : job.cell ≤ 4194304
+  pub cells_least : 1 ≤ job.cells
+  pub cells_most : job.cells ≤ 2 ^ 24
+  pub start_sectors : job.start % 512 ≡ 0
+  pub region : job.start + job.cells * job.cell ≤ 2 ^ 50
+  pub percent : job.read_percent ≤ 100
+  pub depth_least : 1 ≤ job.depth
+  pub depth_most : job.depth ≤ 256
+  pub passes_least : 1 ≤ job.passes
+  pub passes_most : job.passes ≤ 1000
+  pub reads : has_reads job.io_type ≡ true → SizesFit job.cell job.read_split
+  pub writes : has_writes job.io_type ≡ true → SizesFit job.cell job.write_split
+  pub pattern : has_pattern job.method.kind job.method.pattern ≡ true
+  pub verified : is_verified job.method.kind ≡ true → has_writes job.io_type ≡ true
+
+-- the clone at place i of a list over these files: it is numbered so, and its region lies within its file
+pub record IsPlaced (files : List FileSpec) (i : ℕ) (job : SubJob) : Type 0 where
+  pub number : job.clone ≡ i
+  pub file : job.file < length files
+  pub within : (spec : FileSpec) → slice_get files job.file ≡ Some spec → (spec.low ≤ job.start) × (job.start + job.cells * job.cell ≤ spec.high)
+
+-- the cells that the clones' passes visit, all together
+abbrev pub work_of : List SubJob → ℕ
+work_of clones = sum_by (λ (job : SubJob). job.cells * job.passes) clones
+
+-- clones in their places, each within the limits, and files that hold them
+pub record AreDrafted (clones : List SubJob) (files : List FileSpec) : Type 0 where
+  pub clones_most : length clones ≤ 64
+  pub files_most : length files ≤ length clones
+  pub placed : (i : ℕ) (job : SubJob) → slice_get clones i ≡ Some job → IsPlaced files i job
+  pub limited : (i : ℕ) (job : SubJob) → slice_get clones i ≡ Some job → KeepsLimits job
+  pub ends : (f : ℕ) (spec : FileSpec) → slice_get files f ≡ Some spec → (spec.low ≤ spec.high) × (spec.high ≤ 2 ^ 50)
+  pub work : work_of clones ≤ 2 ^ 30
+
+-- a plan: 1 to 64 such clones, and at most 16 verifiers
+pub record IsPlanned (plan : Plan) : Type 0 where
+  pub clones_least : 1 ≤ length plan.clones
+  pub drafted : AreDrafted plan.clones plan.files
+  pub verifiers : plan.verifiers ≤ 16

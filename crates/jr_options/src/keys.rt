@@ -1,0 +1,56 @@
+/// A key whose value is one of a few words.
+#[derive(Clone, Copy, Debug, PartialEq, Eq)]
+pub enum ChoiceKey {
+    IoType,
+    Engine,
+    Verify,
+    /// `io_submit_mode`, which has no effect.
+    SubmitMode,
+}
+
+/// A key whose value is a whole number.
+#[derive(Clone, Copy, Debug, PartialEq, Eq)]
+pub enum NumberKey {
+    ReadPercent,
+    WritePercent,
+    Size,
+    Offset,
+    OffsetStep,
+    Clones,
+    Passes,
+    Depth,
+    Seed,
+    Backlog,
+    Verifiers,
+}
+
+/// A key whose value is 0 or 1, and 1 where it has none.
+#[derive(Clone, Copy, Debug, PartialEq, Eq)]
+pub enum FlagKey {
+    NoMap,
+    Stonewall,
+    Fatal,
+    Checks,
+    /// One without effect.
+    Unused,
+}
+
+/// A key whose value is a text of its own form.
+#[derive(Clone, Copy, Debug, PartialEq, Eq)]
+pub enum TextKey {
+    BlockSizes,
+    Splits,
+    Pattern,
+    FileName,
+    Directory,
+    Description,
+}
+
+/// An option of a job file. Aliases are one key.
+#[derive(Clone, Copy, Debug, PartialEq, Eq)]
+pub enum Key {
+    Choice(ChoiceKey),
+    Number(NumberKey),
+    Flag(FlagKey),
+    Text(TextKey),
+}

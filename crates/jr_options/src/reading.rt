@@ -1,0 +1,395 @@
+ghost use Rattle.std.specs.Prelude.{◌≡◌, ◌≤◌, ◌<◌, ◌+◌, ◌-◌, ◌*◌, ◌^◌, IfOk};
+ghost use Rattle.jr_options.specs.Options.{AreInRange};
+ghost use Rattle.jr_options.specs.Shapes.{HasShape};
+ghost use Rattle.jr_options.specs.Surveys.{IsCapped, start_of};
+
+use std::alloc::{AllocError, Global};
+
+use jr_model::EngineKind;
+use jr_text::{Line, Section};
+
+use crate::drafts::{Draft, PlannedJob};
+use crate::faults::{Bound, JobFault};
+use crate::keys::{Key, TextKey};
+use crate::options::JobOptions;
+use crate::plans::Plan;
+use crate::shapes::Shape;
+use crate::words;
+
+const MOST_CLONES: usize = 64;
+const FURTHEST_END: u128 = 1 << 50;
+const MOST_CELLS: u64 = 1 << 24;
+const MOST_WORK: u64 = 1 << 30;
+
+// The section's lines count for the jobs below it; it is no job.
+fn is_global(section: &Section) -> bool {
+    section.name() == "global"
+}
+
+// A job that the run is to have.
+fn is_planned(section: &Section, only: Option<&str>) -> bool {
+    if is_global(section) {
+        return false;
+    }
+    match only {
+        Some(name) => section.name() == name,
+        None => true,
+    }
+}
+
+/// The plan of the sections of a job file: of all jobs, or of those of one name.
+pub fn plan(alloc: Global, sections: &[Section], only: Option<&str>) -> Result<Plan, JobFault> {
+    if !sections.iter().any(|section| !is_global(section)) {
+        return Err(JobFault::NoJob);
+    }
+    if !sections.iter().any(|section| is_planned(section, only)) {
+        return Err(JobFault::NoSection);
+    }
+    let tally = tally_of(Survey::new(), sections, only)?;
+    if let Some(fault) = tally.fault() {
+        return Err(fault);
+    }
+    build(alloc, sections, only, tally)
+}
+
+// What is known of the planned jobs so far.
+#[derive(Clone, Copy, Debug)]
+struct Tally {
+    // The first job that is at fault.
+    fault: Option<JobFault>,
+    engine: Option<EngineKind>,
+    is_mixed: bool,
+    // At most one above what a run may have.
+    clones: u64,
+    is_far: bool,
+    is_long: bool,
+    // At most one above what a run may have.
+    work: u128,
+    verifiers: u32,
+}
+
+impl Tally {
+    fn new() -> Tally
+        ensures { IsCapped result }
+    {
+        Tally {
+            fault: None,
+            engine: None,
+            is_mixed: false,
+            clones: 0,
+            is_far: false,
+            is_long: false,
+            work: 0,
+            verifiers: 0,
+        }
+    }
+
+    fn with_job(self, options: &JobOptions, line: u32) -> Tally
+        requires range { AreInRange options.now }
+        requires capped { IsCapped self }
+        ensures capped { IsCapped result }
+    {
+        let mut tally = self;
+        tally.is_mixed = tally.is_mixed || is_other_engine(tally.engine, options.engine);
+        tally.engine = Some(tally.engine.unwrap_or(options.engine));
+        tally.clones = (tally.clones + u64::from(options.clones)).min(65);
+        tally.verifiers = tally.verifiers.max(options.verifiers);
+        match options.shape(line) {
+            Ok(shape) => tally.with_shape(options, &shape),
+            Err(fault) => {
+                tally.fault = tally.fault.or(Some(fault));
+                tally
+            }
+        }
+    }
+
+    fn with_shape(self, options: &JobOptions, shape: &Shape) -> Tally
+        requires range { AreInRange options.now }
+        requires capped { IsCapped self }
+        ensures capped { IsCapped result }
+    {
+        let mut tally = self;
+        let end = furthest_start(options) + u128::from(shape.size);
+        tally.is_far = tally.is_far || end > FURTHEST_END;
+        tally.is_long = tally.is_long || shape.cells > MOST_CELLS;
+        tally.work = (tally.work + visits(options, shape)).min(1 + u128::from(MOST_WORK));
+        tally
+    }
+
+    // The first of the faults that show only over all jobs.
+    fn fault(&self) -> Option<JobFault> {
+        if self.fault.is_some() {
+            return self.fault;
+        }
+        if self.is_mixed {
+            return Some(JobFault::MixedEngines);
+        }
+        if self.clones > 64 {
+            return Some(JobFault::Limit(Bound::Clones));
+        }
+        if self.is_far {
+            return Some(JobFault::Limit(Bound::Region));
+        }
+        if self.is_long {
+            return Some(JobFault::Limit(Bound::Cells));
+        }
+        if self.work > u128::from(MOST_WORK) {
+            return Some(JobFault::Limit(Bound::Work));
+        }
+        None
+    }
+}
+
+fn is_other_engine(engine: Option<EngineKind>, other: EngineKind) -> bool {
+    match engine {
+        Some(engine) => engine != other,
+        None => false,
+    }
+}
+
+// Where the clone of this place within its job begins.
+fn start_of(options: &JobOptions, index: u32) -> u128
+    ensures value { result ≡ start_of options.now index }
+    ensures most { result < 2 ^ 97 }
+{
+    let offset = u128::from(options.offset);
+    let step = u128::from(options.offset_step);
+    offset + step * u128::from(index)
+}
+
+// Where the last clone of a job begins.
+fn furthest_start(options: &JobOptions) -> u128
+    requires range { AreInRange options.now }
+    ensures value { result ≡ start_of options.now (options.now.clones - 1) }
+    ensures most { result < 2 ^ 97 }
+{
+    start_of(options, options.clones - 1)
+}
+
+// How many cells all passes of all clones of a job visit.
+fn visits(options: &JobOptions, shape: &Shape) -> u128
+    requires range { AreInRange options.now }
+    ensures value { result ≡ shape.now.cells * options.now.passes * options.now.clones }
+    ensures most { result < 2 ^ 80 }
+{
+    let cells = u128::from(shape.cells);
+    cells * u128::from(options.passes) * u128::from(options.clones)
+}
+
+// The options that count so far, and what is known of the jobs so far.
+#[derive(Clone, Copy, Debug)]
+struct Survey {
+    globals: JobOptions,
+    tally: Tally,
+}
+
+impl Survey {
+    fn new() -> Survey
+        ensures range { AreInRange result.globals }
+        ensures capped { IsCapped result.tally }
+    {
+        Survey {
+            globals: JobOptions::new(),
+            tally: Tally::new(),
+        }
+    }
+
+    fn with_section(self, section: &Section, only: Option<&str>) -> Result<Survey, JobFault>
+        requires range { AreInRange self.globals }
+        requires capped { IsCapped self.tally }
+        ensures range { IfOk result (λ survey. AreInRange survey.globals) }
+        ensures capped { IfOk result (λ survey. IsCapped survey.tally) }
+    {
+        let is_global = is_global(section);
+        if !is_global && !is_planned(section, only) {
+            return Ok(self);
+        }
+        match self.globals.with_lines(section.lines()) {
+            Ok(options) if is_global => Ok(Survey {
+                globals: options,
+                tally: self.tally,
+            }),
+            Ok(options) => Ok(Survey {
+                globals: self.globals,
+                tally: self.tally.with_job(&options, section.line()),
+            }),
+            Err(fault) => Err(fault),
+        }
+    }
+}
+
+// Goes over all jobs once, without memory. A faulty line is the first fault; what is wrong with whole
+// jobs comes after all lines.
+fn tally_of(
+    start: Survey,
+    sections: &[Section],
+    only: Option<&str>,
+) -> Result<Tally, JobFault>
+    requires range { AreInRange start.globals }
+    requires capped { IsCapped start.tally }
+    ensures capped { IfOk result IsCapped }
+{
+    let mut survey = start;
+    for section in sections {
+        survey = match survey.with_section(section, only) {
+            Ok(next) => next,
+            Err(fault) => return Err(fault),
+        };
+    }
+    Ok(survey.tally)
+}
+
+// The options of a job below these sections.
+fn options_for(
+    defaults: JobOptions,
+    above: &[Section],
+    section: &Section,
+) -> Result<JobOptions, JobFault>
+    requires { AreInRange defaults }
+    ensures range { IfOk result AreInRange }
+{
+    match below(defaults, above) {
+        Ok(options) => options.with_lines(section.lines()),
+        Err(fault) => Err(fault),
+    }
+}
+
+// The options that count below these sections, from those that count above them.
+fn below(options: JobOptions, sections: &[Section]) -> Result<JobOptions, JobFault>
+    requires { AreInRange options }
+    ensures range { IfOk result AreInRange }
+{
+    let mut options = options;
+    for section in sections {
+        options = with_global(options, section)?;
+    }
+    Ok(options)
+}
+
+// The options that count below a section.
+fn with_global(options: JobOptions, section: &Section) -> Result<JobOptions, JobFault>
+    requires { AreInRange options }
+    ensures range { IfOk result AreInRange }
+{
+    if is_global(section) {
+        options.with_lines(section.lines())
+    } else {
+        Ok(options)
+    }
+}
+
+// The plan of sections that the survey has found sound.
+fn build(
+    alloc: Global,
+    sections: &[Section],
+    only: Option<&str>,
+    tally: Tally,
+) -> Result<Plan, JobFault> {
+    let mut draft = Draft::new(alloc);
+    let mut phase = 0;
+    for (place, section) in sections.iter().enumerate() {
+        if is_planned(section, only) {
+            match planned_job(phase, &sections[..place], section) {
+                Ok(job) => {
+                    phase = job.phase;
+                    draft = with_clones(alloc, draft, &job, &sections[..place], section)?;
+                }
+                Err(fault) => return Err(fault),
+            }
+        }
+    }
+    Plan::of_draft(draft, tally.engine.unwrap_or(EngineKind::File), tally.verifiers)
+}
+
+// The job of a section below others, after the jobs up to a phase.
+fn planned_job(phase: u32, above: &[Section], section: &Section) -> Result<PlannedJob, JobFault>
+    ensures range { IfOk result (λ job. AreInRange job.options) }
+    ensures shape { IfOk result (λ job. HasShape job.options job.shape) }
+{
+    match options_for(JobOptions::new(), above, section) {
+        Ok(options) => match options.shape(section.line()) {
+            Ok(shape) => Ok(PlannedJob {
+                phase: phase.saturating_add(u32::from(options.stonewall)),
+                options,
+                shape,
+            }),
+            Err(fault) => Err(fault),
+        },
+        Err(fault) => Err(fault),
+    }
+}
+
+fn with_clones(
+    alloc: Global,
+    draft: Draft,
+    job: &PlannedJob,
+    above: &[Section],
+    section: &Section,
+) -> Result<Draft, JobFault>
+    requires range { AreInRange job.now.options }
+    requires shape { HasShape job.now.options job.now.shape }
+{
+    let options = &job.options;
+    let mut draft = draft;
+    for index in 0..options.clones {
+        let start = start_of(options, index);
+        if draft.count() >= MOST_CLONES {
+            return Err(JobFault::Limit(Bound::Clones));
+        }
+        if start + u128::from(job.shape.size) > FURTHEST_END {
+            return Err(JobFault::Limit(Bound::Region));
+        }
+        if job.shape.cells > MOST_CELLS {
+            return Err(JobFault::Limit(Bound::Cells));
+        }
+        if draft.work() + job.shape.cells * u64::from(options.passes) > MOST_WORK {
+            return Err(JobFault::Limit(Bound::Work));
+        }
+        let file = file_name(alloc, above, section, index)?;
+        draft = draft.add(alloc, job, section.name(), file, start as u64)?;
+    }
+    Ok(draft)
+}
+
+// The value of the last line of this key among some lines, else the one found before.
+fn last_value<'a>(found: Option<&'a str>, lines: &'a [Line], key: TextKey) -> Option<&'a str> {
+    let mut found = found;
+    for line in lines {
+        if words::key(line.key()) == Some(Key::Text(key)) {
+            found = line.value();
+        }
+    }
+    found
+}
+
+// The last value of this key that counts for a section's job.
+fn value_for<'a>(above: &'a [Section], section: &'a Section, key: TextKey) -> Option<&'a str> {
+    let mut found = None;
+    for other in above {
+        if is_global(other) {
+            found = last_value(found, other.lines(), key);
+        }
+    }
+    last_value(found, section.lines(), key)
+}
+
+// The path of a clone's file; `index` is the clone's place within its job.
+fn file_name(
+    alloc: Global,
+    above: &[Section],
+    section: &Section,
+    index: u32,
+) -> Result<String, AllocError> {
+    let name = match value_for(above, section, TextKey::FileName) {
+        Some(name) => String::from_str(alloc, name)?,
+        None => {
+            let job = section.name();
+            format!(in alloc; "{job}.{index}.0")?
+        }
+    };
+    match value_for(above, section, TextKey::Directory) {
+        Some(directory) if directory.ends_with('/') => format!(in alloc; "{directory}{name}"),
+        Some(directory) => format!(in alloc; "{directory}/{name}"),
+        None => Ok(name),
+    }
+}

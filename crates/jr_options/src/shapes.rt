@@ -1,0 +1,121 @@
+ghost use Rattle.std.specs.Prelude.{◌≡◌, ◌<◌, ◌==◌, true, IfOk, Some};
+ghost use Rattle.std.specs.List.{list_all};
+ghost use Rattle.jr_options.specs.PlanFacts.{has_reads, has_writes};
+ghost use Rattle.jr_options.specs.Shapes.{HasShape, entry_fits, split_fits, options_fit};
+
+use jr_model::{IoType, LARGEST_BLOCK, VerifyKind};
+use jr_sizes::Split;
+
+use crate::faults::JobFault;
+use crate::options::JobOptions;
+
+/// How a job's region is cut: its cell, the number of cells, and the sizes of its I/Os.
+#[derive(Clone, Copy, Debug)]
+pub struct Shape {
+    pub(crate) size: u64,
+    pub(crate) cell: u32,
+    pub(crate) cells: u64,
+    pub(crate) reads: Split,
+    pub(crate) writes: Split,
+}
+
+pub(crate) fn has_reads(io_type: IoType) -> bool
+    ensures { result ≡ has_reads io_type }
+{
+    match io_type {
+        IoType::Read | IoType::RandRead | IoType::ReadWrite | IoType::RandRw => true,
+        IoType::Write | IoType::RandWrite => false,
+    }
+}
+
+pub(crate) fn has_writes(io_type: IoType) -> bool
+    ensures { result ≡ has_writes io_type }
+{
+    match io_type {
+        IoType::Write | IoType::RandWrite | IoType::ReadWrite | IoType::RandRw => true,
+        IoType::Read | IoType::RandRead => false,
+    }
+}
+
+// Whether each size that a split gives is a multiple of the cell, from the cell up to the largest block.
+fn split_fits(split: &Split, cell: u32) -> bool
+    requires { 0 < cell }
+    ensures { result ≡ split_fits cell split.now }
+{
+    split.entries().iter().all(|entry| entry_fits(entry, cell))
+}
+
+fn entry_fits(entry: &(u32, u8), cell: u32) -> bool
+    requires { 0 < cell }
+    ensures { result ≡ entry_fits cell entry.now }
+{
+    entry.1 == 0 || (cell <= entry.0 && entry.0 % cell == 0 && entry.0 <= LARGEST_BLOCK)
+}
+
+// The least size of a split that it gives at all.
+fn least_size(split: &Split) -> u32 {
+    let mut least = u32::MAX;
+    for (size, percent) in split.entries() {
+        if *percent != 0 {
+            least = least.min(*size);
+        }
+    }
+    least
+}
+
+impl JobOptions {
+    // The least of the sizes in the directions that the job has.
+    fn cell(&self, reads: &Split, writes: &Split) -> u32 {
+        let mut cell = u32::MAX;
+        if has_reads(self.io_type) {
+            cell = cell.min(least_size(reads));
+        }
+        if has_writes(self.io_type) {
+            cell = cell.min(least_size(writes));
+        }
+        cell
+    }
+
+    fn fits(&self, cell: u32, reads: &Split, writes: &Split) -> bool
+        ensures { result ≡ options_fit self.now cell reads.now writes.now }
+    {
+        cell >= 512
+            && cell % 512 == 0
+            && self.offset % 512 == 0
+            && self.offset_step % 512 == 0
+            && (!has_reads(self.io_type) || split_fits(reads, cell))
+            && (!has_writes(self.io_type) || split_fits(writes, cell))
+    }
+
+    // The shape of a job whose section begins at this line, or what is wrong with the job.
+    pub(crate) fn shape(&self, line: u32) -> Result<Shape, JobFault>
+        ensures shape { IfOk result (HasShape self.now) }
+    {
+        let size = self.size.ok_or(JobFault::MissingSize(line))?;
+        let reads = self.read_split.unwrap_or(Split::single(self.read_size));
+        let writes = self.write_split.unwrap_or(Split::single(self.write_size));
+        reads.facts();
+        writes.facts();
+        let cell = self.cell(&reads, &writes);
+        if !self.fits(cell, &reads, &writes) {
+            return Err(JobFault::BadBlock(line));
+        }
+        let cells = size / u64::from(cell);
+        if cells == 0 {
+            return Err(JobFault::BadBlock(line));
+        }
+        if self.kind == VerifyKind::Pattern && self.pattern.is_none() {
+            return Err(JobFault::NoPattern(line));
+        }
+        if self.kind != VerifyKind::Plain && !has_writes(self.io_type) {
+            return Err(JobFault::VerifyNeedsWrite(line));
+        }
+        Ok(Shape {
+            size,
+            cell,
+            cells,
+            reads,
+            writes,
+        })
+    }
+}

@@ -1,0 +1,4 @@
+pub mod Counts
+pub mod Passes
+pub mod Past
+pub mod Workloads

@@ -1,0 +1,275 @@
+ghost use Rattle.std.specs.Prelude.{◌≡◌, ◌&&◌, not, ◌==◌, IfOk, length, slice_get};
+ghost use Rattle.std.specs.List.{list_all};
+ghost use Rattle.jr_model.specs.History.{started, flies, outcome_of, is_judged, ended_whole, in_flight, awaiting};
+ghost use Rattle.jr_model.specs.Legal.{step_of_draw, step_of_clone, step_at, same_dir, is_this_issue, is_this_probe, is_this_skip, outcome_fits, end_fits, is_header_finding, is_byte_finding, kind_finds, kind_says, job_says, verdict_fits, may_happen, is_over, is_complete};
+ghost use Rattle.jr_model.specs.Plan.{clone_of};
+
+use crate::events::{ended_whole, is_judged, is_probe, outcome_of, same_piece, same_write};
+use crate::histories::Past;
+use crate::legal::{is_bad, is_over, step_of};
+use crate::passes::Pass;
+use crate::workloads::{PlannedClone, Workload};
+use jr_model::{
+    Dir, Draw, Event, Memory, Outcome, Piece, Started, Verdict, VerifyKind, What, WriteId,
+};
+use jr_options::Plan;
+use std::alloc::Global;
+
+// What may happen with a draw that may not be there.
+fn step_of_draw(
+    work: &Workload<'_>,
+    past: &Past<'_>,
+    worker: u32,
+    clone: &PlannedClone<'_>,
+    pass: &Pass<'_>,
+    draw: Option<Draw>,
+) -> Option<Event>
+    requires { pass.now.job ≡ clone.now }
+    ensures { result ≡ step_of_draw work.now past.now worker pass.now draw }
+{
+    match draw {
+        None => None,
+        Some(draw) => step_of(work, past, worker, clone, pass, &draw),
+    }
+}
+
+// What may happen with the draw of this name of a clone now, if anything.
+fn step_of_clone(
+    alloc: Global,
+    work: &Workload<'_>,
+    past: &Past<'_>,
+    worker: u32,
+    write: &WriteId,
+    clone: &PlannedClone<'_>,
+) -> Result<Option<Event>, Memory>
+    ensures { IfOk result (λ step. step ≡ step_of_clone work.now past.now worker write.now (Some clone.now)) }
+{
+    let pass = Pass::new(alloc, clone.job(), write.pass)?;
+    let draw = pass.draw_at(write.number);
+    Ok(step_of_draw(work, past, worker, clone, &pass, draw))
+}
+
+/// What may happen with the draw of this name now, if anything.
+pub fn step_at(
+    alloc: Global,
+    work: &Workload<'_>,
+    past: &Past<'_>,
+    worker: u32,
+    write: &WriteId,
+) -> Result<Option<Event>, Memory>
+    ensures { IfOk result (λ step. step ≡ step_at work.now past.now worker write.now) }
+{
+    match work.clones().get(write.clone as usize) {
+        None => Ok(None),
+        Some(clone) => step_of_clone(alloc, work, past, worker, write, clone),
+    }
+}
+
+fn same_dir(a: Dir, b: Dir) -> bool
+    ensures { result ≡ same_dir a b }
+{
+    a == b
+}
+
+fn is_this_issue(dir: Dir, write: &WriteId, piece: &Piece, step: &Option<Event>) -> bool
+    ensures { result ≡ is_this_issue dir write.now piece.now step.now }
+{
+    match step {
+        Some(
+            Event::Issue {
+                dir: d,
+                write: w,
+                piece: p,
+                ..
+            },
+        ) => same_dir(*d, dir) && same_write(w, write) && same_piece(p, piece),
+        _ => false,
+    }
+}
+
+fn is_this_probe(write: &WriteId, piece: &Piece, step: &Option<Event>) -> bool
+    ensures { result ≡ is_this_probe write.now piece.now step.now }
+{
+    match step {
+        Some(
+            Event::Probe {
+                write: w,
+                piece: p,
+                ..
+            },
+        ) => same_write(w, write) && same_piece(p, piece),
+        _ => false,
+    }
+}
+
+fn is_this_skip(write: &WriteId, step: &Option<Event>) -> bool
+    ensures { result ≡ is_this_skip write.now step.now }
+{
+    match step {
+        Some(Event::Skip { write: w, .. }) => same_write(w, write),
+        _ => false,
+    }
+}
+
+fn outcome_fits(outcome: Outcome, len: u32) -> bool
+    ensures { result ≡ outcome_fits outcome len }
+{
+    match outcome {
+        Outcome::Whole | Outcome::Failed => true,
+        Outcome::Short(count) => count < len,
+    }
+}
+
+fn end_fits(worker: u32, outcome: Outcome, io: Option<Started>) -> bool
+    ensures { result ≡ end_fits worker outcome io }
+{
+    match io {
+        None => false,
+        Some(io) => io.worker == worker && outcome_fits(outcome, io.piece.len),
+    }
+}
+
+// Whether this is wrong with a header, or the bytes after it.
+fn is_header_finding(what: What) -> bool
+    ensures { result ≡ is_header_finding what }
+{
+    match what {
+        What::Header | What::Digest | What::DataArea => true,
+        What::Byte(_) => false,
+    }
+}
+
+// Whether this is a byte of a piece of this length.
+fn is_byte_finding(len: u32, what: What) -> bool
+    ensures { result ≡ is_byte_finding len what }
+{
+    match what {
+        What::Byte(i) => i < len,
+        _ => false,
+    }
+}
+
+// Whether a check of this kind can find this.
+fn kind_finds(kind: VerifyKind, len: u32, what: What) -> bool
+    ensures { result ≡ kind_finds kind len what }
+{
+    match kind {
+        VerifyKind::Plain => false,
+        VerifyKind::Pattern => is_byte_finding(len, what),
+        VerifyKind::Md5 | VerifyKind::Sha1 | VerifyKind::Sha256 => is_header_finding(what),
+    }
+}
+
+// Whether a check of this kind can have this verdict.
+fn kind_says(kind: VerifyKind, len: u32, verdict: Verdict) -> bool
+    ensures { result ≡ kind_says kind len verdict }
+{
+    match verdict {
+        Verdict::Good => true,
+        Verdict::Bad(what) => kind_finds(kind, len, what),
+    }
+}
+
+// Whether a check of this clone of the plan can have this verdict; a check of no clone is good.
+fn clone_says(plan: &Plan, clone: u32, len: u32, verdict: Verdict) -> bool
+    ensures { result ≡ job_says (clone_of plan.now clone) len verdict }
+{
+    let clone = clone as usize;
+    if clone < plan.clones() {
+        kind_says(plan.clone_at(clone).method().kind, len, verdict)
+    } else {
+        !is_bad(verdict)
+    }
+}
+
+fn verdict_fits(plan: &Plan, verdict: Verdict, io: Option<Started>) -> bool
+    ensures { result ≡ verdict_fits plan.now verdict io }
+{
+    match io {
+        None => false,
+        Some(io) => { is_probe(io.kind) && clone_says(plan, io.write.clone, io.piece.len, verdict) }
+    }
+}
+
+/// Whether a worker's I/O may end so now.
+pub fn may_end(past: &Past<'_>, worker: u32, io: usize, outcome: Outcome) -> bool
+    ensures { result ≡ (flies past.now io && end_fits worker outcome (slice_get (started past.now) io)) }
+{
+    past.flies(io) && end_fits(worker, outcome, past.started_at(io))
+}
+
+/// Whether a check may have this verdict now.
+pub fn may_judge(plan: &Plan, past: &Past<'_>, io: usize, verdict: Verdict) -> bool
+    ensures { result ≡ (ended_whole (outcome_of past.now io) && not (is_judged past.now io) && verdict_fits plan.now verdict (slice_get (started past.now) io)) }
+{
+    ended_whole(outcome_of(past.events(), io))
+        && !is_judged(past.events(), io)
+        && verdict_fits(plan, verdict, past.started_at(io))
+}
+
+// What may happen with a draw of the plan after a history, if anything.
+fn step_after(
+    alloc: Global,
+    plan: &Plan,
+    past: &Past<'_>,
+    worker: u32,
+    write: &WriteId,
+) -> Result<Option<Event>, Memory>
+    ensures { IfOk result (λ step. step ≡ step_at plan.now past.now worker write.now) }
+{
+    let work = Workload::new(alloc, plan)?;
+    step_at(alloc, &work, past, worker, write)
+}
+
+/// Whether an event may happen after a history: each rule is worked out anew from the events.
+pub fn allowed(alloc: Global, plan: &Plan, history: &[Event], event: &Event) -> Result<bool, Memory>
+    ensures { IfOk result (λ yes. yes ≡ may_happen plan.now history.now event.now) }
+{
+    let past = Past::new(alloc, history)?;
+    match event {
+        Event::Issue {
+            worker,
+            dir,
+            write,
+            piece,
+        } => {
+            let step = step_after(alloc, plan, &past, *worker, write)?;
+            Ok(is_this_issue(*dir, write, piece, &step))
+        }
+        Event::Probe {
+            worker,
+            write,
+            piece,
+        } => {
+            let step = step_after(alloc, plan, &past, *worker, write)?;
+            Ok(is_this_probe(write, piece, &step))
+        }
+        Event::Skip { worker, write } => {
+            let step = step_after(alloc, plan, &past, *worker, write)?;
+            Ok(is_this_skip(write, &step))
+        }
+        Event::End {
+            worker,
+            io,
+            outcome,
+        } => Ok(may_end(&past, *worker, *io as usize, *outcome)),
+        Event::Verdict { io, verdict, .. } => { Ok(may_judge(plan, &past, *io as usize, *verdict)) }
+    }
+}
+
+// Whether each clone is finished or halted.
+fn all_over(work: &Workload<'_>, past: &Past<'_>) -> bool
+    ensures { result ≡ list_all (is_over past.now) work.now.clones }
+{
+    work.clones().iter().all(|clone| is_over(past, clone))
+}
+
+/// Whether a history is a whole run: nothing is in flight, no verdict is to come, and each clone is finished or
+/// halted.
+pub fn complete(alloc: Global, plan: &Plan, history: &[Event]) -> Result<bool, Memory>
+    ensures { IfOk result (λ yes. yes ≡ is_complete plan.now history.now) }
+{
+    let past = Past::new(alloc, history)?;
+    let work = Workload::new(alloc, plan)?;
+    Ok(past.in_flight().is_empty() && past.awaiting().is_empty() && all_over(&work, &past))
+}

@@ -1,0 +1,246 @@
+ghost use Rattle.std.specs.Prelude.{◌≡◌, ◌<◌, ◌^◌, IfOk, true, not, length, filter_map, count_by};
+ghost use Rattle.jr_model.specs.History.{is_write};
+ghost use Rattle.jr_model.specs.Legal.{is_bad};
+ghost use Rattle.jr_replay.specs.Counts.{totals_by};
+ghost use Rattle.jr_model.specs.Totals.{is_read, if_wanted, moved_by, moved, bytes_of, is_verdict_of, is_skip_of, is_fault_of, totals_of};
+
+use crate::events::{ended_whole, is_write};
+use crate::histories::Past;
+use crate::legal::{is_bad, is_fault, is_io_of};
+use crate::rounds::is_of_clone;
+use jr_model::{Event, Memory, Started, TicketKind, Totals};
+use std::alloc::Global;
+
+fn is_read(kind: TicketKind) -> bool
+    ensures { result ≡ is_read kind }
+{
+    kind == TicketKind::Read
+}
+
+// This I/O, where it is there, a read of the clone, and ended with all its bytes.
+fn if_read(clone: u32, whole: bool, io: Option<Started>) -> Option<Started>
+    ensures { result ≡ if_wanted is_read clone whole io }
+{
+    match io {
+        Some(io) if whole && is_read(io.kind) && is_of_clone(clone, &io) => Some(io),
+        _ => None,
+    }
+}
+
+// The same for a write.
+fn if_write(clone: u32, whole: bool, io: Option<Started>) -> Option<Started>
+    ensures { result ≡ if_wanted is_write clone whole io }
+{
+    match io {
+        Some(io) if whole && is_write(io.kind) && is_of_clone(clone, &io) => Some(io),
+        _ => None,
+    }
+}
+
+// The clone's read that an event ends with all its bytes.
+fn read_by(ios: &[Started], clone: u32, event: &Event) -> Option<Started>
+    ensures { result ≡ moved_by ios.now is_read clone event.now }
+{
+    match *event {
+        Event::End { io, outcome, .. } => if_read(
+            clone,
+            ended_whole(Some(outcome)),
+            ios.get(io as usize).copied(),
+        ),
+        _ => None,
+    }
+}
+
+// The clone's write that an event ends with all its bytes.
+fn write_by(ios: &[Started], clone: u32, event: &Event) -> Option<Started>
+    ensures { result ≡ moved_by ios.now is_write clone event.now }
+{
+    match *event {
+        Event::End { io, outcome, .. } => if_write(
+            clone,
+            ended_whole(Some(outcome)),
+            ios.get(io as usize).copied(),
+        ),
+        _ => None,
+    }
+}
+
+fn read_count(ios: &[Started], events: &[Event], clone: u32) -> usize
+    ensures { result ≡ length (filter_map (moved_by ios.now is_read clone) events.now) }
+{
+    events
+        .iter()
+        .filter_map(|event| read_by(ios, clone, event))
+        .count()
+}
+
+fn write_count(ios: &[Started], events: &[Event], clone: u32) -> usize
+    ensures { result ≡ length (filter_map (moved_by ios.now is_write clone) events.now) }
+{
+    events
+        .iter()
+        .filter_map(|event| write_by(ios, clone, event))
+        .count()
+}
+
+fn read_bytes(ios: &[Started], events: &[Event], clone: u32) -> u64
+    requires { bytes_of (filter_map (moved_by ios.now is_read clone) events.now) < 2 ^ 64 }
+    ensures { result ≡ bytes_of (filter_map (moved_by ios.now is_read clone) events.now) }
+{
+    events
+        .iter()
+        .filter_map(|event| read_by(ios, clone, event))
+        .map(|io| u64::from(io.piece.len))
+        .sum()
+}
+
+fn write_bytes(ios: &[Started], events: &[Event], clone: u32) -> u64
+    requires { bytes_of (filter_map (moved_by ios.now is_write clone) events.now) < 2 ^ 64 }
+    ensures { result ≡ bytes_of (filter_map (moved_by ios.now is_write clone) events.now) }
+{
+    events
+        .iter()
+        .filter_map(|event| write_by(ios, clone, event))
+        .map(|io| u64::from(io.piece.len))
+        .sum()
+}
+
+// Whether the event is a verdict on a check of the clone.
+fn is_verdict(ios: &[Started], clone: u32, event: &Event) -> bool
+    ensures { result ≡ is_verdict_of ios.now (λ verdict. true) clone event.now }
+{
+    match *event {
+        Event::Verdict { io, .. } => is_io_of(clone, ios.get(io as usize).copied()),
+        _ => false,
+    }
+}
+
+// Whether the event is a good verdict on a check of the clone.
+fn is_good_verdict(ios: &[Started], clone: u32, event: &Event) -> bool
+    ensures { result ≡ is_verdict_of ios.now (λ verdict. not (is_bad verdict)) clone event.now }
+{
+    match *event {
+        Event::Verdict { io, verdict, .. } => {
+            is_io_of(clone, ios.get(io as usize).copied()) && !is_bad(verdict)
+        }
+        _ => false,
+    }
+}
+
+// Whether the event is a bad verdict on a check of the clone.
+fn is_bad_verdict(ios: &[Started], clone: u32, event: &Event) -> bool
+    ensures { result ≡ is_verdict_of ios.now is_bad clone event.now }
+{
+    match *event {
+        Event::Verdict { io, verdict, .. } => {
+            is_io_of(clone, ios.get(io as usize).copied()) && is_bad(verdict)
+        }
+        _ => false,
+    }
+}
+
+fn verdict_count(ios: &[Started], events: &[Event], clone: u32) -> usize
+    ensures { result ≡ count_by (is_verdict_of ios.now (λ verdict. true) clone) events.now }
+{
+    events
+        .iter()
+        .filter(|event| is_verdict(ios, clone, event))
+        .count()
+}
+
+fn good_count(ios: &[Started], events: &[Event], clone: u32) -> usize
+    ensures { result ≡ count_by (is_verdict_of ios.now (λ verdict. not (is_bad verdict)) clone) events.now }
+{
+    events
+        .iter()
+        .filter(|event| is_good_verdict(ios, clone, event))
+        .count()
+}
+
+fn bad_count(ios: &[Started], events: &[Event], clone: u32) -> usize
+    ensures { result ≡ count_by (is_verdict_of ios.now is_bad clone) events.now }
+{
+    events
+        .iter()
+        .filter(|event| is_bad_verdict(ios, clone, event))
+        .count()
+}
+
+// Whether the event skips a write of the clone.
+fn is_skip_of(clone: u32, event: &Event) -> bool
+    ensures { result ≡ is_skip_of clone event.now }
+{
+    match event {
+        Event::Skip { write, .. } => write.clone == clone,
+        _ => false,
+    }
+}
+
+fn skip_count(events: &[Event], clone: u32) -> usize
+    ensures { result ≡ count_by (is_skip_of clone) events.now }
+{
+    events
+        .iter()
+        .filter(|event| is_skip_of(clone, event))
+        .count()
+}
+
+// Whether the event is a fault of the clone.
+fn is_fault_of(ios: &[Started], clone: u32, event: &Event) -> bool
+    ensures { result ≡ is_fault_of ios.now clone event.now }
+{
+    match *event {
+        Event::End { io, outcome, .. } => {
+            is_io_of(clone, ios.get(io as usize).copied()) && is_fault(outcome)
+        }
+        _ => false,
+    }
+}
+
+fn fault_count(ios: &[Started], events: &[Event], clone: u32) -> usize
+    ensures { result ≡ count_by (is_fault_of ios.now clone) events.now }
+{
+    events
+        .iter()
+        .filter(|event| is_fault_of(ios, clone, event))
+        .count()
+}
+
+// What a clone did, where the started I/Os are given.
+fn totals_by(ios: &[Started], events: &[Event], clone: u32) -> Totals
+    requires reads { bytes_of (filter_map (moved_by ios.now is_read clone) events.now) < 2 ^ 64 }
+    requires writes { bytes_of (filter_map (moved_by ios.now is_write clone) events.now) < 2 ^ 64 }
+    ensures { result ≡ totals_by ios.now events.now clone }
+{
+    Totals {
+        reads: read_count(ios, events, clone) as u64,
+        rbytes: read_bytes(ios, events, clone),
+        writes: write_count(ios, events, clone) as u64,
+        wbytes: write_bytes(ios, events, clone),
+        checks: verdict_count(ios, events, clone) as u64,
+        good: good_count(ios, events, clone) as u64,
+        bad: bad_count(ios, events, clone) as u64,
+        skipped: skip_count(events, clone) as u64,
+        void: 0,
+        faults: fault_count(ios, events, clone) as u64,
+    }
+}
+
+/// What a clone did, counted over a history.
+pub fn totals_among(past: &Past<'_>, clone: u32) -> Totals
+    requires reads { bytes_of (moved past.now is_read clone) < 2 ^ 64 }
+    requires writes { bytes_of (moved past.now is_write clone) < 2 ^ 64 }
+    ensures { result ≡ totals_of past.now clone }
+{
+    totals_by(past.started(), past.events(), clone)
+}
+
+/// What a clone did, counted over a history.
+pub fn totals(alloc: Global, history: &[Event], clone: u32) -> Result<Totals, Memory>
+    requires reads { bytes_of (moved history.now is_read clone) < 2 ^ 64 }
+    requires writes { bytes_of (moved history.now is_write clone) < 2 ^ 64 }
+    ensures { IfOk result (λ totals. totals ≡ totals_of history.now clone) }
+{
+    let past = Past::new(alloc, history)?;
+    Ok(totals_among(&past, clone))
+}

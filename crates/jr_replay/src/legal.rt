@@ -1,0 +1,265 @@
+ghost use Rattle.std.specs.Prelude.{◌≡◌, nat_le, ◌||◌, take};
+ghost use Rattle.std.specs.List.{list_any, list_all};
+ghost use Rattle.jr_model.specs.History.{is_of_clone, awaiting, in_flight};
+ghost use Rattle.jr_model.specs.Legal.{is_io_of, is_fault, is_bad, halts, is_halted, is_over, is_at_rest, phase_is_open, has_room, conflicts, is_clear, takes_up, may_take_up, may_issue, check_or_skip, step_of};
+ghost use Rattle.jr_model.specs.Rounds.{clone_finished, is_current, pass_finished, passes_of};
+
+use crate::events::{is_write, same_write};
+use crate::histories::Past;
+use crate::last_writes::is_intact;
+use crate::passes::{Pass, has_rounds, is_write_draw};
+use crate::rounds::{
+    flying_count, is_of_clone, is_open, issued_count, nothing_flies_of, pass_finished,
+    waits_for_round,
+};
+use crate::workloads::{PlannedClone, Workload};
+use jr_model::{Draw, Event, Outcome, Piece, Started, Verdict, WriteId, overlaps};
+use jr_options::SubJob;
+
+// Whether an I/O is there and of this clone.
+pub(crate) fn is_io_of(clone: u32, io: Option<Started>) -> bool
+    ensures { result ≡ is_io_of clone io }
+{
+    match io {
+        None => false,
+        Some(io) => is_of_clone(clone, &io),
+    }
+}
+
+/// Whether an outcome is a fault.
+pub fn is_fault(outcome: Outcome) -> bool
+    ensures { result ≡ is_fault outcome }
+{
+    outcome != Outcome::Whole
+}
+
+/// Whether a verdict is bad.
+pub fn is_bad(verdict: Verdict) -> bool
+    ensures { result ≡ is_bad verdict }
+{
+    verdict != Verdict::Good
+}
+
+// Whether an event halts the clone.
+fn halts(ios: &[Started], job: &SubJob, event: &Event) -> bool
+    ensures { result ≡ halts ios.now job.now event.now }
+{
+    match *event {
+        Event::End { io, outcome, .. } => {
+            is_fault(outcome) && is_io_of(job.clone_number(), ios.get(io as usize).copied())
+        }
+        Event::Verdict { io, verdict, .. } => {
+            is_bad(verdict)
+                && job.is_fatal()
+                && is_io_of(job.clone_number(), ios.get(io as usize).copied())
+        }
+        _ => false,
+    }
+}
+
+fn any_halts(ios: &[Started], events: &[Event], job: &SubJob) -> bool
+    ensures { result ≡ list_any (halts ios.now job.now) events.now }
+{
+    events.iter().any(|event| halts(ios, job, event))
+}
+
+/// Whether a fault, or a bad verdict where that is fatal, has halted a clone.
+pub fn is_halted(past: &Past<'_>, job: &SubJob) -> bool
+    ensures { result ≡ is_halted past.now job.now }
+{
+    any_halts(past.started(), past.events(), job)
+}
+
+/// Whether all passes of a clone are finished.
+pub fn clone_finished(past: &Past<'_>, clone: &PlannedClone<'_>) -> bool
+    ensures { result ≡ clone_finished past.now clone.now }
+{
+    all_finished(past, clone.passes())
+}
+
+fn all_finished(past: &Past<'_>, passes: &[Pass<'_>]) -> bool
+    ensures { result ≡ list_all (pass_finished past.now) passes.now }
+{
+    passes.iter().all(|pass| pass_finished(past, pass))
+}
+
+/// Whether a clone is finished or halted.
+pub fn is_over(past: &Past<'_>, clone: &PlannedClone<'_>) -> bool
+    ensures { result ≡ is_over past.now clone.now }
+{
+    is_halted(past, clone.job()) || clone_finished(past, clone)
+}
+
+// Whether a verdict of the clone is still to come.
+fn awaits_verdict(past: &Past<'_>, clone: u32) -> bool
+    ensures { result ≡ list_any (is_of_clone clone) (awaiting past.now) }
+{
+    past.awaiting().iter().any(|io| is_of_clone(clone, io))
+}
+
+/// Whether a clone is over, with nothing in flight and no verdict to come.
+pub fn is_at_rest(past: &Past<'_>, clone: &PlannedClone<'_>) -> bool
+    ensures { result ≡ is_at_rest past.now clone.now }
+{
+    let number = clone.job().clone_number();
+    nothing_flies_of(past, number) && !awaits_verdict(past, number) && is_over(past, clone)
+}
+
+// Whether a clone is of this phase or later, or at rest.
+fn lets_begin(past: &Past<'_>, phase: u32, other: &PlannedClone<'_>) -> bool
+    ensures { result ≡ (nat_le phase other.now.phase || is_at_rest past.now other.now) }
+{
+    phase <= other.job().phase() || is_at_rest(past, other)
+}
+
+/// Whether all clones of earlier phases are at rest.
+pub fn phase_is_open(work: &Workload<'_>, past: &Past<'_>, job: &SubJob) -> bool
+    ensures { result ≡ phase_is_open work.now past.now job.now }
+{
+    let phase = job.phase();
+    work.clones()
+        .iter()
+        .all(|other| lets_begin(past, phase, other))
+}
+
+/// Whether a clone has fewer I/Os in flight than its depth.
+pub fn has_room(past: &Past<'_>, job: &SubJob) -> bool
+    ensures { result ≡ has_room past.now job.now }
+{
+    flying_count(past, job.clone_number()) < job.depth() as usize
+}
+
+// Whether the I/O overlaps the piece, and one of the two writes.
+fn conflicts(writes: bool, piece: &Piece, io: &Started) -> bool
+    ensures { result ≡ conflicts writes piece.now io.now }
+{
+    (writes || is_write(io.kind)) && overlaps(&io.piece, piece)
+}
+
+fn any_conflicts(past: &Past<'_>, writes: bool, piece: &Piece) -> bool
+    ensures { result ≡ list_any (conflicts writes piece.now) (in_flight past.now) }
+{
+    past.in_flight()
+        .iter()
+        .any(|io| conflicts(writes, piece, io))
+}
+
+/// Whether nothing in flight overlaps a piece where one of the two writes.
+pub fn is_clear(past: &Past<'_>, writes: bool, piece: &Piece) -> bool
+    ensures { result ≡ is_clear past.now writes piece.now }
+{
+    !any_conflicts(past, writes, piece)
+}
+
+// Whether the first passes of a clone, so many, are finished.
+fn earlier_finished(past: &Past<'_>, clone: &PlannedClone<'_>, number: u32) -> bool
+    ensures { result ≡ list_all (pass_finished past.now) (take number (passes_of clone.now)) }
+{
+    clone
+        .passes()
+        .iter()
+        .take(number as usize)
+        .all(|pass| pass_finished(past, pass))
+}
+
+/// Whether a pass is the first of its clone that isn't finished.
+pub fn is_current(past: &Past<'_>, clone: &PlannedClone<'_>, pass: &Pass<'_>) -> bool
+    requires { pass.now.job ≡ clone.now }
+    ensures { result ≡ is_current past.now pass.now }
+{
+    pass.number() < clone.job().passes()
+        && !pass_finished(past, pass)
+        && earlier_finished(past, clone, pass.number())
+}
+
+/// Whether a draw of a pass may be issued.
+pub fn may_issue(
+    work: &Workload<'_>,
+    past: &Past<'_>,
+    clone: &PlannedClone<'_>,
+    pass: &Pass<'_>,
+    draw: &Draw,
+) -> bool
+    requires { pass.now.job ≡ clone.now }
+    ensures { result ≡ may_issue work.now past.now pass.now draw.now }
+{
+    draw.number as usize == issued_count(past, pass)
+        && !is_halted(past, pass.job())
+        && has_room(past, pass.job())
+        && is_clear(past, is_write_draw(draw), &draw.piece)
+        && is_current(past, clone, pass)
+        && !waits_for_round(past, pass)
+        && phase_is_open(work, past, pass.job())
+}
+
+// Whether an event checks or skips the write.
+fn takes_up(write: &WriteId, event: &Event) -> bool
+    ensures { result ≡ takes_up write.now event.now }
+{
+    match event {
+        Event::Probe { write: probed, .. } => same_write(probed, write),
+        Event::Skip { write: skipped, .. } => same_write(skipped, write),
+        _ => false,
+    }
+}
+
+fn any_takes_up(events: &[Event], write: &WriteId) -> bool
+    ensures { result ≡ list_any (takes_up write.now) events.now }
+{
+    events.iter().any(|event| takes_up(write, event))
+}
+
+/// Whether the write of a draw may be checked, or skipped, now.
+pub fn may_take_up(past: &Past<'_>, pass: &Pass<'_>, draw: &Draw) -> bool
+    ensures { result ≡ may_take_up past.now pass.now draw.now }
+{
+    is_write_draw(draw)
+        && has_rounds(pass.job())
+        && !any_takes_up(past.events(), &pass.write_id(draw))
+        && !is_halted(past, pass.job())
+        && has_room(past, pass.job())
+        && is_clear(past, false, &draw.piece)
+        && is_open(past, pass, pass.group_index(draw.number))
+}
+
+// The check of a write where it is intact, else its skip.
+fn check_or_skip(past: &Past<'_>, worker: u32, pass: &Pass<'_>, draw: &Draw) -> Event
+    ensures { result ≡ check_or_skip past.now worker pass.now draw.now }
+{
+    let write = pass.write_id(draw);
+    if is_intact(past, &write, &draw.piece) {
+        Event::Probe {
+            worker,
+            write,
+            piece: draw.piece,
+        }
+    } else {
+        Event::Skip { worker, write }
+    }
+}
+
+/// What may happen with a draw of a pass now, if anything: its check or skip, or its issue.
+pub fn step_of(
+    work: &Workload<'_>,
+    past: &Past<'_>,
+    worker: u32,
+    clone: &PlannedClone<'_>,
+    pass: &Pass<'_>,
+    draw: &Draw,
+) -> Option<Event>
+    requires { pass.now.job ≡ clone.now }
+    ensures { result ≡ step_of work.now past.now worker pass.now draw.now }
+{
+    if may_take_up(past, pass, draw) {
+        return Some(check_or_skip(past, worker, pass, draw));
+    }
+    if may_issue(work, past, clone, pass, draw) {
+        return Some(Event::Issue {
+            worker,
+            dir: draw.dir,
+            write: pass.write_id(draw),
+            piece: draw.piece,
+        });
+    }
+    None
+}

@@ -1,0 +1,2 @@
+pub mod SplitEntries
+pub mod Splits

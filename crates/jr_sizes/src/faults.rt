@@ -1,0 +1,31 @@
+use std::error::Error;
+use std::fmt;
+
+/// Why a text is no split.
+#[derive(Clone, Copy, Debug, PartialEq, Eq)]
+pub enum SplitFault {
+    /// More than 64 entries.
+    TooMany,
+    /// A size is no number, or is 2^32 or more.
+    BadSize,
+    /// A percent is no number, or is above 100.
+    BadPercent,
+    /// The percents add up to more than 100.
+    Over,
+    /// The percents add up to less than 100, and no entry leaves its percent open.
+    Under,
+}
+
+impl fmt::Display for SplitFault {
+    fn fmt<W: fmt::Write>(&self, f: &mut fmt::Formatter<W>) -> fmt::Result {
+        match self {
+            SplitFault::TooMany => write!(f, "more than 64 entries"),
+            SplitFault::BadSize => write!(f, "bad size"),
+            SplitFault::BadPercent => write!(f, "bad percent"),
+            SplitFault::Over => write!(f, "more than 100 percent"),
+            SplitFault::Under => write!(f, "less than 100 percent"),
+        }
+    }
+}
+
+impl Error for SplitFault {}

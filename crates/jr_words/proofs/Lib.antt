@@ -1,0 +1,2 @@
+mod ReferenceWords
+pub mod WordLemmas
