@@ -8,4 +8,6 @@ pub use faults::CliFault;
 pub use runs::{execute_serial, read_job};
 
 #[cfg(test)]
+mod desk_tests;
+#[cfg(test)]
 mod tests;

@@ -104,9 +104,9 @@ placed-before files name low high i job h =
       number = h.number;
       file = omega (arith, sizes.1, h.file);
       within = λ spec at.
-        let w = wider files name low high job.file spec at h.file in
-        let had = h.within w.old w.at in
-        (omega (arith, w.low, had.0), omega (arith, w.high, had.1));
+          let w = wider files name low high job.file spec at h.file in
+          let had = h.within w.old w.at in
+          (omega (arith, w.low, had.0), omega (arith, w.high, had.1));
     }
 
 end_of : SubJob → ℕ
@@ -120,27 +120,27 @@ drafted-push clones files job name high h room number file ends_at limits work =
       number = number;
       file = omega (arith, sizes.0, file);
       within = λ spec at.
-        let P : ℕ → Type 0 = λ p. slice_get (with_file files name job.start high) p ≡ Some spec in
-        let mine = own files name job.start high spec (subst P file at) in
-        (mine.0, omega (arith, mine.1, ends_at));
+          let P : ℕ → Type 0 = λ p. slice_get (with_file files name job.start high) p ≡ Some spec in
+          let mine = own files name job.start high spec (subst P file at) in
+          (mine.0, omega (arith, mine.1, ends_at));
     } in
     record {
       clones_most = omega (arith, one_more);
       files_most = omega (arith, one_more, sizes.2, h.files_most);
       placed = λ i other at. elim (slice_get-push clones job i other at) [
-          inl before ↦ placed-before files name job.start high i other (h.placed i other before)
+        | inl before ↦ placed-before files name job.start high i other (h.placed i other before)
         | inr last ↦
             let P : ℕ → Type 0 = λ k. IsPlaced (with_file files name job.start high) k other in
             let Q : SubJob → Type 0 = IsPlaced (with_file files name job.start high) (length clones) in
             subst P (sym last.0) (subst Q last.1 new_file)
-        ];
+      ];
       limited = λ i other at. elim (slice_get-push clones job i other at) [
-          inl before ↦ h.limited i other before
+        | inl before ↦ h.limited i other before
         | inr last ↦ subst KeepsLimits last.1 limits
-        ];
+      ];
       ends = λ f spec at. ends files name job.start high f spec h.ends (omega (arith, ends_at)) (omega (arith, ends_at, limits.region)) at;
       work =
-        let all = sum_by-append (λ (j : SubJob). j.cells * j.passes) clones (job ∷ []) in
-        let one : work_of (job ∷ []) ≡ 0 + job.cells * job.passes = refl in
-        omega (arith, all, one, work);
+          let all = sum_by-append (λ (j : SubJob). j.cells * j.passes) clones (job ∷ []) in
+          let one : work_of (job ∷ []) ≡ 0 + job.cells * job.passes = refl in
+          omega (arith, all, one, work);
     }

@@ -22,11 +22,11 @@ Fitting cell size = (size % cell ≡ 0) × (cell ≤ size) × (size ≤ 4194304)
 entry-fitting : (cell size percent : ℕ) → entry_fits cell (size, percent) ≡ true → 0 < percent → Fitting cell size
 entry-fitting cell size percent fits some =
     elim (or_cases (eqb percent 0) _ fits) [
-      inl none ↦ absurd (omega (arith, eqb-true percent 0 none))
-    | inr all ↦
-        let parts = and_parts _ (leb size 4194304) all in
-        let front = and_parts (leb cell size) (eqb (size % cell) 0) parts.0 in
-        (eqb-true _ _ front.1, leb-true _ _ front.0, leb-true _ _ parts.1)
+      | inl none ↦ absurd (omega (arith, eqb-true percent 0 none))
+      | inr all ↦
+          let parts = and_parts _ (leb size 4194304) all in
+          let front = and_parts (leb cell size) (eqb (size % cell) 0) parts.0 in
+          (eqb-true _ _ front.1, leb-true _ _ front.0, leb-true _ _ parts.1)
     ]
 
 -- each size that a fitting split gives fits
@@ -37,8 +37,8 @@ size_at-fitting cell (entry ∷ split) t fits within =
     let total = sum_by-append (λ (e : ℕ × ℕ). e.1) (entry ∷ []) split in
     let first : percents_total (entry ∷ []) ≡ 0 + entry.1 = refl in
     elim (cases_lt t entry.1) [
-      inl below ↦ rw (lt-ltb t entry.1 below) (entry-fitting cell entry.0 entry.1 parts.0 (omega arith))
-    | inr above ↦ rw (le-ltb t entry.1 above) (size_at-fitting cell split (t - entry.1) parts.1 (omega arith))
+      | inl below ↦ rw (lt-ltb t entry.1 below) (entry-fitting cell entry.0 entry.1 parts.0 (omega arith))
+      | inr above ↦ rw (le-ltb t entry.1 above) (size_at-fitting cell split (t - entry.1) parts.1 (omega arith))
     ]
 
 pub sizes_fit : (cell : ℕ) (split : List (ℕ × ℕ)) → split_fits cell split ≡ true → percents_total split ≡ 100 → SizesFit cell split
@@ -91,8 +91,8 @@ fit_of o shape h =
 cell_most : (o : JobOptions) (shape : Shape) → Fit o shape → shape.cell ≤ 4194304
 cell_most o shape fit =
     elim (some_direction o.io_type) [
-      inl e ↦ let s = fit.reads e in omega (arith, s.least 0 (omega arith), s.most 0 (omega arith))
-    | inr e ↦ let s = fit.writes e in omega (arith, s.least 0 (omega arith), s.most 0 (omega arith))
+      | inl e ↦ let s = fit.reads e in omega (arith, s.least 0 (omega arith), s.most 0 (omega arith))
+      | inr e ↦ let s = fit.writes e in omega (arith, s.least 0 (omega arith), s.most 0 (omega arith))
     ]
 
 pub cells_within : (o : JobOptions) (shape : Shape) → HasShape o shape → shape.cells * shape.cell ≤ shape.size

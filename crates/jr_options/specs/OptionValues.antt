@@ -1,10 +1,11 @@
 -- The values of options, as texts (fio's manual, "Parameter types"; the rules for commas are of this project).
-use Rattle.std.specs.Prelude.{ℕ, ◌+◌, ◌-◌, ◌*◌, ◌^◌, ◌<◌, nat_le, nat_lt, ◌==◌, Bool, true, false, ◌&&◌, List, [], ◌∷◌, length, Option, Some, None, Result, Ok, Err, if◌then◌else◌}
-use Rattle.std.specs.List.{slice_split}
+use Rattle.std.specs.Prelude.{ℕ, ◌+◌, ◌-◌, ◌*◌, ◌%◌, ◌^◌, ◌<◌, nat_le, nat_lt, ◌==◌, Bool, true, false, ◌&&◌, List, [], ◌∷◌, ◌++◌, length, drop, Option, Some, None, Result, Ok, Err, if◌then◌else◌}
+use Rattle.std.specs.List.{slice_split, list_all}
+use Rattle.std.specs.Char.{digit_value, is_ascii_digit}
 use Rattle.std.specs.Option.{option_map}
 use Rattle.std.specs.Result.{result_ok}
 use Rattle.jr_text.specs.declared.faults.NumFault.{NumFault}
-use Rattle.jr_text.specs.Number.{number_of}
+use Rattle.jr_text.specs.Number.{number_of, is_hexadecimal}
 use Rattle.jr_sizes.specs.Splits.{split_of}
 
 -- the number where it lies within these bounds
@@ -88,3 +89,48 @@ splits_in (Some v) = splits_with (split_part v.0) (split_part v.1) (split_part v
 -- the splits of reads and writes, where that of trims is one too
 abbrev pub splits : List ℕ → Option (Option (List (ℕ × ℕ)) × Option (List (ℕ × ℕ)))
 splits text = splits_in (values_in text)
+
+-- a hexadecimal digit, and two of them as a byte
+abbrev pub hex_digit : ℕ → Option ℕ
+hex_digit b = if nat_lt (digit_value b) 16 then Some (digit_value b) else None
+
+abbrev pub joined_digits : Option ℕ → Option ℕ → Option ℕ
+joined_digits None low = None
+joined_digits (Some high) None = None
+joined_digits (Some high) (Some low) = Some (high * 16 + low)
+
+abbrev pub hex_byte : ℕ → ℕ → Option ℕ
+hex_byte a b = joined_digits (hex_digit a) (hex_digit b)
+
+-- a byte in front of others
+abbrev pub and_byte : Option ℕ → Option (List ℕ) → Option (List ℕ)
+and_byte None rest = None
+and_byte (Some byte) None = None
+and_byte (Some byte) (Some rest) = Some (byte ∷ rest)
+
+-- the bytes of hexadecimal digits, two a byte
+abbrev pub hex_pairs : List ℕ → Option (List ℕ)
+hex_pairs [] = Some []
+hex_pairs (a ∷ []) = None
+hex_pairs (a ∷ b ∷ digits) = and_byte (hex_byte a b) (hex_pairs digits)
+
+-- bytes in front of others, if there are others
+abbrev pub with_bytes : List ℕ → Option (List ℕ) → Option (List ℕ)
+with_bytes front None = None
+with_bytes front (Some rest) = Some (front ++ rest)
+
+-- and with a 0 before an odd count of them
+abbrev pub hex_bytes : List ℕ → Option (List ℕ)
+hex_bytes digits = if length digits % 2 == 1 then hex_pairs (48 ∷ digits) else hex_pairs digits
+
+abbrev pub hex_pattern : List ℕ → Option (List ℕ)
+hex_pattern digits = if nat_lt 0 (length digits) && nat_le (length digits) 128 then hex_bytes digits else None
+
+-- decimal digits alone, for one byte
+abbrev pub decimal_pattern : List ℕ → Option (List ℕ)
+decimal_pattern text =
+    if list_all is_ascii_digit text then option_map (λ n. n ∷ []) (number_within 0 255 text) else None
+
+-- the pattern that a text says: hexadecimal digits behind `0x`, or one byte in decimal
+abbrev pub pattern_of : List ℕ → Option (List ℕ)
+pattern_of text = if is_hexadecimal text then hex_pattern (drop 2 text) else decimal_pattern text

@@ -5,16 +5,14 @@ ghost use Rattle.jr_options.specs.Options.{AreInRange};
 ghost use Rattle.jr_options.specs.PlanFacts.{AreDrafted, work_of};
 ghost use Rattle.jr_options.specs.Shapes.{HasShape};
 
-use std::alloc::Global;
-use std::marker::Model;
-
-use jr_model::Method;
-
 use crate::faults::JobFault;
 use crate::files::{FileSpec, use_file};
 use crate::jobs::SubJob;
 use crate::options::JobOptions;
 use crate::shapes::Shape;
+use jr_model::Method;
+use std::alloc::Global;
+use std::marker::Model;
 
 /// A job that has been found sound, with its place in the order of phases.
 #[derive(Clone, Copy, Debug)]

@@ -79,8 +79,10 @@ impl fmt::Display for JobFault {
             JobFault::BadBlock(line) => write!(f, "job at line {line}: bad block size or place"),
             JobFault::BadSplit(line) => write!(f, "job file: line {line}: bad split"),
             JobFault::NoPattern(line) => write!(f, "job at line {line}: no verify_pattern"),
-            JobFault::VerifyNeedsWrite(line) =>
-                write!(f, "job at line {line}: verify needs a write"),
+            JobFault::VerifyNeedsWrite(line) => write!(
+                f,
+                "job at line {line}: verify needs a write"
+            ),
             JobFault::MixedEngines => write!(f, "job file: several engine kinds"),
             JobFault::SeveralFiles(line) => write!(f, "job file: line {line}: several files"),
             JobFault::Limit(bound) => write!(f, "job file: limit of {bound}"),

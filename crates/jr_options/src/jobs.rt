@@ -1,10 +1,9 @@
 ghost use Rattle.std.specs.Prelude.{◌≡◌};
 ghost use Rattle.jr_options.specs.PlanFacts.{KeepsLimits};
 
-use std::marker::Model;
-
 use jr_model::{IoType, Method};
 use jr_sizes::Split;
+use std::marker::Model;
 
 /// One planned clone: one of the `numjobs` threads of a job.
 #[derive(Debug, Drop)]

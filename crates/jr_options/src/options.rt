@@ -2,12 +2,11 @@ ghost use Rattle.std.specs.Prelude.{◌≡◌, IfOk};
 ghost use Rattle.jr_options.specs.Settings.{IsInRange};
 ghost use Rattle.jr_options.specs.Options.{AreInRange, default_options, with_setting};
 
+use crate::faults::JobFault;
+use crate::settings::{Setting, setting_of};
 use jr_model::{EngineKind, IoType, Pattern, VerifyKind};
 use jr_sizes::Split;
 use jr_text::Line;
-
-use crate::faults::JobFault;
-use crate::settings::{Setting, setting_of};
 
 /// What the option lines of a job say, but for the names of its files.
 #[derive(Clone, Copy, Debug)]

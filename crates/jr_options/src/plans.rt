@@ -3,14 +3,12 @@ ghost use Rattle.std.specs.List.{list_any};
 ghost use Rattle.jr_options.specs.Files.{are_apart};
 ghost use Rattle.jr_options.specs.PlanFacts.{IsPlanned, IsPlaced, KeepsLimits};
 
-use std::marker::Model;
-
-use jr_model::EngineKind;
-
 use crate::drafts::Draft;
 use crate::faults::JobFault;
 use crate::files::FileSpec;
 use crate::jobs::SubJob;
+use jr_model::EngineKind;
+use std::marker::Model;
 
 /// What a run does: its clones, their files, and how it is carried out.
 #[derive(Debug, Drop)]
@@ -34,7 +32,11 @@ impl Model for Plan {
 
 impl Plan {
     // The plan of these clones, where there is one at least.
-    pub(crate) fn of_draft(draft: Draft, engine: EngineKind, verifiers: u32) -> Result<Plan, JobFault> {
+    pub(crate) fn of_draft(
+        draft: Draft,
+        engine: EngineKind,
+        verifiers: u32,
+    ) -> Result<Plan, JobFault> {
         if draft.count() == 0 {
             return Err(JobFault::NoJob);
         }

@@ -3,11 +3,6 @@ ghost use Rattle.jr_options.specs.Options.{AreInRange};
 ghost use Rattle.jr_options.specs.Shapes.{HasShape};
 ghost use Rattle.jr_options.specs.Surveys.{IsCapped, start_of};
 
-use std::alloc::{AllocError, Global};
-
-use jr_model::EngineKind;
-use jr_text::{Line, Section};
-
 use crate::drafts::{Draft, PlannedJob};
 use crate::faults::{Bound, JobFault};
 use crate::keys::{Key, TextKey};
@@ -15,10 +10,16 @@ use crate::options::JobOptions;
 use crate::plans::Plan;
 use crate::shapes::Shape;
 use crate::words;
+use jr_model::EngineKind;
+use jr_text::{Line, Section};
+use std::alloc::{AllocError, Global};
 
 const MOST_CLONES: usize = 64;
+
 const FURTHEST_END: u128 = 1 << 50;
+
 const MOST_CELLS: u64 = 1 << 24;
+
 const MOST_WORK: u64 = 1 << 30;
 
 // The section's lines count for the jobs below it; it is no job.
@@ -220,11 +221,7 @@ impl Survey {
 
 // Goes over all jobs once, without memory. A faulty line is the first fault; what is wrong with whole
 // jobs comes after all lines.
-fn tally_of(
-    start: Survey,
-    sections: &[Section],
-    only: Option<&str>,
-) -> Result<Tally, JobFault>
+fn tally_of(start: Survey, sections: &[Section], only: Option<&str>) -> Result<Tally, JobFault>
     requires range { AreInRange start.globals }
     requires capped { IsCapped start.tally }
     ensures capped { IfOk result IsCapped }
@@ -298,7 +295,11 @@ fn build(
             }
         }
     }
-    Plan::of_draft(draft, tally.engine.unwrap_or(EngineKind::File), tally.verifiers)
+    Plan::of_draft(
+        draft,
+        tally.engine.unwrap_or(EngineKind::File),
+        tally.verifiers,
+    )
 }
 
 // The job of a section below others, after the jobs up to a phase.

@@ -1,15 +1,14 @@
 ghost use Rattle.std.specs.Prelude.{◌≡◌, ◌≤◌, IfOk, IfSome, option_copied};
 ghost use Rattle.std.specs.Option.{option_map};
-ghost use Rattle.jr_options.specs.Settings.{IsInRange, setting_number_range};
-
-use jr_model::{EngineKind, IoType, Pattern, VerifyKind};
-use jr_sizes::Split;
-use jr_text::Line;
+ghost use Rattle.jr_options.specs.Settings.{IsInRange, setting_number_range, setting_of, valued_setting, choice_setting, flag_setting, number_made, number_setting, text_setting, form_setting, name_setting};
 
 use crate::faults::JobFault;
 use crate::keys::{ChoiceKey, FlagKey, Key, NumberKey, TextKey};
 use crate::values::{block_sizes, flag, number_within, pattern, splits};
 use crate::words;
+use jr_model::{EngineKind, IoType, Pattern, VerifyKind};
+use jr_sizes::Split;
+use jr_text::Line;
 
 /// What one option line says.
 #[derive(Clone, Copy, Debug, PartialEq, Eq)]
@@ -39,28 +38,42 @@ pub enum Setting {
     Nothing,
 }
 
-// What a line says, or why it says nothing.
+// What a line says, or its fault.
+#[tactic(auto, unfolding(crate::specs::Settings::setting_of))]
 pub(crate) fn setting_of(line: &Line) -> Result<Setting, JobFault>
+    ensures value { result ≡ setting_of line.now }
     ensures range { IfOk result IsInRange }
 {
-    let number = line.line();
-    let Some(key) = words::key(line.key()) else {
-        return Err(JobFault::Unknown(number));
-    };
-    if let Key::Flag(key) = key {
-        let flag = flag(line.value()).ok_or(JobFault::BadValue(number))?;
-        return Ok(flag_setting(key, flag));
+    match words::key(line.key()) {
+        Some(key) => valued_setting(key, line.value(), line.line()),
+        None => Err(JobFault::Unknown(line.line())),
     }
-    let text = line.value().ok_or(JobFault::BadValue(number))?;
+}
+
+// What the value of a key sets; only a flag may have none.
+fn valued_setting(key: Key, value: Option<&str>, line: u32) -> Result<Setting, JobFault>
+    ensures value { result ≡ valued_setting key (option_copied value.entry) line }
+    ensures range { IfOk result IsInRange }
+{
+    if let Key::Flag(key) = key {
+        return match flag(value) {
+            Some(flag) => Ok(flag_setting(key, flag)),
+            None => Err(JobFault::BadValue(line)),
+        };
+    }
+    let Some(text) = value else {
+        return Err(JobFault::BadValue(line));
+    };
     match key {
-        Key::Choice(key) => choice_setting(key, text).ok_or(JobFault::BadValue(number)),
-        Key::Number(key) => number_setting(key, text).ok_or(JobFault::BadValue(number)),
-        Key::Text(key) => text_setting(key, text, number),
+        Key::Choice(key) => choice_setting(key, text).ok_or(JobFault::BadValue(line)),
+        Key::Number(key) => number_setting(key, text).ok_or(JobFault::BadValue(line)),
+        Key::Text(key) => text_setting(key, text, line),
         Key::Flag(_) => Ok(Setting::Nothing),
     }
 }
 
 fn choice_setting(key: ChoiceKey, text: &str) -> Option<Setting>
+    ensures value { result ≡ choice_setting key text.now }
     ensures range { IfSome result IsInRange }
 {
     match key {
@@ -72,6 +85,7 @@ fn choice_setting(key: ChoiceKey, text: &str) -> Option<Setting>
 }
 
 fn flag_setting(key: FlagKey, flag: bool) -> Setting
+    ensures value { result ≡ flag_setting key flag }
     ensures range { IsInRange result }
 {
     match key {
@@ -89,8 +103,10 @@ fn range(key: NumberKey) -> (u64, u64)
 {
     match key {
         NumberKey::ReadPercent | NumberKey::WritePercent => (0, 100),
-        NumberKey::Size | NumberKey::Offset | NumberKey::OffsetStep | NumberKey::Seed =>
-            (0, u64::MAX),
+        NumberKey::Size | NumberKey::Offset | NumberKey::OffsetStep | NumberKey::Seed => (
+            0,
+            u64::MAX,
+        ),
         NumberKey::Clones => (1, 64),
         NumberKey::Passes => (1, 1000),
         NumberKey::Depth => (1, 256),
@@ -100,6 +116,7 @@ fn range(key: NumberKey) -> (u64, u64)
 }
 
 fn number_setting(key: NumberKey, text: &str) -> Option<Setting>
+    ensures value { result ≡ number_setting key text.now }
     ensures range { IfSome result IsInRange }
 {
     let (least, most) = range(key);
@@ -110,6 +127,7 @@ fn number_setting(key: NumberKey, text: &str) -> Option<Setting>
 fn number_made(key: NumberKey, n: u64) -> Setting
     requires least { (setting_number_range key).0 ≤ n }
     requires most { n ≤ (setting_number_range key).1 }
+    ensures value { result ≡ number_made key n }
     ensures range { IsInRange result }
 {
     match key {
@@ -128,6 +146,7 @@ fn number_made(key: NumberKey, n: u64) -> Setting
 }
 
 fn text_setting(key: TextKey, text: &str, line: u32) -> Result<Setting, JobFault>
+    ensures value { result ≡ text_setting key text.now line }
     ensures range { IfOk result IsInRange }
 {
     if key == TextKey::Description {
@@ -136,6 +155,14 @@ fn text_setting(key: TextKey, text: &str, line: u32) -> Result<Setting, JobFault
     if text.is_empty() {
         return Err(JobFault::BadValue(line));
     }
+    form_setting(key, text, line)
+}
+
+// What a text that isn't empty sets.
+fn form_setting(key: TextKey, text: &str, line: u32) -> Result<Setting, JobFault>
+    ensures value { result ≡ form_setting key text.now line }
+    ensures range { IfOk result IsInRange }
+{
     match key {
         TextKey::BlockSizes => match block_sizes(text) {
             Some((reads, writes)) => Ok(Setting::BlockSizes(reads, writes)),
@@ -149,10 +176,18 @@ fn text_setting(key: TextKey, text: &str, line: u32) -> Result<Setting, JobFault
             Some(pattern) => Ok(Setting::Pattern(pattern)),
             None => Err(JobFault::BadValue(line)),
         },
-        TextKey::FileName | TextKey::Directory => match text.split_once(':') {
-            Some(_) => Err(JobFault::SeveralFiles(line)),
-            None => Ok(Setting::Nothing),
-        },
+        TextKey::FileName | TextKey::Directory => name_setting(text, line),
         TextKey::Description => Ok(Setting::Nothing),
+    }
+}
+
+// A name of a file: several are listed with colons between them.
+fn name_setting(text: &str, line: u32) -> Result<Setting, JobFault>
+    ensures value { result ≡ name_setting text.now line }
+    ensures range { IfOk result IsInRange }
+{
+    match text.split_once(':') {
+        Some(_) => Err(JobFault::SeveralFiles(line)),
+        None => Ok(Setting::Nothing),
     }
 }

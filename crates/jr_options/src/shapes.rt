@@ -3,11 +3,10 @@ ghost use Rattle.std.specs.List.{list_all};
 ghost use Rattle.jr_options.specs.PlanFacts.{has_reads, has_writes};
 ghost use Rattle.jr_options.specs.Shapes.{HasShape, entry_fits, split_fits, options_fit};
 
-use jr_model::{IoType, LARGEST_BLOCK, VerifyKind};
-use jr_sizes::Split;
-
 use crate::faults::JobFault;
 use crate::options::JobOptions;
+use jr_model::{IoType, LARGEST_BLOCK, VerifyKind};
+use jr_sizes::Split;
 
 /// How a job's region is cut: its cell, the number of cells, and the sizes of its I/Os.
 #[derive(Clone, Copy, Debug)]

@@ -1,13 +1,11 @@
-use std::alloc::Global;
-use std::test::Fail;
-
-use jr_model::EngineKind;
-use jr_text::sections;
-
 use crate::faults::{Bound, JobFault};
 use crate::plans::Plan;
 use crate::reading::plan;
 use crate::texts::plan_text;
+use jr_model::EngineKind;
+use jr_text::sections;
+use std::alloc::Global;
+use std::test::Fail;
 
 // The plan of a job text, and its fault where it has one.
 fn planned(alloc: Global, text: &str, only: Option<&str>) -> Result<Plan, JobFault> {
@@ -30,14 +28,21 @@ fn text_of(alloc: Global, plan: &Plan) -> Result<String, Fail> {
 fn later_globals_count_for_later_jobs(rt: HostRuntime) -> Result<(), Fail> {
     let text = "[global]\nrw=write\nsize=32k\nbs=8k\n[a]\n[global]\nbs=16k\n[b]\n";
     let plan = planned(rt.alloc(), text, None)?;
-    let expected = "a: clone=0 phase=0 file=a.0.0 start=0 size=32768 cell=8192 cells=4 rw=write iodepth=1 loops=1 verify=none\nb: clone=1 phase=0 file=b.0.0 start=0 size=32768 cell=16384 cells=2 rw=write iodepth=1 loops=1 verify=none\n";
+    let expected =
+        "a: clone=0 phase=0 file=a.0.0 start=0 size=32768 cell=8192 cells=4 rw=write iodepth=1 loops=1 verify=none\nb: clone=1 phase=0 file=b.0.0 start=0 size=32768 cell=16384 cells=2 rw=write iodepth=1 loops=1 verify=none\n";
     let printed = text_of(rt.alloc(), &plan)?;
     assert_eq!(rt; printed.as_str(), expected);
     assert!(rt; plan.apart());
     assert_eq!(rt; plan.verifiers(), 0);
     assert_eq!(rt; plan.engine(), EngineKind::File);
-    assert_eq!(rt; planned(rt.alloc(), text, Some("c")).err(), Some(JobFault::NoSection));
-    assert_eq!(rt; planned(rt.alloc(), text, Some("global")).err(), Some(JobFault::NoSection));
+    assert_eq!(rt;
+        planned(rt.alloc(), text, Some("c")).err(),
+        Some(JobFault::NoSection)
+    );
+    assert_eq!(rt;
+        planned(rt.alloc(), text, Some("global")).err(),
+        Some(JobFault::NoSection)
+    );
     let only = planned(rt.alloc(), text, Some("b"))?;
     assert_eq!(rt; only.clones(), 1);
     Ok(())
@@ -45,9 +50,11 @@ fn later_globals_count_for_later_jobs(rt: HostRuntime) -> Result<(), Fail> {
 
 #[test]
 fn clones_files_and_phases(rt: HostRuntime) -> Result<(), Fail> {
-    let text = "[a]\nrw=write\nsize=8k\noffset=4k\noffset_increment=8k\nnumjobs=2\n[b]\nrw=write\nsize=4k\nstonewall\n";
+    let text =
+        "[a]\nrw=write\nsize=8k\noffset=4k\noffset_increment=8k\nnumjobs=2\n[b]\nrw=write\nsize=4k\nstonewall\n";
     let plan = planned(rt.alloc(), text, None)?;
-    let expected = "a: clone=0 phase=0 file=a.0.0 start=4096 size=8192 cell=4096 cells=2 rw=write iodepth=1 loops=1 verify=none\na: clone=1 phase=0 file=a.1.0 start=12288 size=8192 cell=4096 cells=2 rw=write iodepth=1 loops=1 verify=none\nb: clone=2 phase=1 file=b.0.0 start=0 size=4096 cell=4096 cells=1 rw=write iodepth=1 loops=1 verify=none\n";
+    let expected =
+        "a: clone=0 phase=0 file=a.0.0 start=4096 size=8192 cell=4096 cells=2 rw=write iodepth=1 loops=1 verify=none\na: clone=1 phase=0 file=a.1.0 start=12288 size=8192 cell=4096 cells=2 rw=write iodepth=1 loops=1 verify=none\nb: clone=2 phase=1 file=b.0.0 start=0 size=4096 cell=4096 cells=1 rw=write iodepth=1 loops=1 verify=none\n";
     let printed = text_of(rt.alloc(), &plan)?;
     assert_eq!(rt; printed.as_str(), expected);
     Ok(())
@@ -55,7 +62,8 @@ fn clones_files_and_phases(rt: HostRuntime) -> Result<(), Fail> {
 
 #[test]
 fn one_file_of_two_clones(rt: HostRuntime) -> Result<(), Fail> {
-    let text = "[a]\nioengine=memory\nrw=randwrite\nsize=8k\nnumjobs=2\noffset_increment=4k\nfilename=f\ndirectory=/tmp\nverify=md5\nverify_async=2\n";
+    let text =
+        "[a]\nioengine=memory\nrw=randwrite\nsize=8k\nnumjobs=2\noffset_increment=4k\nfilename=f\ndirectory=/tmp\nverify=md5\nverify_async=2\n";
     let plan = planned(rt.alloc(), text, None)?;
     assert_eq!(rt; plan.files().len(), 1);
     let file = &plan.files()[0];
@@ -70,10 +78,18 @@ fn one_file_of_two_clones(rt: HostRuntime) -> Result<(), Fail> {
 
 #[test]
 fn the_last_mix_counts(rt: HostRuntime) -> Result<(), Fail> {
-    let first = planned(rt.alloc(), "[a]\nrw=rw\nsize=4k\nrwmixread=70\nrwmixwrite=40\n", None)?;
+    let first = planned(
+        rt.alloc(),
+        "[a]\nrw=rw\nsize=4k\nrwmixread=70\nrwmixwrite=40\n",
+        None,
+    )?;
     assert_eq!(rt; first.clones(), 1);
     assert_eq!(rt; first.clone_at(0).read_percent(), 60);
-    let second = planned(rt.alloc(), "[a]\nrw=rw\nsize=4k\nrwmixwrite=40\nrwmixread=70\n", None)?;
+    let second = planned(
+        rt.alloc(),
+        "[a]\nrw=rw\nsize=4k\nrwmixwrite=40\nrwmixread=70\n",
+        None,
+    )?;
     assert_eq!(rt; second.clones(), 1);
     assert_eq!(rt; second.clone_at(0).read_percent(), 70);
     Ok(())
@@ -104,30 +120,75 @@ fn faults_of_lines(rt: HostRuntime) {
     let alloc = rt.alloc();
     assert_eq!(rt; fault(alloc, ""), Some(JobFault::NoJob));
     assert_eq!(rt; fault(alloc, "[global]\n"), Some(JobFault::NoJob));
-    assert_eq!(rt; fault(alloc, "[a]\nsize=4k\nfilename=a:b\n"), Some(JobFault::SeveralFiles(3)));
-    assert_eq!(rt; fault(alloc, "[a]\nruntime=60\n"), Some(JobFault::Unknown(2)));
-    assert_eq!(rt; fault(alloc, "[a]\niodepth=0\niodepth=1\n"), Some(JobFault::BadValue(2)));
-    assert_eq!(rt; fault(alloc, "[a]\n[b]\nbs=1,2,3,4\n"), Some(JobFault::BadValue(3)));
-    assert_eq!(rt; fault(alloc, "[a]\nsize=4k\nbssplit=4k/60\n"), Some(JobFault::BadSplit(3)));
+    assert_eq!(rt;
+        fault(alloc, "[a]\nsize=4k\nfilename=a:b\n"),
+        Some(JobFault::SeveralFiles(3))
+    );
+    assert_eq!(rt;
+        fault(alloc, "[a]\nruntime=60\n"),
+        Some(JobFault::Unknown(2))
+    );
+    assert_eq!(rt;
+        fault(alloc, "[a]\niodepth=0\niodepth=1\n"),
+        Some(JobFault::BadValue(2))
+    );
+    assert_eq!(rt;
+        fault(alloc, "[a]\n[b]\nbs=1,2,3,4\n"),
+        Some(JobFault::BadValue(3))
+    );
+    assert_eq!(rt;
+        fault(alloc, "[a]\nsize=4k\nbssplit=4k/60\n"),
+        Some(JobFault::BadSplit(3))
+    );
 }
 
 #[test]
 fn faults_of_jobs(rt: HostRuntime) {
     let alloc = rt.alloc();
-    assert_eq!(rt; fault(alloc, "[a]\nsize=1k\nbs=4k\n"), Some(JobFault::BadBlock(1)));
-    assert_eq!(rt; fault(alloc, "[a]\nrw=write\n"), Some(JobFault::MissingSize(1)));
-    assert_eq!(rt; fault(alloc, "[r]\nrw=read\nsize=4k\nverify=md5\n"), Some(JobFault::VerifyNeedsWrite(1)));
-    assert_eq!(rt; fault(alloc, "[r]\nrw=write\nsize=4k\nverify=pattern\n"), Some(JobFault::NoPattern(1)));
-    assert_eq!(rt; fault(alloc, "[a]\nsize=4k\nioengine=memory\n[b]\nsize=4k\nioengine=null\n"), Some(JobFault::MixedEngines));
+    assert_eq!(rt;
+        fault(alloc, "[a]\nsize=1k\nbs=4k\n"),
+        Some(JobFault::BadBlock(1))
+    );
+    assert_eq!(rt;
+        fault(alloc, "[a]\nrw=write\n"),
+        Some(JobFault::MissingSize(1))
+    );
+    assert_eq!(rt;
+        fault(alloc, "[r]\nrw=read\nsize=4k\nverify=md5\n"),
+        Some(JobFault::VerifyNeedsWrite(1))
+    );
+    assert_eq!(rt;
+        fault(alloc, "[r]\nrw=write\nsize=4k\nverify=pattern\n"),
+        Some(JobFault::NoPattern(1))
+    );
+    assert_eq!(rt;
+        fault(
+            alloc,
+            "[a]\nsize=4k\nioengine=memory\n[b]\nsize=4k\nioengine=null\n"
+        ),
+        Some(JobFault::MixedEngines)
+    );
 }
 
 #[test]
 fn limits(rt: HostRuntime) -> Result<(), Fail> {
     let alloc = rt.alloc();
-    assert_eq!(rt; fault(alloc, "[global]\nsize=4k\nnumjobs=33\n[a]\n[b]\n"), Some(JobFault::Limit(Bound::Clones)));
-    assert_eq!(rt; fault(alloc, "[a]\nrw=write\nsize=1p\noffset=512\n"), Some(JobFault::Limit(Bound::Region)));
-    assert_eq!(rt; fault(alloc, "[a]\nrw=write\nsize=8193m\nbs=512\n"), Some(JobFault::Limit(Bound::Cells)));
-    assert_eq!(rt; fault(alloc, "[a]\nrw=write\nsize=8g\nbs=512\nloops=65\n"), Some(JobFault::Limit(Bound::Work)));
+    assert_eq!(rt;
+        fault(alloc, "[global]\nsize=4k\nnumjobs=33\n[a]\n[b]\n"),
+        Some(JobFault::Limit(Bound::Clones))
+    );
+    assert_eq!(rt;
+        fault(alloc, "[a]\nrw=write\nsize=1p\noffset=512\n"),
+        Some(JobFault::Limit(Bound::Region))
+    );
+    assert_eq!(rt;
+        fault(alloc, "[a]\nrw=write\nsize=8193m\nbs=512\n"),
+        Some(JobFault::Limit(Bound::Cells))
+    );
+    assert_eq!(rt;
+        fault(alloc, "[a]\nrw=write\nsize=8g\nbs=512\nloops=65\n"),
+        Some(JobFault::Limit(Bound::Work))
+    );
     let plan = planned(alloc, "[a]\nrw=write\nsize=8g\nbs=512\nloops=64\n", None)?;
     assert_eq!(rt; plan.clones(), 1);
     assert_eq!(rt; plan.clone_at(0).passes(), 64);

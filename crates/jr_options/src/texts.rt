@@ -1,13 +1,11 @@
 ghost use Rattle.std.specs.Prelude.{◌≡◌, ◌++◌, ◌<◌, length, IfOk, OnOk, string_bytes};
 ghost use Rattle.jr_options.specs.PlanText.{io_type_word, verify_word, place_text, size_text, work_text, clone_line, plan_text};
 
-use std::alloc::{AllocError, Global};
-
-use jr_model::{IoType, Memory, VerifyKind};
-
 use crate::files::FileSpec;
 use crate::jobs::SubJob;
 use crate::plans::Plan;
+use jr_model::{IoType, Memory, VerifyKind};
+use std::alloc::{AllocError, Global};
 
 /// The plan as text, a line for each clone.
 pub fn plan_text(alloc: Global, plan: &Plan) -> Result<Vec<u8>, Memory>
@@ -40,7 +38,10 @@ fn push_place(text: &mut String, job: &SubJob, file: &FileSpec) -> Result<(), Al
     let phase = job.phase();
     let file = file.name();
     let start = job.start();
-    write!(text, "{name}: clone={clone} phase={phase} file={file} start={start}")
+    write!(
+        text,
+        "{name}: clone={clone} phase={phase} file={file} start={start}"
+    )
 }
 
 #[tactic(auto, unfolding(crate::specs::PlanText::size_text))]

@@ -1,7 +1,8 @@
-ghost use Rattle.std.specs.Prelude.{◌≡◌, ◌≤◌, ◌<◌, ◌∷◌, [], IfSome, MatchOption, option_copied};
-ghost use Rattle.std.specs.List.{slice_split};
+ghost use Rattle.std.specs.Prelude.{◌≡◌, ◌≤◌, ◌<◌, ◌+◌, ◌/◌, ◌%◌, ◌∷◌, [], length, take, IfSome, MatchOption, option_copied};
+ghost use Rattle.std.specs.List.{slice_split, list_all};
+ghost use Rattle.std.specs.Char.{is_ascii_digit};
 ghost use Rattle.std.specs.Option.{option_map};
-ghost use Rattle.jr_options.specs.OptionValues.{number_within, flag_of, is_comma, by_direction, values_in, block_size, block_sizes, split_part, splits};
+ghost use Rattle.jr_options.specs.OptionValues.{number_within, flag_of, is_comma, by_direction, values_in, block_size, block_sizes, split_part, splits, pattern_of, decimal_pattern, hex_digit, hex_byte, hex_pairs, hex_pattern, with_bytes};
 
 use jr_model::Pattern;
 use jr_sizes::Split;
@@ -108,46 +109,48 @@ pub(crate) fn splits(text: &str) -> Option<(Option<Split>, Option<Split>)>
     ensures { result ≡ splits text.now }
 {
     match values_in(text) {
-        Some((reads, writes, trims)) =>
-            match (split_part(reads), split_part(writes), split_part(trims)) {
-                (Some(reads), Some(writes), Some(_)) => Some((reads, writes)),
-                _ => None,
-            },
+        Some((reads, writes, trims)) => match (
+            split_part(reads),
+            split_part(writes),
+            split_part(trims),
+        ) {
+            (Some(reads), Some(writes), Some(_)) => Some((reads, writes)),
+            _ => None,
+        },
         None => None,
     }
 }
 
-// A verify pattern: hexadecimal digits, two a byte, or one byte in decimal.
-pub(crate) fn pattern(text: &str) -> Option<Pattern> {
+// A verify pattern: hexadecimal digits behind `0x`, two a byte, or one byte in decimal.
+pub(crate) fn pattern(text: &str) -> Option<Pattern>
+    ensures { result ≡ pattern_of text.now }
+{
     match text.as_bytes() {
         [b'0', b'x' | b'X', digits @ ..] => hexadecimal(digits),
-        digits => decimal(digits),
+        _ => decimal(text),
     }
 }
 
-fn decimal(digits: &[u8]) -> Option<Pattern> {
-    if digits.is_empty() {
+fn all_digits(text: &[u8]) -> bool
+    ensures { result ≡ list_all is_ascii_digit text.now }
+{
+    text.iter().all(|byte| byte.is_ascii_digit())
+}
+
+// One byte, in decimal digits alone.
+fn decimal(text: &str) -> Option<Pattern>
+    ensures { result ≡ decimal_pattern text.now }
+{
+    if !all_digits(text.as_bytes()) {
         return None;
     }
-    let mut value = 0u8;
-    for digit in digits {
-        let digit = decimal_digit(*digit)?;
-        value = value.checked_mul(10)?.checked_add(digit)?;
-    }
-    Pattern::new(&[value])
-}
-
-fn decimal_digit(byte: u8) -> Option<u8>
-    ensures { IfSome result (λ digit. digit < 10) }
-{
-    match byte {
-        b'0'..=b'9' => Some(byte - b'0'),
-        _ => None,
-    }
+    let byte = number_within(text, 0, 255)?;
+    Pattern::new(&[byte as u8])
 }
 
 fn hexadecimal_digit(byte: u8) -> Option<u8>
-    ensures { IfSome result (λ digit. digit < 16) }
+    ensures value { result ≡ hex_digit byte }
+    ensures most { IfSome result (λ digit. digit < 16) }
 {
     match byte {
         b'0'..=b'9' => Some(byte - b'0'),
@@ -157,17 +160,59 @@ fn hexadecimal_digit(byte: u8) -> Option<u8>
     }
 }
 
-fn hexadecimal(digits: &[u8]) -> Option<Pattern> {
-    if digits.len() > 128 {
+// Two hexadecimal digits as a byte.
+fn hexadecimal_byte(high: u8, low: u8) -> Option<u8>
+    ensures { result ≡ hex_byte high low }
+{
+    match (hexadecimal_digit(high), hexadecimal_digit(low)) {
+        (Some(high), Some(low)) => Some(high * 16 + low),
+        _ => None,
+    }
+}
+
+// 1 to 128 hexadecimal digits; an odd count has a 0 put before.
+fn hexadecimal(digits: &[u8]) -> Option<Pattern>
+    ensures { result ≡ hex_pattern digits.now }
+{
+    if digits.is_empty() || digits.len() > 128 {
         return None;
     }
-    let count = digits.len().div_ceil(2);
-    let mut bytes = [0u8; 64];
-    let odd = digits.len() % 2;
-    for i in 0..digits.len() {
-        let digit = hexadecimal_digit(digits[i])?;
-        let place = (i + odd) / 2;
-        bytes[place] = (bytes[place] & 0x0f) * 16 + digit;
+    if digits.len() % 2 == 0 {
+        with_pairs([0; 64], 0, digits)
+    } else {
+        odd_pairs(digits[0], &digits[1..])
     }
-    Pattern::new(&bytes[..count])
+}
+
+// The pattern of an odd count of digits.
+fn odd_pairs(first: u8, others: &[u8]) -> Option<Pattern>
+    requires even { length others.now % 2 ≡ 0 }
+    requires most { length others.now ≤ 127 }
+    ensures { result ≡ hex_pairs (48 ∷ first ∷ others.now) }
+{
+    match hexadecimal_byte(b'0', first) {
+        Some(byte) => {
+            let mut bytes = [0; 64];
+            bytes[0] = byte;
+            with_pairs(bytes, 1, others)
+        }
+        None => None,
+    }
+}
+
+// The pattern of some bytes and of those that an even count of digits say.
+fn with_pairs(bytes: [u8; 64], count: usize, digits: &[u8]) -> Option<Pattern>
+    requires even { length digits.now % 2 ≡ 0 }
+    requires least { 1 ≤ count + length digits.now / 2 }
+    requires most { count + length digits.now / 2 ≤ 64 }
+    ensures { result ≡ with_bytes (take count bytes) (hex_pairs digits.now) }
+{
+    let mut bytes = bytes;
+    let pairs = digits.len() / 2;
+    for i in 0..pairs {
+        let high = digits[2 * i];
+        let low = digits[2 * i + 1];
+        bytes[count + i] = hexadecimal_byte(high, low)?;
+    }
+    Pattern::new(&bytes[..count + pairs])
 }

@@ -1,9 +1,8 @@
 ghost use Rattle.std.specs.Prelude.{◌≡◌, is_some};
 ghost use Rattle.jr_options.specs.OptionWords.{meaning_of, shown_words, keys, io_types, engines, verify_kinds, submit_modes};
 
-use jr_model::{EngineKind, IoType, VerifyKind};
-
 use crate::keys::{ChoiceKey, FlagKey, Key, NumberKey, TextKey};
+use jr_model::{EngineKind, IoType, VerifyKind};
 
 const KEYS: [(&str, Key); 35] = [
     ("rw", Key::Choice(ChoiceKey::IoType)),
@@ -71,10 +70,7 @@ const VERIFY_KINDS: [(&str, VerifyKind); 5] = [
     ("sha256", VerifyKind::Sha256),
 ];
 
-const SUBMIT_MODES: [(&str, bool); 2] = [
-    ("inline", false),
-    ("offload", true),
-];
+const SUBMIT_MODES: [(&str, bool); 2] = [("inline", false), ("offload", true)];
 
 pub(crate) fn key(word: &str) -> Option<Key>
     ensures { result ≡ meaning_of keys word.now }

@@ -42,7 +42,8 @@ fn step_of_clone(
     write: &WriteId,
     clone: &PlannedClone<'_>,
 ) -> Result<Option<Event>, Memory>
-    ensures { IfOk result (λ step. step ≡ step_of_clone work.now past.now worker write.now (Some clone.now)) }
+    ensures { IfOk result
+        (λ step. step ≡ step_of_clone work.now past.now worker write.now (Some clone.now)) }
 {
     let pass = Pass::new(alloc, clone.job(), write.pass)?;
     let draw = pass.draw_at(write.number);
@@ -193,14 +194,17 @@ fn verdict_fits(plan: &Plan, verdict: Verdict, io: Option<Started>) -> bool
 
 /// Whether a worker's I/O may end so now.
 pub fn may_end(past: &Past<'_>, worker: u32, io: usize, outcome: Outcome) -> bool
-    ensures { result ≡ (flies past.now io && end_fits worker outcome (slice_get (started past.now) io)) }
+    ensures { result
+        ≡ (flies past.now io && end_fits worker outcome (slice_get (started past.now) io)) }
 {
     past.flies(io) && end_fits(worker, outcome, past.started_at(io))
 }
 
 /// Whether a check may have this verdict now.
 pub fn may_judge(plan: &Plan, past: &Past<'_>, io: usize, verdict: Verdict) -> bool
-    ensures { result ≡ (ended_whole (outcome_of past.now io) && not (is_judged past.now io) && verdict_fits plan.now verdict (slice_get (started past.now) io)) }
+    ensures { result
+        ≡ (ended_whole (outcome_of past.now io) && not (is_judged past.now io)
+        && verdict_fits plan.now verdict (slice_get (started past.now) io)) }
 {
     ended_whole(outcome_of(past.events(), io))
         && !is_judged(past.events(), io)
@@ -264,8 +268,8 @@ fn all_over(work: &Workload<'_>, past: &Past<'_>) -> bool
     work.clones().iter().all(|clone| is_over(past, clone))
 }
 
-/// Whether a history is a whole run: nothing is in flight, no verdict is to come, and each clone is finished or
-/// halted.
+/// Whether a history is a whole run: nothing is in flight, no verdict is to come, and each clone is
+/// finished or halted.
 pub fn complete(alloc: Global, plan: &Plan, history: &[Event]) -> Result<bool, Memory>
     ensures { IfOk result (λ yes. yes ≡ is_complete plan.now history.now) }
 {

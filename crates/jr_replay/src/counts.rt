@@ -1,4 +1,4 @@
-ghost use Rattle.std.specs.Prelude.{◌≡◌, ◌<◌, ◌^◌, IfOk, true, not, length, filter_map, count_by};
+ghost use Rattle.std.specs.Prelude.{◌≡◌, ◌^◌, IfOk, true, not, length, filter_map, count_by, ◌≤◌};
 ghost use Rattle.jr_model.specs.History.{is_write};
 ghost use Rattle.jr_model.specs.Legal.{is_bad};
 ghost use Rattle.jr_replay.specs.Counts.{totals_by};
@@ -83,26 +83,39 @@ fn write_count(ios: &[Started], events: &[Event], clone: u32) -> usize
         .count()
 }
 
+// How many bytes an I/O has.
+fn len_of(io: &Started) -> u32
+    ensures { result ≡ io.now.piece.len }
+{
+    io.piece.len
+}
+
 fn read_bytes(ios: &[Started], events: &[Event], clone: u32) -> u64
-    requires { bytes_of (filter_map (moved_by ios.now is_read clone) events.now) < 2 ^ 64 }
+    requires { length (filter_map (moved_by ios.now is_read clone) events.now) ≤ 2 ^ 32 }
     ensures { result ≡ bytes_of (filter_map (moved_by ios.now is_read clone) events.now) }
 {
-    events
-        .iter()
-        .filter_map(|event| read_by(ios, clone, event))
-        .map(|io| u64::from(io.piece.len))
-        .sum()
+    let mut total = 0;
+    for event in events {
+        match read_by(ios, clone, event) {
+            Some(io) => total += u64::from(len_of(&io)),
+            None => {}
+        }
+    }
+    total
 }
 
 fn write_bytes(ios: &[Started], events: &[Event], clone: u32) -> u64
-    requires { bytes_of (filter_map (moved_by ios.now is_write clone) events.now) < 2 ^ 64 }
+    requires { length (filter_map (moved_by ios.now is_write clone) events.now) ≤ 2 ^ 32 }
     ensures { result ≡ bytes_of (filter_map (moved_by ios.now is_write clone) events.now) }
 {
-    events
-        .iter()
-        .filter_map(|event| write_by(ios, clone, event))
-        .map(|io| u64::from(io.piece.len))
-        .sum()
+    let mut total = 0;
+    for event in events {
+        match write_by(ios, clone, event) {
+            Some(io) => total += u64::from(len_of(&io)),
+            None => {}
+        }
+    }
+    total
 }
 
 // Whether the event is a verdict on a check of the clone.
@@ -149,7 +162,8 @@ fn verdict_count(ios: &[Started], events: &[Event], clone: u32) -> usize
 }
 
 fn good_count(ios: &[Started], events: &[Event], clone: u32) -> usize
-    ensures { result ≡ count_by (is_verdict_of ios.now (λ verdict. not (is_bad verdict)) clone) events.now }
+    ensures { result
+        ≡ count_by (is_verdict_of ios.now (λ verdict. not (is_bad verdict)) clone) events.now }
 {
     events
         .iter()
@@ -208,8 +222,8 @@ fn fault_count(ios: &[Started], events: &[Event], clone: u32) -> usize
 
 // What a clone did, where the started I/Os are given.
 fn totals_by(ios: &[Started], events: &[Event], clone: u32) -> Totals
-    requires reads { bytes_of (filter_map (moved_by ios.now is_read clone) events.now) < 2 ^ 64 }
-    requires writes { bytes_of (filter_map (moved_by ios.now is_write clone) events.now) < 2 ^ 64 }
+    requires reads { length (filter_map (moved_by ios.now is_read clone) events.now) ≤ 2 ^ 32 }
+    requires writes { length (filter_map (moved_by ios.now is_write clone) events.now) ≤ 2 ^ 32 }
     ensures { result ≡ totals_by ios.now events.now clone }
 {
     Totals {
@@ -226,19 +240,20 @@ fn totals_by(ios: &[Started], events: &[Event], clone: u32) -> Totals
     }
 }
 
-/// What a clone did, counted over a history.
+/// What a clone did, counted over a history. That its sums of bytes fit 64 bits rests on at most 2^32
+/// reads and 2^32 writes having ended whole, as in each legal history with so few I/Os.
 pub fn totals_among(past: &Past<'_>, clone: u32) -> Totals
-    requires reads { bytes_of (moved past.now is_read clone) < 2 ^ 64 }
-    requires writes { bytes_of (moved past.now is_write clone) < 2 ^ 64 }
+    requires reads { length (moved past.now is_read clone) ≤ 2 ^ 32 }
+    requires writes { length (moved past.now is_write clone) ≤ 2 ^ 32 }
     ensures { result ≡ totals_of past.now clone }
 {
     totals_by(past.started(), past.events(), clone)
 }
 
-/// What a clone did, counted over a history.
+/// What a clone did, counted over a history; as by `totals_among`.
 pub fn totals(alloc: Global, history: &[Event], clone: u32) -> Result<Totals, Memory>
-    requires reads { bytes_of (moved history.now is_read clone) < 2 ^ 64 }
-    requires writes { bytes_of (moved history.now is_write clone) < 2 ^ 64 }
+    requires reads { length (moved history.now is_read clone) ≤ 2 ^ 32 }
+    requires writes { length (moved history.now is_write clone) ≤ 2 ^ 32 }
     ensures { IfOk result (λ totals. totals ≡ totals_of history.now clone) }
 {
     let past = Past::new(alloc, history)?;

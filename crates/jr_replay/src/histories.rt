@@ -7,7 +7,8 @@ use jr_model::{Event, Memory, Started};
 use std::alloc::Global;
 use std::marker::Model;
 
-/// A history, with what many questions about it need worked out once. Contracts see the list of its events.
+/// A history, with what many questions about it need worked out once. Contracts see the list of its
+/// events.
 #[derive(Drop)]
 pub struct Past<'a> {
     events: &'a [Event],
@@ -89,7 +90,8 @@ impl<'a> Past<'a> {
 
 // Those of these I/Os that have not ended.
 fn flying_among(alloc: Global, events: &[Event], ios: &[Started]) -> Result<Vec<Started>, Memory>
-    ensures { IfOk result (λ v. v.items ≡ filter_map (if_flying events.now) (enumerate_from 0 ios.now)) }
+    ensures { IfOk result
+        (λ v. v.items ≡ filter_map (if_flying events.now) (enumerate_from 0 ios.now)) }
 {
     let flying: Vec<Started> = ios
         .iter()
@@ -112,7 +114,8 @@ fn if_flying(events: &[Event], io: usize, started: &Started) -> Option<Started>
 
 // Those of these checks that ended whole and have no verdict.
 fn waiting_among(alloc: Global, events: &[Event], ios: &[Started]) -> Result<Vec<Started>, Memory>
-    ensures { IfOk result (λ v. v.items ≡ filter_map (if_awaiting events.now) (enumerate_from 0 ios.now)) }
+    ensures { IfOk result
+        (λ v. v.items ≡ filter_map (if_awaiting events.now) (enumerate_from 0 ios.now)) }
 {
     let waiting: Vec<Started> = ios
         .iter()

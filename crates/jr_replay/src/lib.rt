@@ -1,5 +1,5 @@
-// What a run may do after a history, and what it has done: each definition of a legal history as a plain program, worked
-// out anew from the events.
+// What a run may do after a history, and what it has done: each definition of a legal history as a
+// plain program, worked out anew from the events.
 #![tactic(auto)]
 
 mod answers;
@@ -9,6 +9,7 @@ mod draws;
 mod events;
 mod histories;
 mod last_writes;
+mod laws;
 mod legal;
 mod passes;
 mod rounds;
@@ -24,6 +25,7 @@ pub use events::{
 };
 pub use histories::Past;
 pub use last_writes::{is_intact, last_write};
+pub use laws::moved_are_started;
 pub use legal::{
     clone_finished, has_room, is_at_rest, is_bad, is_clear, is_current, is_fault, is_halted,
     is_over, may_issue, may_take_up, phase_is_open, step_of,
@@ -35,3 +37,6 @@ pub use rounds::{
     waits_for_round,
 };
 pub use workloads::{PlannedClone, Workload};
+
+#[cfg(test)]
+mod tests;

@@ -157,7 +157,9 @@ fn is_pending(past: &Past<'_>, pass: &Pass<'_>, g: usize) -> bool
 }
 
 fn any_pending(past: &Past<'_>, pass: &Pass<'_>) -> bool
-    ensures { result ≡ list_any (λ g. is_full past.now pass.now g && not (is_closed past.now pass.now g)) (range_with_len 0 (group_count pass.now)) }
+    ensures { result
+        ≡ list_any (λ g. is_full past.now pass.now g && not (is_closed past.now pass.now g))
+        (range_with_len 0 (group_count pass.now)) }
 {
     (0..pass.group_count()).any(|g| is_pending(past, pass, g))
 }
@@ -170,7 +172,8 @@ pub fn waits_for_round(past: &Past<'_>, pass: &Pass<'_>) -> bool
 }
 
 fn all_closed(past: &Past<'_>, pass: &Pass<'_>) -> bool
-    ensures { result ≡ list_all (λ g. is_closed past.now pass.now g) (range_with_len 0 (group_count pass.now)) }
+    ensures { result
+        ≡ list_all (λ g. is_closed past.now pass.now g) (range_with_len 0 (group_count pass.now)) }
 {
     (0..pass.group_count()).all(|g| is_closed(past, pass, g))
 }
@@ -191,7 +194,8 @@ pub fn nothing_flies_of(past: &Past<'_>, clone: u32) -> bool
 
 // Whether something of the clone's pass is in flight.
 fn flies_in(past: &Past<'_>, clone: u32, pass: u32) -> bool
-    ensures { result ≡ list_any (λ (io : Started). io.write.pass == pass) (in_flight_of past.now clone) }
+    ensures { result
+        ≡ list_any (λ (io : Started). io.write.pass == pass) (in_flight_of past.now clone) }
 {
     past.in_flight()
         .iter()

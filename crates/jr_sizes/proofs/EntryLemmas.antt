@@ -119,16 +119,16 @@ shared_is entries parts each extra most whole parts_are each_is extra_is =
     let over = le-ltb 100 (given_total entries) most in
     let all = share_total each extra entries in
     elim (cases_eq (blank_count entries) 0) [
-      inl none ↦
-        let full = whole none in
-        let one : parts ≡ 1 = omega (arith, parts_are, none) in
-        let nothing : 100 - given_total entries ≡ 0 = omega (arith, full) in
-        let each_none : each ≡ 0 = each_is ∙ rw (nothing, one) refl in
-        let extra_none : extra ≡ 0 = extra_is ∙ rw (nothing, one) refl in
-        (rw (over, eq-eqb (blank_count entries) 0 none, eq-eqb (100 - given_total entries) 0 nothing, each_none, extra_none) refl, omega (arith, all, each_none, extra_none, none, full, ap (λ n. n * blank_count entries) each_none))
-    | inr some ↦
-        let blanks : parts ≡ blank_count entries = omega (arith, parts_are, some) in
-        let each_b : each ≡ (100 - given_total entries) / blank_count entries = each_is ∙ ap (λ n. (100 - given_total entries) / n) blanks in
-        let extra_b : extra ≡ (100 - given_total entries) % blank_count entries = extra_is ∙ ap (λ n. (100 - given_total entries) % n) blanks in
-        (rw (over, ne_eqb (blank_count entries) 0 some, each_b, extra_b) refl, all ∙ whole_share (given_total entries) (blank_count entries) each extra most (omega (arith, some)) each_b extra_b)
+      | inl none ↦
+          let full = whole none in
+          let one : parts ≡ 1 = omega (arith, parts_are, none) in
+          let nothing : 100 - given_total entries ≡ 0 = omega (arith, full) in
+          let each_none : each ≡ 0 = each_is ∙ rw (nothing, one) refl in
+          let extra_none : extra ≡ 0 = extra_is ∙ rw (nothing, one) refl in
+          (rw (over, eq-eqb (blank_count entries) 0 none, eq-eqb (100 - given_total entries) 0 nothing, each_none, extra_none) refl, omega (arith, all, each_none, extra_none, none, full, ap (λ n. n * blank_count entries) each_none))
+      | inr some ↦
+          let blanks : parts ≡ blank_count entries = omega (arith, parts_are, some) in
+          let each_b : each ≡ (100 - given_total entries) / blank_count entries = each_is ∙ ap (λ n. (100 - given_total entries) / n) blanks in
+          let extra_b : extra ≡ (100 - given_total entries) % blank_count entries = extra_is ∙ ap (λ n. (100 - given_total entries) % n) blanks in
+          (rw (over, ne_eqb (blank_count entries) 0 some, each_b, extra_b) refl, all ∙ whole_share (given_total entries) (blank_count entries) each extra most (omega (arith, some)) each_b extra_b)
     ]

@@ -4,9 +4,8 @@ ghost use Rattle.jr_text.specs.Number.{number_of};
 ghost use Rattle.jr_sizes.specs.SplitEntries.{padded};
 ghost use Rattle.jr_sizes.specs.Splits.{is_colon, small_size, percent_in, entry_with, entry_of, entries_of, given_total, blank_count, share, share_step};
 
-use jr_text::number;
-
 use crate::faults::SplitFault;
+use jr_text::number;
 
 /// The most entries that a split may have.
 pub(crate) const MOST_ENTRIES: usize = 64;

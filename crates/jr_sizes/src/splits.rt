@@ -3,12 +3,12 @@ ghost use Rattle.jr_model.specs.Draws.{size_at, direction_at};
 ghost use Rattle.jr_sizes.specs.SplitEntries.{percents_total};
 ghost use Rattle.jr_sizes.specs.Splits.{split_of, shared};
 
-use std::marker::Model;
-
-use jr_model::Dir;
-
 use crate::faults::SplitFault;
-use crate::reading::{Entry, MOST_ENTRIES, blank_count, colon_count, entries_of, given_total, shared};
+use crate::reading::{
+    Entry, MOST_ENTRIES, blank_count, colon_count, entries_of, given_total, shared,
+};
+use jr_model::Dir;
+use std::marker::Model;
 
 /// Block sizes with their percentages, which add up to 100.
 #[derive(Clone, Copy, Debug, PartialEq, Eq)]

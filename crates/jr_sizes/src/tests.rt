@@ -1,20 +1,24 @@
-use std::test::Fail;
-
-use jr_model::Dir;
-
 use crate::faults::SplitFault;
 use crate::splits::{Split, mix};
+use jr_model::Dir;
+use std::test::Fail;
 
 #[test]
 fn blanks_share_what_is_missing(rt: HostRuntime) -> Result<(), Fail> {
     let split = Split::read("4k/50:1k/:32k/")?;
-    assert_eq!(rt; split.entries(), [(4096, 50), (1024, 25), (32768, 25)].as_slice());
+    assert_eq!(rt;
+        split.entries(),
+        [(4096, 50), (1024, 25), (32768, 25)].as_slice()
+    );
     assert_eq!(rt; split.size_of(49), 4096);
     assert_eq!(rt; split.size_of(50), 1024);
     assert_eq!(rt; split.size_of(74), 1024);
     assert_eq!(rt; split.size_of(75), 32768);
     let split = Split::read("1k/:2k/:4k/")?;
-    assert_eq!(rt; split.entries(), [(1024, 34), (2048, 33), (4096, 33)].as_slice());
+    assert_eq!(rt;
+        split.entries(),
+        [(1024, 34), (2048, 33), (4096, 33)].as_slice()
+    );
     Ok(())
 }
 
@@ -25,7 +29,8 @@ fn refusals(rt: HostRuntime) {
     assert_eq!(rt; Split::read("x/60:8k/500").err(), Some(SplitFault::BadSize));
     assert_eq!(rt; Split::read("4k/101:y").err(), Some(SplitFault::BadPercent));
     assert_eq!(rt; Split::read("4294967296").err(), Some(SplitFault::BadSize));
-    let many = "1:1:1:1:1:1:1:1:1:1:1:1:1:1:1:1:1:1:1:1:1:1:1:1:1:1:1:1:1:1:1:1:1:1:1:1:1:1:1:1:1:1:1:1:1:1:1:1:1:1:1:1:1:1:1:1:1:1:1:1:1:1:1:1:x";
+    let many =
+        "1:1:1:1:1:1:1:1:1:1:1:1:1:1:1:1:1:1:1:1:1:1:1:1:1:1:1:1:1:1:1:1:1:1:1:1:1:1:1:1:1:1:1:1:1:1:1:1:1:1:1:1:1:1:1:1:1:1:1:1:1:1:1:1:x";
     assert_eq!(rt; Split::read(many).err(), Some(SplitFault::TooMany));
 }
 

@@ -25,7 +25,7 @@ invariant_of-result c =
     let high = c.args.start + c.args.job.now.shape.cells * cell in
     let cell_is : c.from.result ≡ cell = c.from.ensures in
     let files_are : c.use_file.new.files.items ≡ with_file inside.files.items (string_bytes c.args.file) c.args.start high =
-        c.in_ok-file.ensures.files ∙ ap (λ n. with_file inside.files.items (string_bytes c.args.file) c.args.start (c.args.start + c.args.job.now.shape.cells * n)) cell_is in
+    c.in_ok-file.ensures.files ∙ ap (λ n. with_file inside.files.items (string_bytes c.args.file) c.args.start (c.args.start + c.args.job.now.shape.cells * n)) cell_is in
     let clones_are : c.push.new.self.items ≡ inside.clones.items ++ job ∷ [] = c.in_ok-push.ensures.items in
     let view_is : (record { clones = inside.clones.items; files = inside.files.items }) ≡ c.args.self = c.self.view_is in
     let count_is = ap (λ (d : Clones). length d.clones) view_is in

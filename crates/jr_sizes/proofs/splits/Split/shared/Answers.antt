@@ -14,9 +14,9 @@ invariant_of-result c =
     let given_is : given ≡ given_total entries = c.given_total-given.ensures in
     let blanks_are : c.blank_count-blanks.result ≡ blank_count entries = c.blank_count-blanks.ensures in
     let whole : blank_count entries ≡ 0 → given_total entries ≡ 100 = elim c.else-blanks-eq0.branch [
-        else-blanks-eq0-via-then-blanks-eq0+else-missing-gt0 w ↦ λ none. omega (arith, w.if-missing-gt0.false)
+      | else-blanks-eq0-via-then-blanks-eq0+else-missing-gt0 w ↦ λ none. omega (arith, w.if-missing-gt0.false)
       | else-blanks-eq0-via-else-blanks-eq0 w ↦ λ none. absurd (omega (arith, w.if-blanks-eq0.false))
-      ] in
+    ] in
     let parts_are : parts ≡ max (blank_count entries) 1 = omega (arith, c.max-parts.ensures, blanks_are) in
     let each = (100 - given) / parts in
     let extra = (100 - given) % parts in
@@ -36,9 +36,9 @@ returns c =
     let given_is : given ≡ given_total entries = c.given_total-given.ensures in
     let blanks_are : c.blank_count-blanks.result ≡ blank_count entries = c.blank_count-blanks.ensures in
     let whole : blank_count entries ≡ 0 → given_total entries ≡ 100 = elim c.else-blanks-eq0.branch [
-        else-blanks-eq0-via-then-blanks-eq0+else-missing-gt0 w ↦ λ none. omega (arith, w.if-missing-gt0.false)
+      | else-blanks-eq0-via-then-blanks-eq0+else-missing-gt0 w ↦ λ none. omega (arith, w.if-missing-gt0.false)
       | else-blanks-eq0-via-else-blanks-eq0 w ↦ λ none. absurd (omega (arith, w.if-blanks-eq0.false))
-      ] in
+    ] in
     let parts_are : parts ≡ max (blank_count entries) 1 = omega (arith, c.max-parts.ensures, blanks_are) in
     let each = (100 - given) / parts in
     let extra = (100 - given) % parts in

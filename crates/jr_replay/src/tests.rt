@@ -1,0 +1,329 @@
+use crate::{Past, allowed, choice, complete, is_intact, last_write, totals};
+use jr_model::{Dir, Event, Outcome, Piece, Totals, Verdict, What, WriteId};
+use jr_options::{Plan, plan};
+use jr_text::sections;
+use std::alloc::Global;
+use std::test::Fail;
+
+fn plan_of(alloc: Global, text: &str) -> Result<Plan, Fail> {
+    let sections = sections(alloc, text.as_bytes())?;
+    Ok(plan(alloc, &sections, None)?)
+}
+
+// Write k of a clone's first pass.
+fn write(clone: u32, number: u32) -> WriteId {
+    WriteId {
+        clone,
+        pass: 0,
+        number,
+    }
+}
+
+// Block x of 4096 bytes of the first file.
+fn block(x: u8) -> Piece {
+    Piece {
+        file: 0,
+        offset: 4096 * u64::from(x),
+        len: 4096,
+    }
+}
+
+fn issue(worker: u32, write: WriteId, piece: Piece) -> Event {
+    Event::Issue {
+        worker,
+        dir: Dir::Write,
+        write,
+        piece,
+    }
+}
+
+fn probe(worker: u32, write: WriteId, piece: Piece) -> Event {
+    Event::Probe {
+        worker,
+        write,
+        piece,
+    }
+}
+
+fn end(worker: u32, io: u32, outcome: Outcome) -> Event {
+    Event::End {
+        worker,
+        io,
+        outcome,
+    }
+}
+
+fn good(worker: u32, io: u32) -> Event {
+    Event::Verdict {
+        worker,
+        io,
+        verdict: Verdict::Good,
+    }
+}
+
+// One worker's run of two checked writes.
+fn two_checked() -> [Event; 10] {
+    [
+        issue(0, write(0, 0), block(0)),
+        end(0, 0, Outcome::Whole),
+        issue(0, write(0, 1), block(1)),
+        end(0, 1, Outcome::Whole),
+        probe(0, write(0, 0), block(0)),
+        end(0, 2, Outcome::Whole),
+        good(0, 2),
+        probe(0, write(0, 1), block(1)),
+        end(0, 3, Outcome::Whole),
+        good(0, 3),
+    ]
+}
+
+const TWO_CHECKED: &str =
+    "[w]\nioengine=memory\nrw=write\nsize=8k\nverify=pattern\nverify_pattern=1\n";
+
+// The first events of a history, so many.
+fn front(history: &[Event], count: usize) -> &[Event] {
+    &history[..count.min(history.len())]
+}
+
+// The events up to the first that may not happen after those before it.
+fn legal_front(alloc: Global, plan: &Plan, history: &[Event]) -> Result<usize, Fail> {
+    for (i, event) in history.iter().enumerate() {
+        if !allowed(alloc, plan, &history[..i], event)? {
+            return Ok(i);
+        }
+    }
+    Ok(history.len())
+}
+
+#[test]
+fn a_checked_run_is_legal_and_complete(rt: HostRuntime) -> Result<(), Fail> {
+    let plan = plan_of(rt.alloc(), TWO_CHECKED)?;
+    let history = two_checked();
+    assert_eq!(rt; legal_front(rt.alloc(), &plan, &history)?, 10);
+    assert!(rt; complete(rt.alloc(), &plan, &history)?);
+    assert!(rt; !complete(rt.alloc(), &plan, front(&history, 9))?);
+    Ok(())
+}
+
+#[test]
+fn a_run_with_events_exchanged_is_not_legal(rt: HostRuntime) -> Result<(), Fail> {
+    let plan = plan_of(rt.alloc(), TWO_CHECKED)?;
+    let mut history = two_checked();
+    history.swap(0, 1);
+    assert_eq!(rt; legal_front(rt.alloc(), &plan, &history)?, 0);
+    let mut history = two_checked();
+    history.swap(3, 4);
+    assert_eq!(rt; legal_front(rt.alloc(), &plan, &history)?, 3);
+    Ok(())
+}
+
+#[test]
+fn each_start_of_a_run_is_the_choice(rt: HostRuntime) -> Result<(), Fail> {
+    let plan = plan_of(rt.alloc(), TWO_CHECKED)?;
+    let history = two_checked();
+    for start in [0, 2, 4, 7] {
+        let step = choice(rt.alloc(), &plan, front(&history, start), 0)?;
+        assert_eq!(rt; step, history.get(start).copied());
+    }
+    for start in [1, 3, 5, 8, 9] {
+        let step = choice(rt.alloc(), &plan, front(&history, start), 0)?;
+        assert_eq!(rt; step, None, "at depth 1");
+    }
+    let step = choice(rt.alloc(), &plan, front(&history, 6), 0)?;
+    assert_eq!(rt; step, Some(history[7]), "a verdict to come bars nothing");
+    assert_eq!(rt; choice(rt.alloc(), &plan, &history, 0)?, None);
+    Ok(())
+}
+
+#[test]
+fn what_is_not_its_own_is_not_allowed(rt: HostRuntime) -> Result<(), Fail> {
+    let plan = plan_of(rt.alloc(), TWO_CHECKED)?;
+    let history = two_checked();
+    let none = &history[..0];
+    let one = &history[..1];
+    let alloc = rt.alloc();
+    assert!(rt;
+        !allowed(alloc, &plan, none, &issue(0, write(0, 0), block(1)))?,
+        "another piece"
+    );
+    assert!(rt;
+        !allowed(alloc, &plan, none, &issue(0, write(0, 1), block(1)))?,
+        "out of turn"
+    );
+    assert!(rt;
+        !allowed(alloc, &plan, none, &issue(0, write(1, 0), block(0)))?,
+        "no such clone"
+    );
+    assert!(rt;
+        !allowed(alloc, &plan, one, &issue(0, write(0, 1), block(1)))?,
+        "depth is 1"
+    );
+    assert!(rt;
+        !allowed(alloc, &plan, one, &end(1, 0, Outcome::Whole))?,
+        "another worker"
+    );
+    assert!(rt;
+        !allowed(alloc, &plan, one, &end(0, 0, Outcome::Short(4096)))?,
+        "not short"
+    );
+    assert!(rt; allowed(alloc, &plan, one, &end(0, 0, Outcome::Short(4095)))?);
+    assert!(rt; !allowed(alloc, &plan, one, &good(0, 0))?, "no check");
+    assert!(rt;
+        !allowed(alloc, &plan, &history, &good(0, 3))?,
+        "a second verdict"
+    );
+    Ok(())
+}
+
+#[test]
+fn a_pattern_finds_a_byte_and_no_header(rt: HostRuntime) -> Result<(), Fail> {
+    let plan = plan_of(rt.alloc(), TWO_CHECKED)?;
+    let history = two_checked();
+    let says = |what| Event::Verdict {
+        worker: 0,
+        io: 2,
+        verdict: Verdict::Bad(what),
+    };
+    assert!(rt; allowed(rt.alloc(), &plan, &history[..6], &says(What::Byte(4095)))?);
+    assert!(rt; !allowed(rt.alloc(), &plan, &history[..6], &says(What::Byte(4096)))?);
+    assert!(rt; !allowed(rt.alloc(), &plan, &history[..6], &says(What::Header))?);
+    Ok(())
+}
+
+#[test]
+fn a_fault_halts_its_clone(rt: HostRuntime) -> Result<(), Fail> {
+    let plan = plan_of(rt.alloc(), TWO_CHECKED)?;
+    let history = [issue(0, write(0, 0), block(0)), end(0, 0, Outcome::Failed)];
+    assert_eq!(rt; choice(rt.alloc(), &plan, &history, 0)?, None);
+    assert!(rt; complete(rt.alloc(), &plan, &history)?);
+    let past = Past::new(rt.alloc(), &history)?;
+    assert_eq!(rt; last_write(&past, 0, 0), None);
+    Ok(())
+}
+
+// Two clones write the same two blocks of one file; the second clone's first write comes between.
+fn shared() -> [Event; 6] {
+    [
+        issue(0, write(0, 0), block(0)),
+        end(0, 0, Outcome::Whole),
+        issue(0, write(0, 1), block(1)),
+        issue(1, write(1, 0), block(0)),
+        end(1, 2, Outcome::Whole),
+        end(0, 1, Outcome::Whole),
+    ]
+}
+
+#[test]
+fn a_write_that_another_clone_overwrote_is_skipped(rt: HostRuntime) -> Result<(), Fail> {
+    let text =
+        "[w]\nioengine=memory\nrw=write\nsize=8k\nnumjobs=2\nfilename=f\nverify=pattern\nverify_pattern=1\n";
+    let plan = plan_of(rt.alloc(), text)?;
+    let history = shared();
+    assert_eq!(rt; legal_front(rt.alloc(), &plan, &history)?, 6);
+    assert_eq!(rt;
+        choice(rt.alloc(), &plan, &history[..1], 1)?,
+        None,
+        "it would overlap"
+    );
+    let skip = Event::Skip {
+        worker: 0,
+        write: write(0, 0),
+    };
+    assert_eq!(rt; choice(rt.alloc(), &plan, &history, 0)?, Some(skip));
+    assert!(rt; allowed(rt.alloc(), &plan, &history, &skip)?);
+    assert!(rt;
+        !allowed(
+            rt.alloc(),
+            &plan,
+            &history,
+            &probe(0, write(0, 0), block(0))
+        )?
+    );
+    let past = Past::new(rt.alloc(), &history)?;
+    assert_eq!(rt; last_write(&past, 0, 7), Some(write(1, 0)));
+    assert_eq!(rt; last_write(&past, 0, 8), Some(write(0, 1)));
+    assert_eq!(rt; last_write(&past, 0, 16), None);
+    assert!(rt; !is_intact(&past, &write(0, 0), &block(0)));
+    assert!(rt; is_intact(&past, &write(1, 0), &block(0)));
+    Ok(())
+}
+
+#[test]
+fn a_later_phase_waits(rt: HostRuntime) -> Result<(), Fail> {
+    let text =
+        "[a]\nioengine=memory\nrw=write\nsize=4k\n[b]\nioengine=memory\nrw=write\nsize=4k\nstonewall\n";
+    let plan = plan_of(rt.alloc(), text)?;
+    let first = issue(0, write(0, 0), block(0));
+    let next = issue(
+        0,
+        write(1, 0),
+        Piece {
+            file: 1,
+            offset: 0,
+            len: 4096,
+        },
+    );
+    let history = [first, end(0, 0, Outcome::Whole), next];
+    assert_eq!(rt; choice(rt.alloc(), &plan, &history[..1], 0)?, None);
+    assert_eq!(rt; choice(rt.alloc(), &plan, &history[..2], 0)?, Some(next));
+    assert_eq!(rt; legal_front(rt.alloc(), &plan, &history)?, 3);
+    Ok(())
+}
+
+const WRITE_0: WriteId = WriteId {
+    clone: 0,
+    pass: 0,
+    number: 0,
+};
+
+const BLOCK_0: Piece = Piece {
+    file: 0,
+    offset: 0,
+    len: 4096,
+};
+
+#[test]
+fn totals_of_a_run(rt: HostRuntime) -> Result<(), Fail> {
+    let history = [
+        Event::Issue {
+            worker: 0,
+            dir: Dir::Write,
+            write: WRITE_0,
+            piece: BLOCK_0,
+        },
+        Event::End {
+            worker: 0,
+            io: 0,
+            outcome: Outcome::Whole,
+        },
+        Event::Probe {
+            worker: 0,
+            write: WRITE_0,
+            piece: BLOCK_0,
+        },
+        Event::End {
+            worker: 0,
+            io: 1,
+            outcome: Outcome::Whole,
+        },
+        Event::Verdict {
+            worker: 0,
+            io: 1,
+            verdict: Verdict::Bad(What::Byte(7)),
+        },
+    ];
+    let want = Totals {
+        reads: 0,
+        rbytes: 0,
+        writes: 1,
+        wbytes: 4096,
+        checks: 1,
+        good: 0,
+        bad: 1,
+        skipped: 0,
+        void: 0,
+        faults: 0,
+    };
+    assert_eq!(rt; totals(rt.alloc(), &history, 0)?, want);
+    Ok(())
+}
