@@ -1,3 +1,4 @@
+pub mod SerialLaws
 pub mod MachineLaws
 pub mod LegalLaws
 mod DrawRows

@@ -11,6 +11,7 @@ use Rattle.jr_model.specs.Judgement.{verdict_of}
 use Rattle.jr_model.specs.Legal.{is_legal, may_happen, kind_says}
 use Rattle.jr_model.specs.Machine.{first_state, machine_run}
 use Rattle.jr_model.specs.Plan.{Plan, IsNumbered}
+use Rattle.jr_model.specs.Serial.{serial_history}
 
 -- what is chosen to be started may happen
 abbrev pub ChoiceMayHappen : Type 0
@@ -45,3 +46,7 @@ EveryRunIsLegal =
     (plan : Plan) (steps : List Step)
     → IsNumbered plan
     → is_legal plan (machine_run plan (first_state plan) steps).state.history ≡ true
+
+-- what one worker does over a memory that keeps what is written is legal
+abbrev pub SerialIsLegal : Type 0
+SerialIsLegal = (plan : Plan) → IsNumbered plan → is_legal plan (serial_history plan) ≡ true

@@ -1,6 +1,6 @@
 // Laws over the definitions alone. Each function does nothing: its contract is the law, so that the
 // check proves it.
-ghost use Rattle.jr_model.specs.Laws.{ChoiceMayHappen, LegalGoesOn, FrontIsLegal, VerdictIsOfItsKind, EveryRunIsLegal};
+ghost use Rattle.jr_model.specs.Laws.{ChoiceMayHappen, LegalGoesOn, FrontIsLegal, VerdictIsOfItsKind, EveryRunIsLegal, SerialIsLegal};
 
 /// What is chosen to be started may happen after the history.
 pub fn choice_may_happen()
@@ -25,4 +25,9 @@ pub fn legal_goes_on()
 /// The verdict on a check's bytes is one that its kind can find.
 pub fn verdict_is_of_its_kind()
     ensures { VerdictIsOfItsKind }
+{}
+
+/// The history of one worker over a right memory is legal.
+pub fn serial_is_legal()
+    ensures { SerialIsLegal }
 {}

@@ -19,7 +19,8 @@ pub use blocks::{Dir, LARGEST_BLOCK, LARGEST_END, Piece, SECTOR, overlaps};
 pub use contents::{Expected, Method, Pattern, VerifyKind};
 pub use events::{Event, IoId, Outcome, Started, Verdict, What, WriteId};
 pub use laws::{
-    choice_may_happen, every_run_is_legal, front_is_legal, legal_goes_on, verdict_is_of_its_kind,
+    choice_may_happen, every_run_is_legal, front_is_legal, legal_goes_on, serial_is_legal,
+    verdict_is_of_its_kind,
 };
 pub use memory::Memory;
 pub use replies::{Reply, ReplyBytes};

@@ -1,0 +1,279 @@
+-- The history of one worker over a right memory is legal.
+use Rattle.std.proofs.Common.{◌≡◌, ℕ, zero, suc, ◌+◌, ◌*◌, ◌<◌, ◌≤◌, List, [], ◌∷◌, ◌++◌, length, Bool, true, false, cond, ◌&&◌, ◌||◌, not, refl, sym, ◌∙◌, ap, subst, arith, inl, inr, append_assoc, append-nil, length-append}
+use Rattle.std.specs.Prelude.{◌⊎◌, Option, Some, None, slice_get, nat_lt, ◌==◌, is_none}
+use Rattle.std.specs.Option.{option_or}
+use Rattle.std.specs.List.{list_any, cons_option}
+use Rattle.std.proofs.lemmas.Bool.{and_parts, and_from, eq-eqb, eqb-true, lt-ltb, ltb-true, cases_cond}
+use Rattle.std.proofs.lemmas.List.Elements.{filter_map-append}
+use Rattle.jr_model.specs.declared.blocks.Dir.{Dir}
+use Rattle.jr_model.specs.declared.blocks.Piece.{Piece}
+use Rattle.jr_model.specs.declared.events.Event.{Event}
+use Rattle.jr_model.specs.declared.events.Event.TheVariants.{Issue, Probe, Skip, End, Verdict}
+use Rattle.jr_model.specs.declared.events.Outcome.{Outcome}
+use Rattle.jr_model.specs.declared.events.Outcome.TheVariants.{Whole, Failed, Short}
+use Rattle.jr_model.specs.declared.events.Verdict.TheVariants.{Good}
+use Rattle.jr_model.specs.declared.events.WriteId.{WriteId}
+use Rattle.jr_model.specs.declared.tickets.TicketKind.TheVariants as ticket
+use Rattle.jr_model.specs.Choice.{choice}
+use Rattle.jr_model.specs.History.{first_given, Started, started, started_by, kind_for, end_of, outcome_of, flies, is_verdict_on, is_judged, ended_whole, is_probe}
+use Rattle.jr_model.specs.Legal.{is_legal, legal_after, may_happen, end_fits, outcome_fits, verdict_fits, job_says}
+use Rattle.jr_model.specs.Plan.{Plan, SubJob, IsNumbered, clone_of}
+use Rattle.jr_model.specs.Serial.{carried_out, goes_on, serial_after, serial_history}
+use Rattle.jr_model.proofs.LegalLaws.{is_legal-more, choice_may_happen, choice_is_step, cases_step_of}
+use Rattle.jr_model.specs.Machine.{work_of}
+use Rattle.jr_model.specs.Rounds.{pass_of, write_id}
+
+-- an I/O that ended was started
+abbrev pub EndsWereStarted : List Event → Type 0
+EndsWereStarted history = (io : ℕ) (o : Outcome) → outcome_of history io ≡ Some o → io < length (started history)
+
+-- a check that was judged was started
+abbrev pub JudgedWereStarted : List Event → Type 0
+JudgedWereStarted history = (io : ℕ) → is_judged history io ≡ true → io < length (started history)
+
+or_assoc : {Z : Type 0} (a b c : Option Z) → option_or a (option_or b c) ≡ option_or (option_or a b) c
+or_assoc None b c = refl
+or_assoc (Some z) b c = refl
+
+first_given-append : {X Y : Type 0} (f : X → Option Y) (xs ys : List X) → first_given f (xs ++ ys) ≡ option_or (first_given f xs) (first_given f ys)
+first_given-append f [] ys = refl
+first_given-append f (x ∷ xs) ys =
+    ap (option_or (f x)) (first_given-append f xs ys) ∙ or_assoc (f x) (first_given f xs) (first_given f ys)
+
+any-append : {X : Type 0} (f : X → Bool) (xs ys : List X) → list_any f (xs ++ ys) ≡ (list_any f xs || list_any f ys)
+any-append f [] ys = refl
+any-append f (x ∷ xs) ys = ap (λ b. f x || b) (any-append f xs ys) ∙ or_or (f x) (list_any f xs) (list_any f ys)
+  where
+    or_or : (a b c : Bool) → (a || (b || c)) ≡ ((a || b) || c)
+    or_or true b c = refl
+    or_or false b c = refl
+
+or_some : {Z : Type 0} (a b : Option Z) (z : Z) → option_or a b ≡ Some z → (a ≡ Some z) ⊎ (b ≡ Some z)
+or_some None b z h = inr h
+or_some (Some y) b z h = inl h
+
+-- what is started is only added to
+longer : (history : List Event) (e : Event) → length (started history) ≤ length (started (history ++ e ∷ []))
+longer history e =
+    let parts = filter_map-append started_by history (e ∷ []) in
+    omega (arith, ap length parts, length-append (started history) (started (e ∷ [])))
+
+cond_some : (b : Bool) (o p : Outcome) → cond b (Some o) None ≡ Some p → b ≡ true
+cond_some true o p h = refl
+cond_some false o p h = cc
+
+-- an event that ends an I/O may happen only while it flies
+end_was_started : (plan : Plan) (history : List Event) (e : Event) (io : ℕ) (o : Outcome) → may_happen plan history e ≡ true → option_or (end_of io e) None ≡ Some o → io < length (started history)
+end_was_started plan history (Issue worker dir write piece) io o may h = cc
+end_was_started plan history (Probe worker write piece) io o may h = cc
+end_was_started plan history (Skip worker write) io o may h = cc
+end_was_started plan history (Verdict worker id verdict) io o may h = cc
+end_was_started plan history (End worker id outcome) io o may h =
+    let hit = or_some (cond (id == io) (Some outcome) None) None o h in
+    let same : id ≡ io = eqb-true id io (elim hit [ inl e ↦ cond_some (id == io) outcome o e | inr e ↦ none_some o e ]) in
+    let flying = and_parts (flies history id) (end_fits worker outcome (slice_get (started history) id)) may in
+    let started_it = and_parts (nat_lt id (length (started history))) (is_none (outcome_of history id)) flying.0 in
+    subst (λ (n : ℕ). n < length (started history)) same (ltb-true id (length (started history)) started_it.0)
+  where
+    none_some : (p : Outcome) → None ≡ Some p → (id == io) ≡ true
+    none_some p g = cc
+
+ends-more : (plan : Plan) (history : List Event) (e : Event) → EndsWereStarted history → may_happen plan history e ≡ true → EndsWereStarted (history ++ e ∷ [])
+ends-more plan history e ends may io o h =
+    let here : io < length (started history) =
+    elim (or_some (outcome_of history io) (first_given (end_of io) (e ∷ [])) o (sym (first_given-append (end_of io) history (e ∷ [])) ∙ h)) [
+      | inl before ↦ ends io o before
+      | inr now ↦ end_was_started plan history e io o may now
+    ] in
+    omega (arith, here, longer history e)
+
+whole_some : (o : Option Outcome) → ended_whole o ≡ true → o ≡ Some Whole
+whole_some None h = cc
+whole_some (Some Whole) h = refl
+whole_some (Some Failed) h = cc
+whole_some (Some (Short n)) h = cc
+
+judge_was_started : (plan : Plan) (history : List Event) (e : Event) (io : ℕ) → EndsWereStarted history → may_happen plan history e ≡ true → (is_verdict_on io e || false) ≡ true → io < length (started history)
+judge_was_started plan history (Issue worker dir write piece) io ends may h = cc
+judge_was_started plan history (Probe worker write piece) io ends may h = cc
+judge_was_started plan history (Skip worker write) io ends may h = cc
+judge_was_started plan history (End worker id outcome) io ends may h = cc
+judge_was_started plan history (Verdict worker id verdict) io ends may h =
+    let same : id ≡ io = eqb-true id io (or_false (id == io) h) in
+    let parts = and_parts (ended_whole (outcome_of history id) && not (is_judged history id)) (verdict_fits plan verdict (slice_get (started history) id)) may in
+    let ended = and_parts (ended_whole (outcome_of history id)) (not (is_judged history id)) parts.0 in
+    subst (λ (n : ℕ). n < length (started history)) same (ends id Whole (whole_some (outcome_of history id) ended.0))
+  where
+    or_false : (b : Bool) → (b || false) ≡ true → b ≡ true
+    or_false true g = refl
+    or_false false g = g
+
+or_true : (a b : Bool) → (a || b) ≡ true → (a ≡ true) ⊎ (b ≡ true)
+or_true true b h = inl refl
+or_true false b h = inr h
+
+judged-more : (plan : Plan) (history : List Event) (e : Event) → EndsWereStarted history → JudgedWereStarted history → may_happen plan history e ≡ true → JudgedWereStarted (history ++ e ∷ [])
+judged-more plan history e ends judged may io h =
+    let here : io < length (started history) =
+    elim (or_true (is_judged history io) (list_any (is_verdict_on io) (e ∷ [])) (sym (any-append (is_verdict_on io) history (e ∷ [])) ∙ h)) [
+      | inl before ↦ judged io before
+      | inr now ↦ judge_was_started plan history e io ends may now
+    ] in
+    omega (arith, here, longer history e)
+
+-- a legal history, in which what ended or was judged was started
+pub record IsWell (plan : Plan) (history : List Event) : Type 0 where
+  pub legal : is_legal plan history ≡ true
+  pub ends : EndsWereStarted history
+  pub judged : JudgedWereStarted history
+
+well-more : (plan : Plan) (history : List Event) (e : Event) → IsWell plan history → may_happen plan history e ≡ true → IsWell plan (history ++ e ∷ [])
+well-more plan history e well may = record {
+  legal = is_legal-more plan history e well.legal may;
+  ends = ends-more plan history e well.ends may;
+  judged = judged-more plan history e well.ends well.judged may;
+}
+
+got_last : (xs : List Started) (s : Started) → slice_get (xs ++ s ∷ []) (length xs) ≡ Some s
+got_last [] s = refl
+got_last (x ∷ xs) s = got_last xs s
+
+none_from : (o : Option Outcome) → ((p : Outcome) → o ≡ Some p → ⊥) → o ≡ None
+none_from None f = refl
+none_from (Some p) f = absurd (f p refl)
+
+false_from : (b : Bool) → (b ≡ true → ⊥) → b ≡ false
+false_from false f = refl
+false_from true f = absurd (f refl)
+
+-- the I/O that an event starts ends whole by its own worker
+module _ (plan : Plan) (history : List Event) (e : Event) (s : Started) (well : IsWell plan history) (starts : started_by e ≡ Some s) (unended : end_of (length (started history)) e ≡ None) (unjudged : is_verdict_on (length (started history)) e ≡ false) where
+  now_started : started (history ++ e ∷ []) ≡ started history ++ s ∷ []
+  now_started =
+      filter_map-append started_by history (e ∷ []) ∙ ap (λ (o : Option Started). started history ++ cons_option o []) starts
+
+  started_last : slice_get (started (history ++ e ∷ [])) (length (started history)) ≡ Some s
+  started_last =
+      ap (λ (ios : List Started). slice_get ios (length (started history))) now_started ∙ got_last (started history) s
+
+  no_outcome : outcome_of (history ++ e ∷ []) (length (started history)) ≡ None
+  no_outcome =
+      first_given-append (end_of (length (started history))) history (e ∷ [])
+      ∙ ap (λ (o : Option Outcome). option_or o (option_or (end_of (length (started history)) e) None))
+      (none_from (outcome_of history (length (started history))) (λ (p : Outcome) (h : outcome_of history (length (started history)) ≡ Some p). let below : length (started history) < length (started history) = well.ends (length (started history)) p h in omega (arith, below)))
+      ∙ ap (λ (o : Option Outcome). option_or o None) unended
+
+  may_end_whole : s.worker ≡ 0 → may_happen plan (history ++ e ∷ []) (End 0 (length (started history)) Whole) ≡ true
+  may_end_whole worker =
+      let io = length (started history) in
+      let later = history ++ e ∷ [] in
+      let within : io < length (started later) = omega (arith, ap length now_started, length-append (started history) (s ∷ [])) in
+      and_from (flies later io) (end_fits 0 Whole (slice_get (started later) io))
+      (and_from (nat_lt io (length (started later))) (is_none (outcome_of later io)) (lt-ltb io (length (started later)) within)
+      (ap is_none no_outcome))
+      (subst (λ (o : Option Started). end_fits 0 Whole o ≡ true) (sym started_last)
+      (and_from (s.worker == 0) true (eq-eqb s.worker 0 worker) refl))
+
+  -- the event and its end
+  well_ended : s.worker ≡ 0 → may_happen plan history e ≡ true → IsWell plan ((history ++ e ∷ []) ++ End 0 (length (started history)) Whole ∷ [])
+  well_ended worker may =
+      well-more plan (history ++ e ∷ []) (End 0 (length (started history)) Whole) (well-more plan history e well may) (may_end_whole worker)
+
+  ended_whole_now : ended_whole (outcome_of ((history ++ e ∷ []) ++ End 0 (length (started history)) Whole ∷ []) (length (started history))) ≡ true
+  ended_whole_now =
+      let io = length (started history) in
+      ap ended_whole
+      (first_given-append (end_of io) (history ++ e ∷ []) (End 0 io Whole ∷ [])
+      ∙ ap (λ (o : Option Outcome). option_or o (option_or (end_of io (End 0 io Whole)) None)) no_outcome
+      ∙ ap (λ (b : Bool). option_or (cond b (Some Whole) None) None) (eq-eqb io io refl))
+
+  not_judged_now : is_judged ((history ++ e ∷ []) ++ End 0 (length (started history)) Whole ∷ []) (length (started history)) ≡ false
+  not_judged_now =
+      let io = length (started history) in
+      any-append (is_verdict_on io) (history ++ e ∷ []) (End 0 io Whole ∷ [])
+      ∙ ap (λ (b : Bool). b || (false || false))
+      (any-append (is_verdict_on io) history (e ∷ [])
+      ∙ ap (λ (b : Bool). b || (is_verdict_on io e || false))
+      (false_from (is_judged history io) (λ (h : is_judged history io ≡ true). let below : io < io = well.judged io h in omega (arith, below)))
+      ∙ ap (λ (b : Bool). false || (b || false)) unjudged)
+
+  started_then : slice_get (started ((history ++ e ∷ []) ++ End 0 (length (started history)) Whole ∷ [])) (length (started history)) ≡ Some s
+  started_then =
+      let io = length (started history) in
+      ap (λ (ios : List Started). slice_get ios io)
+      (filter_map-append started_by (history ++ e ∷ []) (End 0 io Whole ∷ []) ∙ append-nil (started (history ++ e ∷ [])))
+      ∙ started_last
+
+  may_be_good : is_probe s.kind ≡ true → may_happen plan ((history ++ e ∷ []) ++ End 0 (length (started history)) Whole ∷ []) (Verdict 0 (length (started history)) Good) ≡ true
+  may_be_good probe =
+      let io = length (started history) in
+      let later = (history ++ e ∷ []) ++ End 0 io Whole ∷ [] in
+      and_from (ended_whole (outcome_of later io) && not (is_judged later io)) (verdict_fits plan Good (slice_get (started later) io))
+      (and_from (ended_whole (outcome_of later io)) (not (is_judged later io)) ended_whole_now (ap not not_judged_now))
+      (subst (λ (o : Option Started). verdict_fits plan Good o ≡ true) (sym started_then)
+      (and_from (is_probe s.kind) (job_says (clone_of plan s.write.clone) s.piece.len Good) probe (says_good (clone_of plan s.write.clone) s.piece.len)))
+    where
+      says_good : (job : Option SubJob) (len : ℕ) → job_says job len Good ≡ true
+      says_good None len = refl
+      says_good (Some job) len = refl
+
+-- a choice that is carried out leaves a legal history
+well_issue : (plan : Plan) (history : List Event) (dir : Dir) (write : WriteId) (piece : Piece) → IsWell plan history → may_happen plan history (Issue 0 dir write piece) ≡ true → IsWell plan (history ++ carried_out (length (started history)) (Issue 0 dir write piece))
+well_issue plan history dir write piece well may =
+    let e = Issue 0 dir write piece in
+    let s : Started = record { worker = 0; kind = kind_for dir; write = write; piece = piece } in
+    subst (λ (all : List Event). IsWell plan all) (append_assoc history (e ∷ []) (End 0 (length (started history)) Whole ∷ []))
+    (well_ended plan history e s well refl refl refl refl may)
+
+well_probe : (plan : Plan) (history : List Event) (write : WriteId) (piece : Piece) → IsWell plan history → may_happen plan history (Probe 0 write piece) ≡ true → IsWell plan (history ++ carried_out (length (started history)) (Probe 0 write piece))
+well_probe plan history write piece well may =
+    let io = length (started history) in
+    let e = Probe 0 write piece in
+    let s : Started = record { worker = 0; kind = ticket.Probe; write = write; piece = piece } in
+    let ended = well_ended plan history e s well refl refl refl refl may in
+    let judged = well-more plan ((history ++ e ∷ []) ++ End 0 io Whole ∷ []) (Verdict 0 io Good) ended (may_be_good plan history e s well refl refl refl refl) in
+    subst (λ (all : List Event). IsWell plan all) (append_assoc history (e ∷ []) (End 0 io Whole ∷ Verdict 0 io Good ∷ []))
+    (subst (λ (all : List Event). IsWell plan all) (append_assoc (history ++ e ∷ []) (End 0 io Whole ∷ []) (Verdict 0 io Good ∷ [])) judged)
+
+well_choice : (plan : Plan) (history : List Event) (e : Event) → IsNumbered plan → IsWell plan history → choice plan history 0 ≡ Some e → IsWell plan (history ++ carried_out (length (started history)) e)
+well_choice plan history e numbered well chosen =
+    let io = length (started history) in
+    let may = choice_may_happen plan history 0 e numbered chosen in
+    let step = choice_is_step plan history 0 e numbered chosen in
+    let pass = pass_of step.0 step.1 in
+    elim (cases_step_of plan history 0 pass step.2 e step.3) [
+      | inl probe ↦
+          subst (λ (x : Event). IsWell plan (history ++ carried_out io x)) (sym probe)
+          (well_probe plan history (write_id pass step.2) step.2.piece well (subst (λ (x : Event). may_happen plan history x ≡ true) probe may))
+      | inr other ↦
+          elim other [
+            | inl skip ↦
+                subst (λ (x : Event). IsWell plan (history ++ carried_out io x)) (sym skip)
+                (well-more plan history (Skip 0 (write_id pass step.2)) well (subst (λ (x : Event). may_happen plan history x ≡ true) skip may))
+            | inr issue ↦
+                subst (λ (x : Event). IsWell plan (history ++ carried_out io x)) (sym issue)
+                (well_issue plan history step.2.dir (write_id pass step.2) step.2.piece well (subst (λ (x : Event). may_happen plan history x ≡ true) issue may))
+          ]
+    ]
+
+well_goes_on : (plan : Plan) (rest : List Event → List Event) (history : List Event) (o : Option Event) → ((longer : List Event) → IsWell plan longer → IsWell plan (rest longer)) → IsNumbered plan → IsWell plan history → choice plan history 0 ≡ o → IsWell plan (goes_on rest history o)
+well_goes_on plan rest history None keeps numbered well chosen = well
+well_goes_on plan rest history (Some e) keeps numbered well chosen =
+    keeps (history ++ carried_out (length (started history)) e) (well_choice plan history e numbered well chosen)
+
+well_serial : (limit : ℕ) (plan : Plan) (history : List Event) → IsNumbered plan → IsWell plan history → IsWell plan (serial_after limit plan history)
+well_serial zero plan history numbered well = well
+well_serial (suc limit) plan history numbered well =
+    well_goes_on plan (serial_after limit plan) history (choice plan history 0)
+    (λ (more : List Event) (still : IsWell plan more). well_serial limit plan more numbered still) numbered well refl
+
+-- the history of one worker is legal
+pub legal_serial : (plan : Plan) → IsNumbered plan → is_legal plan (serial_history plan) ≡ true
+legal_serial plan numbered =
+    (well_serial (2 * work_of plan) plan [] numbered (record { legal = refl; ends = λ io o h. none_some io o h; judged = λ io h. none_true io h })).legal
+  where
+    none_some : (io : ℕ) (o : Outcome) → None ≡ Some o → io < 0
+    none_some io o h = cc
+
+    none_true : (io : ℕ) → false ≡ true → io < 0
+    none_true io h = cc
