@@ -1,6 +1,6 @@
 -- Where a text is cut at its commas, and read by pairs of digits.
-use Rattle.std.proofs.Common.{◌≡◌, ℕ, zero, suc, ◌+◌, ◌%◌, ◌<◌, ◌≤◌, List, [], ◌∷◌, length, slice_index_or, Option, Some, None, MatchOption, Bor, false, true, ap, ◌∙◌, sym, refl, arith, lit<, ◌++◌, drop, append_assoc}
-use Rattle.std.specs.List.{slice_split, position_or_len, before_first, after_first}
+use Rattle.std.proofs.Common.{◌≡◌, ℕ, zero, suc, ◌+◌, ◌%◌, ◌<◌, ◌≤◌, List, [], ◌∷◌, length, slice_index_or, Option, Some, None, MatchOption, Bor, ap, ◌∙◌, sym, refl, arith, lit<, ◌++◌, drop, append_assoc}
+use Rattle.std.specs.List.{slice_split, after_first}
 use Rattle.std.proofs.lemmas.Bool.{ne_eqb, eq-eqb, lt-ltb, le-leb}
 use Rattle.std.proofs.lemmas.List.{at_drop_more, at_drop_all, append-nil}
 use Rattle.std.proofs.lemmas.List.Splits.{slice_split_none, slice_split_first, length-slice_split}

@@ -1,5 +1,5 @@
 -- How the list of files grows with its clones.
-use Rattle.std.proofs.Common.{◌≡◌, ℕ, zero, suc, ◌+◌, ◌<◌, ◌≤◌, Bool, true, false, cond, List, [], ◌∷◌, ◌++◌, length, slice_index_or, slice_set, ap, ◌∙◌, sym, subst, arith, refl}
+use Rattle.std.proofs.Common.{◌≡◌, ℕ, suc, ◌<◌, ◌≤◌, Bool, true, false, cond, List, [], ◌∷◌, ◌++◌, length, slice_index_or, slice_set, ap, ◌∙◌, sym, subst, arith, refl}
 use Rattle.jr_model.specs.Plan.{FileSpec}
 use Rattle.jr_options.specs.OptionWords.{same_text}
 use Rattle.jr_options.specs.Files.{file_place, with_file, widened}

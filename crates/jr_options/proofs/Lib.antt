@@ -3,3 +3,4 @@ pub mod DraftLemmas
 pub mod FileLemmas
 pub mod LimitLemmas
 pub mod ListLemmas
+pub mod OptionLemmas

@@ -1,6 +1,5 @@
 -- What the shape of a job gives its clones.
-use Rattle.std.proofs.Common.{◌≡◌, ℕ, zero, suc, ◌+◌, ◌-◌, ◌*◌, ◌/◌, ◌%◌, ◌^◌, ◌<◌, ◌≤◌, Bool, true, false, cond, not, ◌&&◌, ◌||◌, ltb, leb, eqb, List, [], ◌∷◌, Some, ap, ◌∙◌, sym, subst, arith, refl, ◌⊎◌, inl, inr}
-use Rattle.std.specs.Option.{is_some}
+use Rattle.std.proofs.Common.{◌≡◌, ℕ, ◌+◌, ◌-◌, ◌*◌, ◌/◌, ◌%◌, ◌^◌, ◌<◌, ◌≤◌, Bool, true, false, not, ◌||◌, leb, eqb, List, [], ◌∷◌, ap, arith, refl, ◌⊎◌, inl, inr}
 use Rattle.std.proofs.lemmas.Bool.{and_parts, or_cases, cases_lt, lt-ltb, le-ltb, leb-true, eqb-true}
 use Rattle.std.proofs.lemmas.List.Sums.{sum_by-append}
 use Rattle.jr_model.specs.declared.workloads.IoType.{IoType}
@@ -13,7 +12,7 @@ use Rattle.jr_options.specs.declared.drafts.PlannedJob.{PlannedJob}
 use Rattle.jr_options.specs.Drafts.{planned_clone}
 use Rattle.jr_options.specs.Options.{AreInRange}
 use Rattle.jr_options.specs.PlanFacts.{SizesFit, KeepsLimits, has_reads, has_writes}
-use Rattle.jr_options.specs.Shapes.{HasShape, entry_fits, split_fits, options_fit}
+use Rattle.jr_options.specs.Shapes.{HasShape, entry_fits, split_fits}
 
 -- what an entry's size keeps
 abbrev Fitting : ℕ → ℕ → Type 0

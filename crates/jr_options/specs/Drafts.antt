@@ -1,8 +1,6 @@
 -- How the clones of a run come one after another (of this project).
 use Rattle.std.specs.Prelude.{ℕ, ◌+◌, ◌*◌, List, [], ◌∷◌, ◌++◌, length}
 use Rattle.jr_model.specs.Plan.{SubJob, FileSpec}
-use Rattle.jr_options.specs.declared.options.JobOptions.{JobOptions}
-use Rattle.jr_options.specs.declared.shapes.Shape.{Shape}
 use Rattle.jr_options.specs.declared.drafts.PlannedJob.{PlannedJob}
 use Rattle.jr_options.specs.Files.{file_place, with_file}
 

@@ -1,5 +1,6 @@
 pub mod Drafts
 pub mod Files
+pub mod Jobs
 pub mod OptionValues
 pub mod OptionWords
 pub mod Options

@@ -1,11 +1,14 @@
 -- What a job's option lines say together: of each option the last line counts (fio's manual, "Job file format").
-use Rattle.std.specs.Prelude.{◌≡◌, ℕ, ◌≤◌, Bool, true, false, List, [], ◌∷◌, Option, Some, None}
+use Rattle.std.specs.Prelude.{◌≤◌, true, false, List, [], ◌∷◌, Some, None, Result, Ok, Err}
 use Rattle.jr_model.specs.declared.contents.VerifyKind.TheVariants as verify
 use Rattle.jr_model.specs.declared.workloads.EngineKind.TheVariants as engine
 use Rattle.jr_model.specs.declared.workloads.IoType.TheVariants as io
+use Rattle.jr_text.specs.Records.{LineText}
+use Rattle.jr_options.specs.declared.faults.JobFault.{JobFault}
 use Rattle.jr_options.specs.declared.options.JobOptions.{JobOptions}
 use Rattle.jr_options.specs.declared.settings.Setting.{Setting}
 use Rattle.jr_options.specs.declared.settings.Setting.TheVariants as setting
+use Rattle.jr_options.specs.Settings.{setting_of}
 
 -- what counts where no line says otherwise
 abbrev pub default_options : JobOptions
@@ -68,3 +71,17 @@ pub record AreInRange (o : JobOptions) : Type 0 where
   pub depth_least : 1 ≤ o.depth
   pub depth_most : o.depth ≤ 256
   pub verifiers : o.verifiers ≤ 16
+
+-- the options once a line says something; a fault stays
+abbrev pub and_setting : JobOptions → Result Setting JobFault → Result JobOptions JobFault
+and_setting o (Err fault) = Err fault
+and_setting o (Ok s) = Ok (with_setting o s)
+
+abbrev pub with_line : Result JobOptions JobFault → LineText → Result JobOptions JobFault
+with_line (Err fault) line = Err fault
+with_line (Ok o) line = and_setting o (setting_of line)
+
+-- the options once these lines are read, or the first fault in them
+abbrev pub options_from : Result JobOptions JobFault → List LineText → Result JobOptions JobFault
+options_from read [] = read
+options_from read (line ∷ lines) = options_from (with_line read line) lines

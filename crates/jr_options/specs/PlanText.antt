@@ -1,5 +1,5 @@
 -- What a plan prints, a line for each clone (of this project).
-use Rattle.std.specs.Prelude.{ℕ, ◌*◌, List, [], ◌∷◌, ◌++◌, flat_map, slice_get, Option, Some, None, codes, decimal}
+use Rattle.std.specs.Prelude.{ℕ, ◌*◌, List, [], ◌++◌, flat_map, slice_get, Option, Some, None, codes, decimal}
 use Rattle.jr_model.specs.declared.contents.VerifyKind.{VerifyKind}
 use Rattle.jr_model.specs.declared.contents.VerifyKind.TheVariants as verify
 use Rattle.jr_model.specs.declared.workloads.IoType.{IoType}

@@ -1,6 +1,6 @@
-ghost use Rattle.std.specs.Prelude.{◌≡◌, IfOk};
+ghost use Rattle.std.specs.Prelude.{◌≡◌, IfOk, Ok};
 ghost use Rattle.jr_options.specs.Settings.{IsInRange};
-ghost use Rattle.jr_options.specs.Options.{AreInRange, default_options, with_setting};
+ghost use Rattle.jr_options.specs.Options.{AreInRange, default_options, with_setting, options_from};
 
 use crate::faults::JobFault;
 use crate::settings::{Setting, setting_of};
@@ -111,11 +111,15 @@ impl JobOptions {
     // The same with more lines, or the first fault in them.
     pub(crate) fn with_lines(self, lines: &[Line]) -> Result<JobOptions, JobFault>
         requires range { AreInRange self }
+        ensures value { result ≡ options_from (Ok self) lines.now }
         ensures range { IfOk result AreInRange }
     {
         let mut options = self;
         for line in lines {
-            options = options.with(setting_of(line)?);
+            match setting_of(line) {
+                Ok(setting) => options = options.with(setting),
+                Err(fault) => return Err(fault),
+            }
         }
         Ok(options)
     }

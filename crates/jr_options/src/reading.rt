@@ -1,7 +1,9 @@
-ghost use Rattle.std.specs.Prelude.{◌≡◌, ◌≤◌, ◌<◌, ◌+◌, ◌-◌, ◌*◌, ◌^◌, IfOk};
-ghost use Rattle.jr_options.specs.Options.{AreInRange};
+ghost use Rattle.std.specs.Prelude.{◌≡◌, ◌≤◌, ◌<◌, ◌+◌, ◌-◌, ◌*◌, ◌^◌, [], if◌then◌else◌, not, IfOk, IfErr, IfSome, Ok, Err, Some, option_copied};
+ghost use Rattle.std.specs.List.{list_any};
+ghost use Rattle.jr_options.specs.Jobs.{global_lines, effective_lines, planned_job};
+ghost use Rattle.jr_options.specs.Options.{AreInRange, options_from};
 ghost use Rattle.jr_options.specs.Shapes.{HasShape};
-ghost use Rattle.jr_options.specs.Surveys.{IsCapped, start_of};
+ghost use Rattle.jr_options.specs.Surveys.{IsCapped, start_of, is_global, is_planned, empty_tally, and_job, and_shape, tally_fault, is_other_engine, engine_number, first_survey, with_section, survey_from, refusal_in, refusal_of};
 
 use crate::drafts::{Draft, PlannedJob};
 use crate::faults::{Bound, JobFault};
@@ -23,12 +25,16 @@ const MOST_CELLS: u64 = 1 << 24;
 const MOST_WORK: u64 = 1 << 30;
 
 // The section's lines count for the jobs below it; it is no job.
-fn is_global(section: &Section) -> bool {
+fn is_global(section: &Section) -> bool
+    ensures { result ≡ is_global section.now }
+{
     section.name() == "global"
 }
 
 // A job that the run is to have.
-fn is_planned(section: &Section, only: Option<&str>) -> bool {
+fn is_planned(section: &Section, only: Option<&str>) -> bool
+    ensures { result ≡ is_planned (option_copied only.entry) section.now }
+{
     if is_global(section) {
         return false;
     }
@@ -39,18 +45,36 @@ fn is_planned(section: &Section, only: Option<&str>) -> bool {
 }
 
 /// The plan of the sections of a job file: of all jobs, or of those of one name.
-pub fn plan(alloc: Global, sections: &[Section], only: Option<&str>) -> Result<Plan, JobFault> {
-    if !sections.iter().any(|section| !is_global(section)) {
+#[tactic(auto, unfolding(crate::specs::Surveys::refusal_of))]
+pub fn plan(alloc: Global, sections: &[Section], only: Option<&str>) -> Result<Plan, JobFault>
+    // Each refusal of the list is answered, the first one by its name.
+    ensures refused { IfSome (refusal_of sections.now (option_copied only.entry)) (λ fault. result ≡ Err fault) }
+{
+    if !has_job(sections) {
         return Err(JobFault::NoJob);
     }
-    if !sections.iter().any(|section| is_planned(section, only)) {
+    if !has_planned(sections, only) {
         return Err(JobFault::NoSection);
     }
-    let tally = tally_of(Survey::new(), sections, only)?;
-    if let Some(fault) = tally.fault() {
-        return Err(fault);
+    match tally_of(Survey::new(), sections, only) {
+        Ok(tally) => match tally.fault() {
+            Some(fault) => Err(fault),
+            None => build(alloc, sections, only, tally),
+        },
+        Err(fault) => Err(fault),
     }
-    build(alloc, sections, only, tally)
+}
+
+fn has_job(sections: &[Section]) -> bool
+    ensures { result ≡ list_any (λ section. not (is_global section)) sections.now }
+{
+    sections.iter().any(|section| !is_global(section))
+}
+
+fn has_planned(sections: &[Section], only: Option<&str>) -> bool
+    ensures { result ≡ list_any (is_planned (option_copied only.entry)) sections.now }
+{
+    sections.iter().any(|section| is_planned(section, only))
 }
 
 // What is known of the planned jobs so far.
@@ -71,7 +95,8 @@ struct Tally {
 
 impl Tally {
     fn new() -> Tally
-        ensures { IsCapped result }
+        ensures value { result ≡ empty_tally }
+        ensures capped { IsCapped result }
     {
         Tally {
             fault: None,
@@ -88,6 +113,7 @@ impl Tally {
     fn with_job(self, options: &JobOptions, line: u32) -> Tally
         requires range { AreInRange options.now }
         requires capped { IsCapped self }
+        ensures value { result ≡ and_job self options.now line }
         ensures capped { IsCapped result }
     {
         let mut tally = self;
@@ -107,6 +133,7 @@ impl Tally {
     fn with_shape(self, options: &JobOptions, shape: &Shape) -> Tally
         requires range { AreInRange options.now }
         requires capped { IsCapped self }
+        ensures value { result ≡ and_shape self options.now (Ok shape.now) }
         ensures capped { IsCapped result }
     {
         let mut tally = self;
@@ -118,7 +145,10 @@ impl Tally {
     }
 
     // The first of the faults that show only over all jobs.
-    fn fault(&self) -> Option<JobFault> {
+    #[tactic(auto, unfolding(crate::specs::Surveys::tally_fault))]
+    fn fault(&self) -> Option<JobFault>
+        ensures { result ≡ tally_fault self.now }
+    {
         if self.fault.is_some() {
             return self.fault;
         }
@@ -141,10 +171,22 @@ impl Tally {
     }
 }
 
-fn is_other_engine(engine: Option<EngineKind>, other: EngineKind) -> bool {
+fn is_other_engine(engine: Option<EngineKind>, other: EngineKind) -> bool
+    ensures { result ≡ is_other_engine engine other }
+{
     match engine {
-        Some(engine) => engine != other,
+        Some(engine) => engine_number(engine) != engine_number(other),
         None => false,
+    }
+}
+
+fn engine_number(engine: EngineKind) -> u8
+    ensures { result ≡ engine_number engine }
+{
+    match engine {
+        EngineKind::File => 0,
+        EngineKind::Memory => 1,
+        EngineKind::Null => 2,
     }
 }
 
@@ -186,6 +228,7 @@ struct Survey {
 
 impl Survey {
     fn new() -> Survey
+        ensures value { result ≡ first_survey }
         ensures range { AreInRange result.globals }
         ensures capped { IsCapped result.tally }
     {
@@ -198,6 +241,7 @@ impl Survey {
     fn with_section(self, section: &Section, only: Option<&str>) -> Result<Survey, JobFault>
         requires range { AreInRange self.globals }
         requires capped { IsCapped self.tally }
+        ensures value { result ≡ with_section (option_copied only.entry) self section.now }
         ensures range { IfOk result (λ survey. AreInRange survey.globals) }
         ensures capped { IfOk result (λ survey. IsCapped survey.tally) }
     {
@@ -224,6 +268,8 @@ impl Survey {
 fn tally_of(start: Survey, sections: &[Section], only: Option<&str>) -> Result<Tally, JobFault>
     requires range { AreInRange start.globals }
     requires capped { IsCapped start.tally }
+    ensures ok { IfOk result (λ tally. refusal_in (survey_from (option_copied only.entry) (Ok start) sections.now) ≡ tally_fault tally) }
+    ensures err { IfErr result (λ fault. refusal_in (survey_from (option_copied only.entry) (Ok start) sections.now) ≡ Some fault) }
     ensures capped { IfOk result IsCapped }
 {
     let mut survey = start;
@@ -243,6 +289,7 @@ fn options_for(
     section: &Section,
 ) -> Result<JobOptions, JobFault>
     requires { AreInRange defaults }
+    ensures value { result ≡ options_from (Ok defaults) (effective_lines above.now section.now) }
     ensures range { IfOk result AreInRange }
 {
     match below(defaults, above) {
@@ -254,11 +301,15 @@ fn options_for(
 // The options that count below these sections, from those that count above them.
 fn below(options: JobOptions, sections: &[Section]) -> Result<JobOptions, JobFault>
     requires { AreInRange options }
+    ensures value { result ≡ options_from (Ok options) (global_lines sections.now) }
     ensures range { IfOk result AreInRange }
 {
     let mut options = options;
     for section in sections {
-        options = with_global(options, section)?;
+        match with_global(options, section) {
+            Ok(next) => options = next,
+            Err(fault) => return Err(fault),
+        }
     }
     Ok(options)
 }
@@ -266,6 +317,7 @@ fn below(options: JobOptions, sections: &[Section]) -> Result<JobOptions, JobFau
 // The options that count below a section.
 fn with_global(options: JobOptions, section: &Section) -> Result<JobOptions, JobFault>
     requires { AreInRange options }
+    ensures value { result ≡ options_from (Ok options) (if is_global section.now then section.now.lines else []) }
     ensures range { IfOk result AreInRange }
 {
     if is_global(section) {
@@ -304,6 +356,7 @@ fn build(
 
 // The job of a section below others, after the jobs up to a phase.
 fn planned_job(phase: u32, above: &[Section], section: &Section) -> Result<PlannedJob, JobFault>
+    ensures value { result ≡ planned_job phase above.now section.now }
     ensures range { IfOk result (λ job. AreInRange job.options) }
     ensures shape { IfOk result (λ job. HasShape job.options job.shape) }
 {

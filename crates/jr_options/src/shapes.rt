@@ -1,7 +1,9 @@
 ghost use Rattle.std.specs.Prelude.{◌≡◌, ◌<◌, ◌==◌, true, IfOk, Some};
 ghost use Rattle.std.specs.List.{list_all};
 ghost use Rattle.jr_options.specs.PlanFacts.{has_reads, has_writes};
-ghost use Rattle.jr_options.specs.Shapes.{HasShape, entry_fits, split_fits, options_fit};
+ghost use Rattle.jr_options.specs.Shapes.{HasShape, entry_fits, split_fits, options_fit, least_size, cell_of, shape_with, shape_of};
+ghost use Rattle.jr_model.specs.Plan.{is_verified};
+ghost use Rattle.jr_model.specs.Tickets.{has_pattern};
 
 use crate::faults::JobFault;
 use crate::options::JobOptions;
@@ -52,7 +54,9 @@ fn entry_fits(entry: &(u32, u8), cell: u32) -> bool
 }
 
 // The least size of a split that it gives at all.
-fn least_size(split: &Split) -> u32 {
+fn least_size(split: &Split) -> u32
+    ensures { result ≡ least_size split.now }
+{
     let mut least = u32::MAX;
     for (size, percent) in split.entries() {
         if *percent != 0 {
@@ -64,15 +68,20 @@ fn least_size(split: &Split) -> u32 {
 
 impl JobOptions {
     // The least of the sizes in the directions that the job has.
-    fn cell(&self, reads: &Split, writes: &Split) -> u32 {
-        let mut cell = u32::MAX;
-        if has_reads(self.io_type) {
-            cell = cell.min(least_size(reads));
-        }
-        if has_writes(self.io_type) {
-            cell = cell.min(least_size(writes));
-        }
-        cell
+    fn cell(&self, reads: &Split, writes: &Split) -> u32
+        ensures { result ≡ cell_of self.now reads.now writes.now }
+    {
+        let least_read = if has_reads(self.io_type) {
+            least_size(reads)
+        } else {
+            u32::MAX
+        };
+        let least_write = if has_writes(self.io_type) {
+            least_size(writes)
+        } else {
+            u32::MAX
+        };
+        least_read.min(least_write)
     }
 
     fn fits(&self, cell: u32, reads: &Split, writes: &Split) -> bool
@@ -86,11 +95,43 @@ impl JobOptions {
             && (!has_writes(self.io_type) || split_fits(writes, cell))
     }
 
+    // Whether blocks can be verified as the job wants it: a pattern needs one.
+    fn has_pattern(&self) -> bool
+        ensures { result ≡ has_pattern self.now.kind self.now.pattern }
+    {
+        match self.kind {
+            VerifyKind::Pattern => self.pattern.is_some(),
+            _ => true,
+        }
+    }
+
+    fn is_verified(&self) -> bool
+        ensures { result ≡ is_verified self.now.kind }
+    {
+        match self.kind {
+            VerifyKind::Plain => false,
+            _ => true,
+        }
+    }
+
     // The shape of a job whose section begins at this line, or what is wrong with the job.
+    #[tactic(auto, unfolding(crate::specs::Shapes::shape_of))]
     pub(crate) fn shape(&self, line: u32) -> Result<Shape, JobFault>
+        ensures value { result ≡ shape_of self.now line }
         ensures shape { IfOk result (HasShape self.now) }
     {
-        let size = self.size.ok_or(JobFault::MissingSize(line))?;
+        match self.size {
+            Some(size) => self.cut(line, size),
+            None => Err(JobFault::MissingSize(line)),
+        }
+    }
+
+    // The shape of so many bytes.
+    fn cut(&self, line: u32, size: u64) -> Result<Shape, JobFault>
+        requires { self.now.size ≡ Some size }
+        ensures value { result ≡ shape_with self.now line (Some size) }
+        ensures shape { IfOk result (HasShape self.now) }
+    {
         let reads = self.read_split.unwrap_or(Split::single(self.read_size));
         let writes = self.write_split.unwrap_or(Split::single(self.write_size));
         reads.facts();
@@ -103,10 +144,10 @@ impl JobOptions {
         if cells == 0 {
             return Err(JobFault::BadBlock(line));
         }
-        if self.kind == VerifyKind::Pattern && self.pattern.is_none() {
+        if !self.has_pattern() {
             return Err(JobFault::NoPattern(line));
         }
-        if self.kind != VerifyKind::Plain && !has_writes(self.io_type) {
+        if self.is_verified() && !has_writes(self.io_type) {
             return Err(JobFault::VerifyNeedsWrite(line));
         }
         Ok(Shape {

@@ -2,7 +2,7 @@ use crate::faults::{Bound, JobFault};
 use crate::plans::Plan;
 use crate::reading::plan;
 use crate::texts::plan_text;
-use jr_model::EngineKind;
+use jr_model::{EngineKind, Pattern};
 use jr_text::sections;
 use std::alloc::Global;
 use std::test::Fail;
@@ -192,5 +192,37 @@ fn limits(rt: HostRuntime) -> Result<(), Fail> {
     let plan = planned(alloc, "[a]\nrw=write\nsize=8g\nbs=512\nloops=64\n", None)?;
     assert_eq!(rt; plan.clones(), 1);
     assert_eq!(rt; plan.clone_at(0).passes(), 64);
+    Ok(())
+}
+
+#[test]
+fn patterns_of_jobs(rt: HostRuntime) -> Result<(), Fail> {
+    let plan = planned(
+        rt.alloc(),
+        "[w]\nioengine=memory\nrw=write\nsize=16k\nverify=pattern\nverify_pattern=0xabc\n",
+        None,
+    )?;
+    assert_eq!(rt; plan.clones(), 1);
+    let method = plan.clone_at(0).method();
+    let expected = [0x0a, 0xbc];
+    assert_eq!(rt; method.pattern, Pattern::new(&expected));
+    assert_eq!(rt;
+        fault(rt.alloc(), "[w]\nsize=4k\nverify_pattern=256\n"),
+        Some(JobFault::BadValue(3))
+    );
+    assert_eq!(rt;
+        fault(rt.alloc(), "[w]\nsize=4k\nverify_pattern=0x\n"),
+        Some(JobFault::BadValue(3))
+    );
+    let split = planned(
+        rt.alloc(),
+        "[w]\nrw=randrw\nsize=64k\nbssplit=4k/50:1k/:32k/,8k\n",
+        None,
+    )?;
+    assert_eq!(rt; split.clones(), 1);
+    let clone = split.clone_at(0);
+    assert_eq!(rt; clone.cell(), 1024);
+    assert_eq!(rt; clone.read_split().size_of(75), 32768);
+    assert_eq!(rt; clone.write_split().size_of(75), 8192);
     Ok(())
 }

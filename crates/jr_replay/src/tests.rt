@@ -1,5 +1,8 @@
-use crate::{Past, allowed, choice, complete, is_intact, last_write, totals};
-use jr_model::{Dir, Event, Outcome, Piece, Totals, Verdict, What, WriteId};
+use crate::{
+    Pass, Past, PlannedClone, Workload, allowed, choice, choice_among, complete, draws_of,
+    is_intact, last_write, started, step_at, totals,
+};
+use jr_model::{Dir, Event, Outcome, Piece, TicketKind, Totals, Verdict, What, WriteId};
 use jr_options::{Plan, plan};
 use jr_text::sections;
 use std::alloc::Global;
@@ -325,5 +328,46 @@ fn totals_of_a_run(rt: HostRuntime) -> Result<(), Fail> {
         faults: 0,
     };
     assert_eq!(rt; totals(rt.alloc(), &history, 0)?, want);
+    Ok(())
+}
+
+// Seven writes in rounds of three.
+#[test]
+fn the_parts_of_a_plan(rt: HostRuntime) -> Result<(), Fail> {
+    let text = "[w]\nioengine=memory\nrw=write\nsize=28k\nverify_backlog=3\nverify=md5\nloops=2\n";
+    let plan = plan_of(rt.alloc(), text)?;
+    let work = Workload::new(rt.alloc(), &plan)?;
+    let clone = work.clones().first().ok_or("no clone")?;
+    let draws = draws_of(rt.alloc(), clone.job(), 1)?;
+    assert_eq!(rt; draws.len(), 7);
+    assert_eq!(rt; draws.last().map(|draw| draw.piece), Some(block(6)));
+    let pass = Pass::new(rt.alloc(), clone.job(), 1)?;
+    assert_eq!(rt; pass.draws(), draws.as_slice());
+    assert_eq!(rt; pass.group_count(), 3);
+    assert_eq!(rt; pass.group(2).len(), 1);
+    assert_eq!(rt; pass.group_index(5), 1);
+    assert_eq!(rt;
+        PlannedClone::new(rt.alloc(), clone.job())?.passes().len(),
+        2
+    );
+    let past = Past::new(rt.alloc(), &[])?;
+    let first = Some(issue(3, write(0, 0), block(0)));
+    assert_eq!(rt; choice_among(&work, &past, 3), first);
+    assert_eq!(rt; step_at(rt.alloc(), &work, &past, 3, &write(0, 0))?, first);
+    assert_eq!(rt; step_at(rt.alloc(), &work, &past, 3, &write(0, 1))?, None);
+    Ok(())
+}
+
+#[test]
+fn what_was_started(rt: HostRuntime) -> Result<(), Fail> {
+    let history = two_checked();
+    let ios = started(rt.alloc(), &history)?;
+    assert_eq!(rt; ios.len(), 4);
+    assert_eq!(rt; ios.get(1).map(|io| io.piece), Some(block(1)));
+    assert_eq!(rt; ios.get(2).map(|io| io.kind), Some(TicketKind::Probe));
+    assert_eq!(rt; ios.get(3).map(|io| io.write), Some(write(0, 1)));
+    let past = Past::new(rt.alloc(), front(&history, 6))?;
+    assert_eq!(rt; past.in_flight().len(), 0);
+    assert_eq!(rt; past.awaiting().len(), 1);
     Ok(())
 }

@@ -1,6 +1,6 @@
 -- Entries of a split, read one after another and shared out.
-use Rattle.std.proofs.Common.{◌≡◌, ℕ, zero, suc, ◌+◌, ◌-◌, ◌*◌, ◌/◌, ◌%◌, ◌<◌, ◌≤◌, min, max, ◌⊎◌, inl, inr, List, [], ◌∷◌, ◌++◌, length, drop, take, replicate, slice_index_or, slice_set, Option, Some, None, Result, Ok, Err, unwrap_or, is_none, Bool, true, false, cond, ap, ◌∙◌, sym, subst, arith, refl, append_assoc, add-one, zero-add, length-append}
-use Rattle.std.specs.List.{sum_by, count_by, slice_split}
+use Rattle.std.proofs.Common.{◌≡◌, ℕ, zero, suc, ◌+◌, ◌-◌, ◌*◌, ◌/◌, ◌%◌, ◌<◌, ◌≤◌, min, max, inl, inr, List, [], ◌∷◌, ◌++◌, length, drop, take, replicate, slice_index_or, slice_set, Option, Some, None, Result, Ok, Err, unwrap_or, is_none, cond, ap, ◌∙◌, sym, arith, refl, append_assoc, add-one, length-append}
+use Rattle.std.specs.List.{slice_split}
 use Rattle.std.proofs.lemmas.List.{at_drop_more, at_drop_all, append-nil, take_more_set, drop-set-lt, drop-replicate, take_at, length-replicate}
 use Rattle.std.proofs.lemmas.List.Sums.{sum_by-cons}
 use Rattle.std.proofs.lemmas.Bool.{lt-ltb, le-ltb, eq-eqb, ne_eqb, cases_eq}

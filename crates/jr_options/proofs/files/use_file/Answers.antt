@@ -1,5 +1,5 @@
-use Rattle.std.proofs.Common.{◌≡◌, ◌<◌, ◌≤◌, length, string_bytes, arith, ap, ◌∙◌, sym}
-use Rattle.jr_options.specs.Files.{file_place, with_file, widened}
+use Rattle.std.proofs.Common.{◌≡◌, ◌≤◌, length, string_bytes, arith, ◌∙◌}
+use Rattle.jr_options.specs.Files.{file_place}
 use Rattle.jr_options.proofs.FileLemmas.{with_file-at, with_file-new}
 use Rattle.jr_options.proofs.files.use_file.Goals as goal
 

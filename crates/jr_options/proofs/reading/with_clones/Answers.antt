@@ -1,4 +1,3 @@
-use Rattle.std.proofs.Common.{◌≡◌}
 use Rattle.jr_options.proofs.LimitLemmas.{start_sectors}
 use Rattle.jr_options.proofs.reading.with_clones.Goals as goal
 

@@ -1,4 +1,4 @@
-use Rattle.std.proofs.Common.{◌≡◌, List, ◌++◌, string_bytes, ap, ◌∙◌}
+use Rattle.std.proofs.Common.{List, ◌++◌, string_bytes, ap, ◌∙◌}
 use Rattle.jr_model.specs.Plan.{FileSpec}
 use Rattle.jr_options.specs.PlanText.{clone_line, plan_text}
 use Rattle.jr_options.proofs.ListLemmas.{flat_map-further}

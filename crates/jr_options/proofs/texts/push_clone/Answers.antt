@@ -1,4 +1,4 @@
-use Rattle.std.proofs.Common.{◌≡◌, List, ℕ, ◌++◌, length, slice_get, Some, string_bytes, ap, ◌∙◌, sym, subst, arith}
+use Rattle.std.proofs.Common.{◌≡◌, ◌++◌, length, slice_get, Some, string_bytes, ap, ◌∙◌, sym, arith}
 use Rattle.std.proofs.lemmas.Option.{slice_get_read}
 use Rattle.jr_options.specs.PlanText.{place_text, size_text, work_text, name_of}
 use Rattle.jr_options.proofs.ListLemmas.{added-three}

@@ -1,4 +1,4 @@
-use Rattle.std.proofs.Common.{◌≡◌, ℕ, List, ◌∷◌, sym}
+use Rattle.std.proofs.Common.{◌≡◌, ◌∷◌, sym}
 use Rattle.std.specs.List.{slice_split}
 use Rattle.jr_options.specs.OptionValues.{is_comma}
 use Rattle.jr_options.proofs.CutLemmas.{four_values}

@@ -1,4 +1,3 @@
-use Rattle.std.proofs.Common.{◌≡◌}
 use Rattle.jr_options.proofs.CutLemmas.{cut_is}
 use Rattle.jr_options.proofs.values.cut.Goals as goal
 

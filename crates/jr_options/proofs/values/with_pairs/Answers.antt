@@ -1,4 +1,4 @@
-use Rattle.std.proofs.Common.{◌≡◌, ℕ, ◌<◌, ◌+◌, ◌*◌, ◌++◌, [], ◌∷◌, List, length, take, drop, slice_index_or, slice_set, Some, ap, ◌∙◌, sym, arith}
+use Rattle.std.proofs.Common.{◌≡◌, ℕ, ◌<◌, ◌+◌, ◌*◌, List, length, take, drop, slice_index_or, slice_set, Some, ap, ◌∙◌, sym, arith}
 use Rattle.std.proofs.lemmas.List.{take_more_set, length-set}
 use Rattle.jr_options.specs.OptionValues.{with_bytes, hex_byte, hex_pairs}
 use Rattle.jr_options.proofs.CutLemmas.{pair_next, same_default}

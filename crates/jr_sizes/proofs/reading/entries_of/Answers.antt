@@ -1,12 +1,11 @@
-use Rattle.std.proofs.Common.{◌≡◌, ℕ, ◌<◌, ◌≤◌, ◌++◌, [], ◌∷◌, List, length, take, slice_index_or, Option, Result, Ok, Err, All, IfSome, IfErr, subst, sym, ap, ◌∙◌, lit<, arith, Fits, w64}
+use Rattle.std.proofs.Common.{◌≡◌, ℕ, ◌<◌, ◌≤◌, length, take, slice_index_or, Option, IfSome, sym, ◌∙◌, lit<, arith}
 use Rattle.std.specs.List.{slice_split}
 use Rattle.std.proofs.lemmas.List.{length_push, length-set, take_more_set}
 use Rattle.std.proofs.lemmas.List.Elements.{All-push}
 use Rattle.std.proofs.lemmas.Iterator.Splits.{YieldsList-from_str_split}
 use Rattle.std.proofs.lemmas.Iterator.Consumers.{YieldsList-turn, YieldsList-end}
 use Rattle.std.proofs.lemmas.Result.{err_from_is_err_and}
-use Rattle.jr_sizes.specs.declared.faults.SplitFault.{SplitFault}
-use Rattle.jr_sizes.specs.Splits.{is_colon, entries_of}
+use Rattle.jr_sizes.specs.Splits.{is_colon}
 use Rattle.jr_sizes.proofs.EntryLemmas.{entries_next, entries_refused, entries_end}
 use Rattle.jr_sizes.proofs.reading.entries_of.Goals as goal
 

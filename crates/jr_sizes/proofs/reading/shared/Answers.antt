@@ -1,4 +1,4 @@
-use Rattle.std.proofs.Common.{◌≡◌, ℕ, ◌<◌, ◌++◌, List, length, take, drop, slice_index_or, slice_set, Option, None, ap, ◌∙◌, sym, refl, arith}
+use Rattle.std.proofs.Common.{◌≡◌, ℕ, slice_index_or, Option, None, arith}
 use Rattle.std.proofs.lemmas.List.{length-set}
 use Rattle.jr_sizes.specs.Splits.{share, share_step}
 use Rattle.jr_sizes.proofs.EntryLemmas.{shares_next, rest_next, same_default}

@@ -1,8 +1,8 @@
-use Rattle.std.proofs.Common.{◌≡◌, ◌<◌, ◌≤◌, ◌+◌, ◌*◌, [], ◌∷◌, ◌++◌, Fits, w32, length, string_bytes, arith, ap, ◌∙◌, sym, refl}
+use Rattle.std.proofs.Common.{◌≡◌, ◌+◌, ◌*◌, [], ◌∷◌, ◌++◌, length, string_bytes, arith, ap, ◌∙◌, refl}
 use Rattle.std.proofs.lemmas.List.Sums.{sum_by-append}
 use Rattle.jr_model.specs.Plan.{SubJob}
 use Rattle.jr_options.specs.Drafts.{Clones, planned_clone}
-use Rattle.jr_options.specs.Files.{file_place, with_file}
+use Rattle.jr_options.specs.Files.{with_file}
 use Rattle.jr_options.specs.PlanFacts.{work_of}
 use Rattle.jr_options.proofs.DraftLemmas.{lengths, drafted-push}
 use Rattle.jr_options.proofs.LimitLemmas.{limits_kept}

@@ -1,5 +1,5 @@
-use Rattle.std.proofs.Common.{◌≡◌, ℕ, ◌≤◌, ◌<◌, List, length, take, Ok, Err, ap, ◌∙◌, sym, arith, length-take}
-use Rattle.std.specs.List.{slice_split, count_by}
+use Rattle.std.proofs.Common.{◌≡◌, ◌≤◌, length, take, ap, ◌∙◌, sym, arith, length-take}
+use Rattle.std.specs.List.{count_by}
 use Rattle.std.proofs.lemmas.List.Splits.{length-slice_split}
 use Rattle.jr_sizes.specs.Splits.{is_colon, shared_of}
 use Rattle.jr_sizes.proofs.EntryLemmas.{split_many, split_few}

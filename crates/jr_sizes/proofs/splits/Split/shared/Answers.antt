@@ -1,7 +1,7 @@
-use Rattle.std.proofs.Common.{◌≡◌, ℕ, ◌≤◌, ◌<◌, ◌/◌, ◌%◌, ◌-◌, max, List, length, take, replicate, Ok, ap, ◌∙◌, sym, subst, refl, arith}
+use Rattle.std.proofs.Common.{◌≡◌, ℕ, ◌/◌, ◌%◌, ◌-◌, max, List, length, take, replicate, Ok, ap, ◌∙◌, sym, subst, arith}
 use Rattle.std.proofs.lemmas.List.{take_at}
 use Rattle.jr_sizes.specs.SplitEntries.{IsPadded, padded}
-use Rattle.jr_sizes.specs.Splits.{given_total, blank_count, share, shared}
+use Rattle.jr_sizes.specs.Splits.{given_total, blank_count, share}
 use Rattle.jr_sizes.proofs.EntryLemmas.{shared_is, padded_entries, length-share}
 use Rattle.jr_sizes.proofs.splits.Split.shared.Goals as goal
 use Rattle.jr_sizes.proofs.splits.Split.shared.Goals.{else-blanks-eq0-via-then-blanks-eq0+else-missing-gt0, else-blanks-eq0-via-else-blanks-eq0}
