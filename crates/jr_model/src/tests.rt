@@ -128,3 +128,14 @@ fn reply_bytes_give_themselves_back(rt: HostRuntime) -> Result<(), Fail> {
     assert_eq!(rt; bytes.into_vec().as_slice(), [1, 0].as_slice());
     Ok(())
 }
+
+// The laws are functions that do nothing: a crate that needs one calls it, and has it from then on.
+#[test]
+fn laws_can_be_called() {
+    crate::choice_may_happen();
+    crate::legal_goes_on();
+    crate::front_is_legal();
+    crate::every_run_is_legal();
+    crate::serial_is_legal();
+    crate::verdict_is_of_its_kind();
+}
