@@ -184,6 +184,8 @@ fn what_is_wrong_first_is_named(rt: HostRuntime) -> Result<(), Fail> {
         (VerifyKind::Sha1, 4096),
         (VerifyKind::Sha256, 4096),
         (VerifyKind::Md5, LARGEST_BLOCK),
+        (VerifyKind::Sha1, LARGEST_BLOCK),
+        (VerifyKind::Sha256, LARGEST_BLOCK),
     ];
     for (kind, len) in rows {
         let ticket = a_write(kind, None, len);
