@@ -1,17 +1,19 @@
-// Runs the fio job file that stands on standard input.
+// Runs a fio job file, or prints its plan: the words of the command line say which.
 #![tactic(auto)]
 
-use jr_cli::{CliFault, execute_serial, read_job};
+use jr_cli::{
+    Choice, CliFault, answer_words, choose, execute_serial, memory_or, print_check, print_plan,
+    read_job, read_text, read_trace,
+};
 use jr_engines::{Engine, MemoryEngine, NullEngine};
 use jr_model::EngineKind;
 use jr_options::Plan;
 use std::alloc::Global;
-use std::io;
-use std::io::{BufWriter, Read};
+use std::env::Env;
+use std::fs::Files;
+use std::io::BufWriter;
 use std::process::ExitCode;
-
-// One byte more than a job text may have, so that a longer one is refused by its length.
-const MOST_READ: u64 = 1_048_577;
+use std::{env, fs, io};
 
 fn main(rt: HostRuntime) -> ExitCode {
     match run(&rt) {
@@ -23,36 +25,101 @@ fn main(rt: HostRuntime) -> ExitCode {
     }
 }
 
-fn run<R: Input + Print + AllocGlobal>(rt: &R) -> Result<u8, CliFault> {
-    let text = read_text(rt)?;
-    let plan = read_job(rt.alloc(), text.as_slice(), None)?;
-    let out = io::writer(rt);
-    let Ok(mut out) = BufWriter::new(rt.alloc(), out) else {
-        return Err(CliFault::Memory);
-    };
-    run_plan(rt.alloc(), plan, &mut out)
-}
-
-// All of standard input, but for what lies past the longest job text.
-fn read_text<R: Input + AllocGlobal>(rt: &R) -> Result<Vec<u8>, CliFault> {
-    let mut text = Vec::new(rt.alloc());
-    match rt.reader().take(MOST_READ).read_to_end(&mut text) {
-        Ok(_) => Ok(text),
-        Err(_) => Err(CliFault::Read),
+// Does what the words ask for, and gives the exit status.
+fn run<R: Env + Files + Input + Print + Eprint + AllocGlobal>(rt: &R) -> Result<u8, CliFault> {
+    let words = words_of(rt)?;
+    match choose(rt.alloc(), words.as_slice()) {
+        Ok(choice) => perform(rt, &choice),
+        Err(error) => answer_words(rt, &error),
     }
 }
 
-// Runs the plan over its engine, and writes the report.
-fn run_plan<W: io::Write>(alloc: Global, plan: Plan, out: &mut W) -> Result<u8, CliFault> {
+fn words_of<R: Env + AllocGlobal>(rt: &R) -> Result<Vec<String>, CliFault> {
+    match env::args(rt) {
+        Ok(words) => Ok(words.collect(rt.alloc())?),
+        Err(error) => Err(memory_or(&error, CliFault::Words)),
+    }
+}
+
+fn perform<R: Files + Input + Print + AllocGlobal>(
+    rt: &R,
+    choice: &Choice<'_>,
+) -> Result<u8, CliFault> {
+    let text = job_text(rt, choice.job)?;
+    let plan = read_job(rt.alloc(), text.as_slice(), choice.section)?;
+    let Ok(mut out) = BufWriter::new(rt.alloc(), io::writer(rt)) else {
+        return Err(CliFault::Memory);
+    };
+    if choice.parse_only {
+        print_plan(rt.alloc(), &plan, &mut out)?;
+        return Ok(0);
+    }
+    if let Some(path) = choice.check_trace {
+        let events = trace_text(rt, path)?;
+        print_check(rt.alloc(), &plan, events.as_slice(), &mut out)?;
+        return Ok(0);
+    }
+    if plan.engine() == EngineKind::File {
+        return Err(CliFault::NotYet);
+    }
+    match choice.trace {
+        None => run_plan(rt.alloc(), plan, None::<&mut Vec<u8>>, &mut out),
+        Some(path) => {
+            let mut events = trace_file(rt, path)?;
+            run_plan(rt.alloc(), plan, Some(&mut events), &mut out)
+        }
+    }
+}
+
+// The trace that is to be checked.
+fn trace_text<R: Files + AllocGlobal>(rt: &R, path: &str) -> Result<Vec<u8>, CliFault> {
+    match fs::open(rt, path) {
+        Ok(file) => read_trace(rt.alloc(), file),
+        Err(error) => Err(memory_or(&error, CliFault::ReadTrace)),
+    }
+}
+
+// The file that the trace of a run goes to, made anew.
+fn trace_file<R: Files + AllocGlobal>(rt: &R, path: &str) -> Result<BufWriter<R::File>, CliFault> {
+    match fs::create(rt, path) {
+        Ok(file) => match BufWriter::new(rt.alloc(), file) {
+            Ok(events) => Ok(events),
+            Err(_) => Err(CliFault::Memory),
+        },
+        Err(error) => Err(memory_or(&error, CliFault::Write)),
+    }
+}
+
+// The job file, or standard input where none is named.
+fn job_text<R: Files + Input + AllocGlobal>(
+    rt: &R,
+    job: Option<&str>,
+) -> Result<Vec<u8>, CliFault> {
+    match job {
+        None => read_text(rt.alloc(), rt.reader()),
+        Some(path) => match fs::open(rt, path) {
+            Ok(file) => read_text(rt.alloc(), file),
+            Err(error) => Err(memory_or(&error, CliFault::Read)),
+        },
+    }
+}
+
+// Runs the plan over its engine, and writes the report and then the trace.
+fn run_plan<E: io::Write, W: io::Write>(
+    alloc: Global,
+    plan: Plan,
+    events: Option<&mut E>,
+    out: &mut W,
+) -> Result<u8, CliFault> {
     match plan.engine() {
         EngineKind::File => Err(CliFault::NotYet),
         EngineKind::Memory => {
             let mut engine = MemoryEngine::new(alloc, &plan)?;
-            execute_serial(alloc, plan, &mut engine, out)
+            execute_serial(alloc, plan, &mut engine, events, out)
         }
         EngineKind::Null => {
             let mut engine = NullEngine::new();
-            execute_serial(alloc, plan, &mut engine, out)
+            execute_serial(alloc, plan, &mut engine, events, out)
         }
     }
 }

@@ -1,1 +1,5 @@
+pub mod CommandLine
+pub mod Executed
+pub mod FaultTexts
+pub mod JobRefusals
 pub mod Status

@@ -1,13 +1,21 @@
-// The program over plain readers and writers: a job text in, a report and a status out.
+// The program over plain readers and writers: words and a job text in, a report and a status out.
 #![tactic(auto)]
 
 mod faults;
+mod inputs;
 mod runs;
+mod words;
 
 pub use faults::CliFault;
-pub use runs::{execute_serial, read_job};
+pub use inputs::{memory_or, read_text, read_trace};
+pub use runs::{execute_serial, print_check, print_plan, read_job};
+pub use words::{Choice, answer_words, choose};
 
 #[cfg(test)]
 mod desk_tests;
 #[cfg(test)]
+mod program_tests;
+#[cfg(test)]
 mod tests;
+#[cfg(test)]
+mod words_tests;

@@ -1,40 +1,98 @@
-ghost use Rattle.std.specs.Prelude.{◌≡◌, ◌≤◌, IfOk};
+ghost use Rattle.std.specs.Prelude.{◌≡◌, ◌⊎◌, ◌≤◌, ◌^◌, IfOk, IfErr, IfSome, IsOkAnd, OnOk};
 ghost use Rattle.std.specs.List.{list_any};
+ghost use Rattle.std.specs.Option.{option_copied};
+ghost use Rattle.std.specs.Io.KnownBytes.{Appends};
+ghost use Rattle.jr_model.specs.Report.{totals_lines};
+ghost use Rattle.jr_model.specs.Serial.{serial_history};
+ghost use Rattle.jr_crew.specs.Runs.{IsFresh};
+ghost use Rattle.jr_cli.specs.Executed.{HasRun, IsReported};
+ghost use Rattle.jr_options.specs.PlanText.{plan_text};
+ghost use Rattle.jr_stats.specs.TraceChecks.{check_of};
+ghost use Rattle.jr_cli.specs.JobRefusals.{job_refusal, IsRefusedBy, IsWantOfMemory, IsPlanOf};
 ghost use Rattle.jr_cli.specs.Status.{status_of, is_unclean};
 
 use crate::faults::CliFault;
 use jr_crew::run_serial;
 use jr_engines::Engine;
 use jr_model::Totals;
-use jr_options::{Plan, plan};
-use jr_stats::report;
+use jr_options::{Plan, plan, plan_text};
+use jr_stats::{check_trace, report, totals_text, trace};
 use jr_text::sections;
 use std::alloc::Global;
 use std::io::Write;
 
 /// The plan of a job text: of all its jobs, or of those of one name.
-pub fn read_job(alloc: Global, text: &[u8], only: Option<&str>) -> Result<Plan, CliFault> {
+pub fn read_job(alloc: Global, text: &[u8], only: Option<&str>) -> Result<Plan, CliFault>
+    // The first fault of the text is answered, or else the first of its sections, by its name.
+    ensures refused { IfSome (job_refusal text.now (option_copied only.entry)) (λ fault. IsRefusedBy result fault) }
+
+    // Where there is none, only memory can be wanting, and the plan is the one that the text asks for.
+    ensures memory { job_refusal text.now (option_copied only.entry) ≡ None → IfErr result IsWantOfMemory }
+    ensures planned { IfOk result (λ plan. IsPlanOf plan text.now (option_copied only.entry)) }
+{
     let sections = sections(alloc, text)?;
     let plan = plan(alloc, sections.as_slice(), only)?;
     Ok(plan)
 }
 
-/// Runs a plan with one worker, writes the report, and gives the exit status: 0 where nothing went
-/// wrong, 1 where a block came back wrong or an I/O failed.
-pub fn execute_serial<V: Write>(
+/// Runs a plan with one worker, writes the report and then the trace where one is asked for, and gives
+/// the exit status: 0 where nothing went wrong, 1 where a block came back wrong or an I/O failed.
+pub fn execute_serial<W: Write, V: Write>(
     alloc: Global,
     plan: Plan,
     engine: &mut dyn Engine,
+    events: Option<&mut W>,
     out: &mut V,
 ) -> Result<u8, CliFault>
-    ensures { IfOk result (λ status. status ≤ 1) }
+    requires { (state engine.old).calls ≤ 2 ^ 63 }
+
+    // The report and the status are those of a run of this engine, and over a fresh memory of that of one worker.
+    ensures run { IfOk result (λ status. HasRun plan (state engine.old) (state engine.new) (V.contents out.old) (V.contents out.new) status) }
+    ensures serial { IsFresh plan (state engine.old) → IfOk result (λ status. IsReported plan (serial_history plan) (V.contents out.old) (V.contents out.new) status) }
 {
     let desk = run_serial(alloc, plan, engine)?;
     let text = report(alloc, &desk)?;
-    if out.write_all(text.as_slice()).is_err() || out.flush().is_err() {
-        return Err(CliFault::Write);
+    write_out(text.as_slice(), out)?;
+    if let Some(events) = events {
+        let lines = trace(alloc, &desk)?;
+        write_out(lines.as_slice(), events)?;
     }
     Ok(status_of(desk.totals()))
+}
+
+/// Prints what a run of the plan would do, a line for each clone.
+pub fn print_plan<V: Write>(alloc: Global, plan: &Plan, out: &mut V) -> Result<(), CliFault>
+    ensures printed { OnOk result (Appends (V.contents out.old) (V.contents out.new) (plan_text plan.now)) }
+    ensures failed { IfErr result (λ fault. (fault ≡ CliFault.Write) ⊎ (fault ≡ CliFault.Memory)) }
+{
+    let text = plan_text(alloc, plan)?;
+    write_out(text.as_slice(), out)
+}
+
+/// Checks a trace of the plan, and prints what each clone did in it.
+pub fn print_check<V: Write>(
+    alloc: Global,
+    plan: &Plan,
+    text: &[u8],
+    out: &mut V,
+) -> Result<(), CliFault>
+    // What is printed are the totals of a text that is the trace of a whole legal run.
+    ensures printed { OnOk result (IsOkAnd (check_of plan.now text.now) (λ totals.
+        Appends (V.contents out.old) (V.contents out.new) (totals_lines plan.now totals))) }
+{
+    let totals = check_trace(alloc, plan, text)?;
+    let lines = totals_text(alloc, plan, totals.as_slice())?;
+    write_out(lines.as_slice(), out)
+}
+
+fn write_out<V: Write>(text: &[u8], out: &mut V) -> Result<(), CliFault>
+    ensures written { OnOk result (Appends (V.contents out.old) (V.contents out.new) text.now) }
+    ensures failed { IfErr result (λ fault. fault ≡ CliFault.Write) }
+{
+    if out.write_all(text).is_err() || out.flush().is_err() {
+        return Err(CliFault::Write);
+    }
+    Ok(())
 }
 
 // 1 where a verdict was bad or an I/O was a fault, else 0.

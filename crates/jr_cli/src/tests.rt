@@ -1,4 +1,5 @@
 use crate::{CliFault, execute_serial, read_job};
+use jr_crew::RunFault;
 use jr_engines::{MemoryEngine, NullEngine, Reply, ScriptedEngine};
 use jr_model::EngineKind;
 use jr_options::{JobFault, Plan};
@@ -17,10 +18,10 @@ fn run_of(alloc: Global, text: &str) -> Result<(String, u8), Fail> {
     let mut out = Vec::new(alloc);
     let status = if plan.engine() == EngineKind::Null {
         let mut engine = NullEngine::new();
-        execute_serial(alloc, plan, &mut engine, &mut out)?
+        execute_serial(alloc, plan, &mut engine, None::<&mut Vec<u8>>, &mut out)?
     } else {
         let mut engine = MemoryEngine::new(alloc, &plan)?;
-        execute_serial(alloc, plan, &mut engine, &mut out)?
+        execute_serial(alloc, plan, &mut engine, None::<&mut Vec<u8>>, &mut out)?
     };
     Ok((text_of(alloc, out.as_slice())?, status))
 }
@@ -32,7 +33,7 @@ fn scripted_run(alloc: Global, text: &str, call: u64, reply: Reply) -> Result<(S
     let script = Vec::from_array(alloc, [(call, reply)])?;
     let mut engine = ScriptedEngine::new(memory, script);
     let mut out = Vec::new(alloc);
-    let status = execute_serial(alloc, plan, &mut engine, &mut out)?;
+    let status = execute_serial(alloc, plan, &mut engine, None::<&mut Vec<u8>>, &mut out)?;
     Ok((text_of(alloc, out.as_slice())?, status))
 }
 
@@ -210,14 +211,20 @@ fn refused_job_files_have_their_text_and_status(rt: HostRuntime) -> Result<(), F
 }
 
 #[test]
-fn faults_of_memory_and_files_end_with_3(rt: HostRuntime) {
-    for fault in [
-        CliFault::Text(TextFault::Memory),
-        CliFault::Job(JobFault::Memory),
-        CliFault::Read,
-        CliFault::Write,
-        CliFault::Memory,
+fn faults_have_their_text_and_status(rt: HostRuntime) -> Result<(), Fail> {
+    for (fault, status, text) in [
+        (CliFault::Text(TextFault::Memory), 3, "out of memory"),
+        (CliFault::Job(JobFault::Memory), 3, "out of memory"),
+        (CliFault::Run(RunFault::Thread), 3, "cannot start a thread"),
+        (CliFault::Read, 3, "cannot read the job file"),
+        (CliFault::Write, 3, "cannot write"),
+        (CliFault::Memory, 3, "out of memory"),
+        (CliFault::NotYet, 2, "job file: not run yet"),
+        (CliFault::Words, 2, "command line: not UTF-8"),
     ] {
-        assert_eq!(rt; fault.status(), 3, "{fault:?}");
+        let said = format!(in rt.alloc(); "{fault}")?;
+        assert_eq!(rt; said.as_str(), text);
+        assert_eq!(rt; fault.status(), status, "{fault:?}");
     }
+    Ok(())
 }

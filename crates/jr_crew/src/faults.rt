@@ -16,26 +16,40 @@ pub enum RunFault {
 }
 
 impl fmt::Display for RunFault {
+    ghost use Rattle.std.specs.Prelude.{Some};
+    ghost use Rattle.jr_crew.specs.FaultTexts.{run_fault_text};
+
+    ghost output = { λ fault. Some (run_fault_text fault) };
+
     fn fmt<W: fmt::Write>(&self, f: &mut fmt::Formatter<W>) -> fmt::Result {
-        let text = match self {
-            RunFault::Memory => "out of memory",
-            RunFault::NoEngine => "no engine",
-            RunFault::Thread => "cannot start a thread",
-            RunFault::Books => "books differ",
-        };
-        write!(f, "{text}")
+        match self {
+            RunFault::Memory => write!(f, "out of memory"),
+            RunFault::NoEngine => write!(f, "no engine"),
+            RunFault::Thread => write!(f, "cannot start a thread"),
+            RunFault::Books => write!(f, "books differ"),
+        }
     }
 }
 
 impl Error for RunFault {}
 
 impl From<Memory> for RunFault {
+    ghost use Rattle.std.specs.Prelude.{◌≡◌};
+    ghost use Rattle.jr_crew.specs.declared.faults.RunFault.TheVariants as fault;
+
+    ghost from_gives = { λ error made. made ≡ fault.Memory };
+
     fn from(_error: Memory) -> RunFault {
         RunFault::Memory
     }
 }
 
 impl From<DeskFault> for RunFault {
+    ghost use Rattle.std.specs.Prelude.{◌≡◌};
+    ghost use Rattle.jr_crew.specs.Faults.{fault_by};
+
+    ghost from_gives = { λ fault made. made ≡ fault_by fault };
+
     fn from(fault: DeskFault) -> RunFault {
         match fault {
             DeskFault::Memory => RunFault::Memory,

@@ -1,35 +1,82 @@
-ghost use Rattle.std.specs.Prelude.{◌≡◌, ◌<◌, ◌-◌, ◌^◌, true, vec_len, IfOk};
-ghost use Rattle.jr_model.specs.Tickets.{ticket_fits};
+ghost use Rattle.std.specs.Prelude.{◌≡◌, ◌+◌, ◌-◌, ◌^◌, ◌<◌, ◌≤◌, ◌++◌, ◌∷◌, [], true, false, replicate, Some, IfOk, IfErr, IfSome, OnOk, OnErr, IsFalse};
+ghost use Rattle.std.specs.Bool.{MatchBool};
+ghost use Rattle.jr_model.specs.History.{outcome_of, is_judged};
+ghost use Rattle.jr_model.specs.Legal.{is_legal, is_complete};
+ghost use Rattle.jr_model.specs.Serial.{serial_history};
+ghost use Rattle.jr_desk.specs.Kept.{IsOwn};
+ghost use Rattle.jr_crew.specs.Ends.{ends_of, failed_ends_of};
+ghost use Rattle.jr_crew.specs.Runs.{IsCovering, IsFresh, IsTiedRun};
+ghost use Rattle.jr_crew.specs.Turns.{IsBetweenTurns, IsOpen, IsNext, IsCarriedOut, IsTurn, IsLastTurn, judged_by};
 
 use crate::faults::RunFault;
 use jr_desk::{Desk, Take};
 use jr_engines::Engine;
 use jr_header::{Served, rule, serve};
-use jr_model::{Memory, Ticket};
+use jr_model::{Event, Memory, Ticket};
 use jr_options::Plan;
 use std::alloc::Global;
 
 /// Runs a plan with one worker, 0, which waits for nobody and judges its own checks.
-pub fn run_serial(alloc: Global, plan: Plan, engine: &mut dyn Engine) -> Result<Desk, RunFault> {
+pub fn run_serial(alloc: Global, plan: Plan, engine: &mut dyn Engine) -> Result<Desk, RunFault>
+    requires { (state engine.old).calls ≤ 2 ^ 63 }
+    ensures plan { IfOk result (λ desk. desk.plan ≡ plan) }
+    ensures legal { IfOk result (λ desk. is_legal plan desk.history ≡ true) }
+    ensures complete { IfOk result (λ desk. is_complete plan desk.history ≡ true) }
+    ensures going { IfOk result (λ desk. IsFalse desk.is_stopped) }
+    ensures calls { IfOk result (λ desk. (state engine.new).calls ≡ (state engine.old).calls + ends_of desk.history) }
+    ensures failures { IfOk result (λ desk. (state engine.new).failures ≡ (state engine.old).failures + failed_ends_of desk.history) }
+
+    // Where the engine's memory is known, its calls are what the worker completed.
+    ensures tied { IsCovering plan (state engine.old) → IfOk result (λ desk. IsTiedRun plan desk.history (state engine.old) (state engine.new)) }
+    ensures serial { IsFresh plan (state engine.old) → IfOk result (λ desk. desk.history ≡ serial_history plan) }
+    ensures memory { IfErr result (λ fault. fault ≡ RunFault.Memory) }
+{
+    // Its contract says what holds of every plan.
+    let _ = plan.clones();
     let mut desk = Desk::new(alloc, plan)?;
-    for _ in 0..u64::MAX {
-        if !step(alloc, &mut desk, engine)? {
+    loop {
+        if !turn(alloc, &mut desk, engine)? {
             return Ok(desk);
         }
     }
-    Err(RunFault::Books)
 }
 
-// Takes and carries out what is next, if anything is.
-fn step(alloc: Global, desk: &mut Desk, engine: &mut dyn Engine) -> Result<bool, RunFault> {
-    match desk.take(0) {
-        Ok(Take::Io(ticket) | Take::Probe(ticket)) => {
+// Starts what is next, if anything is, and carries it out.
+fn turn(alloc: Global, desk: &mut Desk, engine: &mut dyn Engine) -> Result<bool, RunFault>
+    requires between { IsBetweenTurns desk.old }
+    requires calls { (state engine.old).calls < 2 ^ 64 - 1 }
+    ensures turn { IfOk result (λ goes_on. MatchBool goes_on
+        (IsTurn desk.old.plan desk.old.history desk.new.history (state engine.old) (state engine.new))
+        (IsLastTurn desk.old.plan desk.old.history desk.new.history (state engine.old) (state engine.new))) }
+    ensures plan { desk.new.plan ≡ desk.old.plan }
+    ensures stop { desk.new.is_stopped ≡ desk.old.is_stopped }
+    ensures memory { IfErr result (λ fault. fault ≡ RunFault.Memory) }
+{
+    match next_ticket(desk) {
+        Ok(Some(ticket)) => {
             carry_out(alloc, desk, engine, ticket)?;
             Ok(true)
         }
-        Ok(Take::Finished) => Ok(false),
-        Ok(Take::Wait) => Err(RunFault::Books),
-        Err(fault) => Err(RunFault::from(fault)),
+        Ok(None) => Ok(false),
+        Err(fault) => Err(fault),
+    }
+}
+
+// The ticket of what is started next; none where the run is complete.
+fn next_ticket(desk: &mut Desk) -> Result<Option<Ticket>, RunFault>
+    requires { IsBetweenTurns desk.old }
+    ensures next { IfOk result (IsNext desk.old.plan desk.old.history desk.new.history) }
+    ensures open { IfOk result (λ ticket. IfSome ticket (IsOpen desk.new)) }
+    ensures plan { desk.new.plan ≡ desk.old.plan }
+    ensures stop { desk.new.is_stopped ≡ desk.old.is_stopped }
+    ensures memory { IfErr result (λ fault. fault ≡ RunFault.Memory) }
+{
+    match desk.take(0) {
+        Ok(Take::Io(ticket)) => Ok(Some(ticket)),
+        Ok(Take::Probe(ticket)) => Ok(Some(ticket)),
+        Ok(Take::Finished) => Ok(None),
+        Ok(Take::Wait) => unreachable!(),
+        Err(_) => Err(RunFault::Memory),
     }
 }
 
@@ -39,28 +86,56 @@ fn carry_out(
     desk: &mut Desk,
     engine: &mut dyn Engine,
     ticket: Ticket,
-) -> Result<(), RunFault> {
-    if !ticket.fits() || engine.calls() == u64::MAX {
-        return Err(RunFault::Books);
-    }
+) -> Result<(), RunFault>
+    requires open { IsOpen desk.old ticket }
+    requires calls { (state engine.old).calls < 2 ^ 64 - 1 }
+    ensures ok { OnOk result (IsCarriedOut ticket desk.old.history desk.new.history (state engine.old) (state engine.new)) }
+    ensures plan { desk.new.plan ≡ desk.old.plan }
+    ensures stop { desk.new.is_stopped ≡ desk.old.is_stopped }
+    ensures memory { IfErr result (λ fault. fault ≡ RunFault.Memory) }
+{
     let buffer = room_for(alloc, &ticket)?;
     let served = serve(engine, ticket, buffer);
-    desk.end(&served)?;
+    end(desk, &served)?;
     judge(desk, &served)
 }
 
 // Room for the ticket's piece.
 fn room_for(alloc: Global, ticket: &Ticket) -> Result<Vec<u8>, Memory>
-    ensures { IfOk result (λ buffer. vec_len buffer ≡ ticket.now.piece.len) }
+    ensures { IfOk result (λ buffer. buffer.items ≡ replicate ticket.now.piece.len 0) }
 {
     let len = ticket.piece.len;
     Ok(vec![in alloc; 0; len as usize]?)
 }
 
-// Judges a check that ended whole.
-fn judge(desk: &mut Desk, served: &Served) -> Result<(), RunFault> {
-    if served.to_judge() {
-        desk.judge(0, &rule(served))?;
+// Takes in how a ticket ended.
+fn end(desk: &mut Desk, served: &Served) -> Result<(), RunFault>
+    requires { IsOpen desk.old served.now.ticket }
+    ensures ok { OnOk result (desk.new ≡ record desk.old { history = desk.old.history ++ Event.End served.now.ticket.worker served.now.ticket.id served.now.outcome ∷ [] }) }
+    ensures err { OnErr result (desk.new ≡ desk.old) }
+    ensures memory { IfErr result (λ fault. fault ≡ RunFault.Memory) }
+{
+    match desk.end(served) {
+        Ok(()) => Ok(()),
+        Err(_) => Err(RunFault::Memory),
     }
-    Ok(())
+}
+
+// Judges a check that ended whole.
+fn judge(desk: &mut Desk, served: &Served) -> Result<(), RunFault>
+    requires own { IsOwn desk.old.plan desk.old.history served.now.ticket }
+    requires unjudged { is_judged desk.old.history served.now.ticket.id ≡ false }
+    requires ended { outcome_of desk.old.history served.now.ticket.id ≡ Some served.now.outcome }
+    requires going { IsFalse desk.old.is_stopped }
+    ensures ok { OnOk result (desk.new ≡ record desk.old { history = desk.old.history ++ judged_by served.now }) }
+    ensures err { OnErr result (desk.new ≡ desk.old) }
+    ensures memory { IfErr result (λ fault. fault ≡ RunFault.Memory) }
+{
+    if !served.to_judge() {
+        return Ok(());
+    }
+    match desk.judge(0, &rule(served)) {
+        Ok(()) => Ok(()),
+        Err(_) => Err(RunFault::Memory),
+    }
 }

@@ -1,1 +1,4 @@
+pub mod Answering
 pub mod Choosing
+pub mod Keeping
+pub mod Totals

@@ -1,3 +1,5 @@
 pub mod DeskState
-pub mod Taken
+pub mod Kept
+pub mod Refusals
+pub mod Takes
 pub mod Tickets

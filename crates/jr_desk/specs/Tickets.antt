@@ -1,5 +1,5 @@
 -- The tickets that a desk hands out (of this project).
-use Rattle.std.specs.Prelude.{ℕ, slice_get, Option, Some, None}
+use Rattle.std.specs.Prelude.{◌≡◌, ◌<◌, ℕ, true, slice_get, Option, Some, None}
 use Rattle.jr_model.specs.declared.contents.Expected.{Expected}
 use Rattle.jr_model.specs.declared.contents.Expected.TheVariants as expected
 use Rattle.jr_model.specs.declared.contents.Method.{Method}
@@ -12,6 +12,7 @@ use Rattle.jr_model.specs.Content.{expected_of}
 use Rattle.jr_model.specs.Draws.{draws_of}
 use Rattle.jr_model.specs.Machine.{seed_of_draw}
 use Rattle.jr_model.specs.Plan.{Plan, SubJob, clone_of}
+use Rattle.jr_model.specs.Tickets.{piece_fits, has_pattern}
 
 -- how the blocks of a clone are made and verified
 abbrev pub method_of : Option SubJob → Method
@@ -45,3 +46,9 @@ ticket_of plan numbered =
       method = method;
       expected = expected_by io.kind method io seed;
     }
+
+-- its piece, its pass and its clone's method are such that it can be carried out
+pub record CanBeServed (plan : Plan) (io : Started) : Type 0 where
+  pub piece : piece_fits io.piece ≡ true
+  pub pass : io.write.pass < 1000
+  pub pattern : has_pattern (method_of (clone_of plan io.write.clone)).kind (method_of (clone_of plan io.write.clone)).pattern ≡ true

@@ -5,6 +5,7 @@
 mod choices;
 mod counts;
 mod desk;
+mod sameness;
 mod takes;
 mod workings;
 

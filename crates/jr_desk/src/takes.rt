@@ -1,4 +1,7 @@
-use jr_model::Ticket;
+ghost use Rattle.std.specs.Prelude.{◌≡◌};
+ghost use Rattle.jr_desk.specs.Takes.{answer_with};
+
+use jr_model::{Ticket, TicketKind};
 
 /// What a worker that asks for work is answered.
 #[derive(Clone, Copy, Debug, PartialEq, Eq)]
@@ -11,4 +14,16 @@ pub enum Take {
     Wait,
     /// The run is complete, or the desk was stopped.
     Finished,
+}
+
+// The answer where this ticket is handed out, if any is, and the run is complete or not.
+pub fn answer_with(is_complete: bool, ticket: &Option<Ticket>) -> Take
+    ensures { result ≡ answer_with is_complete ticket.now }
+{
+    match *ticket {
+        Some(ticket) if ticket.kind == TicketKind::Probe => Take::Probe(ticket),
+        Some(ticket) => Take::Io(ticket),
+        None if is_complete => Take::Finished,
+        None => Take::Wait,
+    }
 }

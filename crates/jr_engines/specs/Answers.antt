@@ -3,6 +3,7 @@ use Rattle.std.specs.Prelude.{ℕ, ◌+◌, ◌<◌, ◌≤◌, ◌≡◌, lengt
 use Rattle.jr_model.specs.declared.events.Outcome.{Outcome}
 use Rattle.jr_model.specs.declared.events.Outcome.TheVariants as outcome
 use Rattle.jr_model.specs.declared.tickets.Ticket.{Ticket}
+use Rattle.jr_model.specs.Legal.{outcome_fits}
 use Rattle.jr_model.specs.Replies.{EngineState, Asked, asked, next_reply, covers}
 
 -- an answer: what it answers, the buffer that the call left, and how it ended
@@ -16,12 +17,6 @@ abbrev pub is_failed : Outcome → Bool
 is_failed outcome.Failed = true
 is_failed outcome.Whole = false
 is_failed (outcome.Short n) = false
-
--- a short call moved fewer than n bytes
-abbrev pub IsShortOf : ℕ → Outcome → Type 0
-IsShortOf n outcome.Failed = Unit {0}
-IsShortOf n outcome.Whole = Unit {0}
-IsShortOf n (outcome.Short count) = count < n
 
 -- what a ticket's call leaves where the memory is known and covers its piece
 abbrev pub asked_for : EngineState → Ticket → List ℕ → Asked
@@ -43,7 +38,7 @@ pub record AnswersBy (left : Asked) (old : EngineState) (request : Ticket) (buff
   pub known : new.is_known ≡ old.is_known
   pub script : new.script ≡ old.script
   pub room : length answer.bytes ≡ length buffer
-  pub short : IsShortOf request.piece.len answer.outcome
+  pub fits : outcome_fits answer.outcome request.piece.len ≡ true
   pub by_reply :
       IsTrue old.is_known → IsTrue (covers old.memory request.piece.file request.piece.offset request.piece.len)
       → Leaves left answer new

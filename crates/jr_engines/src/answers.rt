@@ -1,4 +1,5 @@
-ghost use Rattle.std.specs.Prelude.{◌≡◌, ◌-◌, ◌^◌, ◌<◌, ◌≤◌, vec_len, IfOk};
+ghost use Rattle.std.specs.Prelude.{◌≡◌, ◌-◌, ◌^◌, ◌<◌, ◌≤◌, true, vec_len, IfOk};
+ghost use Rattle.jr_model.specs.Legal.{outcome_fits};
 ghost use Rattle.std.specs.Result.{result_ok};
 ghost use Rattle.jr_model.specs.Replies.{asked_read, asked_write, next_reply, outcome_for};
 ghost use Rattle.jr_engines.specs.Answers.{Answers, AnswersBy};
@@ -111,11 +112,12 @@ fn ask_write(engine: &mut dyn Engine, ticket: Ticket, buffer: Vec<u8>) -> Answer
 // How a call over so many bytes ended.
 fn ended(moved: &Result<usize, EngineFault>, len: u32) -> Outcome
     requires { IfOk moved.now (λ n. n ≤ len) }
-    ensures { result ≡ outcome_for (result_ok moved.now) len }
+    ensures value { result ≡ outcome_for (result_ok moved.now) len }
+    ensures fits { outcome_fits result len ≡ true }
 {
     match *moved {
         Err(_) => Outcome::Failed,
-        Ok(count) if count == len as usize => Outcome::Whole,
-        Ok(count) => Outcome::Short(count as u32),
+        Ok(count) if count < len as usize => Outcome::Short(count as u32),
+        Ok(_) => Outcome::Whole,
     }
 }

@@ -9,6 +9,7 @@ use Rattle.jr_model.specs.declared.tickets.TicketKind.{TicketKind}
 use Rattle.jr_model.specs.declared.tickets.TicketKind.TheVariants as kind
 use Rattle.jr_model.specs.Content.{content_of, expected_of}
 use Rattle.jr_model.specs.Judgement.{verdict_of}
+use Rattle.jr_model.specs.Legal.{outcome_fits}
 use Rattle.jr_model.specs.Tickets.{ticket_fits}
 use Rattle.jr_engines.specs.Answers.{AnswerParts}
 
@@ -52,6 +53,7 @@ answer_verdict answer = verdict_of answer.ticket.method.kind answer.ticket.expec
 pub record IsServed (answer : AnswerParts) (known : Expected) : Type 0 where
   pub fits : ticket_fits answer.ticket ≡ true
   pub room : length answer.bytes ≡ answer.ticket.piece.len
+  pub outcome : outcome_fits answer.outcome answer.ticket.piece.len ≡ true
   pub expected : known ≡ served_expected answer.ticket.kind answer.ticket
 
 -- an answer that is to be judged, and its verdict

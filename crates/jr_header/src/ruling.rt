@@ -1,4 +1,4 @@
-ghost use Rattle.std.specs.Prelude.{◌≡◌, true, drop};
+ghost use Rattle.std.specs.Prelude.{◌≡◌, true, drop, length};
 ghost use Rattle.jr_model.specs.declared.events.Verdict.TheVariants.{Good};
 ghost use Rattle.jr_model.specs.Content.{data_area};
 ghost use Rattle.jr_model.specs.Judgement.{TellsApart};
@@ -32,6 +32,7 @@ impl<'a> Ruling<'a> {
     pub fn served(&self) -> &'a Served
         ensures value { result.now ≡ self.now }
         ensures to_judge { is_to_judge self.now ≡ true }
+        ensures room { length self.now.bytes ≡ self.now.ticket.piece.len }
     {
         let _ = &self.verdict;
         self.served

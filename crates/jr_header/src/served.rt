@@ -1,4 +1,5 @@
 ghost use Rattle.std.specs.Prelude.{◌≡◌, ◌-◌, ◌^◌, ◌<◌, true, length, vec_len};
+ghost use Rattle.jr_model.specs.Legal.{outcome_fits};
 ghost use Rattle.jr_model.specs.Tickets.{ticket_fits};
 ghost use Rattle.jr_engines.specs.Answers.{Answers};
 ghost use Rattle.jr_header.specs.Served.{asked_with, served_expected, is_whole_check, is_to_judge};
@@ -47,8 +48,10 @@ impl Served {
 
     /// How the engine's call ended.
     pub fn outcome(&self) -> Outcome
-        ensures { result ≡ self.now.outcome }
+        ensures value { result ≡ self.now.outcome }
+        ensures fits { outcome_fits self.now.outcome self.now.ticket.piece.len ≡ true }
     {
+        let _ = &self.expected;
         self.answer.outcome()
     }
 

@@ -1,12 +1,10 @@
 -- Worked passes: the draws that follow from words handed in.
-use Rattle.std.specs.Prelude.{◌≡◌, ℕ, Bool, true, false, codes, List, [], ◌∷◌, Option, Some, None, refl, map}
-use Rattle.jr_model.specs.declared.blocks.Dir.{Dir}
-use Rattle.jr_model.specs.declared.blocks.Dir.TheVariants.{Read, Write}
-use Rattle.jr_model.specs.declared.blocks.Piece.{Piece}
+use Rattle.std.specs.Prelude.{◌≡◌, ℕ, Bool, true, false, codes, List, [], ◌∷◌, Some, refl, map}
+use Rattle.jr_model.specs.declared.blocks.Dir.TheVariants.{Write}
 use Rattle.jr_model.specs.declared.workloads.Draw.{Draw}
 use Rattle.jr_model.specs.declared.workloads.IoType.{IoType}
 use Rattle.jr_model.specs.declared.workloads.IoType.TheVariants as io
-use Rattle.jr_model.specs.Draws.{Places, Progress, mapped, draws_from, draws_over}
+use Rattle.jr_model.specs.Draws.{Progress, mapped, draws_from, draws_over}
 use Rattle.jr_model.specs.CellSet.{free_cell_from, no_cells, with_cells}
 use Rattle.jr_model.specs.Plan.{SubJob}
 use Rattle.jr_model.proofs.ExamplePlans.{no_verify}

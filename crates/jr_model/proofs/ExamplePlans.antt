@@ -1,10 +1,10 @@
 -- The plans of worked job files.
-use Rattle.std.specs.Prelude.{ℕ, List, [], ◌∷◌, Bool, true, false, codes, Option, Some, None}
+use Rattle.std.specs.Prelude.{ℕ, List, [], ◌∷◌, true, false, codes, Some, None}
 use Rattle.jr_model.specs.declared.contents.Method.{Method}
 use Rattle.jr_model.specs.declared.contents.VerifyKind.TheVariants as verify
 use Rattle.jr_model.specs.declared.workloads.EngineKind.TheVariants as engine
 use Rattle.jr_model.specs.declared.workloads.IoType.TheVariants as io
-use Rattle.jr_model.specs.Plan.{Plan, SubJob, FileSpec}
+use Rattle.jr_model.specs.Plan.{Plan, SubJob}
 
 -- verify=pattern verify_pattern=1
 abbrev pub ones : Method

@@ -1,5 +1,5 @@
 -- Worked runs, which come out of the definitions by computing.
-use Rattle.std.specs.Prelude.{◌≡◌, ℕ, ◌*◌, List, [], ◌∷◌, Bool, true, false, take, drop, map, refl, length, filter_map, Option, Some, None, codes, ◌++◌}
+use Rattle.std.specs.Prelude.{◌≡◌, ℕ, ◌*◌, List, [], ◌∷◌, true, false, take, drop, refl, filter_map, Option, Some, None, codes, ◌++◌}
 use Rattle.std.specs.Fmt.{digits}
 use Rattle.rand_core.specs.Stream.{fill_bytes}
 use Rattle.rand_core.specs.Steps.{stream_of, word_bytes, u32_at}
@@ -9,8 +9,7 @@ use Rattle.jr_model.specs.declared.contents.VerifyKind.TheVariants as verify
 use Rattle.jr_model.specs.declared.events.Event.{Event}
 use Rattle.jr_model.specs.declared.events.Event.TheVariants.{Issue, Probe, Skip, End, Verdict}
 use Rattle.jr_model.specs.declared.events.Outcome.TheVariants.{Whole}
-use Rattle.jr_model.specs.declared.events.Verdict.TheVariants.{Good, Bad}
-use Rattle.jr_model.specs.declared.events.What.TheVariants.{Byte}
+use Rattle.jr_model.specs.declared.events.Verdict.TheVariants.{Good}
 use Rattle.jr_model.specs.declared.events.WriteId.{WriteId}
 use Rattle.jr_model.specs.declared.replies.Reply.TheVariants as reply
 use Rattle.jr_model.specs.declared.steps.DeskFault.TheVariants as fault
@@ -22,7 +21,7 @@ use Rattle.jr_model.specs.declared.totals.Totals.{Totals}
 use Rattle.jr_model.specs.Content.{header_front}
 use Rattle.jr_model.specs.LastWrite.{is_intact}
 use Rattle.jr_model.specs.Legal.{is_legal, is_complete}
-use Rattle.jr_model.specs.Machine.{State, Played, first_state, machine_run}
+use Rattle.jr_model.specs.Machine.{first_state, machine_run}
 use Rattle.jr_model.specs.Plan.{Plan}
 use Rattle.jr_model.specs.Quiet.{quiet_report}
 use Rattle.jr_model.specs.Report.{report_of, all_totals}

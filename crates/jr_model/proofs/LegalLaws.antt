@@ -8,14 +8,14 @@ use Rattle.jr_model.specs.declared.blocks.Dir.{Dir}
 use Rattle.jr_model.specs.declared.blocks.Dir.TheVariants.{Read, Write}
 use Rattle.jr_model.specs.declared.blocks.Piece.{Piece}
 use Rattle.jr_model.specs.declared.events.Event.{Event}
-use Rattle.jr_model.specs.declared.events.Event.TheVariants.{Issue, Probe, Skip, End, Verdict}
+use Rattle.jr_model.specs.declared.events.Event.TheVariants.{Issue, Probe, Skip}
 use Rattle.jr_model.specs.declared.events.WriteId.{WriteId}
 use Rattle.jr_model.specs.declared.workloads.Draw.{Draw}
 use Rattle.jr_model.specs.Choice.{choice, choice_of_clone, choice_of_pass}
 use Rattle.jr_model.specs.Draws.{Progress, draws_from, draws_of_job, fresh_progress, pass_over, chosen_cells, draw_at, progress_after}
 use Rattle.jr_model.specs.History.{first_given, same_write, same_piece}
 use Rattle.jr_model.specs.LastWrite.{is_intact}
-use Rattle.jr_model.specs.Legal.{may_happen, may_take_up, may_issue, check_or_skip, legal_after, is_legal, step_of, step_of_draw, step_of_clone, step_at, same_dir, is_this_issue, is_this_probe, is_this_skip}
+use Rattle.jr_model.specs.Legal.{may_happen, may_take_up, may_issue, legal_after, is_legal, step_of, step_of_draw, step_of_clone, step_at, same_dir, is_this_issue, is_this_probe, is_this_skip}
 use Rattle.jr_model.specs.Plan.{Plan, SubJob, IsNumbered}
 use Rattle.jr_model.specs.Rounds.{Pass, pass_of, passes_of, write_id}
 use Rattle.jr_model.specs.Words.{pass_words}
@@ -41,7 +41,7 @@ legal_after-more plan before (x ∷ xs) e h may =
 pub is_legal-more : (plan : Plan) (history : List Event) (e : Event) → is_legal plan history ≡ true → may_happen plan history e ≡ true → is_legal plan (history ++ e ∷ []) ≡ true
 is_legal-more plan history e h may = legal_after-more plan [] history e h may
 
-option_or-some : {Y : Type 0} (o p : Option Y) (y : Y) → option_or o p ≡ Some y → (o ≡ Some y) ⊎ (p ≡ Some y)
+pub option_or-some : {Y : Type 0} (o p : Option Y) (y : Y) → option_or o p ≡ Some y → (o ≡ Some y) ⊎ (p ≡ Some y)
 option_or-some None p y h = inr h
 option_or-some (Some x) p y h = inl h
 
@@ -54,7 +54,7 @@ first_given-some f (x ∷ xs) y h =
       | inr e ↦ let found = first_given-some f xs y e in (suc found.0, found.1, found.2, found.3)
     ]
 
-got_map : {X Y : Type 0} (f : X → Y) (xs : List X) (k : ℕ) (y : Y) → slice_get (map f xs) k ≡ Some y → (x : X) × (f x ≡ y)
+pub got_map : {X Y : Type 0} (f : X → Y) (xs : List X) (k : ℕ) (y : Y) → slice_get (map f xs) k ≡ Some y → (x : X) × (f x ≡ y)
 got_map f [] k y h = cc
 got_map f (x ∷ xs) zero y h = (x, some_same (f x) y h)
   where
@@ -62,7 +62,7 @@ got_map f (x ∷ xs) zero y h = (x, some_same (f x) y h)
     some_same u v g = cc
 got_map f (x ∷ xs) (suc k) y h = got_map f xs k y h
 
-from_cond : {X : Type 0} (b : Bool) (xs : List X) (k : ℕ) (x : X) → slice_get (cond b [] xs) k ≡ Some x → slice_get xs k ≡ Some x
+pub from_cond : {X : Type 0} (b : Bool) (xs : List X) (k : ℕ) (x : X) → slice_get (cond b [] xs) k ≡ Some x → slice_get xs k ≡ Some x
 from_cond true xs k x h = cc
 from_cond false xs k x h = h
 
@@ -84,19 +84,19 @@ number-draws_from job done (a ∷ b ∷ c ∷ s ∷ words) (suc k) d h =
     (from_cond (pass_over job done) (draw_at job done chosen s ∷ draws_from job (progress_after done chosen) words) (suc k) d h) in
     omega (arith, more)
 
-same_write_refl : (w : WriteId) → same_write w w ≡ true
+pub same_write_refl : (w : WriteId) → same_write w w ≡ true
 same_write_refl w =
     and_from ((w.clone == w.clone) && (w.pass == w.pass)) (w.number == w.number)
     (and_from (w.clone == w.clone) (w.pass == w.pass) (eq-eqb w.clone w.clone refl) (eq-eqb w.pass w.pass refl))
     (eq-eqb w.number w.number refl)
 
-same_piece_refl : (p : Piece) → same_piece p p ≡ true
+pub same_piece_refl : (p : Piece) → same_piece p p ≡ true
 same_piece_refl p =
     and_from ((p.file == p.file) && (p.offset == p.offset)) (p.len == p.len)
     (and_from (p.file == p.file) (p.offset == p.offset) (eq-eqb p.file p.file refl) (eq-eqb p.offset p.offset refl))
     (eq-eqb p.len p.len refl)
 
-same_dir_refl : (d : Dir) → same_dir d d ≡ true
+pub same_dir_refl : (d : Dir) → same_dir d d ≡ true
 same_dir_refl Read = refl
 same_dir_refl Write = refl
 

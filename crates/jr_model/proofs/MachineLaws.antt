@@ -1,6 +1,6 @@
 -- Every step of the machine keeps a legal history legal.
-use Rattle.std.proofs.Common.{◌≡◌, ℕ, zero, suc, ◌+◌, ◌-◌, ◌<◌, ◌≤◌, min, List, [], ◌∷◌, ◌++◌, length, take, drop, replicate, Bool, true, false, cond, ◌&&◌, not, refl, sym, ◌∙◌, ap, subst, arith, inl, inr, append_assoc, append-nil, length-append, length-take, length-drop}
-use Rattle.std.specs.Prelude.{◌⊎◌, Option, Some, None, slice_get, slice_index, slice_set, slice_range, bit_xor, nat_lt, ◌==◌, is_none}
+use Rattle.std.proofs.Common.{◌≡◌, ℕ, zero, suc, ◌-◌, ◌<◌, ◌≤◌, List, [], ◌∷◌, ◌++◌, length, take, drop, replicate, Bool, true, false, cond, ◌&&◌, not, refl, sym, ◌∙◌, subst, arith, append_assoc, append-nil, length-append, length-take, length-drop}
+use Rattle.std.specs.Prelude.{Option, Some, None, slice_get, slice_index, slice_range, bit_xor, nat_lt, ◌==◌, is_none}
 use Rattle.std.specs.Option.{option_map}
 use Rattle.std.proofs.lemmas.Bool.{and_parts, and_from, not_from_false, cond_both, eq-eqb, eqb-true, lt-ltb}
 use Rattle.std.proofs.lemmas.List.{length-set, length-replicate}
@@ -10,12 +10,12 @@ use Rattle.jr_model.specs.declared.contents.VerifyKind.TheVariants as verify
 use Rattle.jr_model.specs.declared.contents.Method.{Method}
 use Rattle.jr_model.specs.declared.blocks.Piece.{Piece}
 use Rattle.jr_model.specs.declared.events.Event.{Event}
-use Rattle.jr_model.specs.declared.events.Event.TheVariants.{Issue, Probe, Skip, End, Verdict}
+use Rattle.jr_model.specs.declared.events.Event.TheVariants.{End, Verdict}
 use Rattle.jr_model.specs.declared.events.Outcome.{Outcome}
-use Rattle.jr_model.specs.declared.events.Outcome.TheVariants.{Whole, Failed, Short}
+use Rattle.jr_model.specs.declared.events.Outcome.TheVariants.{Whole, Short}
 use Rattle.jr_model.specs.declared.events.Verdict.{Verdict as GivenVerdict}
 use Rattle.jr_model.specs.declared.events.Verdict.TheVariants.{Good, Bad}
-use Rattle.jr_model.specs.declared.events.What.TheVariants.{Header, Digest, DataArea, Byte}
+use Rattle.jr_model.specs.declared.events.What.TheVariants.{Header, Digest, DataArea}
 use Rattle.jr_model.specs.declared.events.WriteId.{WriteId}
 use Rattle.jr_model.specs.declared.replies.Reply.{Reply}
 use Rattle.jr_model.specs.declared.replies.Reply.TheVariants as reply
@@ -32,9 +32,9 @@ use Rattle.jr_model.specs.Draws.{draws_of}
 use Rattle.jr_model.specs.History.{Started, started, started_by, flies, outcome_of, is_judged, is_probe, ended_whole}
 use Rattle.jr_model.specs.Judgement.{first_difference, byte_verdict, verdict_of, header_verdict, same_bytes}
 use Rattle.jr_model.specs.Legal.{is_legal, outcome_fits, end_fits, verdict_fits, kind_says, job_says}
-use Rattle.jr_model.specs.Machine.{State, Stepped, is_skip, choices_after, taken, take_answer, work_of, outcome_for, verdict_in_job, verdict_on, seed_of_draw, content_of_io, read_of, bytes_read, first_state, end_refusal, judge_refusal, is_judgeable, read_ends, ends_by, machine_end_by, machine_judge_by, machine_take, machine_step, machine_run}
+use Rattle.jr_model.specs.Machine.{State, Stepped, is_skip, choices_after, taken, take_answer, work_of, verdict_in_job, verdict_on, seed_of_draw, content_of_io, read_of, bytes_read, first_state, end_refusal, judge_refusal, is_judgeable, read_ends, ends_by, machine_end_by, machine_judge_by, machine_take, machine_step, machine_run}
 use Rattle.jr_model.specs.Plan.{Plan, SubJob, IsNumbered, clone_of}
-use Rattle.jr_model.specs.Replies.{FileBytes, stored, stored_in, reply_to_read, reply_to_write}
+use Rattle.jr_model.specs.Replies.{FileBytes, outcome_for, stored, stored_in, reply_to_read, reply_to_write}
 use Rattle.jr_model.proofs.LegalLaws.{is_legal-more, choice_may_happen}
 
 -- what a take appends keeps the history legal
@@ -57,7 +57,7 @@ outcome_for_fits None len = refl
 outcome_for_fits (Some n) len =
     cond_both (nat_lt n len) (Short n) Whole (λ (o : Outcome). outcome_fits o len ≡ true) (λ below. below) (λ all. refl)
 
-within_cond : (b : Bool) (o : Option ℕ) (n i : ℕ) → ((k : ℕ) → o ≡ Some k → k < n) → cond b (option_map suc o) (Some 0) ≡ Some i → i < suc n
+pub within_cond : (b : Bool) (o : Option ℕ) (n i : ℕ) → ((k : ℕ) → o ≡ Some k → k < n) → cond b (option_map suc o) (Some 0) ≡ Some i → i < suc n
 within_cond true None n i f h = cc
 within_cond true (Some k) n i f h =
     let below : k < n = f k refl in
@@ -74,11 +74,11 @@ first_difference_within (x ∷ xs) [] i h = cc
 first_difference_within (x ∷ xs) (y ∷ ys) i h =
     within_cond (x == y) (first_difference xs ys) (length xs) i (λ (k : ℕ) (found : first_difference xs ys ≡ Some k). first_difference_within xs ys k found) h
 
-byte_fits : (o : Option ℕ) (len : ℕ) → ((i : ℕ) → o ≡ Some i → i < len) → kind_says verify.Pattern len (byte_verdict o) ≡ true
+pub byte_fits : (o : Option ℕ) (len : ℕ) → ((i : ℕ) → o ≡ Some i → i < len) → kind_says verify.Pattern len (byte_verdict o) ≡ true
 byte_fits None len f = refl
 byte_fits (Some i) len f = lt-ltb i len (f i refl)
 
-pattern_fits : (pattern : Option (List ℕ)) (bytes : List ℕ) (len : ℕ) → length bytes ≤ len → kind_says verify.Pattern len (verdict_of verify.Pattern (expected_pattern pattern) bytes) ≡ true
+pub pattern_fits : (pattern : Option (List ℕ)) (bytes : List ℕ) (len : ℕ) → length bytes ≤ len → kind_says verify.Pattern len (verdict_of verify.Pattern (expected_pattern pattern) bytes) ≡ true
 pattern_fits None bytes len h = refl
 pattern_fits (Some p) bytes len h =
     byte_fits (first_difference bytes (pattern_bytes p (length bytes))) len
@@ -112,11 +112,11 @@ job_says_fits (Some job) io seed bytes h = verdict_of_fits job.method.kind job.m
 
 -- what a read leaves in its buffer is no longer than its piece
 
-range_short : (file : Option FileBytes) (offset n : ℕ) → length (stored_in file offset n) ≤ n
+pub range_short : (file : Option FileBytes) (offset n : ℕ) → length (stored_in file offset n) ≤ n
 range_short None offset n = omega arith
 range_short (Some f) offset n = omega (arith, length-take n (drop (offset - f.low) f.bytes))
 
-reply_short : (reply : Reply) (bytes : List ℕ) (n : ℕ) → length bytes ≤ n → length (reply_to_read reply bytes (replicate n 0)).buffer ≤ n
+pub reply_short : (reply : Reply) (bytes : List ℕ) (n : ℕ) → length bytes ≤ n → length (reply_to_read reply bytes (replicate n 0)).buffer ≤ n
 reply_short reply.Pass bytes n h = h
 reply_short reply.Fail bytes n h = omega (arith, length-replicate {A = ℕ} n 0)
 reply_short (reply.Short k) bytes n h =
@@ -139,26 +139,26 @@ FitPieces ios [] = Unit {0}
 FitPieces ios (given ∷ more) =
     ((io : Started) × (slice_get ios given.0 ≡ Some io) × (length given.1 ≤ io.piece.len)) × FitPieces ios more
 
-got_front : {X : Type 0} (xs ys : List X) (k : ℕ) (x : X) → slice_get xs k ≡ Some x → slice_get (xs ++ ys) k ≡ Some x
+pub got_front : {X : Type 0} (xs ys : List X) (k : ℕ) (x : X) → slice_get xs k ≡ Some x → slice_get (xs ++ ys) k ≡ Some x
 got_front [] ys k x h = cc
 got_front (first ∷ xs) ys zero x h = h
 got_front (first ∷ xs) ys (suc k) x h = got_front xs ys k x h
 
-fit_more : (ios more : List Started) (kept : List (ℕ × List ℕ)) → FitPieces ios kept → FitPieces (ios ++ more) kept
+pub fit_more : (ios more : List Started) (kept : List (ℕ × List ℕ)) → FitPieces ios kept → FitPieces (ios ++ more) kept
 unfolding FitPieces
 fit_more ios more [] h = tt
 fit_more ios more (given ∷ kept) h =
     ((h.0.0, got_front ios more given.0 h.0.0 h.0.1, h.0.2), fit_more ios more kept h.1)
 
-fit_longer : (history events : List Event) (kept : List (ℕ × List ℕ)) → FitPieces (started history) kept → FitPieces (started (history ++ events)) kept
+pub fit_longer : (history events : List Event) (kept : List (ℕ × List ℕ)) → FitPieces (started history) kept → FitPieces (started (history ++ events)) kept
 fit_longer history events kept h =
     subst (λ (ios : List Started). FitPieces ios kept) (sym (filter_map-append started_by history events))
     (fit_more (started history) (started events) kept h)
 
-same_io : (a b : Started) → Some a ≡ Some b → a ≡ b
+pub same_io : (a b : Started) → Some a ≡ Some b → a ≡ b
 same_io a b h = cc
 
-read_fits : (ios : List Started) (kept : List (ℕ × List ℕ)) (id : ℕ) (io : Started) → FitPieces ios kept → slice_get ios id ≡ Some io → length (bytes_read kept id) ≤ io.piece.len
+pub read_fits : (ios : List Started) (kept : List (ℕ × List ℕ)) (id : ℕ) (io : Started) → FitPieces ios kept → slice_get ios id ≡ Some io → length (bytes_read kept id) ≤ io.piece.len
 unfolding FitPieces
 read_fits ios [] id io h at = omega arith
 read_fits ios (given ∷ kept) id io h at =
@@ -174,13 +174,13 @@ pub record IsSound (plan : Plan) (s : State) : Type 0 where
   pub legal : is_legal plan s.history ≡ true
   pub fits : FitPieces (started s.history) s.read_back
 
-three_conds : (a b c : Bool) (x y z : DeskFault) → cond a (Some x) (cond b (cond c None (Some y)) (Some z)) ≡ None → (a ≡ false) × (b ≡ true) × (c ≡ true)
+pub three_conds : (a b c : Bool) (x y z : DeskFault) → cond a (Some x) (cond b (cond c None (Some y)) (Some z)) ≡ None → (a ≡ false) × (b ≡ true) × (c ≡ true)
 three_conds true b c x y z h = cc
 three_conds false true true x y z h = (refl, refl, refl)
 three_conds false true false x y z h = cc
 three_conds false false c x y z h = cc
 
-sound_end : (plan : Plan) (s : State) (id : ℕ) (outcome : Outcome) (io : Started) → IsSound plan s → end_refusal s id ≡ None → slice_get (started s.history) id ≡ Some io → outcome_fits outcome io.piece.len ≡ true → is_legal plan (s.history ++ End io.worker id outcome ∷ []) ≡ true
+pub sound_end : (plan : Plan) (s : State) (id : ℕ) (outcome : Outcome) (io : Started) → IsSound plan s → end_refusal s id ≡ None → slice_get (started s.history) id ≡ Some io → outcome_fits outcome io.piece.len ≡ true → is_legal plan (s.history ++ End io.worker id outcome ∷ []) ≡ true
 sound_end plan s id outcome io sound free at fits =
     let flying = three_conds s.is_stopped (nat_lt id (length (started s.history))) (is_none (outcome_of s.history id)) Stopped Twice Stranger free in
     is_legal-more plan s.history (End io.worker id outcome) sound.legal
@@ -189,7 +189,7 @@ sound_end plan s id outcome io sound free at fits =
     (subst (λ (o : Option Started). end_fits io.worker outcome o ≡ true) (sym at)
     (and_from (io.worker == io.worker) (outcome_fits outcome io.piece.len) (eq-eqb io.worker io.worker refl) fits)))
 
-sound_read : (plan : Plan) (s : State) (id : ℕ) (reply : Reply) (io : Started) → IsSound plan s → end_refusal s id ≡ None → slice_get (started s.history) id ≡ Some io → IsSound plan (read_ends s id io (read_of s.memory reply io))
+pub sound_read : (plan : Plan) (s : State) (id : ℕ) (reply : Reply) (io : Started) → IsSound plan s → end_refusal s id ≡ None → slice_get (started s.history) id ≡ Some io → IsSound plan (read_ends s id io (read_of s.memory reply io))
 unfolding FitPieces
 sound_read plan s id reply io sound free at =
     let given = read_of s.memory reply io in
@@ -207,7 +207,7 @@ sound_read plan s id reply io sound free at =
       );
     }
 
-sound_ends_by : (plan : Plan) (s : State) (id : ℕ) (reply : Reply) (kind : TicketKind) (io : Started) → IsSound plan s → end_refusal s id ≡ None → slice_get (started s.history) id ≡ Some io → IsSound plan (ends_by plan s id reply kind io)
+pub sound_ends_by : (plan : Plan) (s : State) (id : ℕ) (reply : Reply) (kind : TicketKind) (io : Started) → IsSound plan s → end_refusal s id ≡ None → slice_get (started s.history) id ≡ Some io → IsSound plan (ends_by plan s id reply kind io)
 sound_ends_by plan s id reply ticket.Read io sound free at = sound_read plan s id reply io sound free at
 sound_ends_by plan s id reply ticket.Probe io sound free at = sound_read plan s id reply io sound free at
 sound_ends_by plan s id reply ticket.Write io sound free at =
@@ -218,19 +218,19 @@ sound_ends_by plan s id reply ticket.Write io sound free at =
       fits = fit_longer s.history (End io.worker id outcome ∷ []) s.read_back sound.fits;
     }
 
-sound_end_by : (plan : Plan) (s : State) (id : ℕ) (reply : Reply) (refused : Option DeskFault) (io : Option Started) → IsSound plan s → end_refusal s id ≡ refused → slice_get (started s.history) id ≡ io → IsSound plan (machine_end_by plan s id reply refused io).state
+pub sound_end_by : (plan : Plan) (s : State) (id : ℕ) (reply : Reply) (refused : Option DeskFault) (io : Option Started) → IsSound plan s → end_refusal s id ≡ refused → slice_get (started s.history) id ≡ io → IsSound plan (machine_end_by plan s id reply refused io).state
 sound_end_by plan s id reply (Some fault) io sound free at = sound
 sound_end_by plan s id reply None None sound free at = sound
 sound_end_by plan s id reply None (Some io) sound free at = sound_ends_by plan s id reply io.kind io sound free at
 
-four_conds : (a b c d : Bool) (x y z w : DeskFault) → cond a (Some x) (cond b (cond c (Some y) (cond d None (Some z))) (Some w)) ≡ None → (c ≡ false) × (d ≡ true)
+pub four_conds : (a b c d : Bool) (x y z w : DeskFault) → cond a (Some x) (cond b (cond c (Some y) (cond d None (Some z))) (Some w)) ≡ None → (c ≡ false) × (d ≡ true)
 four_conds true b c d x y z w h = cc
 four_conds false true true d x y z w h = cc
 four_conds false true false true x y z w h = (refl, refl)
 four_conds false true false false x y z w h = cc
 four_conds false false c d x y z w h = cc
 
-sound_judge_by : (plan : Plan) (s : State) (by id : ℕ) (refused : Option DeskFault) (io : Option Started) → IsSound plan s → judge_refusal s id ≡ refused → slice_get (started s.history) id ≡ io → IsSound plan (machine_judge_by plan s by id refused io).state
+pub sound_judge_by : (plan : Plan) (s : State) (by id : ℕ) (refused : Option DeskFault) (io : Option Started) → IsSound plan s → judge_refusal s id ≡ refused → slice_get (started s.history) id ≡ io → IsSound plan (machine_judge_by plan s by id refused io).state
 sound_judge_by plan s by id (Some fault) io sound free at = sound
 sound_judge_by plan s by id None None sound free at = sound
 sound_judge_by plan s by id None (Some io) sound free at =
@@ -251,7 +251,7 @@ sound_judge_by plan s by id None (Some io) sound free at =
       fits = fit_longer s.history (Verdict by id verdict ∷ []) s.read_back sound.fits;
     }
 
-sound_take : (plan : Plan) (s : State) (worker : ℕ) → IsNumbered plan → IsSound plan s → IsSound plan (machine_take plan s worker).state
+pub sound_take : (plan : Plan) (s : State) (worker : ℕ) → IsNumbered plan → IsSound plan s → IsSound plan (machine_take plan s worker).state
 sound_take plan s worker numbered sound =
     let events = taken plan worker s.history in
     let history = s.history ++ events in
@@ -279,7 +279,7 @@ sound_run plan s [] numbered sound = sound
 sound_run plan s (next ∷ steps) numbered sound =
     sound_run plan (machine_step plan s next).state steps numbered (sound_step plan s next numbered sound)
 
-none_kept : FitPieces [] []
+pub none_kept : FitPieces [] []
 unfolding FitPieces
 none_kept = tt
 

@@ -1,9 +1,9 @@
 -- The history of one worker over a right memory is legal.
-use Rattle.std.proofs.Common.{◌≡◌, ℕ, zero, suc, ◌+◌, ◌*◌, ◌<◌, ◌≤◌, List, [], ◌∷◌, ◌++◌, length, Bool, true, false, cond, ◌&&◌, ◌||◌, not, refl, sym, ◌∙◌, ap, subst, arith, inl, inr, append_assoc, append-nil, length-append}
+use Rattle.std.proofs.Common.{◌≡◌, ℕ, zero, suc, ◌*◌, ◌<◌, ◌≤◌, List, [], ◌∷◌, ◌++◌, length, Bool, true, false, cond, ◌&&◌, ◌||◌, not, refl, sym, ◌∙◌, ap, subst, arith, inl, inr, append_assoc, append-nil, length-append}
 use Rattle.std.specs.Prelude.{◌⊎◌, Option, Some, None, slice_get, nat_lt, ◌==◌, is_none}
 use Rattle.std.specs.Option.{option_or}
 use Rattle.std.specs.List.{list_any, cons_option}
-use Rattle.std.proofs.lemmas.Bool.{and_parts, and_from, eq-eqb, eqb-true, lt-ltb, ltb-true, cases_cond}
+use Rattle.std.proofs.lemmas.Bool.{and_parts, and_from, eq-eqb, eqb-true, lt-ltb, ltb-true}
 use Rattle.std.proofs.lemmas.List.Elements.{filter_map-append}
 use Rattle.jr_model.specs.declared.blocks.Dir.{Dir}
 use Rattle.jr_model.specs.declared.blocks.Piece.{Piece}
@@ -16,7 +16,7 @@ use Rattle.jr_model.specs.declared.events.WriteId.{WriteId}
 use Rattle.jr_model.specs.declared.tickets.TicketKind.TheVariants as ticket
 use Rattle.jr_model.specs.Choice.{choice}
 use Rattle.jr_model.specs.History.{first_given, Started, started, started_by, kind_for, end_of, outcome_of, flies, is_verdict_on, is_judged, ended_whole, is_probe}
-use Rattle.jr_model.specs.Legal.{is_legal, legal_after, may_happen, end_fits, outcome_fits, verdict_fits, job_says}
+use Rattle.jr_model.specs.Legal.{is_legal, may_happen, end_fits, verdict_fits, job_says}
 use Rattle.jr_model.specs.Plan.{Plan, SubJob, IsNumbered, clone_of}
 use Rattle.jr_model.specs.Serial.{carried_out, goes_on, serial_after, serial_history}
 use Rattle.jr_model.proofs.LegalLaws.{is_legal-more, choice_may_happen, choice_is_step, cases_step_of}
@@ -31,16 +31,16 @@ EndsWereStarted history = (io : ℕ) (o : Outcome) → outcome_of history io ≡
 abbrev pub JudgedWereStarted : List Event → Type 0
 JudgedWereStarted history = (io : ℕ) → is_judged history io ≡ true → io < length (started history)
 
-or_assoc : {Z : Type 0} (a b c : Option Z) → option_or a (option_or b c) ≡ option_or (option_or a b) c
+pub or_assoc : {Z : Type 0} (a b c : Option Z) → option_or a (option_or b c) ≡ option_or (option_or a b) c
 or_assoc None b c = refl
 or_assoc (Some z) b c = refl
 
-first_given-append : {X Y : Type 0} (f : X → Option Y) (xs ys : List X) → first_given f (xs ++ ys) ≡ option_or (first_given f xs) (first_given f ys)
+pub first_given-append : {X Y : Type 0} (f : X → Option Y) (xs ys : List X) → first_given f (xs ++ ys) ≡ option_or (first_given f xs) (first_given f ys)
 first_given-append f [] ys = refl
 first_given-append f (x ∷ xs) ys =
     ap (option_or (f x)) (first_given-append f xs ys) ∙ or_assoc (f x) (first_given f xs) (first_given f ys)
 
-any-append : {X : Type 0} (f : X → Bool) (xs ys : List X) → list_any f (xs ++ ys) ≡ (list_any f xs || list_any f ys)
+pub any-append : {X : Type 0} (f : X → Bool) (xs ys : List X) → list_any f (xs ++ ys) ≡ (list_any f xs || list_any f ys)
 any-append f [] ys = refl
 any-append f (x ∷ xs) ys = ap (λ b. f x || b) (any-append f xs ys) ∙ or_or (f x) (list_any f xs) (list_any f ys)
   where
@@ -48,22 +48,22 @@ any-append f (x ∷ xs) ys = ap (λ b. f x || b) (any-append f xs ys) ∙ or_or 
     or_or true b c = refl
     or_or false b c = refl
 
-or_some : {Z : Type 0} (a b : Option Z) (z : Z) → option_or a b ≡ Some z → (a ≡ Some z) ⊎ (b ≡ Some z)
+pub or_some : {Z : Type 0} (a b : Option Z) (z : Z) → option_or a b ≡ Some z → (a ≡ Some z) ⊎ (b ≡ Some z)
 or_some None b z h = inr h
 or_some (Some y) b z h = inl h
 
 -- what is started is only added to
-longer : (history : List Event) (e : Event) → length (started history) ≤ length (started (history ++ e ∷ []))
+pub longer : (history : List Event) (e : Event) → length (started history) ≤ length (started (history ++ e ∷ []))
 longer history e =
     let parts = filter_map-append started_by history (e ∷ []) in
     omega (arith, ap length parts, length-append (started history) (started (e ∷ [])))
 
-cond_some : (b : Bool) (o p : Outcome) → cond b (Some o) None ≡ Some p → b ≡ true
+pub cond_some : (b : Bool) (o p : Outcome) → cond b (Some o) None ≡ Some p → b ≡ true
 cond_some true o p h = refl
 cond_some false o p h = cc
 
 -- an event that ends an I/O may happen only while it flies
-end_was_started : (plan : Plan) (history : List Event) (e : Event) (io : ℕ) (o : Outcome) → may_happen plan history e ≡ true → option_or (end_of io e) None ≡ Some o → io < length (started history)
+pub end_was_started : (plan : Plan) (history : List Event) (e : Event) (io : ℕ) (o : Outcome) → may_happen plan history e ≡ true → option_or (end_of io e) None ≡ Some o → io < length (started history)
 end_was_started plan history (Issue worker dir write piece) io o may h = cc
 end_was_started plan history (Probe worker write piece) io o may h = cc
 end_was_started plan history (Skip worker write) io o may h = cc
@@ -78,7 +78,7 @@ end_was_started plan history (End worker id outcome) io o may h =
     none_some : (p : Outcome) → None ≡ Some p → (id == io) ≡ true
     none_some p g = cc
 
-ends-more : (plan : Plan) (history : List Event) (e : Event) → EndsWereStarted history → may_happen plan history e ≡ true → EndsWereStarted (history ++ e ∷ [])
+pub ends-more : (plan : Plan) (history : List Event) (e : Event) → EndsWereStarted history → may_happen plan history e ≡ true → EndsWereStarted (history ++ e ∷ [])
 ends-more plan history e ends may io o h =
     let here : io < length (started history) =
     elim (or_some (outcome_of history io) (first_given (end_of io) (e ∷ [])) o (sym (first_given-append (end_of io) history (e ∷ [])) ∙ h)) [
@@ -87,13 +87,13 @@ ends-more plan history e ends may io o h =
     ] in
     omega (arith, here, longer history e)
 
-whole_some : (o : Option Outcome) → ended_whole o ≡ true → o ≡ Some Whole
+pub whole_some : (o : Option Outcome) → ended_whole o ≡ true → o ≡ Some Whole
 whole_some None h = cc
 whole_some (Some Whole) h = refl
 whole_some (Some Failed) h = cc
 whole_some (Some (Short n)) h = cc
 
-judge_was_started : (plan : Plan) (history : List Event) (e : Event) (io : ℕ) → EndsWereStarted history → may_happen plan history e ≡ true → (is_verdict_on io e || false) ≡ true → io < length (started history)
+pub judge_was_started : (plan : Plan) (history : List Event) (e : Event) (io : ℕ) → EndsWereStarted history → may_happen plan history e ≡ true → (is_verdict_on io e || false) ≡ true → io < length (started history)
 judge_was_started plan history (Issue worker dir write piece) io ends may h = cc
 judge_was_started plan history (Probe worker write piece) io ends may h = cc
 judge_was_started plan history (Skip worker write) io ends may h = cc
@@ -108,11 +108,11 @@ judge_was_started plan history (Verdict worker id verdict) io ends may h =
     or_false true g = refl
     or_false false g = g
 
-or_true : (a b : Bool) → (a || b) ≡ true → (a ≡ true) ⊎ (b ≡ true)
+pub or_true : (a b : Bool) → (a || b) ≡ true → (a ≡ true) ⊎ (b ≡ true)
 or_true true b h = inl refl
 or_true false b h = inr h
 
-judged-more : (plan : Plan) (history : List Event) (e : Event) → EndsWereStarted history → JudgedWereStarted history → may_happen plan history e ≡ true → JudgedWereStarted (history ++ e ∷ [])
+pub judged-more : (plan : Plan) (history : List Event) (e : Event) → EndsWereStarted history → JudgedWereStarted history → may_happen plan history e ≡ true → JudgedWereStarted (history ++ e ∷ [])
 judged-more plan history e ends judged may io h =
     let here : io < length (started history) =
     elim (or_true (is_judged history io) (list_any (is_verdict_on io) (e ∷ [])) (sym (any-append (is_verdict_on io) history (e ∷ [])) ∙ h)) [
@@ -127,22 +127,22 @@ pub record IsWell (plan : Plan) (history : List Event) : Type 0 where
   pub ends : EndsWereStarted history
   pub judged : JudgedWereStarted history
 
-well-more : (plan : Plan) (history : List Event) (e : Event) → IsWell plan history → may_happen plan history e ≡ true → IsWell plan (history ++ e ∷ [])
+pub well-more : (plan : Plan) (history : List Event) (e : Event) → IsWell plan history → may_happen plan history e ≡ true → IsWell plan (history ++ e ∷ [])
 well-more plan history e well may = record {
   legal = is_legal-more plan history e well.legal may;
   ends = ends-more plan history e well.ends may;
   judged = judged-more plan history e well.ends well.judged may;
 }
 
-got_last : (xs : List Started) (s : Started) → slice_get (xs ++ s ∷ []) (length xs) ≡ Some s
+pub got_last : (xs : List Started) (s : Started) → slice_get (xs ++ s ∷ []) (length xs) ≡ Some s
 got_last [] s = refl
 got_last (x ∷ xs) s = got_last xs s
 
-none_from : (o : Option Outcome) → ((p : Outcome) → o ≡ Some p → ⊥) → o ≡ None
+pub none_from : (o : Option Outcome) → ((p : Outcome) → o ≡ Some p → ⊥) → o ≡ None
 none_from None f = refl
 none_from (Some p) f = absurd (f p refl)
 
-false_from : (b : Bool) → (b ≡ true → ⊥) → b ≡ false
+pub false_from : (b : Bool) → (b ≡ true → ⊥) → b ≡ false
 false_from false f = refl
 false_from true f = absurd (f refl)
 
@@ -218,14 +218,14 @@ module _ (plan : Plan) (history : List Event) (e : Event) (s : Started) (well : 
       says_good (Some job) len = refl
 
 -- a choice that is carried out leaves a legal history
-well_issue : (plan : Plan) (history : List Event) (dir : Dir) (write : WriteId) (piece : Piece) → IsWell plan history → may_happen plan history (Issue 0 dir write piece) ≡ true → IsWell plan (history ++ carried_out (length (started history)) (Issue 0 dir write piece))
+pub well_issue : (plan : Plan) (history : List Event) (dir : Dir) (write : WriteId) (piece : Piece) → IsWell plan history → may_happen plan history (Issue 0 dir write piece) ≡ true → IsWell plan (history ++ carried_out (length (started history)) (Issue 0 dir write piece))
 well_issue plan history dir write piece well may =
     let e = Issue 0 dir write piece in
     let s : Started = record { worker = 0; kind = kind_for dir; write = write; piece = piece } in
     subst (λ (all : List Event). IsWell plan all) (append_assoc history (e ∷ []) (End 0 (length (started history)) Whole ∷ []))
     (well_ended plan history e s well refl refl refl refl may)
 
-well_probe : (plan : Plan) (history : List Event) (write : WriteId) (piece : Piece) → IsWell plan history → may_happen plan history (Probe 0 write piece) ≡ true → IsWell plan (history ++ carried_out (length (started history)) (Probe 0 write piece))
+pub well_probe : (plan : Plan) (history : List Event) (write : WriteId) (piece : Piece) → IsWell plan history → may_happen plan history (Probe 0 write piece) ≡ true → IsWell plan (history ++ carried_out (length (started history)) (Probe 0 write piece))
 well_probe plan history write piece well may =
     let io = length (started history) in
     let e = Probe 0 write piece in
@@ -235,7 +235,7 @@ well_probe plan history write piece well may =
     subst (λ (all : List Event). IsWell plan all) (append_assoc history (e ∷ []) (End 0 io Whole ∷ Verdict 0 io Good ∷ []))
     (subst (λ (all : List Event). IsWell plan all) (append_assoc (history ++ e ∷ []) (End 0 io Whole ∷ []) (Verdict 0 io Good ∷ [])) judged)
 
-well_choice : (plan : Plan) (history : List Event) (e : Event) → IsNumbered plan → IsWell plan history → choice plan history 0 ≡ Some e → IsWell plan (history ++ carried_out (length (started history)) e)
+pub well_choice : (plan : Plan) (history : List Event) (e : Event) → IsNumbered plan → IsWell plan history → choice plan history 0 ≡ Some e → IsWell plan (history ++ carried_out (length (started history)) e)
 well_choice plan history e numbered well chosen =
     let io = length (started history) in
     let may = choice_may_happen plan history 0 e numbered chosen in
@@ -256,12 +256,12 @@ well_choice plan history e numbered well chosen =
           ]
     ]
 
-well_goes_on : (plan : Plan) (rest : List Event → List Event) (history : List Event) (o : Option Event) → ((longer : List Event) → IsWell plan longer → IsWell plan (rest longer)) → IsNumbered plan → IsWell plan history → choice plan history 0 ≡ o → IsWell plan (goes_on rest history o)
+pub well_goes_on : (plan : Plan) (rest : List Event → List Event) (history : List Event) (o : Option Event) → ((longer : List Event) → IsWell plan longer → IsWell plan (rest longer)) → IsNumbered plan → IsWell plan history → choice plan history 0 ≡ o → IsWell plan (goes_on rest history o)
 well_goes_on plan rest history None keeps numbered well chosen = well
 well_goes_on plan rest history (Some e) keeps numbered well chosen =
     keeps (history ++ carried_out (length (started history)) e) (well_choice plan history e numbered well chosen)
 
-well_serial : (limit : ℕ) (plan : Plan) (history : List Event) → IsNumbered plan → IsWell plan history → IsWell plan (serial_after limit plan history)
+pub well_serial : (limit : ℕ) (plan : Plan) (history : List Event) → IsNumbered plan → IsWell plan history → IsWell plan (serial_after limit plan history)
 well_serial zero plan history numbered well = well
 well_serial (suc limit) plan history numbered well =
     well_goes_on plan (serial_after limit plan) history (choice plan history 0)

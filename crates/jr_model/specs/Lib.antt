@@ -2,6 +2,7 @@ pub mod CellSet
 pub mod Choice
 pub mod Content
 pub mod Draws
+pub mod FaultTexts
 pub mod History
 pub mod Honest
 pub mod Judgement

@@ -1,12 +1,11 @@
 -- The machine that the desk is: a history, and a memory that begins with zeros (of this project). Take, End, Judge and
 -- Stop are its steps; a refused step changes nothing.
-use Rattle.std.specs.Prelude.{◌≡◌, ℕ, zero, suc, ◌+◌, ◌-◌, ◌*◌, ◌==◌, nat_lt, Bool, true, false, not, ◌&&◌, List, [], ◌∷◌, ◌++◌, length, map, sum, replicate, slice_get, Option, Some, None, is_none, IsTrue, IsFalse, if◌then◌else◌}
+use Rattle.std.specs.Prelude.{◌≡◌, ℕ, zero, suc, ◌*◌, ◌==◌, nat_lt, Bool, true, false, ◌&&◌, List, [], ◌∷◌, ◌++◌, length, map, sum, replicate, slice_get, Option, Some, None, is_none, if◌then◌else◌}
 use Rattle.std.specs.Bool.{MatchBool}
 use Rattle.jr_model.specs.declared.blocks.Piece.{Piece}
 use Rattle.jr_model.specs.declared.events.Event.{Event}
 use Rattle.jr_model.specs.declared.events.Event.TheVariants.{Issue, Probe, Skip, End, Verdict}
 use Rattle.jr_model.specs.declared.events.Outcome.{Outcome}
-use Rattle.jr_model.specs.declared.events.Outcome.TheVariants.{Whole, Failed, Short}
 use Rattle.jr_model.specs.declared.events.Verdict.{Verdict as GivenVerdict}
 use Rattle.jr_model.specs.declared.events.Verdict.TheVariants.{Good}
 use Rattle.jr_model.specs.declared.events.WriteId.{WriteId}
@@ -26,8 +25,8 @@ use Rattle.jr_model.specs.Draws.{draws_of}
 use Rattle.jr_model.specs.History.{Started, started, outcome_of, is_judged, is_probe, ended_whole}
 use Rattle.jr_model.specs.Judgement.{verdict_of}
 use Rattle.jr_model.specs.Legal.{is_complete}
-use Rattle.jr_model.specs.Plan.{Plan, SubJob, FileSpec, clone_of}
-use Rattle.jr_model.specs.Replies.{FileBytes, ReadReply, WriteReply, stored, memory_with, reply_to_read, reply_to_write}
+use Rattle.jr_model.specs.Plan.{Plan, SubJob, clone_of}
+use Rattle.jr_model.specs.Replies.{FileBytes, ReadReply, WriteReply, fresh_memory, outcome_for, stored, memory_with, reply_to_read, reply_to_write}
 
 -- Take: what it appends, and what it answers
 
@@ -90,12 +89,8 @@ pub record State : Type 0 where
   pub memory : List FileBytes
   pub read_back : List (ℕ × List ℕ)
 
--- files of zeros
-abbrev pub zeros_of : FileSpec → FileBytes
-zeros_of file = record { low = file.low; high = file.high; bytes = replicate (file.high - file.low) 0 }
-
 abbrev pub first_state : Plan → State
-first_state plan = record { history = []; is_stopped = false; memory = map zeros_of plan.files; read_back = [] }
+first_state plan = record { history = []; is_stopped = false; memory = fresh_memory plan.files; read_back = [] }
 
 -- why an End of this I/O is refused, if it is
 abbrev pub end_refusal : State → ℕ → Option DeskFault
@@ -118,11 +113,6 @@ judge_refusal s io =
     then (if is_judged s.history io then Some Twice
     else (if is_judgeable s.history io (slice_get (started s.history) io) then None else Some WrongKind))
     else Some Stranger)
-
--- the outcome of a call that answered this count for so many bytes
-abbrev pub outcome_for : Option ℕ → ℕ → Outcome
-outcome_for None len = Failed
-outcome_for (Some n) len = if nat_lt n len then Short n else Whole
 
 -- the seed of the filler of a draw
 abbrev pub seed_of_draw : Option Draw → ℕ

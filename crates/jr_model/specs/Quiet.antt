@@ -1,12 +1,12 @@
 -- The report of a run in which nothing goes wrong, from the draws alone (of this project).
-use Rattle.std.specs.Prelude.{ℕ, ◌+◌, ◌-◌, not, Bool, List, [], ◌∷◌, ◌++◌, length, map, filter, flat_map, sum, sum_by, if◌then◌else◌}
+use Rattle.std.specs.Prelude.{ℕ, ◌+◌, ◌-◌, not, List, [], ◌∷◌, length, map, filter, flat_map, sum, if◌then◌else◌}
 use Rattle.std.specs.List.{list_any, range_with_len}
 use Rattle.jr_model.specs.declared.totals.Totals.{Totals}
 use Rattle.jr_model.specs.declared.workloads.Draw.{Draw}
 use Rattle.jr_model.specs.Pieces.{pieces_overlap}
 use Rattle.jr_model.specs.Plan.{Plan, SubJob}
 use Rattle.jr_model.specs.Report.{totals_lines}
-use Rattle.jr_model.specs.Rounds.{Pass, passes_of, is_write_draw, writes_of, has_rounds, group_of, group_count}
+use Rattle.jr_model.specs.Rounds.{Pass, passes_of, is_write_draw, has_rounds, group_of, group_count}
 
 -- how many writes of a group are checked: those that no later write of the group overlaps
 abbrev pub checked_among : List Draw → ℕ

@@ -1,5 +1,5 @@
 -- What an engine with a known memory does at a call, and what a scripted reply makes of it (of this project).
-use Rattle.std.specs.Prelude.{ℕ, zero, suc, ◌+◌, ◌-◌, ◌<◌, ◌≤◌, ◌≡◌, min, nat_le, nat_eq, ◌==◌, bit_xor, Bool, true, false, ◌&&◌, List, [], ◌∷◌, ◌++◌, length, map, replicate, take, drop, slice_index, slice_set, slice_get, slice_range, Option, Some, None, if◌then◌else◌}
+use Rattle.std.specs.Prelude.{ℕ, zero, suc, ◌+◌, ◌-◌, min, nat_le, nat_lt, ◌==◌, bit_xor, Bool, false, ◌&&◌, List, [], ◌∷◌, ◌++◌, length, map, replicate, take, drop, slice_index, slice_set, slice_get, Option, Some, None, if◌then◌else◌}
 use Rattle.jr_model.specs.Plan.{FileSpec}
 use Rattle.jr_model.specs.declared.blocks.Piece.{Piece}
 use Rattle.jr_model.specs.declared.events.Outcome.{Outcome}
@@ -128,7 +128,7 @@ next_reply engine = scripted_reply engine.script engine.calls
 -- how a call over so many bytes ended that moved n of them, or failed
 abbrev pub outcome_for : Option ℕ → ℕ → Outcome
 outcome_for None len = outcome.Failed
-outcome_for (Some n) len = if n == len then outcome.Whole else outcome.Short n
+outcome_for (Some n) len = if nat_lt n len then outcome.Short n else outcome.Whole
 
 -- what a ticket's call leaves: its outcome, the bytes of its buffer, and the memory
 pub record Asked : Type 0 where

@@ -1,5 +1,5 @@
 -- The report of a run: a line for each clone, then a line for each bad verdict (the format is of this project).
-use Rattle.std.specs.Prelude.{ℕ, Bool, true, false, ◌&&◌, List, [], ◌∷◌, ◌++◌, Option, Some, None, codes, map, flat_map, slice_get, filter_map, length, if◌then◌else◌}
+use Rattle.std.specs.Prelude.{ℕ, List, [], ◌∷◌, ◌++◌, Option, Some, None, codes, map, flat_map, slice_get, filter_map, if◌then◌else◌}
 use Rattle.std.specs.Fmt.{decimal}
 use Rattle.std.specs.List.{range_with_len}
 use Rattle.jr_model.specs.declared.blocks.Piece.{Piece}
@@ -11,7 +11,6 @@ use Rattle.jr_model.specs.declared.events.What.{What}
 use Rattle.jr_model.specs.declared.events.What.TheVariants.{Header, Digest, DataArea, Byte}
 use Rattle.jr_model.specs.declared.events.WriteId.{WriteId}
 use Rattle.jr_model.specs.declared.totals.Totals.{Totals}
-use Rattle.jr_model.specs.declared.workloads.Draw.{Draw}
 use Rattle.jr_model.specs.History.{Started, started, same_write}
 use Rattle.jr_model.specs.Plan.{Plan, SubJob, FileSpec}
 use Rattle.jr_model.specs.Rounds.{Pass, pass_of, write_id}

@@ -1,5 +1,5 @@
 -- When a ticket can be carried out (of this project).
-use Rattle.std.specs.Prelude.{ℕ, ◌+◌, ◌%◌, nat_lt, nat_le, nat_eq, ◌==◌, Bool, true, false, ◌&&◌, Option, Some, None, is_some, List}
+use Rattle.std.specs.Prelude.{ℕ, ◌+◌, ◌%◌, nat_lt, nat_le, ◌==◌, Bool, true, false, ◌&&◌, Option, is_some, List}
 use Rattle.jr_model.specs.declared.blocks.TheConstants.{SECTOR, LARGEST_BLOCK, LARGEST_END}
 use Rattle.jr_model.specs.declared.blocks.Piece.{Piece}
 use Rattle.jr_model.specs.declared.contents.VerifyKind.{VerifyKind}

@@ -1,17 +1,16 @@
 -- When the calls of an engine with a known memory are what a worker completed (of this project).
-use Rattle.std.specs.Prelude.{◌≡◌, ℕ, suc, ◌==◌, Bool, true, false, List, [], ◌∷◌, slice_get, Option, Some, None}
+use Rattle.std.specs.Prelude.{◌≡◌, ℕ, suc, ◌==◌, Bool, List, [], ◌∷◌, slice_get, Some}
 use Rattle.std.specs.Bool.{MatchBool}
 use Rattle.jr_model.specs.declared.events.Event.{Event}
 use Rattle.jr_model.specs.declared.events.Event.TheVariants.{Issue, Probe, Skip, End, Verdict}
 use Rattle.jr_model.specs.declared.events.Outcome.{Outcome}
-use Rattle.jr_model.specs.declared.events.Verdict.{Verdict as GivenVerdict}
 use Rattle.jr_model.specs.declared.replies.Reply.{Reply}
 use Rattle.jr_model.specs.declared.tickets.TicketKind.{TicketKind}
 use Rattle.jr_model.specs.declared.tickets.TicketKind.TheVariants as ticket
 use Rattle.jr_model.specs.History.{Started, started}
-use Rattle.jr_model.specs.Machine.{content_of_io, outcome_for, read_of, bytes_read, verdict_on}
+use Rattle.jr_model.specs.Machine.{content_of_io, read_of, bytes_read, verdict_on}
 use Rattle.jr_model.specs.Plan.{Plan}
-use Rattle.jr_model.specs.Replies.{FileBytes, memory_with, reply_to_write, scripted_reply}
+use Rattle.jr_model.specs.Replies.{FileBytes, memory_with, outcome_for, reply_to_write, scripted_reply}
 
 -- an engine as far as it is known: its memory, its script, and its calls so far; and the bytes that it gave
 pub record KnownEngine : Type 0 where

@@ -1,14 +1,12 @@
 -- What each clone did, counted over all of a history (of this project).
 use Rattle.std.specs.Prelude.{ℕ, Bool, true, false, ◌&&◌, List, Option, Some, None, length, map, sum, slice_get, filter_map, count_by, if◌then◌else◌}
-use Rattle.std.specs.List.{list_any}
 use Rattle.jr_model.specs.declared.events.Event.{Event}
 use Rattle.jr_model.specs.declared.events.Event.TheVariants.{Issue, Probe, Skip, End, Verdict}
-use Rattle.jr_model.specs.declared.events.Outcome.{Outcome}
 use Rattle.jr_model.specs.declared.events.Verdict.{Verdict as GivenVerdict}
 use Rattle.jr_model.specs.declared.tickets.TicketKind.{TicketKind}
 use Rattle.jr_model.specs.declared.tickets.TicketKind.TheVariants as ticket
 use Rattle.jr_model.specs.declared.totals.Totals.{Totals}
-use Rattle.jr_model.specs.History.{Started, started, is_of_clone, is_write, is_probe, ended_whole}
+use Rattle.jr_model.specs.History.{Started, started, is_of_clone, is_write, ended_whole}
 use Rattle.jr_model.specs.Legal.{is_io_of, is_fault, is_bad}
 use Rattle.std.specs.Prelude.{◌==◌, not}
 

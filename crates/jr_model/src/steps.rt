@@ -1,3 +1,6 @@
+ghost use Rattle.std.specs.Prelude.{◌≡◌};
+ghost use Rattle.jr_model.specs.declared.steps.DeskFault.TheVariants.{Memory as OutOfMemory};
+
 use crate::events::IoId;
 use crate::memory::Memory;
 use crate::replies::Reply;
@@ -20,21 +23,27 @@ pub enum DeskFault {
 }
 
 impl fmt::Display for DeskFault {
+    ghost use Rattle.std.specs.Prelude.{Some};
+    ghost use Rattle.jr_model.specs.FaultTexts.{desk_fault_text};
+
+    ghost output = { λ fault. Some (desk_fault_text fault) };
+
     fn fmt<W: fmt::Write>(&self, f: &mut fmt::Formatter<W>) -> fmt::Result {
-        let text = match self {
-            DeskFault::Memory => "out of memory",
-            DeskFault::Stranger => "not started here",
-            DeskFault::Twice => "a second time",
-            DeskFault::WrongKind => "not a check to judge",
-            DeskFault::Stopped => "stopped",
-        };
-        write!(f, "{text}")
+        match self {
+            DeskFault::Memory => write!(f, "out of memory"),
+            DeskFault::Stranger => write!(f, "not started here"),
+            DeskFault::Twice => write!(f, "a second time"),
+            DeskFault::WrongKind => write!(f, "not a check to judge"),
+            DeskFault::Stopped => write!(f, "stopped"),
+        }
     }
 }
 
 impl Error for DeskFault {}
 
 impl From<Memory> for DeskFault {
+    ghost from_gives = { λ _ fault. fault ≡ OutOfMemory };
+
     fn from(_error: Memory) -> DeskFault {
         DeskFault::Memory
     }

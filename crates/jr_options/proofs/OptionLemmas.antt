@@ -21,7 +21,7 @@ fault_there o fault lines i line within here is =
     ∙ ap (λ s. options_from (and_setting o s) (drop (i + 1) lines)) is
     ∙ fault_stays fault (drop (i + 1) lines)
 
-survey_stays : (only : Option (List ℕ)) (fault : JobFault) (sections : List SectionText) → survey_from only (Err fault) sections ≡ Err fault
+pub survey_stays : (only : Option (List ℕ)) (fault : JobFault) (sections : List SectionText) → survey_from only (Err fault) sections ≡ Err fault
 survey_stays only fault [] = refl
 survey_stays only fault (section ∷ sections) = survey_stays only fault sections
 

@@ -1,5 +1,5 @@
 -- Which clones the sections of a job file plan (fio's manual, "Job file format").
-use Rattle.std.specs.Prelude.{ℕ, ◌+◌, min, List, [], ◌∷◌, ◌++◌, Result, Ok, Err, if◌then◌else◌}
+use Rattle.std.specs.Prelude.{ℕ, ◌+◌, List, [], ◌∷◌, ◌++◌, Result, Ok, Err, if◌then◌else◌}
 use Rattle.jr_text.specs.Records.{LineText, SectionText}
 use Rattle.jr_options.specs.declared.drafts.PlannedJob.{PlannedJob}
 use Rattle.jr_options.specs.declared.faults.JobFault.{JobFault}
@@ -25,7 +25,7 @@ options_of above section = options_from (Ok default_options) (effective_lines ab
 -- the job of a section, after the jobs up to a phase: it begins a phase where it has `stonewall`
 abbrev pub shaped_job : ℕ → JobOptions → Result Shape JobFault → Result PlannedJob JobFault
 shaped_job phase o (Err fault) = Err fault
-shaped_job phase o (Ok shape) = Ok (record { phase = min (phase + (if o.stonewall then 1 else 0)) 4294967295; options = o; shape = shape })
+shaped_job phase o (Ok shape) = Ok (record { phase = phase + (if o.stonewall then 1 else 0); options = o; shape = shape })
 
 abbrev pub job_with : ℕ → SectionText → Result JobOptions JobFault → Result PlannedJob JobFault
 job_with phase section (Err fault) = Err fault

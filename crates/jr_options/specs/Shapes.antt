@@ -57,6 +57,13 @@ reads_of o = unwrap_or o.read_split ((o.read_size, 100) ∷ [])
 abbrev pub writes_of : JobOptions → List (ℕ × ℕ)
 writes_of o = unwrap_or o.write_split ((o.write_size, 100) ∷ [])
 
+-- how the region of a sound job is cut
+abbrev pub shape_in : JobOptions → Shape
+shape_in o =
+    let size = unwrap_or o.size 0 in
+    let cell = cell_of o (reads_of o) (writes_of o) in
+    record { size = size; cell = cell; cells = size / cell; reads = reads_of o; writes = writes_of o }
+
 -- the shape of so many bytes cut into such cells, unless something else of the job is wrong
 abbrev pub cut_shape : JobOptions → ℕ → ℕ → ℕ → Result Shape JobFault
 cut_shape o line size cell =

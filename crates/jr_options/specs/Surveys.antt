@@ -24,6 +24,7 @@ start_of o index = o.offset + o.offset_step * index
 pub record IsCapped (tally : Tally) : Type 0 where
   pub clones : tally.clones ≤ 65
   pub work : tally.work ≤ 1073741825
+  pub verifiers : tally.verifiers ≤ 16
 
 -- the section's lines count for the jobs below it; it is no job
 abbrev pub is_global : SectionText → Bool
@@ -108,13 +109,18 @@ abbrev pub survey_from : Option (List ℕ) → Result Survey JobFault → List S
 survey_from only read [] = read
 survey_from only read (section ∷ sections) = survey_from only (with_next only read section) sections
 
-abbrev pub refusal_in : Result Survey JobFault → Option JobFault
-refusal_in (Err f) = Some f
-refusal_in (Ok s) = tally_fault s.tally
+-- what is known of all jobs then
+abbrev pub tally_in : Result Survey JobFault → Result Tally JobFault
+tally_in (Err f) = Err f
+tally_in (Ok s) = Ok s.tally
 
--- why sections make no plan, want of memory aside
-unfoldable pub refusal_of : List SectionText → Option (List ℕ) → Option JobFault
-refusal_of sections only =
+abbrev pub refusal_in : Result Tally JobFault → Option JobFault
+refusal_in (Err f) = Some f
+refusal_in (Ok t) = tally_fault t
+
+-- why the reader's pass over sections makes no plan, want of memory aside
+unfoldable pub survey_refusal : List SectionText → Option (List ℕ) → Option JobFault
+survey_refusal sections only =
     if not (list_any (λ section. not (is_global section)) sections) then Some fault.NoJob
     else (if not (list_any (is_planned only) sections) then Some fault.NoSection
-    else refusal_in (survey_from only (Ok first_survey) sections))
+    else refusal_in (tally_in (survey_from only (Ok first_survey) sections)))

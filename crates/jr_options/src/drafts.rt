@@ -45,30 +45,13 @@ impl Model for Draft {
 
 impl Draft {
     pub(crate) fn new(alloc: Global) -> Draft
-        ensures clones { result.clones ≡ [] }
-        ensures files { result.files ≡ [] }
+        ensures { result ≡ record { clones = []; files = [] } }
     {
         Draft {
             clones: Vec::new(alloc),
             files: Vec::new(alloc),
             work: 0,
         }
-    }
-
-    // How many clones there are.
-    pub(crate) fn count(&self) -> usize
-        ensures value { result ≡ length self.now.clones }
-        ensures drafted { AreDrafted self.now.clones self.now.files }
-    {
-        self.clones.len()
-    }
-
-    // The cells that all passes of its clones visit, all together.
-    pub(crate) fn work(&self) -> u64
-        ensures value { result ≡ work_of self.now.clones }
-        ensures most { result ≤ 2 ^ 30 }
-    {
-        self.work
     }
 
     // Adds a clone of a job: that of this start in this file.

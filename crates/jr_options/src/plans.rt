@@ -1,10 +1,9 @@
-ghost use Rattle.std.specs.Prelude.{◌≡◌, ◌<◌, ◌==◌, length, slice_get, Some};
+ghost use Rattle.std.specs.Prelude.{◌≡◌, ◌≤◌, ◌<◌, ◌==◌, length, slice_get, Some};
 ghost use Rattle.std.specs.List.{list_any};
 ghost use Rattle.jr_options.specs.Files.{are_apart};
 ghost use Rattle.jr_options.specs.PlanFacts.{IsPlanned, IsPlaced, KeepsLimits};
 
 use crate::drafts::Draft;
-use crate::faults::JobFault;
 use crate::files::FileSpec;
 use crate::jobs::SubJob;
 use jr_model::EngineKind;
@@ -31,22 +30,19 @@ impl Model for Plan {
 }
 
 impl Plan {
-    // The plan of these clones, where there is one at least.
-    pub(crate) fn of_draft(
-        draft: Draft,
-        engine: EngineKind,
-        verifiers: u32,
-    ) -> Result<Plan, JobFault> {
-        if draft.count() == 0 {
-            return Err(JobFault::NoJob);
-        }
+    // The plan of these clones.
+    pub(crate) fn of_draft(draft: Draft, engine: EngineKind, verifiers: u32) -> Plan
+        requires some { 1 ≤ length draft.clones }
+        requires verifiers { verifiers ≤ 16 }
+        ensures { result ≡ record { clones = draft.clones; files = draft.files; engine = engine; verifiers = verifiers } }
+    {
         let (clones, files) = draft.into_parts();
-        Ok(Plan {
+        Plan {
             clones,
             files,
             engine,
-            verifiers: verifiers.min(16),
-        })
+            verifiers,
+        }
     }
 
     /// How many clones it has, 1 to 64.

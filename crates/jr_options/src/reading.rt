@@ -1,22 +1,22 @@
-ghost use Rattle.std.specs.Prelude.{◌≡◌, ◌≤◌, ◌<◌, ◌+◌, ◌-◌, ◌*◌, ◌^◌, [], if◌then◌else◌, not, IfOk, IfErr, IfSome, Ok, Err, Some, option_copied};
+ghost use Rattle.std.specs.Prelude.{◌≡◌, ◌≤◌, ◌<◌, ◌+◌, ◌-◌, ◌*◌, ◌^◌, [], if◌then◌else◌, not, true, fold, string_bytes, unwrap_or, IfOk, IfErr, IfSome, Ok, Err, Some, None, option_copied};
 ghost use Rattle.std.specs.List.{list_any};
 ghost use Rattle.jr_options.specs.Jobs.{global_lines, effective_lines, planned_job};
+ghost use Rattle.jr_options.specs.declared.faults.JobFault.TheVariants.{Memory as OutOfMemory};
+ghost use Rattle.jr_options.specs.Lookups.{last_value, value_from};
 ghost use Rattle.jr_options.specs.Options.{AreInRange, options_from};
+ghost use Rattle.jr_options.specs.PlanOf.{HasRoom, clones_asked, default_name, file_of, job_asked, path_in, phased_job, plan_of, planned_as, with_asked};
+ghost use Rattle.jr_options.specs.Refusals.{refusal_of};
 ghost use Rattle.jr_options.specs.Shapes.{HasShape};
-ghost use Rattle.jr_options.specs.Surveys.{IsCapped, start_of, is_global, is_planned, empty_tally, and_job, and_shape, tally_fault, is_other_engine, engine_number, first_survey, with_section, survey_from, refusal_in, refusal_of};
+ghost use Rattle.jr_options.specs.Surveys.{IsCapped, start_of, is_global, is_planned, empty_tally, and_job, and_shape, tally_fault, is_other_engine, engine_number, first_survey, with_section, survey_from, tally_in};
 
 use crate::drafts::{Draft, PlannedJob};
 use crate::faults::{Bound, JobFault};
-use crate::keys::{Key, TextKey};
 use crate::options::JobOptions;
 use crate::plans::Plan;
 use crate::shapes::Shape;
-use crate::words;
 use jr_model::EngineKind;
 use jr_text::{Line, Section};
 use std::alloc::{AllocError, Global};
-
-const MOST_CLONES: usize = 64;
 
 const FURTHEST_END: u128 = 1 << 50;
 
@@ -45,10 +45,12 @@ fn is_planned(section: &Section, only: Option<&str>) -> bool
 }
 
 /// The plan of the sections of a job file: of all jobs, or of those of one name.
-#[tactic(auto, unfolding(crate::specs::Surveys::refusal_of))]
 pub fn plan(alloc: Global, sections: &[Section], only: Option<&str>) -> Result<Plan, JobFault>
     // Each refusal of the list is answered, the first one by its name.
     ensures refused { IfSome (refusal_of sections.now (option_copied only.entry)) (λ fault. result ≡ Err fault) }
+    // Where none stands, only memory can be wanting.
+    ensures memory { refusal_of sections.now (option_copied only.entry) ≡ None → IfErr result (λ fault. fault ≡ OutOfMemory) }
+    ensures planned { IfOk result (λ plan. plan ≡ plan_of sections.now (option_copied only.entry)) }
 {
     if !has_job(sections) {
         return Err(JobFault::NoJob);
@@ -268,8 +270,7 @@ impl Survey {
 fn tally_of(start: Survey, sections: &[Section], only: Option<&str>) -> Result<Tally, JobFault>
     requires range { AreInRange start.globals }
     requires capped { IsCapped start.tally }
-    ensures ok { IfOk result (λ tally. refusal_in (survey_from (option_copied only.entry) (Ok start) sections.now) ≡ tally_fault tally) }
-    ensures err { IfErr result (λ fault. refusal_in (survey_from (option_copied only.entry) (Ok start) sections.now) ≡ Some fault) }
+    ensures value { result ≡ tally_in (survey_from (option_copied only.entry) (Ok start) sections.now) }
     ensures capped { IfOk result IsCapped }
 {
     let mut survey = start;
@@ -333,29 +334,35 @@ fn build(
     sections: &[Section],
     only: Option<&str>,
     tally: Tally,
-) -> Result<Plan, JobFault> {
+) -> Result<Plan, JobFault>
+    requires planned { list_any (is_planned (option_copied only)) sections.now ≡ true }
+    requires surveyed { tally_in (survey_from (option_copied only) (Ok first_survey) sections.now) ≡ Ok tally }
+    requires sound { tally_fault tally ≡ None }
+    requires capped { IsCapped tally }
+    ensures ok { IfOk result (λ plan. plan ≡ plan_of sections.now (option_copied only.entry)) }
+    ensures err { IfErr result (λ fault. fault ≡ OutOfMemory) }
+{
     let mut draft = Draft::new(alloc);
     let mut phase = 0;
     for (place, section) in sections.iter().enumerate() {
         if is_planned(section, only) {
-            match planned_job(phase, &sections[..place], section) {
+            let above = &sections[..place];
+            match planned_job(phase, above, section) {
                 Ok(job) => {
                     phase = job.phase;
-                    draft = with_clones(alloc, draft, &job, &sections[..place], section)?;
+                    draft = with_clones(alloc, draft, &job, above, section)?;
                 }
                 Err(fault) => return Err(fault),
             }
         }
     }
-    Plan::of_draft(
-        draft,
-        tally.engine.unwrap_or(EngineKind::File),
-        tally.verifiers,
-    )
+    let engine = tally.engine.unwrap_or(EngineKind::File);
+    Ok(Plan::of_draft(draft, engine, tally.verifiers))
 }
 
 // The job of a section below others, after the jobs up to a phase.
 fn planned_job(phase: u32, above: &[Section], section: &Section) -> Result<PlannedJob, JobFault>
+    requires { phase ≤ 64 }
     ensures value { result ≡ planned_job phase above.now section.now }
     ensures range { IfOk result (λ job. AreInRange job.options) }
     ensures shape { IfOk result (λ job. HasShape job.options job.shape) }
@@ -363,7 +370,7 @@ fn planned_job(phase: u32, above: &[Section], section: &Section) -> Result<Plann
     match options_for(JobOptions::new(), above, section) {
         Ok(options) => match options.shape(section.line()) {
             Ok(shape) => Ok(PlannedJob {
-                phase: phase.saturating_add(u32::from(options.stonewall)),
+                phase: phase + u32::from(options.stonewall),
                 options,
                 shape,
             }),
@@ -373,6 +380,7 @@ fn planned_job(phase: u32, above: &[Section], section: &Section) -> Result<Plann
     }
 }
 
+// The clones of a job, behind others.
 fn with_clones(
     alloc: Global,
     draft: Draft,
@@ -382,34 +390,28 @@ fn with_clones(
 ) -> Result<Draft, JobFault>
     requires range { AreInRange job.now.options }
     requires shape { HasShape job.now.options job.now.shape }
+    requires job { job.now ≡ planned_as (phased_job job.now.phase above.now section.now) }
+    requires room { HasRoom draft job.now }
+    ensures ok { IfOk result (λ all. all ≡ fold with_asked draft (clones_asked (phased_job job.now.phase above.now section.now))) }
+    ensures err { IfErr result (λ fault. fault ≡ OutOfMemory) }
 {
     let options = &job.options;
     let mut draft = draft;
     for index in 0..options.clones {
-        let start = start_of(options, index);
-        if draft.count() >= MOST_CLONES {
-            return Err(JobFault::Limit(Bound::Clones));
-        }
-        if start + u128::from(job.shape.size) > FURTHEST_END {
-            return Err(JobFault::Limit(Bound::Region));
-        }
-        if job.shape.cells > MOST_CELLS {
-            return Err(JobFault::Limit(Bound::Cells));
-        }
-        if draft.work() + job.shape.cells * u64::from(options.passes) > MOST_WORK {
-            return Err(JobFault::Limit(Bound::Work));
-        }
+        let start = start_of(options, index) as u64;
         let file = file_name(alloc, above, section, index)?;
-        draft = draft.add(alloc, job, section.name(), file, start as u64)?;
+        draft = draft.add(alloc, job, section.name(), file, start)?;
     }
     Ok(draft)
 }
 
 // The value of the last line of this key among some lines, else the one found before.
-fn last_value<'a>(found: Option<&'a str>, lines: &'a [Line], key: TextKey) -> Option<&'a str> {
+fn last_value<'a>(found: Option<&'a str>, lines: &'a [Line], key: &str) -> Option<&'a str>
+    ensures { option_copied result ≡ value_from (option_copied found.entry) key.now lines.now }
+{
     let mut found = found;
     for line in lines {
-        if words::key(line.key()) == Some(Key::Text(key)) {
+        if line.key() == key {
             found = line.value();
         }
     }
@@ -417,7 +419,9 @@ fn last_value<'a>(found: Option<&'a str>, lines: &'a [Line], key: TextKey) -> Op
 }
 
 // The last value of this key that counts for a section's job.
-fn value_for<'a>(above: &'a [Section], section: &'a Section, key: TextKey) -> Option<&'a str> {
+fn value_for<'a>(above: &'a [Section], section: &'a Section, key: &str) -> Option<&'a str>
+    ensures { option_copied result ≡ last_value key.now (effective_lines above.now section.now) }
+{
     let mut found = None;
     for other in above {
         if is_global(other) {
@@ -433,17 +437,49 @@ fn file_name(
     above: &[Section],
     section: &Section,
     index: u32,
-) -> Result<String, AllocError> {
-    let name = match value_for(above, section, TextKey::FileName) {
-        Some(name) => String::from_str(alloc, name)?,
-        None => {
-            let job = section.name();
-            format!(in alloc; "{job}.{index}.0")?
-        }
-    };
-    match value_for(above, section, TextKey::Directory) {
-        Some(directory) if directory.ends_with('/') => format!(in alloc; "{directory}{name}"),
-        Some(directory) => format!(in alloc; "{directory}/{name}"),
+) -> Result<String, AllocError>
+    ensures { IfOk result (λ file. string_bytes file ≡ file_of (job_asked above.now section.now) index) }
+{
+    let name = own_name(
+        alloc,
+        value_for(above, section, "filename"),
+        section.name(),
+        index,
+    )?;
+    match value_for(above, section, "directory") {
+        Some(directory) => path_in(alloc, directory, name.as_str()),
         None => Ok(name),
     }
+}
+
+// The path of a name in a directory.
+fn path_in(alloc: Global, directory: &str, name: &str) -> Result<String, AllocError>
+    ensures { IfOk result (λ path. string_bytes path ≡ path_in (Some directory.now) name.now) }
+{
+    let mut path = String::from_str(alloc, directory)?;
+    if !directory.ends_with('/') {
+        path.push('/')?;
+    }
+    path.push_str(name)?;
+    Ok(path)
+}
+
+// The name that a job gives its files, or else one of the clone's own.
+fn own_name(alloc: Global, given: Option<&str>, job: &str, index: u32) -> Result<String, AllocError>
+    ensures { IfOk result (λ name. string_bytes name ≡ unwrap_or (option_copied given.entry) (default_name job.now index)) }
+{
+    match given {
+        Some(name) => String::from_str(alloc, name),
+        None => default_name(alloc, job, index),
+    }
+}
+
+// The name of a clone's own file.
+#[tactic(auto, unfolding(crate::specs::PlanOf::default_name))]
+fn default_name(alloc: Global, job: &str, index: u32) -> Result<String, AllocError>
+    ensures { IfOk result (λ name. string_bytes name ≡ default_name job.now index) }
+{
+    let mut name = String::new(alloc);
+    write!(name, "{job}.{index}.0")?;
+    Ok(name)
 }

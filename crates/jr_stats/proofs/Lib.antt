@@ -1,1 +1,10 @@
+pub mod EntryReading
+pub mod EventLemmas
+pub mod FieldLemmas
+pub mod LineEnds
+pub mod LineReading
 pub mod Lines
+pub mod ReadingLemmas
+pub mod RoundTrip
+pub mod TraceLemmas
+pub mod ReportLemmas

@@ -1,6 +1,6 @@
 -- The lines of what is left of the clones and their totals.
 use Rattle.std.proofs.Common.{◌≡◌, ℕ, zero, suc, ◌+◌, ◌<◌, ◌≤◌, min, List, [], ◌∷◌, ◌++◌, length, get_or, drop, refl, ap, arith, add-one}
-use Rattle.std.specs.Prelude.{Option, Some, slice_get}
+use Rattle.std.specs.Prelude.{Some, slice_get}
 use Rattle.jr_model.specs.declared.totals.Totals.{Totals}
 use Rattle.jr_model.specs.Plan.{SubJob}
 use Rattle.jr_model.specs.Report.{lines_of, totals_line}

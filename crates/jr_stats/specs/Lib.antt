@@ -1,0 +1,7 @@
+pub mod FaultTexts
+pub mod TraceChecks
+pub mod TraceLaws
+pub mod TraceLines
+pub mod TraceSteps
+pub mod Traces
+pub mod Miscompares

@@ -1,10 +1,24 @@
-// What a run prints: the totals of its clones and its miscompares.
+// What a run prints: the totals of its clones, its miscompares, and its trace; and the check of a trace.
 #![tactic(auto)]
 
+mod checks;
+mod entries;
+mod faults;
+mod fields;
 mod findings;
+mod laws;
+mod legal;
 mod reports;
 mod texts;
 mod totals;
+mod traces;
 
+pub use checks::check_trace;
+pub use faults::TraceFault;
+pub use laws::trace_is_accepted;
 pub use reports::report;
 pub use totals::totals_text;
+pub use traces::trace;
+
+#[cfg(test)]
+mod tests;

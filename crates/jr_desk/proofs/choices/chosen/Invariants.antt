@@ -1,4 +1,4 @@
-use Rattle.std.proofs.Common.{ℕ, ◌^◌, ◌-◌, vec_len}
+use Rattle.std.proofs.Common.{◌^◌, ◌-◌, vec_len}
 use Rattle.jr_desk.proofs.Choosing.{LeadsTo}
 use Rattle.jr_desk.proofs.choices.chosen.Given as goal
 

@@ -1,5 +1,5 @@
 use Rattle.std.proofs.Common.{◌≡◌, ◌++◌, drop}
-use Rattle.jr_model.specs.Report.{totals_lines, lines_of}
+use Rattle.jr_model.specs.Report.{lines_of}
 use Rattle.jr_stats.proofs.totals.totals_text.Given as goal
 
 -- what is written, and the lines of what is left, are the lines of all

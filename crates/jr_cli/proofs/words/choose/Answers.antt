@@ -1,0 +1,53 @@
+use Rattle.std.proofs.Common.{◌≡◌, ◌∙◌, ap, subst, map, ℕ, List, [], Option, option_map, false, codes}
+use Rattle.std.specs.Prelude.{Result, unwrap_or}
+use Rattle.std.specs.Str.{bytes_eq}
+use Rattle.std.specs.Str.Parse.{ParsesUnsigned, ExplainsUnsignedError, HasUnsignedDigitsIfOk}
+use Rattle.std.specs.declared.num.ParseIntError.{ParseIntError}
+use Rattle.clap.specs.Words.{App, Text, fault_of, found_of, one_of, one_text, first_of, first_value, is_simple_and_free, matches_of, HasKind}
+use Rattle.clap.proofs.WalkLemmas.{first_value-rows, one_text-rows}
+use Rattle.jr_cli.specs.CommandLine.{command_line, number_in}
+use Rattle.jr_cli.proofs.CommandLineFacts.{line_is_free, workers_read, flag_read, rows_are, handed_on}
+use Rattle.jr_cli.proofs.words.choose.Goals as goal
+
+-- how the number of a text is read
+abbrev Reads : Text → Result ℕ ParseIntError → Type 0
+Reads text r = ParsesUnsigned 32 10 text r × ExplainsUnsignedError 10 text r × HasUnsignedDigitsIfOk text r
+
+pub returns-in_err-matches-clause-refused : goal.returns-in_err-matches-clause-refused
+returns-in_err-matches-clause-refused g c =
+    let is = c.in_ok-command.ensures in
+    let words = map g.S.AsStr.text c.args.words.now in
+    let kind = c.in_err-matches.ensures.kinds (ap is_simple_and_free is ∙ line_is_free) in
+    handed_on (fault_of command_line words) c.from_residual-in_err-matches.result c.in_err-matches.field-0.0 c.from_residual-in_err-matches.ensures.1
+    (subst (λ (a : App). HasKind (fault_of a words) c.in_err-matches.field-0.0) is kind)
+
+pub returns-clause-fields : goal.returns-clause-fields
+returns-clause-fields g c =
+    let m = c.in_ok-matches.matches in
+    let is = c.in_ok-command.ensures in
+    let parsed = c.in_ok-matches.ensures.parsed in
+    let words : List Text = map g.S.AsStr.text c.args.words.now in
+    let rows = rows_are c.in_ok-command.command m is parsed words c.in_ok-matches.ensures.matches in
+    let first : (id : Text) → first_value (found_of m) id ≡ first_of id (matches_of command_line words) = λ id. first_value-rows (found_of m) id ∙ ap (first_of id) rows in
+    let one : (id : Text) → one_text (found_of m) id ≡ one_of id (matches_of command_line words) = λ id. one_text-rows (found_of m) id ∙ ap (one_of id) rows in
+    let count = workers_read c.in_ok-command.command m is parsed Reads c.get_one.result (λ u x h. h.0) c.get_one.ensures.none c.get_one.ensures.value in
+    let flag = flag_read c.in_ok-command.command m is parsed c.get_flag.result c.get_flag.ensures.none c.get_flag.ensures.value c.get_flag.ensures.other in
+    record {
+      job = c.get_str.ensures ∙ first (codes "job");
+      section = c.get_str-2.ensures ∙ first (codes "section");
+      parse_only = flag ∙ ap (λ (o : Option Text). unwrap_or (option_map (bytes_eq (codes "true")) o) false) (one (codes "parse-only"));
+      workers = count.0 ∙ ap (option_map number_in) (one (codes "workers"));
+      trace = c.get_str-3.ensures ∙ first (codes "trace");
+      check_trace = c.get_str-4.ensures ∙ first (codes "check-trace");
+    }
+
+pub returns-clause-workers : goal.returns-clause-workers
+returns-clause-workers g c =
+    (workers_read c.in_ok-command.command c.in_ok-matches.matches c.in_ok-command.ensures c.in_ok-matches.ensures.parsed Reads c.get_one.result (λ u x h. h.0) c.get_one.ensures.none c.get_one.ensures.value).1
+
+pub returns-clause-refused : goal.returns-clause-refused
+returns-clause-refused g c =
+    let words : List Text = map g.S.AsStr.text c.args.words.now in
+    let is = c.in_ok-command.ensures in
+    let fails = c.in_ok-matches.ensures.kinds (ap is_simple_and_free is ∙ line_is_free) in
+    subst (λ (a : App). fault_of a words ≡ []) is fails

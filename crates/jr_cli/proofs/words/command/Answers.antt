@@ -1,0 +1,17 @@
+use Rattle.std.proofs.Common.{◌∙◌, ap, ap₂}
+use Rattle.std.proofs.lemmas.Result.{IfOk-weaker}
+use Rattle.clap.specs.Words.{with_rule}
+use Rattle.clap.specs.Simple.{app_of_fields}
+use Rattle.jr_cli.specs.CommandLine.{command_line}
+use Rattle.jr_cli.proofs.words.command.Goals as goal
+
+pub returns : goal.returns
+unfolding command_line
+returns c =
+    let named = ap app_of_fields c.about.ensures ∙ c.new.ensures.app in
+    let with_job = c.in_ok-arg.ensures.shape c.job_arg.ensures.local ∙ ap₂ with_rule named c.job_arg.ensures.rule in
+    let with_section = c.in_ok-arg-2.ensures.shape c.section_arg.ensures.local ∙ ap₂ with_rule with_job c.section_arg.ensures.rule in
+    let with_flag = c.in_ok-arg-3.ensures.shape c.parse_only_arg.ensures.local ∙ ap₂ with_rule with_section c.parse_only_arg.ensures.rule in
+    let with_workers = c.in_ok-arg-4.ensures.shape c.workers_arg.ensures.local ∙ ap₂ with_rule with_flag c.workers_arg.ensures.rule in
+    let with_trace = c.in_ok-arg-5.ensures.shape c.trace_arg.ensures.local ∙ ap₂ with_rule with_workers c.trace_arg.ensures.rule in
+    IfOk-weaker c.arg-6.result _ _ (λ r added. added.shape c.check_trace_arg.ensures.local ∙ ap₂ with_rule with_trace c.check_trace_arg.ensures.rule) c.arg-6.ensures

@@ -1,0 +1,53 @@
+-- The command line: its arguments, as clap reads them, and what it holds for each.
+use Rattle.std.specs.Prelude.{◌≡◌, ℕ, false, List, Some, option_map, unwrap_or, codes, pos}
+use Rattle.std.specs.Option.{option_copied}
+use Rattle.std.specs.Str.{bytes_eq}
+use Rattle.std.specs.Str.Parse.{digits_value, without_leading_plus}
+use Rattle.clap.specs.Words.{App, Row, Rule, Text, first_of, new_app, new_rule, one_of, with_rule}
+use Rattle.clap.specs.declared.builder.ArgAction.TheVariants.{Set, SetTrue}
+use Rattle.clap.specs.declared.builder.value_parser.ValueParser.TheVariants as parser
+use Rattle.jr_cli.specs.declared.words.Choice.{Choice}
+
+-- an option that takes one value
+abbrev pub option_rule : Text → Rule
+option_rule name = record (new_rule name) { long = Some name; action = Some Set; value_names = 1 }
+
+abbrev pub job_rule : Rule
+job_rule = record (new_rule (codes "job")) { action = Some Set; value_names = 1 }
+
+abbrev pub section_rule : Rule
+section_rule = option_rule (codes "section")
+
+abbrev pub parse_only_rule : Rule
+parse_only_rule = record (new_rule (codes "parse-only")) {
+  long = Some (codes "parse-only");
+  action = Some SetTrue;
+  parser = Some parser.Bool;
+}
+
+-- from 1 to 16
+abbrev pub workers_rule : Rule
+workers_rule = record (option_rule (codes "workers")) { parser = Some (parser.Signed (pos 1) (pos 16)) }
+
+abbrev pub trace_rule : Rule
+trace_rule = option_rule (codes "trace")
+
+abbrev pub check_trace_rule : Rule
+check_trace_rule = option_rule (codes "check-trace")
+
+unfoldable pub command_line : App
+command_line = with_rule (with_rule (with_rule (with_rule (with_rule (with_rule (new_app (codes "fiorun")) job_rule) section_rule)
+    parse_only_rule) workers_rule) trace_rule) check_trace_rule
+
+-- the number that a text of digits writes
+abbrev pub number_in : Text → ℕ
+number_in text = digits_value 10 (without_leading_plus text)
+
+-- each field is what the matches hold for its argument
+pub record IsChoiceOf (choice : Choice) (rows : List Row) : Type 0 where
+  pub job : option_copied choice.job ≡ first_of (codes "job") rows
+  pub section : option_copied choice.section ≡ first_of (codes "section") rows
+  pub parse_only : choice.parse_only ≡ unwrap_or (option_map (bytes_eq (codes "true")) (one_of (codes "parse-only") rows)) false
+  pub workers : choice.workers ≡ option_map number_in (one_of (codes "workers") rows)
+  pub trace : option_copied choice.trace ≡ first_of (codes "trace") rows
+  pub check_trace : option_copied choice.check_trace ≡ first_of (codes "check-trace") rows

@@ -1,0 +1,130 @@
+use crate::{
+    CliFault, answer_words, choose, execute_serial, print_check, print_plan, read_job, read_text,
+};
+use jr_engines::MemoryEngine;
+use jr_stats::TraceFault;
+use std::io;
+use std::io::{ErrorKind, Read, Write};
+use std::test::Fail;
+
+// Gives some bytes, and then fails.
+#[derive(Drop)]
+struct BrokenReader {
+    is_begun: bool,
+}
+
+impl Read for BrokenReader {
+    fn read(&mut self, buf: &mut [u8]) -> io::Result<usize> {
+        if self.is_begun || buf.is_empty() {
+            return Err(io::Error::from(ErrorKind::TimedOut));
+        }
+        self.is_begun = true;
+        buf[0] = b'[';
+        Ok(1)
+    }
+}
+
+// Takes nothing.
+#[derive(Drop)]
+struct FullWriter;
+
+impl Write for FullWriter {
+    fn write(&mut self, _buf: &[u8]) -> io::Result<usize> {
+        Err(io::Error::from(ErrorKind::StorageFull))
+    }
+
+    fn flush(&mut self) -> io::Result<()> {
+        Ok(())
+    }
+}
+
+const TWO: &str = "[global]\nrw=write\nsize=32k\nbs=8k\n[a]\n[global]\nbs=16k\n[b]\n";
+
+const LINE_OF_A: &str =
+    "a: clone=0 phase=0 file=a.0.0 start=0 size=32768 cell=8192 cells=4 rw=write iodepth=1 loops=1 verify=none\n";
+
+const LINE_OF_B: &str =
+    "b: clone=1 phase=0 file=b.0.0 start=0 size=32768 cell=16384 cells=2 rw=write iodepth=1 loops=1 verify=none\n";
+
+#[test]
+fn a_plan_is_printed_line_by_line(rt: HostRuntime) -> Result<(), Fail> {
+    let text = read_text(rt.alloc(), TWO.as_bytes())?;
+    let plan = read_job(rt.alloc(), text.as_slice(), None)?;
+    let mut out = Vec::new(rt.alloc());
+    print_plan(rt.alloc(), &plan, &mut out)?;
+    let want = format!(in rt.alloc(); "{LINE_OF_A}{LINE_OF_B}")?;
+    assert!(rt; out.as_slice() == want.as_bytes());
+    let plan = read_job(rt.alloc(), text.as_slice(), Some("a"))?;
+    out.clear();
+    print_plan(rt.alloc(), &plan, &mut out)?;
+    assert!(rt; out.as_slice() == LINE_OF_A.as_bytes());
+    assert_eq!(rt;
+        print_plan(rt.alloc(), &plan, &mut FullWriter),
+        Err(CliFault::Write)
+    );
+    match read_job(rt.alloc(), text.as_slice(), Some("c")) {
+        Ok(_) => assert!(rt; false, "a plan of no job"),
+        Err(fault) => assert_eq!(rt; fault.status(), 2),
+    }
+    Ok(())
+}
+
+#[test]
+fn a_text_is_read_up_to_its_limit(rt: HostRuntime) -> Result<(), Fail> {
+    let long = vec![in rt.alloc(); b'#'; 1_048_578]?;
+    let text = read_text(rt.alloc(), long.as_slice())?;
+    assert_eq!(rt; text.len(), 1_048_577);
+    let broken = BrokenReader { is_begun: false };
+    match read_text(rt.alloc(), broken) {
+        Ok(_) => assert!(rt; false, "a text of half a file"),
+        Err(fault) => assert_eq!(rt; fault, CliFault::Read),
+    }
+    Ok(())
+}
+
+#[test]
+fn words_end_the_program_by_their_kind(rt: HostRuntime) -> Result<(), Fail> {
+    for (word, status) in [("--help", 0), ("--nosuch", 2), ("--workers=17", 2)] {
+        match choose(rt.alloc(), &["fiorun", word]) {
+            Ok(_) => assert!(rt; false, "{word} is taken"),
+            Err(error) => assert_eq!(rt; answer_words(&rt, &error), Ok(status), "{word}"),
+        }
+    }
+    Ok(())
+}
+
+const CHECKED: &str = "[w]\nioengine=memory\nrw=write\nsize=8k\nverify=pattern\nverify_pattern=1\n";
+
+const EVENTS: &str =
+    "I 0 0 0 0 0\nE 0 0 whole\nI 0 1 0 0 1\nE 0 1 whole\nP 0 2 0 0 0\nE 0 2 whole\nV 0 2 good\nP 0 3 0 0 1\nE 0 3 whole\nV 0 3 good\n";
+
+const TOTALS: &str =
+    "w: clone=0 reads=0 rbytes=0 writes=2 wbytes=8192 checks=2 good=2 bad=0 skipped=0 void=0 faults=0\n";
+
+#[test]
+fn a_trace_is_written_and_checked(rt: HostRuntime) -> Result<(), Fail> {
+    let plan = read_job(rt.alloc(), CHECKED.as_bytes(), None)?;
+    let mut engine = MemoryEngine::new(rt.alloc(), &plan)?;
+    let mut events = Vec::new(rt.alloc());
+    let mut out = Vec::new(rt.alloc());
+    let status = execute_serial(rt.alloc(), plan, &mut engine, Some(&mut events), &mut out)?;
+    assert_eq!(rt; status, 0);
+    assert!(rt; out.as_slice() == TOTALS.as_bytes());
+    assert!(rt; events.as_slice() == EVENTS.as_bytes());
+    let plan = read_job(rt.alloc(), CHECKED.as_bytes(), None)?;
+    out.clear();
+    print_check(rt.alloc(), &plan, events.as_slice(), &mut out)?;
+    assert!(rt; out.as_slice() == TOTALS.as_bytes());
+    let refused = print_check(rt.alloc(), &plan, b"I 0 0 0 0 0\nQ\n", &mut out);
+    assert_eq!(rt; refused, Err(CliFault::Trace(TraceFault::Line(2))));
+    let mut engine = MemoryEngine::new(rt.alloc(), &plan)?;
+    let full = execute_serial(
+        rt.alloc(),
+        plan,
+        &mut engine,
+        Some(&mut FullWriter),
+        &mut out,
+    );
+    assert_eq!(rt; full, Err(CliFault::Write));
+    Ok(())
+}

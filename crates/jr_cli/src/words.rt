@@ -1,0 +1,155 @@
+ghost use Rattle.std.specs.Prelude.{◌≡◌, ◌⊎◌, ◌≤◌, map, false, Ok, Err, IfOk, IfSome};
+ghost use Rattle.clap.specs.Words.{app_of, fault_of, kind_of, rule_of, FailsBy, matches_of};
+ghost use Rattle.jr_cli.specs.Status.{status_of_words};
+ghost use Rattle.jr_cli.specs.CommandLine.{
+  command_line,
+  job_rule,
+  section_rule,
+  parse_only_rule,
+  workers_rule,
+  trace_rule,
+  check_trace_rule,
+  IsChoiceOf,
+};
+
+use crate::faults::CliFault;
+use clap::error::ErrorKind;
+use clap::{Arg, ArgAction, Command, Error, value_parser};
+use std::alloc::{AllocError, Global};
+use std::convert::AsStr;
+
+/// What the words of the command line ask for.
+#[derive(Clone, Copy, Debug, PartialEq, Eq)]
+pub struct Choice<'a> {
+    /// The job file; standard input where none is named.
+    pub job: Option<&'a str>,
+    /// The name of the jobs to run; all where none is given.
+    pub section: Option<&'a str>,
+    /// Print the plan in place of running it.
+    pub parse_only: bool,
+    /// How many workers to run with, from 1 to 16.
+    pub workers: Option<u32>,
+    /// The file that the trace of the run goes to.
+    pub trace: Option<&'a str>,
+    /// The trace to check in place of a run.
+    pub check_trace: Option<&'a str>,
+}
+
+/// Reads the words of the command line, of which the first is the program's name. Help is asked for
+/// by an error too, which says so.
+pub fn choose<'a, S: AsStr>(alloc: Global, words: &'a [S]) -> Result<Choice<'a>, Error>
+    ensures fields { IfOk result (λ choice. IsChoiceOf choice (matches_of command_line (map S.text words.entry.now))) }
+    ensures workers { IfOk result (λ choice. IfSome choice.workers (λ n. (1 ≤ n) × (n ≤ 16))) }
+    // Refused exactly where clap's rules for these arguments refuse the words, and by their kind.
+    ensures refused { FailsBy (fault_of command_line (map S.text words.entry.now)) result }
+{
+    let command = command(alloc)?;
+    let matches = command.try_get_matches_from(words)?;
+    Ok(Choice {
+        job: matches.get_str("job"),
+        section: matches.get_str("section"),
+        parse_only: matches.get_flag("parse-only"),
+        workers: matches.get_one::<u32>("workers"),
+        trace: matches.get_str("trace"),
+        check_trace: matches.get_str("check-trace"),
+    })
+}
+
+/// Prints what clap says of words that it refused, or the help that they ask for, and gives the exit
+/// status.
+pub fn answer_words<R: Print + Eprint>(rt: &R, error: &Error) -> Result<u8, CliFault>
+    ensures refused { status_of_words (kind_of error.now) ≡ 2 → result ≡ Ok 2 }
+    ensures help { status_of_words (kind_of error.now) ≡ 0 → (result ≡ Ok 0) ⊎ (result ≡ Err CliFault.Write) }
+    ensures memory { status_of_words (kind_of error.now) ≡ 3 → result ≡ Err CliFault.Memory }
+{
+    let status = match error.kind() {
+        ErrorKind::OutOfMemory => return Err(CliFault::Memory),
+        ErrorKind::DisplayHelp | ErrorKind::DisplayVersion => 0,
+        _ => 2,
+    };
+    // Nobody hears of a refusal that standard error doesn't take.
+    if error.print(rt).is_err() && status == 0 {
+        return Err(CliFault::Write);
+    }
+    Ok(status)
+}
+
+// What the command line may say.
+fn command<'a>(alloc: Global) -> Result<Command<'a>, AllocError>
+    ensures { IfOk result (λ command. app_of command ≡ command_line) }
+{
+    Command::new(alloc, "fiorun")
+        .about("Runs a fio job file and checks what was written.")
+        .arg(job_arg(alloc))?
+        .arg(section_arg(alloc))?
+        .arg(parse_only_arg(alloc))?
+        .arg(workers_arg(alloc))?
+        .arg(trace_arg(alloc))?
+        .arg(check_trace_arg(alloc))
+}
+
+fn job_arg<'a>(alloc: Global) -> Arg<'a>
+    ensures rule { rule_of result ≡ job_rule }
+    ensures local { result.global ≡ false }
+{
+    Arg::new(alloc, "job")
+        .value_name("JOBFILE")
+        .action(ArgAction::Set)
+        .help("The job file; without it the job is read from standard input")
+}
+
+fn section_arg<'a>(alloc: Global) -> Arg<'a>
+    ensures rule { rule_of result ≡ section_rule }
+    ensures local { result.global ≡ false }
+{
+    Arg::new(alloc, "section")
+        .long("section")
+        .value_name("NAME")
+        .action(ArgAction::Set)
+        .help("Only the jobs of this name")
+}
+
+fn parse_only_arg<'a>(alloc: Global) -> Arg<'a>
+    ensures rule { rule_of result ≡ parse_only_rule }
+    ensures local { result.global ≡ false }
+{
+    Arg::new(alloc, "parse-only")
+        .long("parse-only")
+        .action(ArgAction::SetTrue)
+        .value_parser(value_parser!(bool))
+        .help("Print the plan and run nothing")
+}
+
+fn workers_arg<'a>(alloc: Global) -> Arg<'a>
+    ensures rule { rule_of result ≡ workers_rule }
+    ensures local { result.global ≡ false }
+{
+    Arg::new(alloc, "workers")
+        .long("workers")
+        .value_name("N")
+        .action(ArgAction::Set)
+        .value_parser(value_parser!(u32).range(1..=16))
+        .help("How many I/Os are carried out at once, from 1 to 16")
+}
+
+fn trace_arg<'a>(alloc: Global) -> Arg<'a>
+    ensures rule { rule_of result ≡ trace_rule }
+    ensures local { result.global ≡ false }
+{
+    Arg::new(alloc, "trace")
+        .long("trace")
+        .value_name("FILE")
+        .action(ArgAction::Set)
+        .help("Where to write what happened, event by event")
+}
+
+fn check_trace_arg<'a>(alloc: Global) -> Arg<'a>
+    ensures rule { rule_of result ≡ check_trace_rule }
+    ensures local { result.global ≡ false }
+{
+    Arg::new(alloc, "check-trace")
+        .long("check-trace")
+        .value_name("FILE")
+        .action(ArgAction::Set)
+        .help("Check this trace of the job and run nothing")
+}

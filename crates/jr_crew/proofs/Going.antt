@@ -1,0 +1,165 @@
+-- One worker over a right memory goes on as the serial history does: what a take appends are its next choices.
+use Rattle.std.proofs.Common.{◌≡◌, ℕ, zero, suc, List, [], ◌∷◌, ◌++◌, length, true, false, refl, sym, ◌∙◌, ap, subst, append_assoc, append-nil}
+use Rattle.std.specs.Prelude.{Option, Some, None}
+use Rattle.jr_model.specs.declared.blocks.Dir.{Dir}
+use Rattle.jr_model.specs.declared.blocks.Dir.TheVariants as direction
+use Rattle.jr_model.specs.declared.events.Event.{Event}
+use Rattle.jr_model.specs.declared.events.Event.TheVariants.{Issue, Probe, Skip, End, Verdict}
+use Rattle.jr_model.specs.declared.events.Outcome.TheVariants.{Whole}
+use Rattle.jr_model.specs.declared.events.Started.{Started}
+use Rattle.jr_model.specs.declared.events.Verdict.TheVariants.{Good}
+use Rattle.jr_model.specs.declared.tickets.TicketKind.{TicketKind}
+use Rattle.jr_model.specs.declared.tickets.TicketKind.TheVariants as ticket
+use Rattle.jr_model.specs.Choice.{choice}
+use Rattle.jr_model.specs.History.{started, started_by, kind_for}
+use Rattle.jr_model.specs.Legal.{is_legal}
+use Rattle.jr_model.specs.Machine.{Appends, is_skip}
+use Rattle.jr_model.specs.Plan.{Plan}
+use Rattle.jr_model.specs.Replies.{FileBytes}
+use Rattle.jr_model.specs.Serial.{carried_out, goes_on, serial_after, serial_history}
+use Rattle.jr_model.proofs.LegalLaws.{is_legal-more, choice_may_happen}
+use Rattle.jr_options.specs.PlanFacts.{IsPlanned}
+use Rattle.jr_laws.specs.Memory.{HoldsLastWrites}
+use Rattle.jr_laws.proofs.CountLaws.{numbered_of, serial_stops_all}
+use Rattle.jr_laws.proofs.Memories.{holds_on}
+use Rattle.jr_laws.proofs.QuietRuns.{harmless_choice}
+use Rattle.jr_laws.proofs.StartedLemmas.{length-started-other}
+use Rattle.jr_desk.specs.Takes.{last_started}
+use Rattle.jr_desk.proofs.Keeping.{by_is_skip, last-skip}
+use Rattle.jr_crew.proofs.Chosen.{IsStep, choice_steps}
+
+-- the serial history goes on from here
+pub record IsAhead (plan : Plan) (history : List Event) : Type 0 where
+  pub limit : ℕ
+  pub ahead : serial_history plan ≡ serial_after limit plan history
+
+-- what is appended behind an I/O or check that is carried out
+abbrev pub tail_for : ℕ → TicketKind → List Event
+tail_for io ticket.Read = End 0 io Whole ∷ []
+tail_for io ticket.Write = End 0 io Whole ∷ []
+tail_for io ticket.Probe = End 0 io Whole ∷ Verdict 0 io Good ∷ []
+
+none_some : (e : Event) → None ≡ Some e → ⊥
+none_some e h = cc
+
+-- a choice that is carried out
+ahead_by : (plan : Plan) (history : List Event) (e : Event) (limit : ℕ) → IsPlanned plan → choice plan history 0 ≡ Some e → serial_history plan ≡ serial_after limit plan history → IsAhead plan (history ++ carried_out (length (started history)) e)
+ahead_by plan history e zero planned chosen ahead =
+    absurd (none_some e (sym (serial_stops_all plan planned) ∙ ap (λ (h : List Event). choice plan h 0) ahead ∙ chosen))
+ahead_by plan history e (suc limit) planned chosen ahead = record {
+  limit = limit;
+  ahead = ahead ∙ ap (goes_on (serial_after limit plan) history) chosen;
+}
+
+one_ahead : (plan : Plan) (history : List Event) (e : Event) → IsPlanned plan → choice plan history 0 ≡ Some e → IsAhead plan history → IsAhead plan (history ++ carried_out (length (started history)) e)
+one_ahead plan history e planned chosen here = ahead_by plan history e here.limit planned chosen here.ahead
+
+carried_skip : (io : ℕ) (e : Event) → is_skip e ≡ true → carried_out io e ≡ e ∷ []
+carried_skip io (Skip worker write) skip = refl
+carried_skip io (Issue worker dir write piece) skip = cc
+carried_skip io (Probe worker write piece) skip = cc
+carried_skip io (End worker id outcome) skip = cc
+carried_skip io (Verdict worker id verdict) skip = cc
+
+skip_starts : (e : Event) → is_skip e ≡ true → started_by e ≡ None
+skip_starts (Skip worker write) skip = refl
+skip_starts (Issue worker dir write piece) skip = cc
+skip_starts (Probe worker write piece) skip = cc
+skip_starts (End worker id outcome) skip = cc
+skip_starts (Verdict worker id verdict) skip = cc
+
+-- a step that is no skip starts something
+starts_or_skips : (e : Event) → IsStep 0 e → is_skip e ≡ false → started_by e ≡ None → ⊥
+starts_or_skips (Skip worker write) step other none = cc
+starts_or_skips (Issue worker dir write piece) step other none = cc
+starts_or_skips (Probe worker write piece) step other none = cc
+starts_or_skips (End worker id outcome) step other none = step
+starts_or_skips (Verdict worker id verdict) step other none = step
+
+abbrev tail_of : ℕ → Option Started → List Event
+tail_of io None = []
+tail_of io (Some s) = tail_for io s.kind
+
+dir_tail : (io : ℕ) (dir : Dir) → End 0 io Whole ∷ [] ≡ tail_for io (kind_for dir)
+dir_tail io direction.Read = refl
+dir_tail io direction.Write = refl
+
+carried_start : (io : ℕ) (e : Event) (s : Started) → started_by e ≡ Some s → carried_out io e ≡ e ∷ tail_for io s.kind
+carried_start io (Issue worker dir write piece) s starts =
+    let e = Issue worker dir write piece in
+    ap (λ (rest : List Event). e ∷ rest) (dir_tail io dir) ∙ ap (λ (o : Option Started). e ∷ tail_of io o) starts
+carried_start io (Probe worker write piece) s starts =
+    let e = Probe worker write piece in
+    ap (λ (o : Option Started). e ∷ tail_of io o) starts
+carried_start io (Skip worker write) s starts = cc
+carried_start io (End worker id outcome) s starts = cc
+carried_start io (Verdict worker id verdict) s starts = cc
+
+-- where a take starts nothing
+pub ahead_none : (plan : Plan) (before events : List Event) → IsPlanned plan → Appends plan 0 before events → last_started events ≡ None → IsAhead plan before → IsAhead plan (before ++ events)
+ahead_none plan before [] planned appends none here = subst (λ (h : List Event). IsAhead plan h) (sym (append-nil before)) here
+ahead_none plan before (e ∷ events) planned appends none here =
+    by_is_skip e (Appends plan 0 (before ++ e ∷ []) events) (events ≡ []) (IsAhead plan (before ++ e ∷ events)) appends.1
+    (λ (skip : is_skip e ≡ true) (more : Appends plan 0 (before ++ e ∷ []) events).
+    let next : IsAhead plan (before ++ e ∷ []) =
+    subst (λ (xs : List Event). IsAhead plan (before ++ xs)) (carried_skip (length (started before)) e skip) (one_ahead plan before e planned appends.0 here) in
+    subst (λ (h : List Event). IsAhead plan h) (append_assoc before (e ∷ []) events)
+    (ahead_none plan (before ++ e ∷ []) events planned more (sym (last-skip e events skip) ∙ none) next))
+    (λ (other : is_skip e ≡ false) (last : events ≡ []).
+    let starts : started_by e ≡ None = subst (λ (rest : List Event). last_started (e ∷ rest) ≡ None) last none in
+    absurd (starts_or_skips e (choice_steps plan before 0 e (numbered_of plan planned) appends.0) other starts))
+
+-- where a take starts something, which is carried out
+pub ahead_some : (plan : Plan) (before events : List Event) (s : Started) → IsPlanned plan → Appends plan 0 before events → last_started events ≡ Some s → IsAhead plan before → IsAhead plan ((before ++ events) ++ tail_for (length (started before)) s.kind)
+ahead_some plan before [] s planned appends starts here = cc
+ahead_some plan before (e ∷ events) s planned appends starts here =
+    let id = length (started before) in
+    by_is_skip e (Appends plan 0 (before ++ e ∷ []) events) (events ≡ []) (IsAhead plan ((before ++ e ∷ events) ++ tail_for id s.kind)) appends.1
+    (λ (skip : is_skip e ≡ true) (more : Appends plan 0 (before ++ e ∷ []) events).
+    let next : IsAhead plan (before ++ e ∷ []) =
+    subst (λ (xs : List Event). IsAhead plan (before ++ xs)) (carried_skip id e skip) (one_ahead plan before e planned appends.0 here) in
+    subst (λ (h : List Event). IsAhead plan (h ++ tail_for id s.kind)) (append_assoc before (e ∷ []) events)
+    (subst (λ (n : ℕ). IsAhead plan (((before ++ e ∷ []) ++ events) ++ tail_for n s.kind)) (length-started-other before e (skip_starts e skip))
+    (ahead_some plan (before ++ e ∷ []) events s planned more (sym (last-skip e events skip) ∙ starts) next)))
+    (λ (other : is_skip e ≡ false) (last : events ≡ []).
+    let begins : started_by e ≡ Some s = subst (λ (rest : List Event). last_started (e ∷ rest) ≡ Some s) last starts in
+    let next : IsAhead plan (before ++ e ∷ tail_for id s.kind) =
+    subst (λ (xs : List Event). IsAhead plan (before ++ xs)) (carried_start id e s begins) (one_ahead plan before e planned appends.0 here) in
+    subst (λ (rest : List Event). IsAhead plan ((before ++ e ∷ rest) ++ tail_for id s.kind)) (sym last)
+    (subst (λ (h : List Event). IsAhead plan h) (sym (append_assoc before (e ∷ []) (tail_for id s.kind))) next))
+
+-- at the end of the choices the history is the serial one
+ends_by : (plan : Plan) (history : List Event) (limit : ℕ) → choice plan history 0 ≡ None → serial_history plan ≡ serial_after limit plan history → history ≡ serial_history plan
+ends_by plan history zero none ahead = sym ahead
+ends_by plan history (suc limit) none ahead = sym (ahead ∙ ap (goes_on (serial_after limit plan) history) none)
+
+pub ahead_ends : (plan : Plan) (history : List Event) → choice plan history 0 ≡ None → IsAhead plan history → history ≡ serial_history plan
+ahead_ends plan history none here = ends_by plan history here.limit none here.ahead
+
+-- and after a take that starts nothing there is no choice
+pub none_left : (plan : Plan) (before events : List Event) → IsPlanned plan → Appends plan 0 before events → last_started events ≡ None → choice plan (before ++ events) 0 ≡ None
+none_left plan before [] planned appends none = subst (λ (h : List Event). choice plan h 0 ≡ None) (sym (append-nil before)) appends
+none_left plan before (e ∷ events) planned appends none =
+    by_is_skip e (Appends plan 0 (before ++ e ∷ []) events) (events ≡ []) (choice plan (before ++ e ∷ events) 0 ≡ None) appends.1
+    (λ (skip : is_skip e ≡ true) (more : Appends plan 0 (before ++ e ∷ []) events).
+    subst (λ (h : List Event). choice plan h 0 ≡ None) (append_assoc before (e ∷ []) events)
+    (none_left plan (before ++ e ∷ []) events planned more (sym (last-skip e events skip) ∙ none)))
+    (λ (other : is_skip e ≡ false) (last : events ≡ []).
+    let starts : started_by e ≡ None = subst (λ (rest : List Event). last_started (e ∷ rest) ≡ None) last none in
+    absurd (starts_or_skips e (choice_steps plan before 0 e (numbered_of plan planned) appends.0) other starts))
+
+-- what a take appends leaves a memory that holds the last writes
+pub holds_appends : (plan : Plan) (before events : List Event) (memory : List FileBytes) → IsPlanned plan → is_legal plan before ≡ true → Appends plan 0 before events → HoldsLastWrites plan before memory → HoldsLastWrites plan (before ++ events) memory
+holds_appends plan before [] memory planned legal appends holds =
+    subst (λ (h : List Event). HoldsLastWrites plan h memory) (sym (append-nil before)) holds
+holds_appends plan before (e ∷ events) memory planned legal appends holds =
+    let numbered = numbered_of plan planned in
+    let harmless = harmless_choice plan before 0 e numbered appends.0 in
+    let next : HoldsLastWrites plan (before ++ e ∷ []) memory =
+    holds_on plan before memory e legal (λ file block last. harmless.keeps (started before) file block last) holds in
+    by_is_skip e (Appends plan 0 (before ++ e ∷ []) events) (events ≡ []) (HoldsLastWrites plan (before ++ e ∷ events) memory) appends.1
+    (λ (skip : is_skip e ≡ true) (more : Appends plan 0 (before ++ e ∷ []) events).
+    subst (λ (h : List Event). HoldsLastWrites plan h memory) (append_assoc before (e ∷ []) events)
+    (holds_appends plan (before ++ e ∷ []) events memory planned (is_legal-more plan before e legal (choice_may_happen plan before 0 e numbered appends.0)) more next))
+    (λ (other : is_skip e ≡ false) (last : events ≡ []).
+    subst (λ (rest : List Event). HoldsLastWrites plan (before ++ e ∷ rest) memory) (sym last) next)

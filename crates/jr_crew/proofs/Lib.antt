@@ -1,0 +1,11 @@
+pub mod Calling
+pub mod Carrying
+pub mod Chosen
+pub mod Counting
+pub mod Going
+pub mod Handing
+pub mod Running
+pub mod Serially
+pub mod Settling
+pub mod Turning
+pub mod Tying

@@ -1,0 +1,87 @@
+use Rattle.std.proofs.Common.{sym, ◌∙◌, ap}
+use Rattle.jr_model.specs.Plan.{Plan}
+use Rattle.jr_model.specs.Legal.{is_complete}
+use Rattle.jr_desk.specs.DeskState.{DeskState}
+use Rattle.jr_crew.proofs.Running.{first_sofar, between, few_calls, goes_on, leaves_less, comes_to_end}
+use Rattle.jr_crew.proofs.Serially.{serial_first, serial_turn, serial_last}
+use Rattle.jr_crew.proofs.serial.run_serial.Goals as goal
+
+pub loop-desk-init : goal.loop-desk-init
+loop-desk-init g c =
+    let is = c.in_ok-desk.ensures.ok in record {
+      planned = c.clones.ensures.facts;
+      plan = ap (λ (d : DeskState). d.plan) is;
+      going = ap (λ (d : DeskState). d.is_stopped) is;
+      sofar = first_sofar c.args.plan c.in_ok-desk.desk.history _ (ap (λ (d : DeskState). d.history) is);
+      serial = λ fresh. serial_first c.args.plan c.in_ok-desk.desk.history _ c.clones.ensures.facts (ap (λ (d : DeskState). d.history) is) fresh;
+    }
+
+pub turn-requires-clause-between : goal.turn-requires-clause-between
+turn-requires-clause-between g c =
+    let kept = c.loop-desk.invariant in
+    between c.loop-desk.desk c.args.plan _ _ kept.planned kept.plan kept.going kept.sofar
+
+pub turn-requires-clause-calls : goal.turn-requires-clause-calls
+turn-requires-clause-calls g c =
+    let kept = c.loop-desk.invariant in
+    few_calls c.args.plan c.loop-desk.desk.history _ _ kept.planned c.requires kept.sofar
+
+pub loop-desk-smaller : goal.loop-desk-smaller
+loop-desk-smaller g c =
+    let kept = c.loop-desk.invariant in
+    let turn = rw c.if-not-branch.false at c.in_ok-turn.ensures.turn in
+    leaves_less c.args.plan c.loop-desk.desk.plan c.loop-desk.desk.history c.turn.new.desk.history _ _ _ kept.planned kept.plan kept.sofar turn
+
+pub loop-desk-preserved : goal.loop-desk-preserved
+loop-desk-preserved g c =
+    let kept = c.loop-desk.invariant in
+    let turn = rw c.if-not-branch.false at c.in_ok-turn.ensures.turn in record {
+      planned = kept.planned;
+      plan = c.in_ok-turn.ensures.plan ∙ kept.plan;
+      going = c.in_ok-turn.ensures.stop ∙ kept.going;
+      sofar = goes_on c.args.plan c.loop-desk.desk.plan c.loop-desk.desk.history c.turn.new.desk.history _ _ _ kept.planned kept.plan kept.sofar turn;
+      serial = λ fresh. serial_turn c.args.plan c.loop-desk.desk.plan c.loop-desk.desk.history c.turn.new.desk.history _ _ kept.planned kept.plan kept.sofar.legal turn (kept.serial fresh);
+    }
+
+pub returns-then-not-branch-clause-plan : goal.returns-then-not-branch-clause-plan
+returns-then-not-branch-clause-plan g c = c.in_ok-turn.ensures.plan ∙ c.loop-desk.invariant.plan
+
+pub returns-then-not-branch-clause-going : goal.returns-then-not-branch-clause-going
+returns-then-not-branch-clause-going g c = c.in_ok-turn.ensures.stop ∙ c.loop-desk.invariant.going
+
+pub returns-then-not-branch-clause-legal : goal.returns-then-not-branch-clause-legal
+returns-then-not-branch-clause-legal g c =
+    let kept = c.loop-desk.invariant in
+    let last = rw c.if-not-branch.true at c.in_ok-turn.ensures.turn in
+    (comes_to_end c.args.plan c.loop-desk.desk.plan c.loop-desk.desk.history c.turn.new.desk.history _ _ _ kept.planned kept.plan kept.sofar last).legal
+
+pub returns-then-not-branch-clause-complete : goal.returns-then-not-branch-clause-complete
+returns-then-not-branch-clause-complete g c =
+    let last = rw c.if-not-branch.true at c.in_ok-turn.ensures.turn in
+    ap (λ (p : Plan). is_complete p c.turn.new.desk.history) (sym c.loop-desk.invariant.plan) ∙ last.complete
+
+pub returns-then-not-branch-clause-calls : goal.returns-then-not-branch-clause-calls
+returns-then-not-branch-clause-calls g c =
+    let kept = c.loop-desk.invariant in
+    let last = rw c.if-not-branch.true at c.in_ok-turn.ensures.turn in
+    (comes_to_end c.args.plan c.loop-desk.desk.plan c.loop-desk.desk.history c.turn.new.desk.history _ _ _ kept.planned kept.plan kept.sofar last).calls
+
+pub returns-then-not-branch-clause-failures : goal.returns-then-not-branch-clause-failures
+returns-then-not-branch-clause-failures g c =
+    let kept = c.loop-desk.invariant in
+    let last = rw c.if-not-branch.true at c.in_ok-turn.ensures.turn in
+    (comes_to_end c.args.plan c.loop-desk.desk.plan c.loop-desk.desk.history c.turn.new.desk.history _ _ _ kept.planned kept.plan kept.sofar last).failures
+
+pub returns-then-not-branch-clause-tied : goal.returns-then-not-branch-clause-tied
+returns-then-not-branch-clause-tied g c covering =
+    let kept = c.loop-desk.invariant in
+    let last = rw c.if-not-branch.true at c.in_ok-turn.ensures.turn in
+    let all = comes_to_end c.args.plan c.loop-desk.desk.plan c.loop-desk.desk.history c.turn.new.desk.history _ _ _ kept.planned kept.plan kept.sofar last in
+    let tied = all.tied covering in
+    (tied.read_back, tied.tied)
+
+pub returns-then-not-branch-clause-serial : goal.returns-then-not-branch-clause-serial
+returns-then-not-branch-clause-serial g c fresh =
+    let kept = c.loop-desk.invariant in
+    let last = rw c.if-not-branch.true at c.in_ok-turn.ensures.turn in
+    serial_last c.args.plan c.loop-desk.desk.plan c.loop-desk.desk.history c.turn.new.desk.history _ _ kept.planned kept.plan last (kept.serial fresh)

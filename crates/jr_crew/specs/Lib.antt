@@ -1,0 +1,5 @@
+pub mod Ends
+pub mod FaultTexts
+pub mod Faults
+pub mod Runs
+pub mod Turns

@@ -1,0 +1,83 @@
+ghost use Rattle.std.specs.Prelude.{◌≡◌, IsTrue, IsFalse};
+
+use jr_model::{Expected, Method, Pattern, Piece, Ticket, TicketKind, VerifyKind, WriteId};
+
+// Whether a ticket differs from another in nothing.
+pub fn is_same(a: &Ticket, b: &Ticket) -> bool
+    ensures yes { IsTrue result → a.now ≡ b.now }
+    ensures no { IsFalse result → ¬ a.now ≡ b.now }
+{
+    a.id == b.id
+        && a.worker == b.worker
+        && a.seed == b.seed
+        && is_same_kind(a.kind, b.kind)
+        && is_same_write(&a.write, &b.write)
+        && is_same_piece(&a.piece, &b.piece)
+        && is_same_method(&a.method, &b.method)
+        && is_same_expected(&a.expected, &b.expected)
+}
+
+fn is_same_kind(a: TicketKind, b: TicketKind) -> bool
+    ensures yes { IsTrue result → a ≡ b }
+    ensures no { IsFalse result → ¬ a ≡ b }
+{
+    a == b
+}
+
+fn is_same_write(a: &WriteId, b: &WriteId) -> bool
+    ensures yes { IsTrue result → a.now ≡ b.now }
+    ensures no { IsFalse result → ¬ a.now ≡ b.now }
+{
+    a.clone == b.clone && a.pass == b.pass && a.number == b.number
+}
+
+fn is_same_piece(a: &Piece, b: &Piece) -> bool
+    ensures yes { IsTrue result → a.now ≡ b.now }
+    ensures no { IsFalse result → ¬ a.now ≡ b.now }
+{
+    a.file == b.file && a.offset == b.offset && a.len == b.len
+}
+
+fn is_same_method(a: &Method, b: &Method) -> bool
+    ensures yes { IsTrue result → a.now ≡ b.now }
+    ensures no { IsFalse result → ¬ a.now ≡ b.now }
+{
+    is_same_verify(a.kind, b.kind) && is_same_pattern(&a.pattern, &b.pattern)
+}
+
+fn is_same_verify(a: VerifyKind, b: VerifyKind) -> bool
+    ensures yes { IsTrue result → a ≡ b }
+    ensures no { IsFalse result → ¬ a ≡ b }
+{
+    a == b
+}
+
+fn is_same_pattern(a: &Option<Pattern>, b: &Option<Pattern>) -> bool
+    ensures yes { IsTrue result → a.now ≡ b.now }
+    ensures no { IsFalse result → ¬ a.now ≡ b.now }
+{
+    match (a, b) {
+        (None, None) => true,
+        (Some(a), Some(b)) => is_same_bytes(a.as_slice(), b.as_slice()),
+        _ => false,
+    }
+}
+
+fn is_same_expected(a: &Expected, b: &Expected) -> bool
+    ensures yes { IsTrue result → a.now ≡ b.now }
+    ensures no { IsFalse result → ¬ a.now ≡ b.now }
+{
+    match (a, b) {
+        (Expected::Nothing, Expected::Nothing) => true,
+        (Expected::Pattern(a), Expected::Pattern(b)) => is_same_bytes(a.as_slice(), b.as_slice()),
+        (Expected::Header(a), Expected::Header(b)) => is_same_bytes(a, b),
+        _ => false,
+    }
+}
+
+fn is_same_bytes(a: &[u8], b: &[u8]) -> bool
+    ensures yes { IsTrue result → a.now ≡ b.now }
+    ensures no { IsFalse result → ¬ a.now ≡ b.now }
+{
+    a == b
+}

@@ -1,0 +1,5 @@
+pub mod Checks
+pub mod Counts
+pub mod Drawn
+pub mod Idle
+pub mod Memory

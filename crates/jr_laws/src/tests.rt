@@ -1,0 +1,24 @@
+use crate::{
+    appends_one, checks_stay_intact, honest_is_good, idle_is_complete, keeps_last_writes,
+    miscompares_exactly, no_block_twice, quiet_play, serial_ends, serial_is_complete,
+    started_are_drawn, started_are_few, started_fit, started_once, taken_is_all,
+};
+
+#[test]
+fn the_laws_can_be_called() {
+    started_are_few();
+    taken_is_all();
+    appends_one();
+    serial_ends();
+    started_are_drawn();
+    started_fit();
+    started_once();
+    no_block_twice();
+    idle_is_complete();
+    serial_is_complete();
+    honest_is_good();
+    miscompares_exactly();
+    checks_stay_intact();
+    quiet_play();
+    keeps_last_writes();
+}

@@ -1,0 +1,11 @@
+pub mod Tallies
+pub mod Steps
+pub mod Ends
+pub mod Issues
+pub mod LastWrites
+pub mod Groups
+pub mod Members
+pub mod Turns
+pub mod Latest
+pub mod Checks
+pub mod Reports

@@ -1,0 +1,9 @@
+use crate::{checks_stay_last, last_is_latest, quiet_report, write_waits};
+
+#[test]
+fn the_laws_can_be_called() {
+    write_waits();
+    last_is_latest();
+    checks_stay_last();
+    quiet_report();
+}

@@ -1,0 +1,10 @@
+use Rattle.std.proofs.Common.{sym, ap, ◌∙◌}
+use Rattle.jr_stats.specs.TraceSteps.{issue_in}
+use Rattle.jr_stats.proofs.EventLemmas.{legal_issue_is}
+use Rattle.jr_stats.proofs.legal.legal_issue.Goals as goal
+
+pub returns : goal.returns
+returns c =
+    c.issue_in.ensures
+    ∙ ap (issue_in c.in-Some.worker c.in-Some.write) c.in_ok-step.ensures
+    ∙ sym (legal_issue_is c.args.work.now c.args.past.now c.args.start.now c.in-Some.worker c.in-Some.write (sym c.in-Some.ensures))

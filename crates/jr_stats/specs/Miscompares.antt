@@ -1,0 +1,15 @@
+-- The line of a bad verdict in two parts: which write it is, and where it is.
+use Rattle.std.specs.Prelude.{ℕ, List, ◌++◌, codes}
+use Rattle.jr_model.specs.declared.blocks.Piece.{Piece}
+use Rattle.jr_model.specs.declared.events.WriteId.{WriteId}
+use Rattle.jr_model.specs.Plan.{Plan}
+use Rattle.jr_model.specs.Report.{field, file_name}
+
+abbrev pub named_fields : WriteId → List ℕ
+named_fields write =
+    field (codes "clone") write.clone ++ field (codes "pass") write.pass ++ field (codes "number") write.number
+
+abbrev pub place_fields : Plan → Piece → List ℕ
+place_fields plan piece =
+    codes " file=" ++ file_name plan piece.file ++ field (codes "offset") piece.offset
+    ++ field (codes "length") piece.len

@@ -1,0 +1,106 @@
+ghost use Rattle.std.specs.Prelude.{◌≡◌, ◌∷◌, [], ◌<◌, ◌≤◌, ◌^◌, IfErr, IfOk, MatchOption, Ok, length, true};
+ghost use Rattle.std.specs.List.{before_first, slice_split};
+ghost use Rattle.jr_model.specs.History.{started};
+ghost use Rattle.jr_model.specs.Legal.{is_legal};
+ghost use Rattle.jr_model.specs.Report.{all_totals};
+ghost use Rattle.jr_stats.specs.TraceChecks.{IsRefusal, check_of, history_in, is_newline, line_event};
+
+use crate::faults::TraceFault;
+use crate::fields::read_line;
+use crate::legal::legal_event;
+use jr_model::{Event, Memory, Totals};
+use jr_options::Plan;
+use jr_replay::{Past, Workload, complete, totals_among};
+use std::alloc::Global;
+
+/// Checks a trace: what each clone did, where the text is the trace of a whole legal run of the plan; else its
+/// first faulty line, or that the run goes on.
+pub fn check_trace(alloc: Global, plan: &Plan, text: &[u8]) -> Result<Vec<Totals>, TraceFault>
+    ensures ok { IfOk result (λ totals. check_of plan.now text.now ≡ Ok totals.items) }
+    ensures err { IfErr result (λ fault. IsRefusal fault (check_of plan.now text.now)) }
+{
+    let history = history_in(alloc, plan, text)?;
+    if !complete(alloc, plan, history.as_slice())? {
+        return Err(TraceFault::Unfinished);
+    }
+    Ok(all_totals(alloc, plan, history.as_slice())?)
+}
+
+// What each clone did.
+fn all_totals(alloc: Global, plan: &Plan, history: &[Event]) -> Result<Vec<Totals>, Memory>
+    requires legal { is_legal plan.now history.now ≡ true }
+    requires few { length (started history.now) ≤ 2 ^ 32 }
+    ensures { IfOk result (λ totals. totals.items ≡ all_totals plan.now history.now) }
+{
+    let past = Past::new(alloc, history)?;
+    let mut totals = Vec::new(alloc);
+    for i in 0..plan.clones() {
+        totals.push(totals_among(&past, plan.clone_at(i).clone_number()))?;
+    }
+    Ok(totals)
+}
+
+// The history that a text says.
+pub fn history_in(alloc: Global, plan: &Plan, text: &[u8]) -> Result<Vec<Event>, TraceFault>
+    ensures ok { IfOk result (λ history. history_in plan.now text.now ≡ Ok history.items) }
+    ensures legal { IfOk result (λ history. is_legal plan.now history.items ≡ true) }
+    ensures few { IfOk result (λ history. length (started history.items) ≤ 2 ^ 32) }
+    ensures err { IfErr result (λ fault. IsRefusal fault (history_in plan.now text.now)) }
+{
+    let work = Workload::new(alloc, plan)?;
+    let mut history = Vec::new(alloc);
+    let mut rest = text;
+    while !rest.is_empty() {
+        let number = history.len() as u64 + 1;
+        let Some((line, after)) = next_line(rest) else {
+            return Err(TraceFault::Line(number));
+        };
+        history.push(line_event(alloc, &work, history.as_slice(), number, line)?)?;
+        rest = after;
+    }
+    Ok(history)
+}
+
+// The first line of a text, and what follows its line feed; nothing where it has none.
+fn next_line(text: &[u8]) -> Option<(&[u8], &[u8])>
+    ensures { MatchOption result (slice_split is_newline text.now ≡ text.now ∷ [])
+        (λ p. (slice_split is_newline text.now ≡ p.0.now ∷ slice_split is_newline p.1.now)
+        × (length p.1.now < length text.now)) }
+{
+    let end = line_len(text);
+    if end >= text.len() {
+        return None;
+    }
+    let (line, _) = text.split_at(end);
+    let (_, after) = text.split_at(end + 1);
+    Some((line, after))
+}
+
+// How many bytes stand before the first line feed.
+fn line_len(text: &[u8]) -> usize
+    ensures value { result ≡ length (before_first is_newline text.now) }
+    ensures bound { result < 2 ^ 63 }
+{
+    text.iter().take_while(|byte| **byte != b'\n').count()
+}
+
+// The event of a line after a history.
+fn line_event(
+    alloc: Global,
+    work: &Workload<'_>,
+    history: &[Event],
+    number: u64,
+    line: &[u8],
+) -> Result<Event, TraceFault>
+    ensures ok { IfOk result (λ event. line_event work.now history.now number line.now ≡ Ok event) }
+    ensures err { IfErr result (λ fault. IsRefusal fault (line_event work.now history.now number line.now)) }
+{
+    let Some(entry) = read_line(line) else {
+        return Err(TraceFault::Line(number));
+    };
+    let past = Past::new(alloc, history)?;
+    match legal_event(alloc, work, &past, &entry)? {
+        Some(event) => Ok(event),
+        None => Err(TraceFault::Illegal(number)),
+    }
+}

@@ -1,0 +1,221 @@
+ghost use Rattle.std.specs.Prelude.{◌≡◌, IfOk, Some, None, if◌then◌else◌};
+ghost use Rattle.jr_stats.specs.TraceChecks.{is_small, name_fits, ending_fits, finding_fits, write_of, outcome_of, verdict_of, legal_event};
+ghost use Rattle.jr_stats.specs.TraceSteps.{begun, ended, judged, issue_in, probe_in, skip_in};
+
+use crate::entries::{Ending, Entry, Finding, Name, Start};
+use jr_model::{Event, Memory, Outcome, Verdict, What, WriteId};
+use jr_options::Plan;
+use jr_replay::{Past, Workload, may_end, may_judge, same_write, step_at};
+use std::alloc::Global;
+
+// The event that a line speaks of, where it may happen after the history.
+pub fn legal_event(
+    alloc: Global,
+    work: &Workload<'_>,
+    past: &Past<'_>,
+    entry: &Entry,
+) -> Result<Option<Event>, Memory>
+    ensures { IfOk result (λ event. event ≡ legal_event work.now past.now entry.now) }
+{
+    match entry {
+        Entry::Issue(start) => legal_issue(alloc, work, past, start),
+        Entry::Probe(start) => legal_probe(alloc, work, past, start),
+        Entry::Skip { worker, write } => legal_skip(alloc, work, past, *worker, write),
+        Entry::End { worker, io, ending } => Ok(ended(past, *worker, *io, ending)),
+        Entry::Verdict { by, io, finding } => Ok(judged(work.plan(), past, *by, *io, finding)),
+    }
+}
+
+fn legal_issue(
+    alloc: Global,
+    work: &Workload<'_>,
+    past: &Past<'_>,
+    start: &Start,
+) -> Result<Option<Event>, Memory>
+    ensures { IfOk result (λ event. event ≡ legal_event work.now past.now (Entry.Issue start.now)) }
+{
+    let Some((worker, write)) = begun(past, start) else {
+        return Ok(None);
+    };
+    let step = step_at(alloc, work, past, worker, &write)?;
+    Ok(issue_in(worker, &write, &step))
+}
+
+fn legal_probe(
+    alloc: Global,
+    work: &Workload<'_>,
+    past: &Past<'_>,
+    start: &Start,
+) -> Result<Option<Event>, Memory>
+    ensures { IfOk result (λ event. event ≡ legal_event work.now past.now (Entry.Probe start.now)) }
+{
+    let Some((worker, write)) = begun(past, start) else {
+        return Ok(None);
+    };
+    let step = step_at(alloc, work, past, worker, &write)?;
+    Ok(probe_in(worker, &write, &step))
+}
+
+fn legal_skip(
+    alloc: Global,
+    work: &Workload<'_>,
+    past: &Past<'_>,
+    worker: u64,
+    write: &Name,
+) -> Result<Option<Event>, Memory>
+    ensures { IfOk result
+        (λ event. event ≡ legal_event work.now past.now (Entry.Skip worker write.now)) }
+{
+    let (Some(worker), Some(write)) = (small(worker), write_of(write)) else {
+        return Ok(None);
+    };
+    let step = step_at(alloc, work, past, worker, &write)?;
+    Ok(skip_in(worker, &write, &step))
+}
+
+// The worker and the draw of a start that has the next number.
+fn begun(past: &Past<'_>, start: &Start) -> Option<(u32, WriteId)>
+    ensures { result ≡ begun past.now start.now }
+{
+    let worker = small(start.worker)?;
+    let io = small(start.io)?;
+    let write = write_of(&start.write)?;
+    if io as usize == past.started().len() {
+        Some((worker, write))
+    } else {
+        None
+    }
+}
+
+// The end of an I/O, where it may end so.
+fn ended(past: &Past<'_>, worker: u64, io: u64, ending: &Ending) -> Option<Event>
+    ensures { result ≡ ended past.now worker io ending.now }
+{
+    let worker = small(worker)?;
+    let io = small(io)?;
+    let outcome = outcome_of(ending)?;
+    if may_end(past, worker, io as usize, outcome) {
+        Some(Event::End {
+            worker,
+            io,
+            outcome,
+        })
+    } else {
+        None
+    }
+}
+
+// The verdict on a check, where it may have it.
+fn judged(plan: &Plan, past: &Past<'_>, by: u64, io: u64, finding: &Finding) -> Option<Event>
+    ensures { result ≡ judged plan.now past.now by io finding.now }
+{
+    let worker = small(by)?;
+    let io = small(io)?;
+    let verdict = verdict_of(finding)?;
+    if may_judge(plan, past, io as usize, verdict) {
+        Some(Event::Verdict {
+            worker,
+            io,
+            verdict,
+        })
+    } else {
+        None
+    }
+}
+
+// The issue of this draw, where the step is one.
+fn issue_in(worker: u32, write: &WriteId, step: &Option<Event>) -> Option<Event>
+    ensures { result ≡ issue_in worker write.now step.now }
+{
+    match step {
+        Some(
+            Event::Issue {
+                dir,
+                write: issued,
+                piece,
+                ..
+            },
+        ) if same_write(issued, write) => Some(Event::Issue {
+            worker,
+            dir: *dir,
+            write: *write,
+            piece: *piece,
+        }),
+        _ => None,
+    }
+}
+
+// The check of this write, where the step is one.
+fn probe_in(worker: u32, write: &WriteId, step: &Option<Event>) -> Option<Event>
+    ensures { result ≡ probe_in worker write.now step.now }
+{
+    match step {
+        Some(
+            Event::Probe {
+                write: probed,
+                piece,
+                ..
+            },
+        ) if same_write(probed, write) => Some(Event::Probe {
+            worker,
+            write: *write,
+            piece: *piece,
+        }),
+        _ => None,
+    }
+}
+
+// The skip of this write, where the step is one.
+fn skip_in(worker: u32, write: &WriteId, step: &Option<Event>) -> Option<Event>
+    ensures { result ≡ skip_in worker write.now step.now }
+{
+    match step {
+        Some(Event::Skip { write: skipped, .. }) if same_write(skipped, write) => {
+            Some(Event::Skip {
+                worker,
+                write: *write,
+            })
+        }
+        _ => None,
+    }
+}
+
+// A number that an event may have.
+fn small(n: u64) -> Option<u32>
+    ensures { result ≡ (if is_small n then Some n else None) }
+{
+    u32::try_from(n).ok()
+}
+
+// The draw of this name, where its numbers are small.
+fn write_of(write: &Name) -> Option<WriteId>
+    ensures { result ≡ (if name_fits write.now then Some (write_of write.now) else None) }
+{
+    Some(WriteId {
+        clone: small(write.clone)?,
+        pass: small(write.pass)?,
+        number: small(write.number)?,
+    })
+}
+
+fn outcome_of(ending: &Ending) -> Option<Outcome>
+    ensures { result ≡ (if ending_fits ending.now then Some (outcome_of ending.now) else None) }
+{
+    match ending {
+        Ending::Whole => Some(Outcome::Whole),
+        Ending::Failed => Some(Outcome::Failed),
+        Ending::Short(count) => Some(Outcome::Short(small(*count)?)),
+    }
+}
+
+fn verdict_of(finding: &Finding) -> Option<Verdict>
+    ensures { result ≡ (if finding_fits finding.now then Some (verdict_of finding.now) else None) }
+{
+    match finding {
+        Finding::Good => Some(Verdict::Good),
+        Finding::Header => Some(Verdict::Bad(What::Header)),
+        Finding::Digest => Some(Verdict::Bad(What::Digest)),
+        Finding::DataArea => Some(Verdict::Bad(What::DataArea)),
+        Finding::Byte(place) => Some(Verdict::Bad(What::Byte(small(*place)?))),
+    }
+}
