@@ -2,21 +2,22 @@
 use Rattle.std.proofs.Common.{◌≡◌, ℕ, zero, suc, ◌+◌, ◌*◌, List, [], ◌∷◌, ◌++◌, Bool, true, false, cond, ◌&&◌, refl, sym, ◌∙◌, ap, subst, arith, inl, inr, append_assoc, append-nil, add-zero, zero-add}
 use Rattle.std.specs.Prelude.{◌⊎◌, Option, Some, None, slice_get, ◌==◌, map}
 use Rattle.std.specs.Option.{option_or}
-use Rattle.std.specs.List.{range_with_len}
+use Rattle.std.specs.List.{range_with_len, cons_option}
 use Rattle.std.proofs.lemmas.Bool.{and_parts, and_from, cases_cond, eq-eqb}
 use Rattle.jr_model.specs.declared.blocks.Dir.{Dir}
 use Rattle.jr_model.specs.declared.blocks.Dir.TheVariants.{Read, Write}
 use Rattle.jr_model.specs.declared.blocks.Piece.{Piece}
 use Rattle.jr_model.specs.declared.events.Event.{Event}
-use Rattle.jr_model.specs.declared.events.Event.TheVariants.{Issue, Probe, Skip}
+use Rattle.jr_model.specs.declared.events.Event.TheVariants.{Issue, Probe, Skip, End, Verdict}
+use Rattle.jr_model.specs.declared.events.Started.{Started}
 use Rattle.jr_model.specs.declared.events.WriteId.{WriteId}
 use Rattle.jr_model.specs.declared.workloads.Draw.{Draw}
 use Rattle.jr_model.specs.Choice.{choice, choice_of_clone, choice_of_pass}
 use Rattle.jr_model.specs.Draws.{Progress, draws_from, draws_of_job, fresh_progress, pass_over, chosen_cells, draw_at, progress_after}
-use Rattle.jr_model.specs.History.{first_given, same_write, same_piece}
+use Rattle.jr_model.specs.History.{first_given, started, started_by, same_write, same_piece}
 use Rattle.jr_model.specs.LastWrite.{is_intact}
 use Rattle.jr_model.specs.Legal.{may_happen, may_take_up, may_issue, legal_after, is_legal, step_of, step_of_draw, step_of_clone, step_at, same_dir, is_this_issue, is_this_probe, is_this_skip}
-use Rattle.jr_model.specs.Plan.{Plan, SubJob, IsNumbered}
+use Rattle.jr_model.specs.Plan.{Plan, SubJob, IsNumbered, clone_of}
 use Rattle.jr_model.specs.Rounds.{Pass, pass_of, passes_of, write_id}
 use Rattle.jr_model.specs.Words.{pass_words}
 
@@ -179,3 +180,40 @@ pub choice_may_happen : (plan : Plan) (history : List Event) (worker : ℕ) (e :
 choice_may_happen plan history worker e numbered h =
     let step = choice_is_step plan history worker e numbered h in
     step_may_happen plan history worker (pass_of step.0 step.1) step.2 e step.3 step.4
+
+-- a step is of a clone that the plan has
+pub issue_is_planned : (plan : Plan) (history : List Event) (worker : ℕ) (dir : Dir) (write : WriteId) (piece : Piece) (job : Option SubJob) → is_this_issue dir write piece (step_of_clone plan history worker write job) ≡ true → (found : SubJob) × (job ≡ Some found)
+issue_is_planned plan history worker dir write piece None h = cc
+issue_is_planned plan history worker dir write piece (Some job) h = (job, refl)
+
+pub probe_is_planned : (plan : Plan) (history : List Event) (worker : ℕ) (write : WriteId) (piece : Piece) (job : Option SubJob) → is_this_probe write piece (step_of_clone plan history worker write job) ≡ true → (found : SubJob) × (job ≡ Some found)
+probe_is_planned plan history worker write piece None h = cc
+probe_is_planned plan history worker write piece (Some job) h = (job, refl)
+
+-- what may be started is of a clone that the plan has
+pub starts_planned : (plan : Plan) (history : List Event) (e : Event) (io : Started) → may_happen plan history e ≡ true → started_by e ≡ Some io → (job : SubJob) × (clone_of plan io.write.clone ≡ Some job)
+starts_planned plan history (Issue worker dir write piece) io may starts =
+    let found = issue_is_planned plan history worker dir write piece (clone_of plan write.clone) may in
+    let same : write ≡ io.write = cc in
+    (found.0, ap (λ (w : WriteId). clone_of plan w.clone) (sym same) ∙ found.1)
+starts_planned plan history (Probe worker write piece) io may starts =
+    let found = probe_is_planned plan history worker write piece (clone_of plan write.clone) may in
+    let same : write ≡ io.write = cc in
+    (found.0, ap (λ (w : WriteId). clone_of plan w.clone) (sym same) ∙ found.1)
+starts_planned plan history (Skip worker write) io may starts = cc
+starts_planned plan history (End worker id outcome) io may starts = cc
+starts_planned plan history (Verdict worker id verdict) io may starts = cc
+
+-- the same of what the first event starts, or the events after it
+first_planned : (plan : Plan) (before events : List Event) (e : Event) (io : Started) (first : Option Started) (id : ℕ) → may_happen plan before e ≡ true → started_by e ≡ first → ((k : ℕ) → slice_get (started events) k ≡ Some io → (job : SubJob) × (clone_of plan io.write.clone ≡ Some job)) → slice_get (cons_option first (started events)) id ≡ Some io → (job : SubJob) × (clone_of plan io.write.clone ≡ Some job)
+first_planned plan before events e io None id may starts rest at = rest id at
+first_planned plan before events e io (Some s) zero may starts rest at = starts_planned plan before e io may (starts ∙ at)
+first_planned plan before events e io (Some s) (suc k) may starts rest at = rest k at
+
+-- each I/O and check of a legal history is of a clone that the plan has
+pub started_planned : (plan : Plan) (before events : List Event) (id : ℕ) (io : Started) → legal_after plan before events ≡ true → slice_get (started events) id ≡ Some io → (job : SubJob) × (clone_of plan io.write.clone ≡ Some job)
+started_planned plan before [] id io legal at = cc
+started_planned plan before (e ∷ events) id io legal at =
+    let parts = and_parts (may_happen plan before e) (legal_after plan (before ++ e ∷ []) events) legal in
+    first_planned plan before events e io (started_by e) id parts.0 refl
+    (λ k there. started_planned plan (before ++ e ∷ []) events k io parts.1 there) at

@@ -35,7 +35,7 @@ use Rattle.jr_model.specs.Legal.{is_legal, outcome_fits, end_fits, verdict_fits,
 use Rattle.jr_model.specs.Machine.{State, Stepped, is_skip, choices_after, taken, take_answer, work_of, verdict_in_job, verdict_on, seed_of_draw, content_of_io, read_of, bytes_read, first_state, end_refusal, judge_refusal, is_judgeable, read_ends, ends_by, machine_end_by, machine_judge_by, machine_take, machine_step, machine_run}
 use Rattle.jr_model.specs.Plan.{Plan, SubJob, IsNumbered, clone_of}
 use Rattle.jr_model.specs.Replies.{FileBytes, outcome_for, stored, stored_in, reply_to_read, reply_to_write}
-use Rattle.jr_model.proofs.LegalLaws.{is_legal-more, choice_may_happen}
+use Rattle.jr_model.proofs.LegalLaws.{is_legal-more, choice_may_happen, started_planned}
 
 -- what a take appends keeps the history legal
 pub legal_choices : (limit : ℕ) (plan : Plan) (worker : ℕ) (history : List Event) (o : Option Event) → IsNumbered plan → is_legal plan history ≡ true → choice plan history worker ≡ o → is_legal plan (history ++ choices_after limit plan worker history o) ≡ true
@@ -106,9 +106,9 @@ verdict_of_fits verify.Sha1 method write piece seed bytes h =
 verdict_of_fits verify.Sha256 method write piece seed bytes h =
     header_says (λ (v : GivenVerdict). kind_says verify.Sha256 piece.len v ≡ true) verify.Sha256 (header_of method write piece seed) bytes refl refl refl refl
 
-pub job_says_fits : (job : Option SubJob) (io : Started) (seed : ℕ) (bytes : List ℕ) → length bytes ≤ io.piece.len → job_says job io.piece.len (verdict_in_job job io seed bytes) ≡ true
-job_says_fits None io seed bytes h = refl
-job_says_fits (Some job) io seed bytes h = verdict_of_fits job.method.kind job.method io.write io.piece seed bytes h
+pub job_says_fits : (job : Option SubJob) (found : SubJob) (io : Started) (seed : ℕ) (bytes : List ℕ) → job ≡ Some found → length bytes ≤ io.piece.len → job_says job io.piece.len (verdict_in_job job io seed bytes) ≡ true
+job_says_fits None found io seed bytes planned h = cc
+job_says_fits (Some job) found io seed bytes planned h = verdict_of_fits job.method.kind job.method io.write io.piece seed bytes h
 
 -- what a read leaves in its buffer is no longer than its piece
 
@@ -237,6 +237,7 @@ sound_judge_by plan s by id None (Some io) sound free at =
     let bytes = bytes_read s.read_back id in
     let verdict = verdict_on plan io bytes in
     let open_to = four_conds s.is_stopped (nat_lt id (length (started s.history))) (is_judged s.history id) (is_judgeable s.history id (slice_get (started s.history) id)) Stopped Twice WrongKind Stranger free in
+    let planned = started_planned plan [] s.history id io sound.legal at in
     let check = and_parts (is_probe io.kind) (ended_whole (outcome_of s.history id))
     (subst (λ (o : Option Started). is_judgeable s.history id o ≡ true) at open_to.1) in
     record {
@@ -245,8 +246,8 @@ sound_judge_by plan s by id None (Some io) sound free at =
           (and_from (ended_whole (outcome_of s.history id)) (not (is_judged s.history id)) check.1 (not_from_false (is_judged s.history id) open_to.0))
           (subst (λ (o : Option Started). verdict_fits plan verdict o ≡ true) (sym at)
           (and_from (is_probe io.kind) (job_says (clone_of plan io.write.clone) io.piece.len verdict) check.0
-          (job_says_fits (clone_of plan io.write.clone) io
-          (seed_of_draw (slice_get (draws_of plan io.write.clone io.write.pass) io.write.number)) bytes
+          (job_says_fits (clone_of plan io.write.clone) planned.0 io
+          (seed_of_draw (slice_get (draws_of plan io.write.clone io.write.pass) io.write.number)) bytes planned.1
           (read_fits (started s.history) s.read_back id io sound.fits at)))));
       fits = fit_longer s.history (Verdict by id verdict ∷ []) s.read_back sound.fits;
     }

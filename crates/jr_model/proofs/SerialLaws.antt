@@ -19,7 +19,7 @@ use Rattle.jr_model.specs.History.{first_given, Started, started, started_by, ki
 use Rattle.jr_model.specs.Legal.{is_legal, may_happen, end_fits, verdict_fits, job_says}
 use Rattle.jr_model.specs.Plan.{Plan, SubJob, IsNumbered, clone_of}
 use Rattle.jr_model.specs.Serial.{carried_out, goes_on, serial_after, serial_history}
-use Rattle.jr_model.proofs.LegalLaws.{is_legal-more, choice_may_happen, choice_is_step, cases_step_of}
+use Rattle.jr_model.proofs.LegalLaws.{is_legal-more, choice_may_happen, choice_is_step, cases_step_of, starts_planned}
 use Rattle.jr_model.specs.Machine.{work_of}
 use Rattle.jr_model.specs.Rounds.{pass_of, write_id}
 
@@ -204,18 +204,19 @@ module _ (plan : Plan) (history : List Event) (e : Event) (s : Started) (well : 
       (filter_map-append started_by (history ++ e ∷ []) (End 0 io Whole ∷ []) ∙ append-nil (started (history ++ e ∷ [])))
       ∙ started_last
 
-  may_be_good : is_probe s.kind ≡ true → may_happen plan ((history ++ e ∷ []) ++ End 0 (length (started history)) Whole ∷ []) (Verdict 0 (length (started history)) Good) ≡ true
-  may_be_good probe =
+  may_be_good : is_probe s.kind ≡ true → may_happen plan history e ≡ true → may_happen plan ((history ++ e ∷ []) ++ End 0 (length (started history)) Whole ∷ []) (Verdict 0 (length (started history)) Good) ≡ true
+  may_be_good probe may =
+      let planned = starts_planned plan history e s may starts in
       let io = length (started history) in
       let later = (history ++ e ∷ []) ++ End 0 io Whole ∷ [] in
       and_from (ended_whole (outcome_of later io) && not (is_judged later io)) (verdict_fits plan Good (slice_get (started later) io))
       (and_from (ended_whole (outcome_of later io)) (not (is_judged later io)) ended_whole_now (ap not not_judged_now))
       (subst (λ (o : Option Started). verdict_fits plan Good o ≡ true) (sym started_then)
-      (and_from (is_probe s.kind) (job_says (clone_of plan s.write.clone) s.piece.len Good) probe (says_good (clone_of plan s.write.clone) s.piece.len)))
+      (and_from (is_probe s.kind) (job_says (clone_of plan s.write.clone) s.piece.len Good) probe (says_good (clone_of plan s.write.clone) planned.0 s.piece.len planned.1)))
     where
-      says_good : (job : Option SubJob) (len : ℕ) → job_says job len Good ≡ true
-      says_good None len = refl
-      says_good (Some job) len = refl
+      says_good : (job : Option SubJob) (found : SubJob) (len : ℕ) → job ≡ Some found → job_says job len Good ≡ true
+      says_good None found len planned = cc
+      says_good (Some job) found len planned = refl
 
 -- a choice that is carried out leaves a legal history
 pub well_issue : (plan : Plan) (history : List Event) (dir : Dir) (write : WriteId) (piece : Piece) → IsWell plan history → may_happen plan history (Issue 0 dir write piece) ≡ true → IsWell plan (history ++ carried_out (length (started history)) (Issue 0 dir write piece))
@@ -231,7 +232,7 @@ well_probe plan history write piece well may =
     let e = Probe 0 write piece in
     let s : Started = record { worker = 0; kind = ticket.Probe; write = write; piece = piece } in
     let ended = well_ended plan history e s well refl refl refl refl may in
-    let judged = well-more plan ((history ++ e ∷ []) ++ End 0 io Whole ∷ []) (Verdict 0 io Good) ended (may_be_good plan history e s well refl refl refl refl) in
+    let judged = well-more plan ((history ++ e ∷ []) ++ End 0 io Whole ∷ []) (Verdict 0 io Good) ended (may_be_good plan history e s well refl refl refl refl may) in
     subst (λ (all : List Event). IsWell plan all) (append_assoc history (e ∷ []) (End 0 io Whole ∷ Verdict 0 io Good ∷ []))
     (subst (λ (all : List Event). IsWell plan all) (append_assoc (history ++ e ∷ []) (End 0 io Whole ∷ []) (Verdict 0 io Good ∷ [])) judged)
 

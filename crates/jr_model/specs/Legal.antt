@@ -204,7 +204,7 @@ kind_says kind len Good = true
 kind_says kind len (Bad what) = kind_finds kind len what
 
 abbrev pub job_says : Option SubJob → ℕ → GivenVerdict → Bool
-job_says None len verdict = not (is_bad verdict)
+job_says None len verdict = false
 job_says (Some job) len verdict = kind_says job.method.kind len verdict
 
 -- a check that may be said this of

@@ -6,7 +6,7 @@ ghost use Rattle.jr_model.specs.Plan.{clone_of};
 
 use crate::events::{ended_whole, is_judged, is_probe, outcome_of, same_piece, same_write};
 use crate::histories::Past;
-use crate::legal::{is_bad, is_over, step_of};
+use crate::legal::{is_over, step_of};
 use crate::passes::Pass;
 use crate::workloads::{PlannedClone, Workload};
 use jr_model::{
@@ -171,7 +171,7 @@ fn kind_says(kind: VerifyKind, len: u32, verdict: Verdict) -> bool
     }
 }
 
-// Whether a check of this clone of the plan can have this verdict; a check of no clone is good.
+// Whether a check of this clone of the plan can have this verdict.
 fn clone_says(plan: &Plan, clone: u32, len: u32, verdict: Verdict) -> bool
     ensures { result ≡ job_says (clone_of plan.now clone) len verdict }
 {
@@ -179,7 +179,7 @@ fn clone_says(plan: &Plan, clone: u32, len: u32, verdict: Verdict) -> bool
     if clone < plan.clones() {
         kind_says(plan.clone_at(clone).method().kind, len, verdict)
     } else {
-        !is_bad(verdict)
+        false
     }
 }
 
