@@ -16,7 +16,7 @@ use Rattle.jr_stats.proofs.FieldLemmas.{All-from_test}
 use Rattle.jr_stats.proofs.ReadingLemmas.{first_part}
 
 -- digits and their value
-digits_model : IsNumeralModel (λ ds. list_all is_ascii_digit ds ≡ true) (digits_value 10)
+pub digits_model : IsNumeralModel (λ ds. list_all is_ascii_digit ds ≡ true) (digits_value 10)
 digits_model = numerals_by_value (λ ds. list_all is_ascii_digit ds ≡ true) (search rules)
 
 or_left : (a b : Bool) → a ≡ true → (a || b) ≡ true

@@ -75,15 +75,15 @@ started_more history e =
     ap length (filter_map-append started_by history (e ∷ [])) ∙ length-append (started history) (started (e ∷ []))
 
 -- what a line's event may be
-from_cond : {X : Type 0} (b : Bool) (x : Option X) (y : X) → cond b x None ≡ Some y → (b ≡ true) × (x ≡ Some y)
+pub from_cond : {X : Type 0} (b : Bool) (x : Option X) (y : X) → cond b x None ≡ Some y → (b ≡ true) × (x ≡ Some y)
 from_cond true x y h = (refl, h)
 from_cond false x y h = cc
 
-from_ok_or : {X : Type 0} (o : Option X) (fault : TraceFault) (y : X) → ok_or o fault ≡ Ok y → o ≡ Some y
+pub from_ok_or : {X : Type 0} (o : Option X) (fault : TraceFault) (y : X) → ok_or o fault ≡ Ok y → o ≡ Some y
 from_ok_or None fault y h = cc
 from_ok_or (Some x) fault y h = cc
 
-from_if_legal : (plan : Plan) (history : List Event) (o : Option Event) (e : Event) → if_legal plan history o ≡ Some e → (o ≡ Some e) × (may_happen plan history e ≡ true)
+pub from_if_legal : (plan : Plan) (history : List Event) (o : Option Event) (e : Event) → if_legal plan history o ≡ Some e → (o ≡ Some e) × (may_happen plan history e ≡ true)
 from_if_legal plan history None e h = cc
 from_if_legal plan history (Some x) e h =
     let got = from_cond (may_happen plan history x) (Some x) e h in

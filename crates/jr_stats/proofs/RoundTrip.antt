@@ -19,18 +19,19 @@ use Rattle.jr_model.specs.declared.events.WriteId.{WriteId}
 use Rattle.jr_model.specs.declared.workloads.Draw.{Draw}
 use Rattle.jr_model.specs.Draws.{draws_of_clone, draws_of_job}
 use Rattle.jr_model.specs.History.{started, same_write, same_piece}
-use Rattle.jr_model.specs.Legal.{is_complete, is_this_issue, is_this_probe, legal_after, may_happen, same_dir, step_of, step_of_clone, step_of_draw}
+use Rattle.jr_model.specs.Legal.{is_complete, is_legal, is_this_issue, is_this_probe, legal_after, may_happen, same_dir, step_of, step_of_clone, step_of_draw}
 use Rattle.jr_model.specs.Plan.{Plan, SubJob, clone_of}
 use Rattle.jr_model.specs.Report.{all_totals}
 use Rattle.jr_model.specs.Rounds.{Pass, pass_of}
 use Rattle.jr_model.proofs.LegalLaws.{cases_step_of}
 use Rattle.jr_stats.specs.declared.faults.TraceFault.{TraceFault}
 use Rattle.jr_stats.specs.declared.faults.TraceFault.TheVariants.{Illegal, Unfinished}
-use Rattle.jr_stats.specs.TraceChecks.{after, entry_event, entry_fits, event_of, if_legal, is_newline, is_numbered, legal_event, line_event, lines_read, outcome_of, verdict_of}
+use Rattle.jr_stats.specs.TraceChecks.{after, check_of, entry_event, entry_fits, event_of, if_legal, is_newline, is_numbered, legal_event, line_event, lines_read, outcome_of, verdict_of}
 use Rattle.jr_stats.specs.TraceLaws.{TraceIsAccepted, ending_of, entry_of, finding_of, lines_fit}
-use Rattle.jr_stats.specs.Traces.{event_text, lines_after}
+use Rattle.jr_stats.specs.Traces.{event_text, lines_after, trace_of}
 use Rattle.jr_stats.proofs.EntryReading.{event_read}
 use Rattle.jr_stats.proofs.LineEnds.{no_newline}
+use Rattle.jr_stats.proofs.Numbers.{numbers_fit}
 use Rattle.jr_stats.proofs.ReadingLemmas.{lines_read_next}
 
 -- one direction, one piece
@@ -183,7 +184,12 @@ lines_back plan history (e ∷ events) n legal fits =
     ∙ lines_back plan longer events (n + 1) may.1 small.1
     ∙ ap Ok (append_assoc history (e ∷ []) events)
 
-pub trace_is_accepted : TraceIsAccepted
-trace_is_accepted plan history legal complete fits =
+-- the trace of a whole legal run with such numbers is accepted
+pub fitting_is_accepted : (plan : Plan) (history : List Event) → is_legal plan history ≡ true → is_complete plan history ≡ true → lines_fit [] history ≡ true → check_of plan (trace_of history) ≡ Ok (all_totals plan history)
+fitting_is_accepted plan history legal complete fits =
     ap (λ (r : Result (List Event) TraceFault). after r (λ h. cond (is_complete plan h) (Ok (all_totals plan h)) (Err Unfinished))) (lines_back plan [] history 1 legal fits)
     ∙ ap (λ (b : Bool). cond b (Ok (all_totals plan history)) (Err Unfinished)) complete
+
+pub trace_is_accepted : TraceIsAccepted
+trace_is_accepted plan history planned legal complete fit =
+    fitting_is_accepted plan history legal complete (numbers_fit plan history planned legal ∙ fit)

@@ -1,6 +1,6 @@
 use crate::checks::history_in;
 use crate::traces::trace_text;
-use crate::{TraceFault, check_trace};
+use crate::{TraceFault, accepted_is_a_trace, check_trace, numbers_fit, trace_is_accepted};
 use jr_model::Totals;
 use jr_options::{Plan, plan};
 use jr_text::sections;
@@ -226,4 +226,11 @@ fn says_what_is_wrong(rt: HostRuntime) -> Result<(), Fail> {
         assert_eq!(rt; shown.as_str(), text);
     }
     Ok(())
+}
+
+#[test]
+fn the_laws_can_be_called() {
+    accepted_is_a_trace();
+    numbers_fit();
+    trace_is_accepted();
 }
