@@ -7,7 +7,7 @@ use Rattle.jr_text.specs.declared.faults.TextFault.TheVariants as text
 use Rattle.jr_model.specs.Plan.{Plan}
 use Rattle.jr_options.specs.PlanOf.{plan_of}
 use Rattle.jr_options.specs.Refusals.{refusal_of}
-use Rattle.jr_options.specs.declared.faults.JobFault.TheVariants as job
+use Rattle.jr_settings.specs.declared.faults.JobFault.TheVariants as job
 use Rattle.jr_cli.specs.declared.faults.CliFault.{CliFault}
 use Rattle.jr_cli.specs.declared.faults.CliFault.TheVariants as fault
 

@@ -7,8 +7,8 @@ use Rattle.clap.specs.declared.error.kind.ErrorKind.TheVariants as kind
 use Rattle.jr_model.specs.declared.totals.Totals.{Totals}
 use Rattle.jr_text.specs.declared.faults.TextFault.{TextFault}
 use Rattle.jr_text.specs.declared.faults.TextFault.TheVariants as text
-use Rattle.jr_options.specs.declared.faults.JobFault.{JobFault}
-use Rattle.jr_options.specs.declared.faults.JobFault.TheVariants as job
+use Rattle.jr_settings.specs.declared.faults.JobFault.{JobFault}
+use Rattle.jr_settings.specs.declared.faults.JobFault.TheVariants as job
 use Rattle.jr_stats.specs.declared.faults.TraceFault.{TraceFault}
 use Rattle.jr_stats.specs.declared.faults.TraceFault.TheVariants as trace
 use Rattle.jr_cli.specs.declared.faults.CliFault.{CliFault}

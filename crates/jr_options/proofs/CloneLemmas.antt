@@ -12,7 +12,7 @@ use Rattle.jr_options.specs.Drafts.{Clones, planned_clone, with_clone}
 use Rattle.jr_options.specs.Files.{file_place}
 use Rattle.jr_options.specs.PlanFacts.{work_of}
 use Rattle.jr_options.specs.PlanOf.{JobAsked, PhasedJob, HasRoom, stonewalls, clones_asked, planned_as, with_asked, no_clones, clones_of, file_of}
-use Rattle.jr_options.specs.Shapes.{shape_in}
+use Rattle.jr_settings.specs.Shapes.{shape_in}
 use Rattle.jr_options.specs.Surveys.{start_of}
 
 -- the cells that all passes of one clone of a job visit

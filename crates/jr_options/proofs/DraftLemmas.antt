@@ -3,7 +3,7 @@ use Rattle.std.proofs.Common.{◌≡◌, ℕ, zero, suc, ◌+◌, ◌*◌, ◌^�
 use Rattle.std.proofs.lemmas.List.{length_push}
 use Rattle.std.proofs.lemmas.List.Sums.{sum_by-append}
 use Rattle.jr_model.specs.Plan.{SubJob, FileSpec}
-use Rattle.jr_options.specs.OptionWords.{same_text}
+use Rattle.jr_settings.specs.OptionWords.{same_text}
 use Rattle.jr_options.specs.Files.{file_place, with_file, widened}
 use Rattle.jr_options.specs.PlanFacts.{IsPlaced, KeepsLimits, AreDrafted, work_of}
 

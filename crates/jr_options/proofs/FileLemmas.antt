@@ -1,7 +1,7 @@
 -- How the list of files grows with its clones.
 use Rattle.std.proofs.Common.{◌≡◌, ℕ, suc, ◌<◌, ◌≤◌, Bool, true, false, cond, List, [], ◌∷◌, ◌++◌, length, slice_index_or, slice_set, ap, ◌∙◌, sym, subst, arith, refl}
 use Rattle.jr_model.specs.Plan.{FileSpec}
-use Rattle.jr_options.specs.OptionWords.{same_text}
+use Rattle.jr_settings.specs.OptionWords.{same_text}
 use Rattle.jr_options.specs.Files.{file_place, with_file, widened}
 
 found-step : (b : Bool) (f file new : FileSpec) (fs rest : List FileSpec) (place low high : ℕ) → cond b 0 (suc place) < suc (length fs) → file ≡ slice_index_or (f ∷ fs) (cond b 0 (suc place)) file → new ≡ widened file low high → (place < length fs → file ≡ slice_index_or fs place file → slice_set fs place new ≡ rest) → slice_set (f ∷ fs) (cond b 0 (suc place)) new ≡ cond b (widened f low high ∷ fs) (f ∷ rest)

@@ -1,13 +1,11 @@
 pub mod BuildLemmas
 pub mod CloneLemmas
-pub mod CutLemmas
 pub mod DraftLemmas
 pub mod FileLemmas
 pub mod LimitLemmas
 pub mod ListLemmas
-pub mod LookupLemmas
-pub mod OptionLemmas
 pub mod RefusalLemmas
 pub mod Rows
+pub mod SectionLemmas
 pub mod SoundLemmas
 pub mod SurveyLemmas

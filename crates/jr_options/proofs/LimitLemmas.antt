@@ -6,13 +6,13 @@ use Rattle.jr_model.specs.declared.workloads.IoType.{IoType}
 use Rattle.jr_model.specs.declared.workloads.IoType.TheVariants as io
 use Rattle.jr_model.specs.Draws.{size_at}
 use Rattle.jr_sizes.specs.SplitEntries.{percents_total}
-use Rattle.jr_options.specs.declared.options.JobOptions.{JobOptions}
-use Rattle.jr_options.specs.declared.shapes.Shape.{Shape}
+use Rattle.jr_settings.specs.declared.options.JobOptions.{JobOptions}
+use Rattle.jr_settings.specs.declared.shapes.Shape.{Shape}
 use Rattle.jr_options.specs.declared.drafts.PlannedJob.{PlannedJob}
 use Rattle.jr_options.specs.Drafts.{planned_clone}
-use Rattle.jr_options.specs.Options.{AreInRange}
+use Rattle.jr_settings.specs.Options.{AreInRange}
 use Rattle.jr_options.specs.PlanFacts.{SizesFit, KeepsLimits, has_reads, has_writes}
-use Rattle.jr_options.specs.Shapes.{HasShape, entry_fits, split_fits}
+use Rattle.jr_settings.specs.Shapes.{HasShape, entry_fits, split_fits}
 
 -- what an entry's size keeps
 abbrev Fitting : ℕ → ℕ → Type 0

@@ -4,13 +4,12 @@ use Rattle.std.proofs.Common.{◌≡◌, ℕ, List, [], ◌∷◌, map, Some, No
 use Rattle.jr_model.specs.Plan.{SubJob}
 use Rattle.jr_text.specs.Number.{number_of}
 use Rattle.jr_text.specs.Records.{LineText, SectionText}
-use Rattle.jr_options.specs.declared.faults.JobFault.TheVariants as fault
-use Rattle.jr_options.specs.Lookups.{options_in}
+use Rattle.jr_settings.specs.declared.faults.JobFault.TheVariants as fault
 use Rattle.jr_options.specs.PlanOf.{default_name, plan_of}
 use Rattle.jr_options.specs.PlanText.{plan_text, place_text, size_text, work_text}
 use Rattle.jr_options.specs.Refusals.{refusal_of}
-use Rattle.jr_options.specs.Settings.{setting_of}
-use Rattle.jr_options.specs.Shapes.{shape_of}
+use Rattle.jr_settings.specs.Settings.{setting_of}
+use Rattle.jr_settings.specs.Shapes.{shape_of}
 
 -- the option `key=value` on a line, and one without a value
 setting : ℕ → List ℕ → List ℕ → LineText
@@ -59,20 +58,6 @@ phases_row = refl
 phases_sound : refusal_of two_phases None ≡ None
 unfolding setting bare section two_phases refusal_of setting_of number_of shape_of
 phases_sound = refl
-
--- of `rwmixread` and `rwmixwrite` the last one decides
-mix_row : (options_in (setting 2 (codes "rwmixread") (codes "70") ∷ setting 3 (codes "rwmixwrite") (codes "40") ∷ [])).read_percent ≡ 60
-unfolding setting setting_of number_of
-mix_row = refl
-
-mix_turned_row : (options_in (setting 2 (codes "rwmixwrite") (codes "40") ∷ setting 3 (codes "rwmixread") (codes "70") ∷ [])).read_percent ≡ 70
-unfolding setting setting_of number_of
-mix_turned_row = refl
-
--- aliases are one key
-alias_row : (options_in (setting 2 (codes "bs") (codes "8k") ∷ setting 3 (codes "blocksize") (codes "16k,1k") ∷ [])).write_size ≡ 1024
-unfolding setting setting_of number_of
-alias_row = refl
 
 -- `[a] size=8k numjobs=2 offset_increment=4k filename=f directory=/tmp`
 one_file : List SectionText

@@ -7,15 +7,15 @@ use Rattle.jr_model.specs.declared.workloads.EngineKind.{EngineKind}
 use Rattle.jr_model.specs.declared.workloads.EngineKind.TheVariants as engine
 use Rattle.jr_model.specs.Plan.{is_verified}
 use Rattle.jr_model.specs.Tickets.{has_pattern}
-use Rattle.jr_options.specs.declared.faults.Bound.TheVariants as bound
-use Rattle.jr_options.specs.declared.faults.JobFault.{JobFault}
-use Rattle.jr_options.specs.declared.faults.JobFault.TheVariants as fault
-use Rattle.jr_options.specs.declared.options.JobOptions.{JobOptions}
+use Rattle.jr_settings.specs.declared.faults.Bound.TheVariants as bound
+use Rattle.jr_settings.specs.declared.faults.JobFault.{JobFault}
+use Rattle.jr_settings.specs.declared.faults.JobFault.TheVariants as fault
+use Rattle.jr_settings.specs.declared.options.JobOptions.{JobOptions}
 use Rattle.jr_options.specs.declared.reading.Tally.{Tally}
-use Rattle.jr_options.specs.declared.shapes.Shape.{Shape}
+use Rattle.jr_settings.specs.declared.shapes.Shape.{Shape}
 use Rattle.jr_options.specs.PlanFacts.{has_writes}
 use Rattle.jr_options.specs.PlanOf.{JobAsked, engine_of, verifiers_of}
-use Rattle.jr_options.specs.Shapes.{shape_of, shape_with, shape_in, options_fit, cell_of, reads_of, writes_of}
+use Rattle.jr_settings.specs.Shapes.{shape_of, shape_with, shape_in, options_fit, cell_of, reads_of, writes_of}
 use Rattle.jr_options.specs.Surveys.{start_of, counted, and_shape, and_job, empty_tally, tally_fault}
 use Rattle.jr_options.proofs.SurveyLemmas.{tally_from}
 

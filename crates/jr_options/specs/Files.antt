@@ -2,7 +2,7 @@
 use Rattle.std.specs.Prelude.{ℕ, suc, ◌==◌, min, max, Bool, true, not, ◌&&◌, List, [], ◌∷◌, if◌then◌else◌}
 use Rattle.std.specs.List.{list_any}
 use Rattle.jr_model.specs.Plan.{SubJob, FileSpec}
-use Rattle.jr_options.specs.OptionWords.{same_text}
+use Rattle.jr_settings.specs.OptionWords.{same_text}
 
 -- no two of these clones have one file
 abbrev pub are_apart : List SubJob → Bool

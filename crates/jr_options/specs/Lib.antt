@@ -1,15 +1,9 @@
 pub mod Drafts
 pub mod Files
 pub mod Jobs
-pub mod Lookups
-pub mod OptionValues
-pub mod OptionWords
-pub mod Options
-pub mod FaultTexts
 pub mod PlanFacts
 pub mod PlanOf
 pub mod PlanText
 pub mod Refusals
-pub mod Settings
-pub mod Shapes
 pub mod Surveys
+pub use Rattle.jr_settings.specs.FaultTexts

@@ -1,28 +1,9 @@
 -- What holds of every plan that is made from a job file, whatever the file says (the limits are of this project).
 use Rattle.std.specs.Prelude.{◌≡◌, ℕ, ◌+◌, ◌*◌, ◌%◌, ◌^◌, ◌<◌, ◌≤◌, Bool, true, false, List, length, sum_by, Some, slice_get}
-use Rattle.jr_model.specs.declared.workloads.IoType.{IoType}
-use Rattle.jr_model.specs.declared.workloads.IoType.TheVariants as io
 use Rattle.jr_model.specs.Draws.{size_at}
 use Rattle.jr_model.specs.Plan.{SubJob, FileSpec, Plan, is_verified}
 use Rattle.jr_model.specs.Tickets.{has_pattern}
-
--- the I/O type has reads
-abbrev pub has_reads : IoType → Bool
-has_reads io.Read = true
-has_reads io.RandRead = true
-has_reads io.ReadWrite = true
-has_reads io.RandRw = true
-has_reads io.Write = false
-has_reads io.RandWrite = false
-
--- the I/O type has writes
-abbrev pub has_writes : IoType → Bool
-has_writes io.Write = true
-has_writes io.RandWrite = true
-has_writes io.ReadWrite = true
-has_writes io.RandRw = true
-has_writes io.Read = false
-has_writes io.RandRead = false
+pub use Rattle.jr_settings.specs.Directions.{has_reads, has_writes}
 
 -- each size that the split gives is a multiple of the cell, from the cell on up to the largest block
 pub record SizesFit (cell : ℕ) (split : List (ℕ × ℕ)) : Type 0 where

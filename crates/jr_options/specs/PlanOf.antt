@@ -7,12 +7,12 @@ use Rattle.jr_model.specs.declared.workloads.EngineKind.TheVariants as engine
 use Rattle.jr_model.specs.Plan.{Plan}
 use Rattle.jr_text.specs.Records.{SectionText}
 use Rattle.jr_options.specs.declared.drafts.PlannedJob.{PlannedJob}
-use Rattle.jr_options.specs.declared.options.JobOptions.{JobOptions}
+use Rattle.jr_settings.specs.declared.options.JobOptions.{JobOptions}
 use Rattle.jr_options.specs.Drafts.{Clones, with_clone}
 use Rattle.jr_options.specs.Jobs.{effective_lines}
-use Rattle.jr_options.specs.Lookups.{options_in, last_value}
+use Rattle.jr_settings.specs.Lookups.{options_in, last_value}
 use Rattle.jr_options.specs.PlanFacts.{work_of}
-use Rattle.jr_options.specs.Shapes.{shape_in}
+use Rattle.jr_settings.specs.Shapes.{shape_in}
 use Rattle.jr_options.specs.Surveys.{is_planned, start_of}
 
 -- what the lines that count for a job ask for

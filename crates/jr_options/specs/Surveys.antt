@@ -5,16 +5,16 @@ use Rattle.std.specs.Option.{option_or}
 use Rattle.jr_model.specs.declared.workloads.EngineKind.{EngineKind}
 use Rattle.jr_model.specs.declared.workloads.EngineKind.TheVariants as engine
 use Rattle.jr_text.specs.Records.{SectionText}
-use Rattle.jr_options.specs.declared.faults.Bound.TheVariants as bound
-use Rattle.jr_options.specs.declared.faults.JobFault.{JobFault}
-use Rattle.jr_options.specs.declared.faults.JobFault.TheVariants as fault
-use Rattle.jr_options.specs.declared.options.JobOptions.{JobOptions}
+use Rattle.jr_settings.specs.declared.faults.Bound.TheVariants as bound
+use Rattle.jr_settings.specs.declared.faults.JobFault.{JobFault}
+use Rattle.jr_settings.specs.declared.faults.JobFault.TheVariants as fault
+use Rattle.jr_settings.specs.declared.options.JobOptions.{JobOptions}
 use Rattle.jr_options.specs.declared.reading.Survey.{Survey}
 use Rattle.jr_options.specs.declared.reading.Tally.{Tally}
-use Rattle.jr_options.specs.declared.shapes.Shape.{Shape}
-use Rattle.jr_options.specs.OptionWords.{same_text}
-use Rattle.jr_options.specs.Options.{default_options, options_from}
-use Rattle.jr_options.specs.Shapes.{shape_of}
+use Rattle.jr_settings.specs.declared.shapes.Shape.{Shape}
+use Rattle.jr_settings.specs.OptionWords.{same_text}
+use Rattle.jr_settings.specs.Options.{default_options, options_from}
+use Rattle.jr_settings.specs.Shapes.{shape_of}
 
 -- where the clone of this place within its job begins
 abbrev pub start_of : JobOptions → ℕ → ℕ

@@ -1,16 +1,14 @@
 ghost use Rattle.std.specs.Prelude.{◌≡◌, ◌≤◌, ◌<◌, ◌+◌, ◌*◌, ◌%◌, ◌^◌, [], length, string_bytes, IfOk, IfErr};
-ghost use Rattle.jr_options.specs.declared.faults.JobFault.TheVariants.{Memory as OutOfMemory};
+ghost use Rattle.jr_settings.specs.declared.faults.JobFault.TheVariants.{Memory as OutOfMemory};
 ghost use Rattle.jr_options.specs.Drafts.{Clones, with_clone};
-ghost use Rattle.jr_options.specs.Options.{AreInRange};
+ghost use Rattle.jr_settings.specs.Options.{AreInRange};
 ghost use Rattle.jr_options.specs.PlanFacts.{AreDrafted, work_of};
-ghost use Rattle.jr_options.specs.Shapes.{HasShape};
+ghost use Rattle.jr_settings.specs.Shapes.{HasShape};
 
-use crate::faults::JobFault;
 use crate::files::{FileSpec, use_file};
 use crate::jobs::SubJob;
-use crate::options::JobOptions;
-use crate::shapes::Shape;
 use jr_model::Method;
+use jr_settings::{JobFault, JobOptions, Shape};
 use std::alloc::Global;
 use std::marker::Model;
 

@@ -1,20 +1,18 @@
 ghost use Rattle.std.specs.Prelude.{◌≡◌, ◌≤◌, ◌<◌, ◌+◌, ◌-◌, ◌*◌, ◌^◌, [], if◌then◌else◌, not, true, fold, string_bytes, unwrap_or, IfOk, IfErr, IfSome, Ok, Err, Some, None, option_copied};
 ghost use Rattle.std.specs.List.{list_any};
 ghost use Rattle.jr_options.specs.Jobs.{global_lines, effective_lines, planned_job};
-ghost use Rattle.jr_options.specs.declared.faults.JobFault.TheVariants.{Memory as OutOfMemory};
-ghost use Rattle.jr_options.specs.Lookups.{last_value, value_from};
-ghost use Rattle.jr_options.specs.Options.{AreInRange, options_from};
+ghost use Rattle.jr_settings.specs.declared.faults.JobFault.TheVariants.{Memory as OutOfMemory};
+ghost use Rattle.jr_settings.specs.Lookups.{last_value, value_from};
+ghost use Rattle.jr_settings.specs.Options.{AreInRange, options_from};
 ghost use Rattle.jr_options.specs.PlanOf.{HasRoom, clones_asked, default_name, file_of, job_asked, path_in, phased_job, plan_of, planned_as, with_asked};
 ghost use Rattle.jr_options.specs.Refusals.{refusal_of};
-ghost use Rattle.jr_options.specs.Shapes.{HasShape};
+ghost use Rattle.jr_settings.specs.Shapes.{HasShape};
 ghost use Rattle.jr_options.specs.Surveys.{IsCapped, start_of, is_global, is_planned, empty_tally, and_job, and_shape, tally_fault, is_other_engine, engine_number, first_survey, with_section, survey_from, tally_in};
 
 use crate::drafts::{Draft, PlannedJob};
-use crate::faults::{Bound, JobFault};
-use crate::options::JobOptions;
 use crate::plans::Plan;
-use crate::shapes::Shape;
 use jr_model::EngineKind;
+use jr_settings::{Bound, JobFault, JobOptions, Shape};
 use jr_text::{Line, Section};
 use std::alloc::{AllocError, Global};
 

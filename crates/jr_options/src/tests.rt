@@ -1,8 +1,8 @@
-use crate::faults::{Bound, JobFault};
 use crate::plans::Plan;
 use crate::reading::plan;
 use crate::texts::plan_text;
-use jr_model::{EngineKind, Pattern};
+use jr_model::EngineKind;
+use jr_settings::{Bound, JobFault};
 use jr_text::sections;
 use std::alloc::Global;
 use std::test::Fail;
@@ -77,89 +77,17 @@ fn one_file_of_two_clones(rt: HostRuntime) -> Result<(), Fail> {
 }
 
 #[test]
-fn the_last_mix_counts(rt: HostRuntime) -> Result<(), Fail> {
-    let first = planned(
-        rt.alloc(),
-        "[a]\nrw=rw\nsize=4k\nrwmixread=70\nrwmixwrite=40\n",
-        None,
-    )?;
-    assert_eq!(rt; first.clones(), 1);
-    assert_eq!(rt; first.clone_at(0).read_percent(), 60);
-    let second = planned(
-        rt.alloc(),
-        "[a]\nrw=rw\nsize=4k\nrwmixwrite=40\nrwmixread=70\n",
-        None,
-    )?;
-    assert_eq!(rt; second.clones(), 1);
-    assert_eq!(rt; second.clone_at(0).read_percent(), 70);
-    Ok(())
-}
-
-#[test]
-fn block_sizes_by_direction(rt: HostRuntime) -> Result<(), Fail> {
-    let plan = planned(rt.alloc(), "[a]\nrw=rw\nsize=64k\nbs=,8k\n", None)?;
-    assert_eq!(rt; plan.clones(), 1);
-    let clone = plan.clone_at(0);
-    assert_eq!(rt; clone.read_split().size_of(0), 4096);
-    assert_eq!(rt; clone.write_split().size_of(99), 8192);
-    let plan = planned(rt.alloc(), "[a]\nrw=rw\nsize=64k\nbs=8k,32k,\n", None)?;
-    assert_eq!(rt; plan.clones(), 1);
-    let clone = plan.clone_at(0);
-    assert_eq!(rt; clone.read_split().size_of(0), 8192);
-    assert_eq!(rt; clone.write_split().size_of(0), 32768);
-    let plan = planned(rt.alloc(), "[a]\nrw=rw\nsize=64k\nbs=8k,\n", None)?;
-    assert_eq!(rt; plan.clones(), 1);
-    let clone = plan.clone_at(0);
-    assert_eq!(rt; clone.read_split().size_of(0), 8192);
-    assert_eq!(rt; clone.write_split().size_of(0), 4096);
-    Ok(())
-}
-
-#[test]
-fn faults_of_lines(rt: HostRuntime) {
+fn faults(rt: HostRuntime) {
     let alloc = rt.alloc();
     assert_eq!(rt; fault(alloc, ""), Some(JobFault::NoJob));
     assert_eq!(rt; fault(alloc, "[global]\n"), Some(JobFault::NoJob));
-    assert_eq!(rt;
-        fault(alloc, "[a]\nsize=4k\nfilename=a:b\n"),
-        Some(JobFault::SeveralFiles(3))
-    );
-    assert_eq!(rt;
-        fault(alloc, "[a]\nruntime=60\n"),
-        Some(JobFault::Unknown(2))
-    );
-    assert_eq!(rt;
-        fault(alloc, "[a]\niodepth=0\niodepth=1\n"),
-        Some(JobFault::BadValue(2))
-    );
     assert_eq!(rt;
         fault(alloc, "[a]\n[b]\nbs=1,2,3,4\n"),
         Some(JobFault::BadValue(3))
     );
     assert_eq!(rt;
-        fault(alloc, "[a]\nsize=4k\nbssplit=4k/60\n"),
-        Some(JobFault::BadSplit(3))
-    );
-}
-
-#[test]
-fn faults_of_jobs(rt: HostRuntime) {
-    let alloc = rt.alloc();
-    assert_eq!(rt;
-        fault(alloc, "[a]\nsize=1k\nbs=4k\n"),
-        Some(JobFault::BadBlock(1))
-    );
-    assert_eq!(rt;
-        fault(alloc, "[a]\nrw=write\n"),
-        Some(JobFault::MissingSize(1))
-    );
-    assert_eq!(rt;
-        fault(alloc, "[r]\nrw=read\nsize=4k\nverify=md5\n"),
-        Some(JobFault::VerifyNeedsWrite(1))
-    );
-    assert_eq!(rt;
-        fault(alloc, "[r]\nrw=write\nsize=4k\nverify=pattern\n"),
-        Some(JobFault::NoPattern(1))
+        fault(alloc, "[a]\nsize=4k\n[b]\nrw=write\n"),
+        Some(JobFault::MissingSize(3))
     );
     assert_eq!(rt;
         fault(
@@ -192,37 +120,5 @@ fn limits(rt: HostRuntime) -> Result<(), Fail> {
     let plan = planned(alloc, "[a]\nrw=write\nsize=8g\nbs=512\nloops=64\n", None)?;
     assert_eq!(rt; plan.clones(), 1);
     assert_eq!(rt; plan.clone_at(0).passes(), 64);
-    Ok(())
-}
-
-#[test]
-fn patterns_of_jobs(rt: HostRuntime) -> Result<(), Fail> {
-    let plan = planned(
-        rt.alloc(),
-        "[w]\nioengine=memory\nrw=write\nsize=16k\nverify=pattern\nverify_pattern=0xabc\n",
-        None,
-    )?;
-    assert_eq!(rt; plan.clones(), 1);
-    let method = plan.clone_at(0).method();
-    let expected = [0x0a, 0xbc];
-    assert_eq!(rt; method.pattern, Pattern::new(&expected));
-    assert_eq!(rt;
-        fault(rt.alloc(), "[w]\nsize=4k\nverify_pattern=256\n"),
-        Some(JobFault::BadValue(3))
-    );
-    assert_eq!(rt;
-        fault(rt.alloc(), "[w]\nsize=4k\nverify_pattern=0x\n"),
-        Some(JobFault::BadValue(3))
-    );
-    let split = planned(
-        rt.alloc(),
-        "[w]\nrw=randrw\nsize=64k\nbssplit=4k/50:1k/:32k/,8k\n",
-        None,
-    )?;
-    assert_eq!(rt; split.clones(), 1);
-    let clone = split.clone_at(0);
-    assert_eq!(rt; clone.cell(), 1024);
-    assert_eq!(rt; clone.read_split().size_of(75), 32768);
-    assert_eq!(rt; clone.write_split().size_of(75), 8192);
     Ok(())
 }

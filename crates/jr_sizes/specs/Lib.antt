@@ -1,2 +1,3 @@
+pub mod FaultTexts
 pub mod SplitEntries
 pub mod Splits

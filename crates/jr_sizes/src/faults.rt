@@ -17,6 +17,11 @@ pub enum SplitFault {
 }
 
 impl fmt::Display for SplitFault {
+    ghost use Rattle.std.specs.Prelude.{Some};
+    ghost use Rattle.jr_sizes.specs.FaultTexts.{split_fault_text};
+
+    ghost output = { λ fault. Some (split_fault_text fault) };
+
     fn fmt<W: fmt::Write>(&self, f: &mut fmt::Formatter<W>) -> fmt::Result {
         match self {
             SplitFault::TooMany => write!(f, "more than 64 entries"),

@@ -1,6 +1,6 @@
 use Rattle.std.proofs.Common.{◌≡◌, drop, Ok}
 use Rattle.jr_options.specs.Jobs.{global_lines}
-use Rattle.jr_options.specs.Options.{AreInRange, options_from}
+use Rattle.jr_settings.specs.Options.{AreInRange, options_from}
 use Rattle.jr_options.proofs.reading.below.Given as goal
 
 -- the options so far, with the other global lines

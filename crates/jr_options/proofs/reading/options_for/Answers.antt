@@ -1,7 +1,7 @@
 use Rattle.std.proofs.Common.{◌≡◌, Ok, ap, ◌∙◌, sym}
 use Rattle.jr_options.specs.Jobs.{global_lines}
-use Rattle.jr_options.specs.Options.{options_from}
-use Rattle.jr_options.proofs.OptionLemmas.{options_from-append, fault_below}
+use Rattle.jr_settings.specs.Options.{options_from}
+use Rattle.jr_settings.proofs.OptionLemmas.{options_from-append, fault_stays}
 use Rattle.jr_options.proofs.reading.options_for.Goals as goal
 
 pub returns-in-Ok-clause-value : goal.returns-in-Ok-clause-value
@@ -16,4 +16,4 @@ pub returns-in-Err-clause-value : goal.returns-in-Err-clause-value
 returns-in-Err-clause-value c =
     let lines = c.args.section.now.lines in
     let whole = options_from-append (Ok c.args.defaults) (global_lines c.args.above.now) lines in
-    sym (whole ∙ ap (λ r. options_from r lines) (sym c.in-Err.ensures.value) ∙ fault_below c.in-Err.fault lines)
+    sym (whole ∙ ap (λ r. options_from r lines) (sym c.in-Err.ensures.value) ∙ fault_stays c.in-Err.fault lines)

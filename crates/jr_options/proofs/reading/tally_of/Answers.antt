@@ -1,7 +1,7 @@
 use Rattle.std.proofs.Common.{◌<◌, length, ap, ◌∙◌, sym, arith}
 use Rattle.std.specs.Option.{option_copied}
 use Rattle.jr_options.specs.Surveys.{tally_in}
-use Rattle.jr_options.proofs.OptionLemmas.{survey_refused}
+use Rattle.jr_options.proofs.SectionLemmas.{survey_refused}
 use Rattle.jr_options.proofs.reading.tally_of.Goals as goal
 
 pub returns-in-Err-clause-value : goal.returns-in-Err-clause-value

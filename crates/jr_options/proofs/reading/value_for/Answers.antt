@@ -2,9 +2,10 @@ use Rattle.std.proofs.Common.{◌≡◌, ◌<◌, ◌≤◌, [], cond, true, fal
 use Rattle.std.specs.Option.{option_copied}
 use Rattle.std.proofs.lemmas.List.{at_drop_all}
 use Rattle.jr_options.specs.Jobs.{global_lines, effective_lines}
-use Rattle.jr_options.specs.Lookups.{value_from}
+use Rattle.jr_settings.specs.Lookups.{value_from}
 use Rattle.jr_options.specs.Surveys.{is_global}
-use Rattle.jr_options.proofs.LookupLemmas.{value_at, value_from-append, value_from-none}
+use Rattle.jr_settings.proofs.LookupLemmas.{value_from-append, value_from-none}
+use Rattle.jr_options.proofs.SectionLemmas.{value_at}
 use Rattle.jr_options.proofs.reading.value_for.Goals as goal
 use Rattle.jr_options.proofs.reading.value_for.Goals.{then-is_global, else-is_global}
 

@@ -1,7 +1,7 @@
 use Rattle.std.proofs.Common.{◌≡◌, drop, None}
 use Rattle.std.specs.Option.{option_copied}
 use Rattle.jr_options.specs.Jobs.{global_lines}
-use Rattle.jr_options.specs.Lookups.{value_from}
+use Rattle.jr_settings.specs.Lookups.{value_from}
 use Rattle.jr_options.proofs.reading.value_for.Given as goal
 
 -- the value so far, with the other global lines

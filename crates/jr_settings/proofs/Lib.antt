@@ -1,0 +1,4 @@
+pub mod CutLemmas
+pub mod LookupLemmas
+pub mod OptionLemmas
+pub mod Rows

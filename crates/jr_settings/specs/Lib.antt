@@ -1,0 +1,8 @@
+pub mod Directions
+pub mod FaultTexts
+pub mod Lookups
+pub mod OptionValues
+pub mod OptionWords
+pub mod Options
+pub mod Settings
+pub mod Shapes

@@ -1,0 +1,110 @@
+ghost use Rattle.std.specs.Prelude.{◌≡◌};
+ghost use Rattle.jr_settings.specs.declared.faults.JobFault.TheVariants.{Memory as OutOfMemory};
+
+use std::alloc::{AllocError, AllocFailed};
+use std::error::Error;
+use std::fmt;
+
+/// What a run may not have more of.
+#[derive(Clone, Copy, Debug, PartialEq, Eq)]
+pub enum Bound {
+    /// 64 clones.
+    Clones,
+    /// An end of a region at 2^50.
+    Region,
+    /// 2^24 cells of a clone.
+    Cells,
+    /// 2^30 cells over all clones and their passes.
+    Work,
+}
+
+/// Why sections make no plan. A number is that of a line, from 1: of the option at fault, or of the
+/// line that opens the job's section.
+#[derive(Clone, Copy, Debug, PartialEq, Eq)]
+pub enum JobFault {
+    /// There is no section but `global`.
+    NoJob,
+    /// There is no job of the name that was asked for.
+    NoSection,
+    /// A key that isn't known.
+    Unknown(u32),
+    BadValue(u32),
+    /// A job without `size`.
+    MissingSize(u32),
+    /// A block size, an offset or a size that no blocks of 512 bytes fit.
+    BadBlock(u32),
+    /// A bad `bssplit`.
+    BadSplit(u32),
+    /// `verify=pattern` without `verify_pattern`.
+    NoPattern(u32),
+    /// A job that verifies and never writes.
+    VerifyNeedsWrite(u32),
+    /// Planned jobs of several kinds of engine.
+    MixedEngines,
+    /// A file name with a colon, which lists several files.
+    SeveralFiles(u32),
+    Limit(Bound),
+    Memory,
+}
+
+impl fmt::Display for Bound {
+    ghost use Rattle.std.specs.Prelude.{Some};
+    ghost use Rattle.jr_settings.specs.FaultTexts.{bound_text};
+
+    ghost output = { λ bound. Some (bound_text bound) };
+
+    fn fmt<W: fmt::Write>(&self, f: &mut fmt::Formatter<W>) -> fmt::Result {
+        match self {
+            Bound::Clones => write!(f, "clones"),
+            Bound::Region => write!(f, "region"),
+            Bound::Cells => write!(f, "cells"),
+            Bound::Work => write!(f, "work"),
+        }
+    }
+}
+
+impl fmt::Display for JobFault {
+    ghost use Rattle.std.specs.Prelude.{Some};
+    ghost use Rattle.jr_settings.specs.FaultTexts.{job_fault_text};
+
+    ghost output = { λ fault. Some (job_fault_text fault) };
+
+    fn fmt<W: fmt::Write>(&self, f: &mut fmt::Formatter<W>) -> fmt::Result {
+        match self {
+            JobFault::NoJob => write!(f, "job file: no job"),
+            JobFault::NoSection => write!(f, "job file: no such section"),
+            JobFault::Unknown(line) => write!(f, "job file: line {line}: option out of scope"),
+            JobFault::BadValue(line) => write!(f, "job file: line {line}: bad value"),
+            JobFault::MissingSize(line) => write!(f, "job at line {line}: no size"),
+            JobFault::BadBlock(line) => write!(f, "job at line {line}: bad block size or place"),
+            JobFault::BadSplit(line) => write!(f, "job file: line {line}: bad split"),
+            JobFault::NoPattern(line) => write!(f, "job at line {line}: no verify_pattern"),
+            JobFault::VerifyNeedsWrite(line) => write!(
+                f,
+                "job at line {line}: verify needs a write"
+            ),
+            JobFault::MixedEngines => write!(f, "job file: several engine kinds"),
+            JobFault::SeveralFiles(line) => write!(f, "job file: line {line}: several files"),
+            JobFault::Limit(bound) => write!(f, "job file: limit of {bound}"),
+            JobFault::Memory => write!(f, "out of memory"),
+        }
+    }
+}
+
+impl Error for JobFault {}
+
+impl From<AllocError> for JobFault {
+    ghost from_gives = { λ _ fault. fault ≡ OutOfMemory };
+
+    fn from(_error: AllocError) -> JobFault {
+        JobFault::Memory
+    }
+}
+
+impl<T: Drop> From<AllocFailed<T>> for JobFault {
+    ghost from_gives = { λ _ fault. fault ≡ OutOfMemory };
+
+    fn from(_error: AllocFailed<T>) -> JobFault {
+        JobFault::Memory
+    }
+}

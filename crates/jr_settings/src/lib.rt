@@ -1,0 +1,16 @@
+// What the option lines of one job say: its options, how its region is cut, and what is wrong with them.
+#![tactic(auto)]
+
+mod faults;
+mod keys;
+mod options;
+mod settings;
+mod shapes;
+#[cfg(test)]
+mod tests;
+mod values;
+mod words;
+
+pub use faults::{Bound, JobFault};
+pub use options::JobOptions;
+pub use shapes::Shape;
