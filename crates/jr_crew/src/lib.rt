@@ -6,3 +6,6 @@ mod serial;
 
 pub use faults::RunFault;
 pub use serial::run_serial;
+
+#[cfg(test)]
+mod tests;

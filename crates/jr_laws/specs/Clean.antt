@@ -1,0 +1,26 @@
+-- When nothing went wrong in a history.
+use Rattle.std.specs.Prelude.{◌≡◌, Bool, false, List}
+use Rattle.std.specs.List.{list_any}
+use Rattle.jr_model.specs.declared.events.Event.{Event}
+use Rattle.jr_model.specs.declared.events.Event.TheVariants.{Issue, Probe, Skip, End, Verdict}
+use Rattle.jr_model.specs.Legal.{is_fault}
+use Rattle.jr_model.specs.Plan.{Plan}
+use Rattle.jr_model.specs.Serial.{serial_history}
+use Rattle.jr_laws.specs.Checks.{has_miscompare}
+
+-- the event ends an I/O or check that failed or ended short
+abbrev pub is_faulty_end : Event → Bool
+is_faulty_end (End worker io outcome) = is_fault outcome
+is_faulty_end (Issue worker dir write piece) = false
+is_faulty_end (Probe worker write piece) = false
+is_faulty_end (Skip worker write) = false
+is_faulty_end (Verdict worker io verdict) = false
+
+-- some I/O or check of the history failed or ended short
+abbrev pub has_fault : List Event → Bool
+has_fault history = list_any is_faulty_end history
+
+-- the history of one worker over a right memory has no fault and no Bad verdict
+abbrev pub SerialIsClean : Type 0
+SerialIsClean =
+    (plan : Plan) → (has_fault (serial_history plan) ≡ false) × (has_miscompare (serial_history plan) ≡ false)
