@@ -1,6 +1,6 @@
 -- The trace of a whole legal run is accepted.
-use Rattle.std.proofs.Common.{◌≡◌, ℕ, ◌+◌, List, [], ◌∷◌, ◌++◌, length, Bool, true, cond, ◌&&◌, Result, Ok, Err, refl, sym, ap, ◌∙◌, inl, inr, append_assoc, append-nil}
-use Rattle.std.specs.Prelude.{Option, Some, None, codes, slice_get, ok_or, ◌==◌}
+use Rattle.std.proofs.Common.{◌≡◌, ℕ, ◌+◌, List, [], ◌∷◌, ◌++◌, length, Bool, true, cond, ◌&&◌, Result, Ok, Err, Vec, Global, refl, sym, ap, ◌∙◌, subst, inl, inr, append_assoc, append-nil}
+use Rattle.std.specs.Prelude.{IfOk, Option, Some, None, codes, slice_get, ok_or, ◌==◌}
 use Rattle.std.specs.List.{slice_split}
 use Rattle.std.specs.Option.{option_map}
 use Rattle.std.proofs.lemmas.Bool.{and_from, and_parts, eq-eqb, eqb-true}
@@ -24,10 +24,11 @@ use Rattle.jr_model.specs.Plan.{Plan, SubJob, clone_of}
 use Rattle.jr_model.specs.Report.{all_totals}
 use Rattle.jr_model.specs.Rounds.{Pass, pass_of}
 use Rattle.jr_model.proofs.LegalLaws.{cases_step_of}
+use Rattle.jr_options.specs.PlanFacts.{IsPlanned}
 use Rattle.jr_stats.specs.declared.faults.TraceFault.{TraceFault}
 use Rattle.jr_stats.specs.declared.faults.TraceFault.TheVariants.{Illegal, Unfinished}
 use Rattle.jr_stats.specs.TraceChecks.{after, check_of, entry_event, entry_fits, event_of, if_legal, is_newline, is_numbered, legal_event, line_event, lines_read, outcome_of, verdict_of}
-use Rattle.jr_stats.specs.TraceLaws.{TraceIsAccepted, ending_of, entry_of, finding_of, lines_fit}
+use Rattle.jr_stats.specs.TraceLaws.{TraceIsAccepted, ending_of, entry_of, finding_of, lines_fit, workers_fit}
 use Rattle.jr_stats.specs.Traces.{event_text, lines_after, trace_of}
 use Rattle.jr_stats.proofs.EntryReading.{event_read}
 use Rattle.jr_stats.proofs.LineEnds.{no_newline}
@@ -184,12 +185,21 @@ lines_back plan history (e ∷ events) n legal fits =
     ∙ lines_back plan longer events (n + 1) may.1 small.1
     ∙ ap Ok (append_assoc history (e ∷ []) events)
 
--- the trace of a whole legal run with such numbers is accepted
-pub fitting_is_accepted : (plan : Plan) (history : List Event) → is_legal plan history ≡ true → is_complete plan history ≡ true → lines_fit [] history ≡ true → check_of plan (trace_of history) ≡ Ok (all_totals plan history)
-fitting_is_accepted plan history legal complete fits =
-    ap (λ (r : Result (List Event) TraceFault). after r (λ h. cond (is_complete plan h) (Ok (all_totals plan h)) (Err Unfinished))) (lines_back plan [] history 1 legal fits)
-    ∙ ap (λ (b : Bool). cond b (Ok (all_totals plan history)) (Err Unfinished)) complete
+-- the trace of a legal run with small numbers is read back
+pub trace_is_checked : (plan : Plan) (history : List Event) → IsPlanned plan → is_legal plan history ≡ true → workers_fit history ≡ true → check_of plan (trace_of history) ≡ cond (is_complete plan history) (Ok (all_totals plan history)) (Err Unfinished)
+trace_is_checked plan history planned legal fit =
+    ap (λ (r : Result (List Event) TraceFault). after r (λ h. cond (is_complete plan h) (Ok (all_totals plan h)) (Err Unfinished)))
+    (lines_back plan [] history 1 legal (numbers_fit plan history planned legal ∙ fit))
 
 pub trace_is_accepted : TraceIsAccepted
 trace_is_accepted plan history planned legal complete fit =
-    fitting_is_accepted plan history legal complete (numbers_fit plan history planned legal ∙ fit)
+    trace_is_checked plan history planned legal fit
+    ∙ ap (λ (b : Bool). cond b (Ok (all_totals plan history)) (Err Unfinished)) complete
+
+-- the same of a text, and of a history and a plan under other names
+pub text_is_checked : {E : Type 0} (plan p : Plan) (history h : List Event) (text : Result (Vec ℕ Global) E) → p ≡ plan → h ≡ history → IsPlanned p → is_legal plan history ≡ true → IfOk text (λ t. t.items ≡ trace_of h) → IfOk text (λ t. workers_fit h ≡ true) → IfOk text (λ t. check_of plan t.items ≡ cond (is_complete plan history) (Ok (all_totals plan history)) (Err Unfinished))
+text_is_checked plan p history h (Err e) same_plan same planned legal written fit = tt
+text_is_checked plan p history h (Ok t) same_plan same planned legal written fit =
+    let here : workers_fit history ≡ true = ap workers_fit (sym same) ∙ fit in
+    ap (check_of plan) (written ∙ ap trace_of same)
+    ∙ trace_is_checked plan history (subst IsPlanned same_plan planned) legal here

@@ -1,10 +1,14 @@
 -- The lines of a trace, one after another.
 use Rattle.std.proofs.Common.{◌≡◌, ℕ, ◌+◌, ◌<◌, ◌≤◌, List, [], ◌∷◌, ◌++◌, length, take, drop, get_or, Bool, true, false, refl, sym, ap, ◌∙◌, append_assoc, arith}
 use Rattle.std.specs.Prelude.{is_some}
+use Rattle.std.proofs.lemmas.Bool.{and_from}
 use Rattle.std.proofs.lemmas.List.{at_drop_all, at_drop_more, take_more}
+use Rattle.std.proofs.lemmas.List.Folds.{list_all-append}
 use Rattle.jr_model.specs.declared.events.Event.{Event}
 use Rattle.jr_model.specs.declared.events.Event.TheVariants.{Issue, Probe, Skip, End, Verdict}
 use Rattle.jr_model.specs.History.{started, started_by}
+use Rattle.jr_stats.specs.TraceChecks.{is_small}
+use Rattle.jr_stats.specs.TraceLaws.{worker_of, workers_fit}
 use Rattle.jr_stats.specs.Traces.{event_line, event_text, lines_after, trace_of}
 use Rattle.jr_stats.proofs.ReadingLemmas.{started_more}
 
@@ -66,3 +70,11 @@ pub counted_same : (history : List Event) (i io next : ℕ) (d : Event) (b : Boo
 counted_same history i io next d b within test other count same =
     let size = starts_same history i d within (sym test ∙ other) in
     omega (arith, size, count, same)
+
+-- the workers of the events so far, with the next one's
+pub worker_more : (history : List Event) (i : ℕ) (d : Event) → i < length history → workers_fit (take i history) ≡ true → is_small (worker_of (get_or history i d)) ≡ true → workers_fit (take (i + 1) history) ≡ true
+worker_more history i d within before small =
+    let e = get_or history i d in
+    ap workers_fit (take_more history i d within)
+    ∙ list_all-append (λ (x : Event). is_small (worker_of x)) (take i history) (e ∷ [])
+    ∙ and_from (workers_fit (take i history)) _ before (and_from (is_small (worker_of e)) true small refl)

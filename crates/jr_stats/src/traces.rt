@@ -1,23 +1,36 @@
-ghost use Rattle.std.specs.Prelude.{◌≡◌, ◌++◌, IfOk, OnOk, codes, is_some};
+ghost use Rattle.std.specs.Prelude.{◌≡◌, ◌++◌, Err, IfOk, Ok, OnOk, codes, if◌then◌else◌, is_some, true};
 ghost use Rattle.jr_model.specs.History.{started_by};
+ghost use Rattle.jr_model.specs.Legal.{is_complete};
+ghost use Rattle.jr_model.specs.Report.{all_totals};
+ghost use Rattle.jr_stats.specs.TraceChecks.{check_of, is_small};
+ghost use Rattle.jr_stats.specs.TraceLaws.{worker_of, workers_fit};
 ghost use Rattle.jr_stats.specs.Traces.{draw_fields, event_text, outcome_fields, spaced, trace_of, verdict_fields, what_fields};
 
+use crate::faults::TraceFault;
 use crate::texts::{push_number, push_text};
 use jr_desk::Desk;
 use jr_model::{Event, Memory, Outcome, Verdict, What, WriteId};
 use jr_replay::started_by;
 use std::alloc::Global;
 
-/// The trace of a run: a line for each event of its history.
+/// The trace of a run: a line for each event of its history. Checked, it is accepted where the run is complete, with its
+/// totals, and else `Unfinished`.
 pub fn trace(alloc: Global, desk: &Desk) -> Result<Vec<u8>, Memory>
-    ensures { IfOk result (λ text. text.items ≡ trace_of desk.now.history) }
+    ensures value { IfOk result (λ text. text.items ≡ trace_of desk.now.history) }
+    ensures checked { IfOk result (λ text. check_of desk.now.plan text.items
+        ≡ (if is_complete desk.now.plan desk.now.history
+        then Ok (all_totals desk.now.plan desk.now.history)
+        else Err TraceFault.Unfinished)) }
 {
+    // Its contract says that the plan keeps the limits.
+    let _ = desk.plan().clones();
     trace_text(alloc, desk.history())
 }
 
 // The trace of a history.
 pub fn trace_text(alloc: Global, history: &[Event]) -> Result<Vec<u8>, Memory>
-    ensures { IfOk result (λ text. text.items ≡ trace_of history.now) }
+    ensures value { IfOk result (λ text. text.items ≡ trace_of history.now) }
+    ensures fit { IfOk result (λ text. workers_fit history.now ≡ true) }
 {
     let mut text = Vec::new(alloc);
     let mut io = 0;
@@ -40,7 +53,8 @@ fn starts(event: &Event) -> bool
 
 // The line of an event before its line feed, where so many I/Os and checks were started before it.
 fn push_event(text: &mut Vec<u8>, io: u64, event: &Event) -> Result<(), Memory>
-    ensures { OnOk result (text.new.items ≡ text.old.items ++ event_text io event.now) }
+    ensures value { OnOk result (text.new.items ≡ text.old.items ++ event_text io event.now) }
+    ensures fits { is_small (worker_of event.now) ≡ true }
 {
     match event {
         Event::Issue { worker, write, .. } => push_start(text, "I", *worker, io, write),
