@@ -1,6 +1,7 @@
 pub mod BuildLemmas
 pub mod CloneLemmas
 pub mod DraftLemmas
+pub mod FileEnds
 pub mod FileLemmas
 pub mod LimitLemmas
 pub mod ListLemmas

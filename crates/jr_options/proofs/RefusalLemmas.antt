@@ -26,7 +26,7 @@ use Rattle.jr_settings.specs.Shapes.{shape_of}
 use Rattle.jr_options.specs.Surveys.{is_global, is_named, is_planned, start_of, engine_number, is_other_engine, counted, and_shape, and_job, empty_tally, tally_fault, first_survey, survey_from, tally_in, refusal_in, survey_refusal}
 use Rattle.jr_settings.proofs.OptionLemmas.{fault_stays}
 use Rattle.jr_options.proofs.SectionLemmas.{survey_stays}
-use Rattle.jr_options.proofs.SoundLemmas.{shaped_as}
+use Rattle.jr_settings.proofs.ShapeLemmas.{shaped_as}
 use Rattle.jr_options.proofs.SurveyLemmas.{tally_from, after, surveyed}
 
 -- lines that are read one after another are refused by their first fault

@@ -1,42 +1,21 @@
 -- Where the tally of some jobs shows no fault, each job fits the limits, and so do all together.
-use Rattle.std.proofs.Common.{◌≡◌, ℕ, ◌+◌, ◌-◌, ◌*◌, ◌/◌, ◌^◌, ◌≤◌, min, max, Bool, true, false, not, ◌&&◌, ◌||◌, cond, List, [], ◌∷◌, Option, Some, None, Result, Ok, Err, ap, ◌∙◌, sym, subst, refl, arith}
-use Rattle.std.specs.Prelude.{nat_lt, ◌==◌, is_some, unwrap_or, fold}
+use Rattle.std.proofs.Common.{◌≡◌, ℕ, ◌+◌, ◌-◌, ◌*◌, ◌^◌, ◌≤◌, min, max, Bool, true, false, cond, List, [], ◌∷◌, Option, Some, None, Result, Ok, Err, ap, ◌∙◌, subst, refl, arith}
+use Rattle.std.specs.Prelude.{nat_lt, is_some, unwrap_or, fold}
 use Rattle.std.specs.Option.{option_or}
 use Rattle.std.proofs.lemmas.Bool.{or_parts, ltb-false}
 use Rattle.jr_model.specs.declared.workloads.EngineKind.{EngineKind}
 use Rattle.jr_model.specs.declared.workloads.EngineKind.TheVariants as engine
-use Rattle.jr_model.specs.Plan.{is_verified}
-use Rattle.jr_model.specs.Tickets.{has_pattern}
 use Rattle.jr_settings.specs.declared.faults.Bound.TheVariants as bound
 use Rattle.jr_settings.specs.declared.faults.JobFault.{JobFault}
 use Rattle.jr_settings.specs.declared.faults.JobFault.TheVariants as fault
 use Rattle.jr_settings.specs.declared.options.JobOptions.{JobOptions}
 use Rattle.jr_options.specs.declared.reading.Tally.{Tally}
 use Rattle.jr_settings.specs.declared.shapes.Shape.{Shape}
-use Rattle.jr_options.specs.PlanFacts.{has_writes}
 use Rattle.jr_options.specs.PlanOf.{JobAsked, engine_of, verifiers_of}
-use Rattle.jr_settings.specs.Shapes.{shape_of, shape_with, shape_in, options_fit, cell_of, reads_of, writes_of}
+use Rattle.jr_settings.specs.Shapes.{shape_of, shape_in}
 use Rattle.jr_options.specs.Surveys.{start_of, counted, and_shape, and_job, empty_tally, tally_fault}
+use Rattle.jr_settings.proofs.ShapeLemmas.{shaped_as}
 use Rattle.jr_options.proofs.SurveyLemmas.{tally_from}
-
--- a job of some shape has the one that its options say
-unfaulted : (b1 b2 b3 : Bool) (f1 f2 f3 : JobFault) (cut shape : Shape) → cond b1 (Err f1) (cond b2 (Err f2) (cond b3 (Err f3) (Ok cut))) ≡ Ok shape → shape ≡ cut
-unfaulted true b2 b3 f1 f2 f3 cut shape is = absurd (cc)
-unfaulted false true b3 f1 f2 f3 cut shape is = absurd (cc)
-unfaulted false false true f1 f2 f3 cut shape is = absurd (cc)
-unfaulted false false false f1 f2 f3 cut shape is = cc
-
-cut_as : (o : JobOptions) (line : ℕ) (size : Option ℕ) (shape : Shape) → o.size ≡ size → shape_with o line size ≡ Ok shape → shape ≡ shape_in o
-cut_as o line None shape sized is = absurd (cc)
-cut_as o line (Some n) shape sized is =
-    let cell = cell_of o (reads_of o) (writes_of o) in
-    let cut : ℕ → Shape = λ (size : ℕ). record { size = size; cell = cell; cells = size / cell; reads = reads_of o; writes = writes_of o } in
-    unfaulted (not (options_fit o cell (reads_of o) (writes_of o)) || (n / cell == 0)) (not (has_pattern o.kind o.pattern)) (is_verified o.kind && not (has_writes o.io_type)) (fault.BadBlock line) (fault.NoPattern line) (fault.VerifyNeedsWrite line) (cut n) shape is
-    ∙ ap (λ s. cut (unwrap_or s 0)) (sym sized)
-
-pub shaped_as : (o : JobOptions) (line : ℕ) (shape : Shape) → shape_of o line ≡ Ok shape → shape ≡ shape_in o
-unfolding shape_of
-shaped_as o line shape is = cut_as o line o.size shape refl is
 
 -- a job within the limits of one job
 pub record JobFits (job : JobAsked) : Type 0 where

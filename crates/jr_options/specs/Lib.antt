@@ -1,4 +1,5 @@
 pub mod Drafts
+pub mod FileLaws
 pub mod Files
 pub mod Jobs
 pub mod PlanFacts

@@ -1,5 +1,5 @@
 -- What holds of every plan that is made from a job file, whatever the file says (the limits are of this project).
-use Rattle.std.specs.Prelude.{◌≡◌, ℕ, ◌+◌, ◌*◌, ◌%◌, ◌^◌, ◌<◌, ◌≤◌, Bool, true, false, List, length, sum_by, Some, slice_get}
+use Rattle.std.specs.Prelude.{◌≡◌, ℕ, ◌+◌, ◌*◌, ◌%◌, ◌^◌, ◌<◌, ◌≤◌, true, List, length, sum_by, Some, slice_get}
 use Rattle.jr_model.specs.Draws.{size_at}
 use Rattle.jr_model.specs.Plan.{SubJob, FileSpec, Plan, is_verified}
 use Rattle.jr_model.specs.Tickets.{has_pattern}

@@ -4,6 +4,7 @@
 mod drafts;
 mod files;
 mod jobs;
+mod laws;
 mod plans;
 mod reading;
 #[cfg(test)]
@@ -13,6 +14,7 @@ mod texts;
 pub use files::FileSpec;
 pub use jobs::SubJob;
 pub use jr_settings::{Bound, JobFault};
+pub use laws::{high_is_greatest, low_is_least};
 pub use plans::Plan;
 pub use reading::plan;
 pub use texts::plan_text;

@@ -1,3 +1,4 @@
+use crate::laws::{high_is_greatest, low_is_least};
 use crate::plans::Plan;
 use crate::reading::plan;
 use crate::texts::plan_text;
@@ -121,4 +122,10 @@ fn limits(rt: HostRuntime) -> Result<(), Fail> {
     assert_eq!(rt; plan.clones(), 1);
     assert_eq!(rt; plan.clone_at(0).passes(), 64);
     Ok(())
+}
+
+#[test]
+fn the_laws_can_be_called() {
+    low_is_least();
+    high_is_greatest();
 }

@@ -1,4 +1,5 @@
 ghost use Rattle.std.specs.Prelude.{◌≡◌, IfOk, Ok};
+ghost use Rattle.jr_settings.specs.Lookups.{options_in};
 ghost use Rattle.jr_settings.specs.Settings.{IsInRange};
 ghost use Rattle.jr_settings.specs.Options.{AreInRange, default_options, with_setting, options_from};
 
@@ -134,6 +135,8 @@ impl JobOptions {
         requires range { AreInRange self }
         ensures value { result ≡ options_from (Ok self) lines.now }
         ensures range { IfOk result AreInRange }
+        // Where nothing was said before, each option is what the last line of its keys says.
+        ensures lookups { self ≡ default_options → IfOk result (λ options. options ≡ options_in lines.now) }
     {
         let mut options = self;
         for line in lines {

@@ -1,7 +1,7 @@
 ghost use Rattle.std.specs.Prelude.{◌≡◌, ◌<◌, ◌==◌, true, IfOk, Some};
 ghost use Rattle.std.specs.List.{list_all};
 ghost use Rattle.jr_settings.specs.Directions.{has_reads, has_writes};
-ghost use Rattle.jr_settings.specs.Shapes.{HasShape, entry_fits, split_fits, options_fit, least_size, cell_of, shape_with, shape_of};
+ghost use Rattle.jr_settings.specs.Shapes.{HasShape, entry_fits, split_fits, options_fit, least_size, cell_of, shape_with, shape_in, shape_of};
 ghost use Rattle.jr_model.specs.Plan.{is_verified};
 ghost use Rattle.jr_model.specs.Tickets.{has_pattern};
 
@@ -124,6 +124,7 @@ impl JobOptions {
     pub fn shape(&self, line: u32) -> Result<Shape, JobFault>
         ensures value { result ≡ shape_of self.now line }
         ensures shape { IfOk result (HasShape self.now) }
+        ensures cut { IfOk result (λ shape. shape ≡ shape_in self.now) }
     {
         match self.size {
             Some(size) => self.cut(line, size),

@@ -25,11 +25,17 @@ fn shape(alloc: Global, text: &str) -> Result<Shape, JobFault> {
 }
 
 fn line_fault(alloc: Global, text: &str) -> Option<JobFault> {
-    options(alloc, text).err()
+    match options(alloc, text) {
+        Ok(_) => None,
+        Err(fault) => Some(fault),
+    }
 }
 
 fn job_fault(alloc: Global, text: &str) -> Option<JobFault> {
-    shape(alloc, text).err()
+    match shape(alloc, text) {
+        Ok(_) => None,
+        Err(fault) => Some(fault),
+    }
 }
 
 #[test]
