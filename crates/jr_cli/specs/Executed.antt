@@ -1,13 +1,19 @@
 -- What a run of the program is, and how it ends (of this project).
-use Rattle.std.specs.Prelude.{◌≡◌, ℕ, ◌+◌, true, List, Option}
+use Rattle.std.proofs.Common.{inl, inr}
+use Rattle.std.specs.Prelude.{◌≡◌, ◌⊎◌, ℕ, ◌+◌, true, List, Option, Some, None}
+use Rattle.std.specs.Borrow.{MutBor}
 use Rattle.std.specs.Io.KnownBytes.{Appends}
 use Rattle.jr_model.specs.declared.events.Event.{Event}
 use Rattle.jr_model.specs.Legal.{is_legal, is_complete}
 use Rattle.jr_model.specs.Plan.{Plan}
 use Rattle.jr_model.specs.Replies.{EngineState}
 use Rattle.jr_model.specs.Report.{all_totals, report_of}
+use Rattle.jr_stats.specs.Traces.{trace_of}
+use Rattle.jr_crew.specs.declared.faults.RunFault.TheVariants as run
 use Rattle.jr_crew.specs.Ends.{ends_of, failed_ends_of}
 use Rattle.jr_crew.specs.Runs.{IsCovering, IsTiedRun}
+use Rattle.jr_cli.specs.declared.faults.CliFault.{CliFault}
+use Rattle.jr_cli.specs.declared.faults.CliFault.TheVariants as fault
 use Rattle.jr_cli.specs.Status.{status_of}
 
 -- the report of the history was written behind what stood there, and the status is that of its totals
@@ -24,7 +30,20 @@ pub record IsRun (plan : Plan) (history : List Event) (before after : EngineStat
   pub failures : after.failures ≡ before.failures + failed_ends_of history
   pub tied : IsCovering plan before → IsTiedRun plan history before after
 
--- what is written and the status are those of such a history
-abbrev pub HasRun : Plan → EngineState → EngineState → Option (List ℕ) → Option (List ℕ) → ℕ → Type 0
-HasRun plan before after blank written status =
-    (history : List Event) × IsRun plan history before after × IsReported plan history blank written status
+-- such a run has a history of which this holds
+abbrev pub HasRun : Plan → EngineState → EngineState → (List Event → Type 0) → Type 0
+HasRun plan before after Holds = (history : List Event) × IsRun plan history before after × Holds history
+
+-- what an `Option<&mut W>` leaves: nothing at `None`, and the writer as it is then at `Some`
+abbrev pub LeftWriter : Type 0 → Type 0
+LeftWriter W = Unit {0} ⊎ ((MutBor W × Unit {0}) ⊎ ⊥)
+
+-- where there is a writer for it, the trace of the history was written behind what stood there
+abbrev pub IsTraced : {W : Type 0} → (W → Option (List ℕ)) → Option (MutBor W) → LeftWriter W → List Event → Type 0
+IsTraced contents None left history = Unit {0}
+IsTraced contents (Some writer) (inr (inl left)) history = Appends (contents writer.now) (contents left.0.now) (trace_of history)
+IsTraced contents (Some writer) left history = ⊥
+
+-- why a run ends without its report, or with a cut one: memory was wanting, or writing failed
+abbrev pub IsCutShort : CliFault → Type 0
+IsCutShort f = (f ≡ fault.Run run.Memory) ⊎ ((f ≡ fault.Memory) ⊎ (f ≡ fault.Write))

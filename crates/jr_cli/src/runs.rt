@@ -2,17 +2,19 @@ ghost use Rattle.std.specs.Prelude.{◌≡◌, ◌⊎◌, ◌≤◌, ◌^◌, If
 ghost use Rattle.std.specs.List.{list_any};
 ghost use Rattle.std.specs.Option.{option_copied};
 ghost use Rattle.std.specs.Io.KnownBytes.{Appends};
-ghost use Rattle.jr_model.specs.Report.{totals_lines};
+ghost use Rattle.jr_model.specs.Report.{report_of, totals_lines};
 ghost use Rattle.jr_model.specs.Serial.{serial_history};
 ghost use Rattle.jr_crew.specs.Runs.{IsFresh};
-ghost use Rattle.jr_cli.specs.Executed.{HasRun, IsReported};
+ghost use Rattle.jr_cli.specs.Executed.{HasRun, IsCutShort, IsReported, IsTraced};
 ghost use Rattle.jr_options.specs.PlanText.{plan_text};
 ghost use Rattle.jr_stats.specs.TraceChecks.{check_of};
+ghost use Rattle.jr_stats.specs.Traces.{trace_of};
 ghost use Rattle.jr_cli.specs.JobRefusals.{job_refusal, IsRefusedBy, IsWantOfMemory, IsPlanOf};
 ghost use Rattle.jr_cli.specs.Status.{status_of, is_unclean};
 
 use crate::faults::CliFault;
 use jr_crew::run_serial;
+use jr_desk::Desk;
 use jr_engines::Engine;
 use jr_model::Totals;
 use jr_options::{Plan, plan, plan_text};
@@ -46,18 +48,40 @@ pub fn execute_serial<W: Write, V: Write>(
 ) -> Result<u8, CliFault>
     requires { (state engine.old).calls ≤ 2 ^ 63 }
 
-    // The report and the status are those of a run of this engine, and over a fresh memory of that of one worker.
-    ensures run { IfOk result (λ status. HasRun plan (state engine.old) (state engine.new) (V.contents out.old) (V.contents out.new) status) }
-    ensures serial { IsFresh plan (state engine.old) → IfOk result (λ status. IsReported plan (serial_history plan) (V.contents out.old) (V.contents out.new) status) }
+    // The report, the trace and the status are those of one run of this engine.
+    ensures run { IfOk result (λ status. HasRun plan (state engine.old) (state engine.new) (λ history.
+        IsReported plan history (V.contents out.old) (V.contents out.new) status
+        × IsTraced W.contents events.entry events.exit history)) }
+
+    // Over a fresh memory they are those of the history of one worker, and nothing goes wrong.
+    ensures serial { IsFresh plan (state engine.old) → IfOk result (λ status.
+        IsReported plan (serial_history plan) (V.contents out.old) (V.contents out.new) status
+        × IsTraced W.contents events.entry events.exit (serial_history plan)) }
+    ensures clean { IsFresh plan (state engine.old) → IfOk result (λ status. status ≡ 0) }
+    ensures failed { IfErr result IsCutShort }
 {
     let desk = run_serial(alloc, plan, engine)?;
-    let text = report(alloc, &desk)?;
-    write_out(text.as_slice(), out)?;
+    print_report(alloc, &desk, out)?;
     if let Some(events) = events {
-        let lines = trace(alloc, &desk)?;
-        write_out(lines.as_slice(), events)?;
+        print_trace(alloc, &desk, events)?;
     }
     Ok(status_of(desk.totals()))
+}
+
+fn print_report<V: Write>(alloc: Global, desk: &Desk, out: &mut V) -> Result<(), CliFault>
+    ensures printed { OnOk result (Appends (V.contents out.old) (V.contents out.new) (report_of desk.now.plan desk.now.history)) }
+    ensures failed { IfErr result IsCutShort }
+{
+    let text = report(alloc, desk)?;
+    write_out(text.as_slice(), out)
+}
+
+fn print_trace<W: Write>(alloc: Global, desk: &Desk, events: &mut W) -> Result<(), CliFault>
+    ensures printed { OnOk result (Appends (W.contents events.old) (W.contents events.new) (trace_of desk.now.history)) }
+    ensures failed { IfErr result IsCutShort }
+{
+    let lines = trace(alloc, desk)?;
+    write_out(lines.as_slice(), events)
 }
 
 /// Prints what a run of the plan would do, a line for each clone.
