@@ -24,17 +24,37 @@ impl Read for BrokenReader {
     }
 }
 
-// Takes nothing.
+// Takes as many bytes as it has room for, and then fails; and fails to flush where it is to.
 #[derive(Drop)]
-struct FullWriter;
+struct FaultyWriter {
+    room: usize,
+    flushes: bool,
+}
 
-impl Write for FullWriter {
-    fn write(&mut self, _buf: &[u8]) -> io::Result<usize> {
-        Err(io::Error::from(ErrorKind::StorageFull))
+impl Write for FaultyWriter {
+    fn write(&mut self, buf: &[u8]) -> io::Result<usize> {
+        if self.room == 0 {
+            return Err(io::Error::from(ErrorKind::StorageFull));
+        }
+        let count = buf.len().min(self.room);
+        self.room -= count;
+        Ok(count)
     }
 
     fn flush(&mut self) -> io::Result<()> {
-        Ok(())
+        if self.flushes {
+            Ok(())
+        } else {
+            Err(io::Error::from(ErrorKind::StorageFull))
+        }
+    }
+}
+
+// A writer that takes nothing.
+fn full() -> FaultyWriter {
+    FaultyWriter {
+        room: 0,
+        flushes: true,
     }
 }
 
@@ -59,7 +79,7 @@ fn a_plan_is_printed_line_by_line(rt: HostRuntime) -> Result<(), Fail> {
     print_plan(rt.alloc(), &plan, &mut out)?;
     assert!(rt; out.as_slice() == LINE_OF_A.as_bytes());
     assert_eq!(rt;
-        print_plan(rt.alloc(), &plan, &mut FullWriter),
+        print_plan(rt.alloc(), &plan, &mut full()),
         Err(CliFault::Write)
     );
     match read_job(rt.alloc(), text.as_slice(), Some("c")) {
@@ -118,13 +138,30 @@ fn a_trace_is_written_and_checked(rt: HostRuntime) -> Result<(), Fail> {
     let refused = print_check(rt.alloc(), &plan, b"I 0 0 0 0 0\nQ\n", &mut out);
     assert_eq!(rt; refused, Err(CliFault::Trace(TraceFault::Line(2))));
     let mut engine = MemoryEngine::new(rt.alloc(), &plan)?;
-    let full = execute_serial(
-        rt.alloc(),
-        plan,
-        &mut engine,
-        Some(&mut FullWriter),
-        &mut out,
-    );
-    assert_eq!(rt; full, Err(CliFault::Write));
+    let cut = execute_serial(rt.alloc(), plan, &mut engine, Some(&mut full()), &mut out);
+    assert_eq!(rt; cut, Err(CliFault::Write));
+    Ok(())
+}
+
+#[test]
+fn a_report_that_is_cut_is_no_report(rt: HostRuntime) -> Result<(), Fail> {
+    for (room, flushes, want) in [
+        (0, true, Err(CliFault::Write)),
+        (TOTALS.len() - 1, true, Err(CliFault::Write)),
+        (TOTALS.len(), false, Err(CliFault::Write)),
+        (TOTALS.len(), true, Ok(0)),
+    ] {
+        let plan = read_job(rt.alloc(), CHECKED.as_bytes(), None)?;
+        let mut engine = MemoryEngine::new(rt.alloc(), &plan)?;
+        let mut out = FaultyWriter { room, flushes };
+        let ended = execute_serial(
+            rt.alloc(),
+            plan,
+            &mut engine,
+            None::<&mut Vec<u8>>,
+            &mut out,
+        );
+        assert_eq!(rt; ended, want, "room for {room}, flushes: {flushes}");
+    }
     Ok(())
 }

@@ -5,6 +5,7 @@ ghost use Rattle.std.specs.Io.KnownBytes.{Appends};
 ghost use Rattle.jr_model.specs.Report.{report_of, totals_lines};
 ghost use Rattle.jr_model.specs.Serial.{serial_history};
 ghost use Rattle.jr_crew.specs.Runs.{IsFresh};
+ghost use Rattle.jr_cli.specs.Checked.{IsCheckFault};
 ghost use Rattle.jr_cli.specs.Executed.{HasRun, IsCutShort, IsReported, IsTraced};
 ghost use Rattle.jr_options.specs.PlanText.{plan_text};
 ghost use Rattle.jr_stats.specs.TraceChecks.{check_of};
@@ -103,6 +104,7 @@ pub fn print_check<V: Write>(
     // What is printed are the totals of a text that is the trace of a whole legal run.
     ensures printed { OnOk result (IsOkAnd (check_of plan.now text.now) (λ totals.
         Appends (V.contents out.old) (V.contents out.new) (totals_lines plan.now totals))) }
+    ensures refused { IfErr result (IsCheckFault (check_of plan.now text.now)) }
 {
     let totals = check_trace(alloc, plan, text)?;
     let lines = totals_text(alloc, plan, totals.as_slice())?;
