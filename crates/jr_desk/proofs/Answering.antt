@@ -55,7 +55,7 @@ suits-kind ticket.Read job io seed v h = refl
 suits-kind ticket.Write job io seed v h = refl
 suits-kind ticket.Probe job io seed v h = suits job.method.kind job.method.pattern job io seed (v refl) h
 
-fits_by : (plan : Plan) (id : ℕ) (io : Started) (job : SubJob) → FitsPlan plan io job → ticket_fits (ticket_of plan (id, io)) ≡ true
+pub fits_by : (plan : Plan) (id : ℕ) (io : Started) (job : SubJob) → FitsPlan plan io job → ticket_fits (ticket_of plan (id, io)) ≡ true
 fits_by plan id io job fits =
     let seed = seed_of plan io in
     subst (λ (o : Option SubJob). (piece_fits io.piece && nat_lt io.write.pass 1000 && has_pattern (method_of o).kind (method_of o).pattern && suits_kind io.kind (method_of o) (expected_by io.kind (method_of o) io seed)) ≡ true)
@@ -96,7 +96,7 @@ no_end plan history worker id e numbered chosen =
           ]
     ]
 
-no_ends : (plan : Plan) (worker id : ℕ) (before events : List Event) → IsNumbered plan → Appends plan worker before events → first_given (end_of id) events ≡ None
+pub no_ends : (plan : Plan) (worker id : ℕ) (before events : List Event) → IsNumbered plan → Appends plan worker before events → first_given (end_of id) events ≡ None
 no_ends plan worker id before [] numbered appends = refl
 no_ends plan worker id before (e ∷ events) numbered appends =
     ap (λ (o : Option Outcome). option_or o (first_given (end_of id) events)) (no_end plan before worker id e numbered appends.0)
@@ -104,7 +104,7 @@ no_ends plan worker id before (e ∷ events) numbered appends =
     (λ (skip : is_skip e ≡ true) (more : Appends plan worker (before ++ e ∷ []) events). no_ends plan worker id (before ++ e ∷ []) events numbered more)
     (λ (other : is_skip e ≡ false) (last : events ≡ []). ap (first_given (end_of id)) last)
 
-ends_started : (plan : Plan) (history : List Event) → is_legal plan history ≡ true → EndsWereStarted history
+pub ends_started : (plan : Plan) (history : List Event) → is_legal plan history ≡ true → EndsWereStarted history
 ends_started plan history legal =
     along_legal plan EndsWereStarted (λ (h : List Event) (e : Event) (ends : EndsWereStarted h) (may : may_happen plan h e ≡ true). ends-more plan h e ends may)
     [] history (λ (io : ℕ) (o : Outcome) (h : None ≡ Some o). none_some io o h) legal

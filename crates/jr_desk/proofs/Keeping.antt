@@ -64,7 +64,7 @@ tickets_more plan before after (Some io) more =
     ∙ map-append (ticket_of plan) (enumerate_from 0 (started before)) ((0 + length (started before), io) ∷ [])
     ∙ ap (λ (k : ℕ). tickets_of plan before ++ ticket_of plan (k, io) ∷ []) same
 
-got_ticket : (plan : Plan) (n : ℕ) (ios : List Started) (k : ℕ) (t : Ticket) → slice_get (map (ticket_of plan) (enumerate_from n ios)) k ≡ Some t → (io : Started) × (slice_get ios k ≡ Some io) × (ticket_of plan (n + k, io) ≡ t)
+pub got_ticket : (plan : Plan) (n : ℕ) (ios : List Started) (k : ℕ) (t : Ticket) → slice_get (map (ticket_of plan) (enumerate_from n ios)) k ≡ Some t → (io : Started) × (slice_get ios k ≡ Some io) × (ticket_of plan (n + k, io) ≡ t)
 got_ticket plan n [] k t at = cc
 got_ticket plan n (io ∷ ios) zero t at =
     let same : n + 0 ≡ n = omega arith in

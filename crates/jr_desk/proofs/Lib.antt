@@ -1,4 +1,9 @@
 pub mod Answering
 pub mod Choosing
+pub mod Ending
 pub mod Keeping
+pub mod Playing
+pub mod Reading
+pub mod Running
+pub mod Serving
 pub mod Totals

@@ -175,6 +175,13 @@ impl Desk {
         self.is_complete
     }
 
+    // Whether it was stopped.
+    pub(crate) fn is_stopped(&self) -> bool
+        ensures { result ≡ self.now.is_stopped }
+    {
+        self.is_stopped
+    }
+
     // Refuses a ticket that isn't this desk's own, and every ticket once the desk was stopped.
     fn check_own(&self, ticket: &Ticket) -> Result<(), DeskFault>
         ensures stopped { IsTrue self.now.is_stopped → result ≡ Err DeskFault.Stopped }
@@ -191,7 +198,7 @@ impl Desk {
     }
 
     // The ticket that was handed out under this number, if any was.
-    fn ticket_at(&self, id: u32) -> Option<Ticket>
+    pub(crate) fn ticket_at(&self, id: u32) -> Option<Ticket>
         ensures { result ≡ slice_get (tickets_of self.now.plan self.now.history) id }
     {
         self.tickets.get(place_of(id)).copied()

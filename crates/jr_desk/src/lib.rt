@@ -5,9 +5,15 @@
 mod choices;
 mod counts;
 mod desk;
+mod plays;
 mod sameness;
+mod scripted;
 mod takes;
 mod workings;
 
 pub use desk::Desk;
+pub use plays::{Played, play};
 pub use takes::Take;
+
+#[cfg(test)]
+mod tests;

@@ -1,0 +1,40 @@
+use Rattle.std.proofs.Common.{◌≡◌, ◌+◌, List, ◌∷◌, [], ◌++◌, take, sym, ◌∙◌, ap, subst, arith}
+use Rattle.std.proofs.lemmas.List.{take_more}
+use Rattle.jr_model.specs.declared.steps.Step.{Step}
+use Rattle.jr_model.specs.declared.steps.StepReply.{StepReply}
+use Rattle.jr_desk.proofs.Running.{HasPlayed, ready_on, played_on, first_played}
+use Rattle.jr_desk.proofs.plays.play.Goals as goal
+
+pub answer-requires-clause-ready : goal.answer-requires-clause-ready
+answer-requires-clause-ready c =
+    let so = c.loop-step.invariant in
+    ready_on c.args.plan (take c.loop-step.step-index c.args.steps.now) c.loop-step.replies.items c.loop-step.player so.planned so.played
+
+pub loop-step-init : goal.loop-step-init
+loop-step-init c =
+    let new = c.in_ok-player.ensures in
+    let player = c.in_ok-player.player in record {
+      planned = c.clones.ensures.facts;
+      played =
+          subst (λ (replies : List StepReply). HasPlayed c.args.plan [] replies player) (sym c.new-replies.ensures.items)
+          (first_played c.args.plan player c.clones.ensures.facts new.first new.plan new.reads);
+      calls = omega (arith, new.calls);
+    }
+
+pub loop-step-preserved : goal.loop-step-preserved
+loop-step-preserved c =
+    let so = c.loop-step.invariant in
+    let i = c.loop-step.step-index in
+    let steps = c.args.steps.now in
+    let goes = c.in_ok-reply.ensures in
+    let more : take (i + 1) steps ≡ take i steps ++ c.step-item.result ∷ [] =
+    take_more steps i c.step-item.result c.loop-step-test.true
+    ∙ ap (λ (step : Step). take i steps ++ step ∷ []) (sym c.step-item.is) in record {
+      planned = so.planned;
+      played =
+          subst (λ (done : List Step). HasPlayed c.args.plan done c.push.new.self.items c.answer.new.self)
+          (sym more)
+          (subst (λ (replies : List StepReply). HasPlayed c.args.plan (take i steps ++ c.step-item.result ∷ []) replies c.answer.new.self) (sym c.in_ok-push.ensures.items)
+          (played_on c.args.plan (take i steps) c.loop-step.replies.items c.loop-step.player c.answer.new.self c.step-item.result c.in_ok-reply.reply so.played goes));
+      calls = omega (arith, so.calls, goes.calls);
+    }
