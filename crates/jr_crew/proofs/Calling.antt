@@ -1,29 +1,20 @@
 -- One call of an engine with a known memory for a ticket is the call of its I/O.
 use Rattle.std.proofs.Common.{◌≡◌, ℕ, suc, ◌+◌, List, replicate, Bool, true, false, cond, refl, sym, ◌∙◌, ap, subst, arith}
-use Rattle.std.specs.Prelude.{Option, Some}
+use Rattle.std.specs.Prelude.{Some}
 use Rattle.std.proofs.lemmas.Bool.{eq-eqb}
-use Rattle.jr_model.specs.declared.events.Outcome.{Outcome}
 use Rattle.jr_model.specs.declared.events.Started.{Started}
 use Rattle.jr_model.specs.declared.replies.Reply.{Reply}
 use Rattle.jr_model.specs.declared.tickets.TicketKind.{TicketKind}
 use Rattle.jr_model.specs.declared.tickets.TicketKind.TheVariants as ticket
-use Rattle.jr_model.specs.Content.{content_of, expected_of}
-use Rattle.jr_model.specs.Judgement.{verdict_of}
-use Rattle.jr_model.specs.Machine.{content_in_job, content_of_io, bytes_read, verdict_in_job, verdict_on}
+use Rattle.jr_model.specs.Machine.{content_of_io, bytes_read}
 use Rattle.jr_model.specs.Plan.{Plan, SubJob, clone_of}
 use Rattle.jr_model.specs.Replies.{EngineState, FileBytes, asked, memory_with, next_reply, reply_to_write}
 use Rattle.jr_model.specs.Tied.{KnownEngine, called}
 use Rattle.jr_engines.specs.Answers.{AnswerParts, Leaves}
-use Rattle.jr_header.specs.Served.{asked_with, ticket_content, is_whole_check}
-use Rattle.jr_desk.specs.Tickets.{method_of, seed_of, expected_by, ticket_of}
+use Rattle.jr_header.specs.Served.{asked_with, is_whole_check}
+use Rattle.jr_desk.proofs.Serving.{content_is}
+use Rattle.jr_desk.specs.Tickets.{ticket_of}
 use Rattle.jr_crew.specs.Runs.{known_engine}
-
--- the bytes of a ticket's write are those of its I/O
-pub content_is : (plan : Plan) (id : ℕ) (io : Started) (job : SubJob) → clone_of plan io.write.clone ≡ Some job → ticket_content (ticket_of plan (id, io)) ≡ content_of_io plan io
-content_is plan id io job planned =
-    let seed = seed_of plan io in
-    let Same : Option SubJob → Type 0 = λ (o : Option SubJob). content_of (method_of o).kind (method_of o) io.write io.piece seed ≡ content_in_job o io.write io.piece seed in
-    subst Same (sym planned) refl
 
 abbrev engine_of : List FileBytes → List (ℕ × Reply) → ℕ → List (ℕ × List ℕ) → KnownEngine
 engine_of memory script calls kept = record { memory = memory; script = script; calls = calls; read_back = kept }
@@ -70,12 +61,3 @@ is_call plan engine next kept id io ticket.Write answer job planned leaves scrip
           next.script engine.script next.calls (suc engine.calls) after.engine.read_back left.memory script (omega (arith, calls));
       bytes = λ (h : false ≡ true). cc;
     }
-
--- and the verdict on the answer is that on the bytes of the check
-pub verdict_is : (plan : Plan) (io : Started) (job : SubJob) (kind : TicketKind) (outcome : Outcome) (bytes : List ℕ) → clone_of plan io.write.clone ≡ Some job → is_whole_check kind outcome ≡ true → verdict_on plan io bytes ≡ verdict_of (method_of (clone_of plan io.write.clone)).kind (expected_by kind (method_of (clone_of plan io.write.clone)) io (seed_of plan io)) bytes
-verdict_is plan io job ticket.Read outcome bytes planned whole = cc
-verdict_is plan io job ticket.Write outcome bytes planned whole = cc
-verdict_is plan io job ticket.Probe outcome bytes planned whole =
-    let seed = seed_of plan io in
-    let Same : Option SubJob → Type 0 = λ (o : Option SubJob). verdict_in_job o io seed bytes ≡ verdict_of (method_of o).kind (expected_of (method_of o).kind (method_of o) io.write io.piece seed) bytes in
-    subst Same (sym planned) refl

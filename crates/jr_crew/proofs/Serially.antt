@@ -33,11 +33,12 @@ use Rattle.jr_laws.proofs.Memories.{has_range, covers_piece, covers-fresh_memory
 use Rattle.jr_laws.proofs.Verdicts.{good_on_own}
 use Rattle.jr_desk.specs.Takes.{IsChosen}
 use Rattle.jr_desk.proofs.Keeping.{chosen_at, judged_probe}
+use Rattle.jr_desk.proofs.Serving.{content_is, verdict_is}
 use Rattle.jr_crew.specs.Runs.{IsFresh}
 use Rattle.jr_crew.specs.Turns.{IsTurn, IsLastTurn}
 use Rattle.jr_crew.proofs.Chosen.{chosen_worker, chosen_unended}
 use Rattle.jr_crew.proofs.Carrying.{next_of, buffer_for, ended_with, ended_by-with, begun_legal, ended_legal}
-use Rattle.jr_crew.proofs.Calling.{content_is, data_for, verdict_is}
+use Rattle.jr_crew.proofs.Calling.{data_for}
 use Rattle.jr_crew.proofs.Going.{IsAhead, tail_for, ahead_none, ahead_some, ahead_ends, none_left, holds_appends}
 use Rattle.jr_crew.proofs.Turning.{asked_room_for}
 

@@ -29,6 +29,7 @@ use Rattle.jr_laws.proofs.Memories.{covers_piece}
 use Rattle.jr_laws.proofs.CountLaws.{numbered_of}
 use Rattle.jr_desk.specs.Takes.{IsChosen}
 use Rattle.jr_desk.proofs.Keeping.{chosen_legal, chosen_started, chosen_at}
+use Rattle.jr_desk.proofs.Serving.{content_is, verdict_is}
 use Rattle.jr_crew.specs.Ends.{ends_of, failed_ends_of}
 use Rattle.jr_crew.specs.Runs.{known_engine, IsCovering}
 use Rattle.jr_crew.specs.Turns.{ended_by, AreSettled, IsTurn}
@@ -37,7 +38,7 @@ use Rattle.jr_crew.proofs.Counting.{chosen_ends, chosen_failed_ends, ended_ends,
 use Rattle.jr_crew.proofs.Settling.{settled_still}
 use Rattle.jr_crew.proofs.Tying.{tied_more, tied_on, tied_step, IsNextCall}
 use Rattle.jr_crew.proofs.Carrying.{next_of, buffer_for, judged_with, ended_with, ended_by-with, turn_legal, turn_started, turn_settled, begun_legal}
-use Rattle.jr_crew.proofs.Calling.{content_is, IsCall, is_call, verdict_is}
+use Rattle.jr_crew.proofs.Calling.{IsCall, is_call}
 
 -- a known engine, as far as the run came: its calls are what was completed, and its memory covers the plan's files
 pub record IsTiedSoFar (plan : Plan) (history : List Event) (old engine : EngineState) : Type 0 where
