@@ -23,7 +23,7 @@ pub fn all_totals(alloc: Global, plan: &Plan, history: &[Event]) -> Result<Vec<T
 }
 
 // What a clone did in a legal history.
-fn totals_in(plan: &Plan, past: &Past<'_>, clone: u32) -> Totals
+fn totals_in(plan: &Plan, past: &Past, clone: u32) -> Totals
     requires { is_legal plan.now past.now ≡ true }
     ensures { result ≡ totals_of past.now clone }
 {

@@ -1,2 +1,5 @@
+pub mod Halts
 pub mod Moves
 pub mod LegalMoves
+pub mod PassLemmas
+pub mod RoundLemmas

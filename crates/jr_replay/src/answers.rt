@@ -4,8 +4,6 @@ ghost use Rattle.jr_model.specs.History.{started, flies, outcome_of, is_judged, 
 ghost use Rattle.jr_model.specs.Legal.{step_of_draw, step_of_clone, step_at, same_dir, is_this_issue, is_this_probe, is_this_skip, outcome_fits, end_fits, is_header_finding, is_byte_finding, kind_finds, kind_says, job_says, verdict_fits, may_happen, is_over, is_complete};
 ghost use Rattle.jr_model.specs.Plan.{clone_of};
 
-use crate::events::{ended_whole, is_judged, is_probe, outcome_of, same_piece, same_write};
-use crate::histories::Past;
 use crate::legal::{is_over, step_of};
 use crate::passes::Pass;
 use crate::workloads::{PlannedClone, Workload};
@@ -13,12 +11,13 @@ use jr_model::{
     Dir, Draw, Event, Memory, Outcome, Piece, Started, Verdict, VerifyKind, What, WriteId,
 };
 use jr_options::Plan;
+use jr_past::{Past, ended_whole, is_probe, same_piece, same_write};
 use std::alloc::Global;
 
 // What may happen with a draw that may not be there.
 fn step_of_draw(
     work: &Workload<'_>,
-    past: &Past<'_>,
+    past: &Past,
     worker: u32,
     clone: &PlannedClone<'_>,
     pass: &Pass<'_>,
@@ -37,7 +36,7 @@ fn step_of_draw(
 fn step_of_clone(
     alloc: Global,
     work: &Workload<'_>,
-    past: &Past<'_>,
+    past: &Past,
     worker: u32,
     write: &WriteId,
     clone: &PlannedClone<'_>,
@@ -45,6 +44,10 @@ fn step_of_clone(
     ensures { IfOk result
         (λ step. step ≡ step_of_clone work.now past.now worker write.now (Some clone.now)) }
 {
+    if let Some(pass) = clone.passes().get(write.pass as usize) {
+        let draw = pass.draw_at(write.number);
+        return Ok(step_of_draw(work, past, worker, clone, pass, draw));
+    }
     let pass = Pass::new(alloc, clone.job(), write.pass)?;
     let draw = pass.draw_at(write.number);
     Ok(step_of_draw(work, past, worker, clone, &pass, draw))
@@ -54,7 +57,7 @@ fn step_of_clone(
 pub fn step_at(
     alloc: Global,
     work: &Workload<'_>,
-    past: &Past<'_>,
+    past: &Past,
     worker: u32,
     write: &WriteId,
 ) -> Result<Option<Event>, Memory>
@@ -193,7 +196,7 @@ fn verdict_fits(plan: &Plan, verdict: Verdict, io: Option<Started>) -> bool
 }
 
 /// Whether a worker's I/O may end so now.
-pub fn may_end(past: &Past<'_>, worker: u32, io: usize, outcome: Outcome) -> bool
+pub fn may_end(past: &Past, worker: u32, io: usize, outcome: Outcome) -> bool
     ensures { result
         ≡ (flies past.now io && end_fits worker outcome (slice_get (started past.now) io)) }
 {
@@ -201,13 +204,13 @@ pub fn may_end(past: &Past<'_>, worker: u32, io: usize, outcome: Outcome) -> boo
 }
 
 /// Whether a check may have this verdict now.
-pub fn may_judge(plan: &Plan, past: &Past<'_>, io: usize, verdict: Verdict) -> bool
+pub fn may_judge(plan: &Plan, past: &Past, io: usize, verdict: Verdict) -> bool
     ensures { result
         ≡ (ended_whole (outcome_of past.now io) && not (is_judged past.now io)
         && verdict_fits plan.now verdict (slice_get (started past.now) io)) }
 {
-    ended_whole(outcome_of(past.events(), io))
-        && !is_judged(past.events(), io)
+    ended_whole(past.ledger().outcome_of(io))
+        && !past.ledger().is_judged(io)
         && verdict_fits(plan, verdict, past.started_at(io))
 }
 
@@ -215,7 +218,7 @@ pub fn may_judge(plan: &Plan, past: &Past<'_>, io: usize, verdict: Verdict) -> b
 fn step_after(
     alloc: Global,
     plan: &Plan,
-    past: &Past<'_>,
+    past: &Past,
     worker: u32,
     write: &WriteId,
 ) -> Result<Option<Event>, Memory>
@@ -262,18 +265,25 @@ pub fn allowed(alloc: Global, plan: &Plan, history: &[Event], event: &Event) -> 
 }
 
 // Whether each clone is finished or halted.
-fn all_over(work: &Workload<'_>, past: &Past<'_>) -> bool
+fn all_over(work: &Workload<'_>, past: &Past) -> bool
     ensures { result ≡ list_all (is_over past.now) work.now.clones }
 {
     work.clones().iter().all(|clone| is_over(past, clone))
 }
 
-/// Whether a history is a whole run: nothing is in flight, no verdict is to come, and each clone is
-/// finished or halted.
+/// Whether a history is a whole run of the plan: nothing is in flight, no verdict is to come, and
+/// each clone is finished or halted.
+pub fn complete_among(work: &Workload<'_>, past: &Past) -> bool
+    ensures { result ≡ is_complete work.now past.now }
+{
+    past.in_flight().is_empty() && past.awaiting().is_empty() && all_over(work, past)
+}
+
+/// Whether a history is a whole run of the plan; as by `complete_among`.
 pub fn complete(alloc: Global, plan: &Plan, history: &[Event]) -> Result<bool, Memory>
     ensures { IfOk result (λ yes. yes ≡ is_complete plan.now history.now) }
 {
     let past = Past::new(alloc, history)?;
     let work = Workload::new(alloc, plan)?;
-    Ok(past.in_flight().is_empty() && past.awaiting().is_empty() && all_over(&work, &past))
+    Ok(complete_among(&work, &past))
 }

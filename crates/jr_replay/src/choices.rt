@@ -1,18 +1,18 @@
 ghost use Rattle.std.specs.Prelude.{◌≡◌, IfOk};
 ghost use Rattle.jr_model.specs.Choice.{choice_of_pass, choice_of_clone, choice};
 
-use crate::histories::Past;
 use crate::legal::step_of;
 use crate::passes::Pass;
 use crate::workloads::{PlannedClone, Workload};
 use jr_model::{Event, Memory};
 use jr_options::Plan;
+use jr_past::Past;
 use std::alloc::Global;
 
 // The least step of a pass, by number.
 fn choice_of_pass(
     work: &Workload<'_>,
-    past: &Past<'_>,
+    past: &Past,
     worker: u32,
     clone: &PlannedClone<'_>,
     pass: &Pass<'_>,
@@ -32,7 +32,7 @@ fn choice_of_pass(
 // The least step of a clone.
 fn choice_of_clone(
     work: &Workload<'_>,
-    past: &Past<'_>,
+    past: &Past,
     worker: u32,
     clone: &PlannedClone<'_>,
 ) -> Option<Event>
@@ -48,7 +48,7 @@ fn choice_of_clone(
 }
 
 /// What is started next, if anything may be: the least step by clone, pass and number.
-pub fn choice_among(work: &Workload<'_>, past: &Past<'_>, worker: u32) -> Option<Event>
+pub fn choice_among(work: &Workload<'_>, past: &Past, worker: u32) -> Option<Event>
     ensures { result ≡ choice work.now past.now worker }
 {
     for clone in work.clones() {

@@ -4,11 +4,10 @@ ghost use Rattle.jr_model.specs.Legal.{is_bad};
 ghost use Rattle.jr_replay.specs.Counts.{totals_by};
 ghost use Rattle.jr_model.specs.Totals.{is_read, if_wanted, moved_by, moved, bytes_of, is_verdict_of, is_skip_of, is_fault_of, totals_of};
 
-use crate::events::{ended_whole, is_write};
-use crate::histories::Past;
 use crate::legal::{is_bad, is_fault, is_io_of};
 use crate::rounds::is_of_clone;
 use jr_model::{Event, Memory, Started, TicketKind, Totals};
+use jr_past::{Past, ended_whole, is_write};
 use std::alloc::Global;
 
 fn is_read(kind: TicketKind) -> bool
@@ -242,7 +241,7 @@ fn totals_by(ios: &[Started], events: &[Event], clone: u32) -> Totals
 
 /// What a clone did, counted over a history. That its sums of bytes fit 64 bits rests on at most 2^32
 /// reads and 2^32 writes having ended whole, as in each legal history with so few I/Os.
-pub fn totals_among(past: &Past<'_>, clone: u32) -> Totals
+pub fn totals_among(past: &Past, clone: u32) -> Totals
     requires reads { length (moved past.now is_read clone) ≤ 2 ^ 32 }
     requires writes { length (moved past.now is_write clone) ≤ 2 ^ 32 }
     ensures { result ≡ totals_of past.now clone }

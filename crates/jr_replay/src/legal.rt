@@ -1,20 +1,18 @@
-ghost use Rattle.std.specs.Prelude.{◌≡◌, nat_le, ◌||◌, take};
+ghost use Rattle.std.specs.Prelude.{◌≡◌, nat_le, ◌&&◌, ◌||◌, take};
 ghost use Rattle.std.specs.List.{list_any, list_all};
 ghost use Rattle.jr_model.specs.History.{is_of_clone, awaiting, in_flight};
-ghost use Rattle.jr_model.specs.Legal.{is_io_of, is_fault, is_bad, halts, is_halted, is_over, is_at_rest, phase_is_open, has_room, conflicts, is_clear, takes_up, may_take_up, may_issue, check_or_skip, step_of};
+ghost use Rattle.jr_model.specs.Legal.{is_io_of, is_fault, is_bad, is_halted, is_over, is_at_rest, phase_is_open, has_room, conflicts, is_clear, may_take_up, may_issue, check_or_skip, step_of};
 ghost use Rattle.jr_model.specs.Rounds.{clone_finished, is_current, pass_finished, passes_of};
 
-use crate::events::{is_write, same_write};
-use crate::histories::Past;
-use crate::last_writes::is_intact;
 use crate::passes::{Pass, has_rounds, is_write_draw};
 use crate::rounds::{
     flying_count, is_of_clone, is_open, issued_count, nothing_flies_of, pass_finished,
     waits_for_round,
 };
 use crate::workloads::{PlannedClone, Workload};
-use jr_model::{Draw, Event, Outcome, Piece, Started, Verdict, WriteId, overlaps};
+use jr_model::{Draw, Event, Outcome, Piece, Started, Verdict, overlaps};
 use jr_options::SubJob;
+use jr_past::{Past, is_intact, is_write};
 
 // Whether an I/O is there and of this clone.
 pub(crate) fn is_io_of(clone: u32, io: Option<Started>) -> bool
@@ -40,65 +38,53 @@ pub fn is_bad(verdict: Verdict) -> bool
     verdict != Verdict::Good
 }
 
-// Whether an event halts the clone.
-fn halts(ios: &[Started], job: &SubJob, event: &Event) -> bool
-    ensures { result ≡ halts ios.now job.now event.now }
+// Whether a clone is halted, by whether it has a fault, and a bad verdict that is fatal.
+fn halts(faulty: bool, fatal: bool, condemned: bool) -> bool
+    ensures { result ≡ (faulty || (fatal && condemned)) }
 {
-    match *event {
-        Event::End { io, outcome, .. } => {
-            is_fault(outcome) && is_io_of(job.clone_number(), ios.get(io as usize).copied())
-        }
-        Event::Verdict { io, verdict, .. } => {
-            is_bad(verdict)
-                && job.is_fatal()
-                && is_io_of(job.clone_number(), ios.get(io as usize).copied())
-        }
-        _ => false,
-    }
-}
-
-fn any_halts(ios: &[Started], events: &[Event], job: &SubJob) -> bool
-    ensures { result ≡ list_any (halts ios.now job.now) events.now }
-{
-    events.iter().any(|event| halts(ios, job, event))
+    faulty || (fatal && condemned)
 }
 
 /// Whether a fault, or a bad verdict where that is fatal, has halted a clone.
-pub fn is_halted(past: &Past<'_>, job: &SubJob) -> bool
+pub fn is_halted(past: &Past, job: &SubJob) -> bool
     ensures { result ≡ is_halted past.now job.now }
 {
-    any_halts(past.started(), past.events(), job)
+    let clone = job.clone_number();
+    let ledger = past.ledger();
+    let faulty = ledger.is_faulty(clone);
+    let condemned = ledger.is_condemned(clone);
+    halts(faulty, job.is_fatal(), condemned)
 }
 
 /// Whether all passes of a clone are finished.
-pub fn clone_finished(past: &Past<'_>, clone: &PlannedClone<'_>) -> bool
+pub fn clone_finished(past: &Past, clone: &PlannedClone<'_>) -> bool
     ensures { result ≡ clone_finished past.now clone.now }
 {
     all_finished(past, clone.passes())
 }
 
-fn all_finished(past: &Past<'_>, passes: &[Pass<'_>]) -> bool
+fn all_finished(past: &Past, passes: &[Pass<'_>]) -> bool
     ensures { result ≡ list_all (pass_finished past.now) passes.now }
 {
     passes.iter().all(|pass| pass_finished(past, pass))
 }
 
 /// Whether a clone is finished or halted.
-pub fn is_over(past: &Past<'_>, clone: &PlannedClone<'_>) -> bool
+pub fn is_over(past: &Past, clone: &PlannedClone<'_>) -> bool
     ensures { result ≡ is_over past.now clone.now }
 {
     is_halted(past, clone.job()) || clone_finished(past, clone)
 }
 
 // Whether a verdict of the clone is still to come.
-fn awaits_verdict(past: &Past<'_>, clone: u32) -> bool
+fn awaits_verdict(past: &Past, clone: u32) -> bool
     ensures { result ≡ list_any (is_of_clone clone) (awaiting past.now) }
 {
     past.awaiting().iter().any(|io| is_of_clone(clone, io))
 }
 
 /// Whether a clone is over, with nothing in flight and no verdict to come.
-pub fn is_at_rest(past: &Past<'_>, clone: &PlannedClone<'_>) -> bool
+pub fn is_at_rest(past: &Past, clone: &PlannedClone<'_>) -> bool
     ensures { result ≡ is_at_rest past.now clone.now }
 {
     let number = clone.job().clone_number();
@@ -106,14 +92,14 @@ pub fn is_at_rest(past: &Past<'_>, clone: &PlannedClone<'_>) -> bool
 }
 
 // Whether a clone is of this phase or later, or at rest.
-fn lets_begin(past: &Past<'_>, phase: u32, other: &PlannedClone<'_>) -> bool
+fn lets_begin(past: &Past, phase: u32, other: &PlannedClone<'_>) -> bool
     ensures { result ≡ (nat_le phase other.now.phase || is_at_rest past.now other.now) }
 {
     phase <= other.job().phase() || is_at_rest(past, other)
 }
 
 /// Whether all clones of earlier phases are at rest.
-pub fn phase_is_open(work: &Workload<'_>, past: &Past<'_>, job: &SubJob) -> bool
+pub fn phase_is_open(work: &Workload<'_>, past: &Past, job: &SubJob) -> bool
     ensures { result ≡ phase_is_open work.now past.now job.now }
 {
     let phase = job.phase();
@@ -123,7 +109,7 @@ pub fn phase_is_open(work: &Workload<'_>, past: &Past<'_>, job: &SubJob) -> bool
 }
 
 /// Whether a clone has fewer I/Os in flight than its depth.
-pub fn has_room(past: &Past<'_>, job: &SubJob) -> bool
+pub fn has_room(past: &Past, job: &SubJob) -> bool
     ensures { result ≡ has_room past.now job.now }
 {
     flying_count(past, job.clone_number()) < job.depth() as usize
@@ -136,7 +122,7 @@ fn conflicts(writes: bool, piece: &Piece, io: &Started) -> bool
     (writes || is_write(io.kind)) && overlaps(&io.piece, piece)
 }
 
-fn any_conflicts(past: &Past<'_>, writes: bool, piece: &Piece) -> bool
+fn any_conflicts(past: &Past, writes: bool, piece: &Piece) -> bool
     ensures { result ≡ list_any (conflicts writes piece.now) (in_flight past.now) }
 {
     past.in_flight()
@@ -145,14 +131,14 @@ fn any_conflicts(past: &Past<'_>, writes: bool, piece: &Piece) -> bool
 }
 
 /// Whether nothing in flight overlaps a piece where one of the two writes.
-pub fn is_clear(past: &Past<'_>, writes: bool, piece: &Piece) -> bool
+pub fn is_clear(past: &Past, writes: bool, piece: &Piece) -> bool
     ensures { result ≡ is_clear past.now writes piece.now }
 {
     !any_conflicts(past, writes, piece)
 }
 
 // Whether the first passes of a clone, so many, are finished.
-fn earlier_finished(past: &Past<'_>, clone: &PlannedClone<'_>, number: u32) -> bool
+fn earlier_finished(past: &Past, clone: &PlannedClone<'_>, number: u32) -> bool
     ensures { result ≡ list_all (pass_finished past.now) (take number (passes_of clone.now)) }
 {
     clone
@@ -163,7 +149,7 @@ fn earlier_finished(past: &Past<'_>, clone: &PlannedClone<'_>, number: u32) -> b
 }
 
 /// Whether a pass is the first of its clone that isn't finished.
-pub fn is_current(past: &Past<'_>, clone: &PlannedClone<'_>, pass: &Pass<'_>) -> bool
+pub fn is_current(past: &Past, clone: &PlannedClone<'_>, pass: &Pass<'_>) -> bool
     requires { pass.now.job ≡ clone.now }
     ensures { result ≡ is_current past.now pass.now }
 {
@@ -175,7 +161,7 @@ pub fn is_current(past: &Past<'_>, clone: &PlannedClone<'_>, pass: &Pass<'_>) ->
 /// Whether a draw of a pass may be issued.
 pub fn may_issue(
     work: &Workload<'_>,
-    past: &Past<'_>,
+    past: &Past,
     clone: &PlannedClone<'_>,
     pass: &Pass<'_>,
     draw: &Draw,
@@ -192,30 +178,13 @@ pub fn may_issue(
         && phase_is_open(work, past, pass.job())
 }
 
-// Whether an event checks or skips the write.
-fn takes_up(write: &WriteId, event: &Event) -> bool
-    ensures { result ≡ takes_up write.now event.now }
-{
-    match event {
-        Event::Probe { write: probed, .. } => same_write(probed, write),
-        Event::Skip { write: skipped, .. } => same_write(skipped, write),
-        _ => false,
-    }
-}
-
-fn any_takes_up(events: &[Event], write: &WriteId) -> bool
-    ensures { result ≡ list_any (takes_up write.now) events.now }
-{
-    events.iter().any(|event| takes_up(write, event))
-}
-
 /// Whether the write of a draw may be checked, or skipped, now.
-pub fn may_take_up(past: &Past<'_>, pass: &Pass<'_>, draw: &Draw) -> bool
+pub fn may_take_up(past: &Past, pass: &Pass<'_>, draw: &Draw) -> bool
     ensures { result ≡ may_take_up past.now pass.now draw.now }
 {
     is_write_draw(draw)
         && has_rounds(pass.job())
-        && !any_takes_up(past.events(), &pass.write_id(draw))
+        && !past.ledger().is_taken_up(&pass.write_id(draw))
         && !is_halted(past, pass.job())
         && has_room(past, pass.job())
         && is_clear(past, false, &draw.piece)
@@ -223,7 +192,7 @@ pub fn may_take_up(past: &Past<'_>, pass: &Pass<'_>, draw: &Draw) -> bool
 }
 
 // The check of a write where it is intact, else its skip.
-fn check_or_skip(past: &Past<'_>, worker: u32, pass: &Pass<'_>, draw: &Draw) -> Event
+fn check_or_skip(past: &Past, worker: u32, pass: &Pass<'_>, draw: &Draw) -> Event
     ensures { result ≡ check_or_skip past.now worker pass.now draw.now }
 {
     let write = pass.write_id(draw);
@@ -241,7 +210,7 @@ fn check_or_skip(past: &Past<'_>, worker: u32, pass: &Pass<'_>, draw: &Draw) -> 
 /// What may happen with a draw of a pass now, if anything: its check or skip, or its issue.
 pub fn step_of(
     work: &Workload<'_>,
-    past: &Past<'_>,
+    past: &Past,
     worker: u32,
     clone: &PlannedClone<'_>,
     pass: &Pass<'_>,

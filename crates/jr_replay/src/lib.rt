@@ -1,30 +1,25 @@
 // What a run may do after a history, and what it has done: each definition of a legal history as a
-// plain program, worked out anew from the events.
+// plain program over what the history says, worked out.
 #![tactic(auto)]
 
 mod answers;
 mod choices;
 mod counts;
 mod draws;
-mod events;
-mod histories;
-mod last_writes;
 mod laws;
 mod legal;
 mod passes;
 mod rounds;
 mod workloads;
 
-pub use answers::{allowed, complete, may_end, may_judge, step_at};
+pub use answers::{allowed, complete, complete_among, may_end, may_judge, step_at};
 pub use choices::{choice, choice_among};
 pub use counts::{totals, totals_among};
 pub use draws::draws_of;
-pub use events::{
-    end_of, ended_whole, is_judged, is_probe, is_verdict_on, is_write, outcome_of, same_piece,
-    same_write, started, started_by,
+pub use jr_past::{
+    Ledger, Past, WriteEnd, end_of, ended_whole, is_intact, is_judged, is_probe, is_verdict_on,
+    is_write, last_write, outcome_of, same_piece, same_write, started, started_by,
 };
-pub use histories::Past;
-pub use last_writes::{is_intact, last_write};
 pub use laws::moved_are_started;
 pub use legal::{
     clone_finished, has_room, is_at_rest, is_bad, is_clear, is_current, is_fault, is_halted,

@@ -1,14 +1,15 @@
-ghost use Rattle.std.specs.Prelude.{◌≡◌, ◌==◌, ◌&&◌, not, nat_lt, length, count_by};
+ghost use Rattle.std.specs.Prelude.{◌≡◌, ◌==◌, ◌&&◌, not, nat_lt, length, count_by, reverse};
 ghost use Rattle.std.specs.List.{list_any, list_all, range_with_len};
 ghost use Rattle.jr_model.specs.declared.events.Started.{Started};
 ghost use Rattle.jr_model.specs.declared.workloads.Draw.{Draw};
 ghost use Rattle.jr_model.specs.History.{in_flight_of, is_of_clone};
-ghost use Rattle.jr_model.specs.Rounds.{write_id, issues_of, group_count, issued_count, all_issued, issued_among, is_full, is_probe_of, settles, is_settled, is_closed, no_issue_flies, is_open, waits_for_round, rounds_closed, nothing_flies_of, nothing_flies_in, pass_finished};
+ghost use Rattle.jr_model.specs.Rounds.{write_id, group_of, group_count, issued_count, all_issued, issued_among, is_full, is_settled, is_closed, no_issue_flies, is_open, waits_for_round, rounds_closed, nothing_flies_of, nothing_flies_in, pass_finished};
 
-use crate::events::{is_probe, same_write};
-use crate::histories::Past;
+ghost use Rattle.jr_replay.specs.Rounds.{is_full_at};
+
 use crate::passes::{Pass, has_rounds};
-use jr_model::{Draw, Event, Started, WriteId};
+use jr_model::{Draw, Started, WriteId};
+use jr_past::{Past, is_probe};
 
 /// Whether an I/O is of this clone.
 pub fn is_of_clone(clone: u32, io: &Started) -> bool
@@ -18,7 +19,7 @@ pub fn is_of_clone(clone: u32, io: &Started) -> bool
 }
 
 /// How many I/Os and checks a clone has in flight.
-pub fn flying_count(past: &Past<'_>, clone: u32) -> usize
+pub fn flying_count(past: &Past, clone: u32) -> usize
     ensures { result ≡ length (in_flight_of past.now clone) }
 {
     past.in_flight()
@@ -27,30 +28,16 @@ pub fn flying_count(past: &Past<'_>, clone: u32) -> usize
         .count()
 }
 
-// Whether the event issues a draw of the pass.
-fn issues_of(pass: &Pass<'_>, event: &Event) -> bool
-    ensures { result ≡ issues_of pass.now event.now }
-{
-    match event {
-        Event::Issue { write, .. } => {
-            write.clone == pass.job().clone_number() && write.pass == pass.number()
-        }
-        _ => false,
-    }
-}
-
 /// How many draws of a pass were issued.
-pub fn issued_count(past: &Past<'_>, pass: &Pass<'_>) -> usize
+pub fn issued_count(past: &Past, pass: &Pass<'_>) -> usize
     ensures { result ≡ issued_count past.now pass.now }
 {
-    past.events()
-        .iter()
-        .filter(|event| issues_of(pass, event))
-        .count()
+    past.ledger()
+        .issued_count(pass.job().clone_number(), pass.number())
 }
 
 /// Whether all draws of a pass were issued.
-pub fn all_issued(past: &Past<'_>, pass: &Pass<'_>) -> bool
+pub fn all_issued(past: &Past, pass: &Pass<'_>) -> bool
     ensures { result ≡ all_issued past.now pass.now }
 {
     issued_count(past, pass) == pass.draws().len()
@@ -67,71 +54,64 @@ fn numbers_below(draws: &[Draw], count: usize) -> usize
 }
 
 /// How many of these draws of a pass were issued.
-pub fn issued_among(past: &Past<'_>, pass: &Pass<'_>, draws: &[Draw]) -> usize
+pub fn issued_among(past: &Past, pass: &Pass<'_>, draws: &[Draw]) -> usize
     ensures { result ≡ issued_among past.now pass.now draws.now }
 {
     numbers_below(draws, issued_count(past, pass))
 }
 
-/// Whether a group has as many issued writes as it can have: all, or as many as the backlog.
-pub fn is_full(past: &Past<'_>, pass: &Pass<'_>, g: usize) -> bool
-    ensures { result ≡ is_full past.now pass.now g }
+// Whether a group has as many issued writes as it can have, where so many draws of its pass were
+// issued.
+fn is_full_at(issued: usize, pass: &Pass<'_>, g: usize) -> bool
+    ensures { result ≡ is_full_at issued pass.now g }
 {
     let backlog = pass.job().backlog() as usize;
-    all_issued(past, pass) || (0 < backlog && issued_among(past, pass, pass.group(g)) == backlog)
+    issued == pass.draws().len()
+        || (0 < backlog && numbers_below(pass.group(g), issued) == backlog)
 }
 
-// Whether it is a check of this write.
-fn is_probe_of(write: &WriteId, io: Option<Started>) -> bool
-    ensures { result ≡ is_probe_of write.now io }
+/// Whether a group has as many issued writes as it can have: all, or as many as the backlog.
+pub fn is_full(past: &Past, pass: &Pass<'_>, g: usize) -> bool
+    ensures { result ≡ is_full past.now pass.now g }
 {
-    match io {
-        None => false,
-        Some(io) => is_probe(io.kind) && same_write(&io.write, write),
-    }
-}
-
-// Whether the event skips the write or ends its check.
-fn settles(ios: &[Started], write: &WriteId, event: &Event) -> bool
-    ensures { result ≡ settles ios.now write.now event.now }
-{
-    match event {
-        Event::Skip { write: skipped, .. } => same_write(skipped, write),
-        Event::End { io, .. } => is_probe_of(write, ios.get(*io as usize).copied()),
-        _ => false,
-    }
-}
-
-fn any_settles(ios: &[Started], events: &[Event], write: &WriteId) -> bool
-    ensures { result ≡ list_any (settles ios.now write.now) events.now }
-{
-    events.iter().any(|event| settles(ios, write, event))
+    is_full_at(issued_count(past, pass), pass, g)
 }
 
 /// Whether a write was skipped, or its check ended.
-pub fn is_settled(past: &Past<'_>, write: &WriteId) -> bool
+pub fn is_settled(past: &Past, write: &WriteId) -> bool
     ensures { result ≡ is_settled past.now write.now }
 {
-    any_settles(past.started(), past.events(), write)
+    past.ledger().is_settled(write)
 }
 
-fn all_settled(past: &Past<'_>, pass: &Pass<'_>, draws: &[Draw]) -> bool
-    ensures { result ≡ list_all (λ draw. is_settled past.now (write_id pass.now draw)) draws.now }
+// Whether each write of some draws is settled; the last ones are the least likely to be.
+fn all_settled(past: &Past, pass: &Pass<'_>, draws: &[Draw]) -> bool
+    ensures { result
+        ≡ list_all (λ draw. is_settled past.now (write_id pass.now draw)) (reverse draws.now) }
 {
     draws
         .iter()
+        .rev()
         .all(|draw| is_settled(past, &pass.write_id(draw)))
 }
 
+// Whether each write of a group is settled.
+fn group_settled(past: &Past, pass: &Pass<'_>, g: usize) -> bool
+    ensures { result
+        ≡ list_all (λ draw. is_settled past.now (write_id pass.now draw)) (group_of pass.now g) }
+{
+    all_settled(past, pass, pass.group(g))
+}
+
 /// Whether a group is full and each of its writes is settled.
-pub fn is_closed(past: &Past<'_>, pass: &Pass<'_>, g: usize) -> bool
+pub fn is_closed(past: &Past, pass: &Pass<'_>, g: usize) -> bool
     ensures { result ≡ is_closed past.now pass.now g }
 {
-    is_full(past, pass, g) && all_settled(past, pass, pass.group(g))
+    is_full(past, pass, g) && group_settled(past, pass, g)
 }
 
 /// Whether no read or write of the clone is in flight; checks may be.
-pub fn no_issue_flies(past: &Past<'_>, clone: u32) -> bool
+pub fn no_issue_flies(past: &Past, clone: u32) -> bool
     ensures { result ≡ no_issue_flies past.now clone }
 {
     past.in_flight()
@@ -141,7 +121,7 @@ pub fn no_issue_flies(past: &Past<'_>, clone: u32) -> bool
 }
 
 /// Whether the writes of a group are to be checked or skipped now.
-pub fn is_open(past: &Past<'_>, pass: &Pass<'_>, g: usize) -> bool
+pub fn is_open(past: &Past, pass: &Pass<'_>, g: usize) -> bool
     ensures { result ≡ is_open past.now pass.now g }
 {
     is_full(past, pass, g)
@@ -149,51 +129,62 @@ pub fn is_open(past: &Past<'_>, pass: &Pass<'_>, g: usize) -> bool
         && no_issue_flies(past, pass.job().clone_number())
 }
 
-// Whether a group is full and not closed.
-fn is_pending(past: &Past<'_>, pass: &Pass<'_>, g: usize) -> bool
+// Whether a group is full and not closed, where so many draws of its pass were issued.
+fn is_pending(past: &Past, pass: &Pass<'_>, issued: usize, g: usize) -> bool
+    requires { issued ≡ issued_count past.now pass.now }
     ensures { result ≡ (is_full past.now pass.now g && not (is_closed past.now pass.now g)) }
 {
-    is_full(past, pass, g) && !is_closed(past, pass, g)
+    is_full_at(issued, pass, g) && !group_settled(past, pass, g)
 }
 
-fn any_pending(past: &Past<'_>, pass: &Pass<'_>) -> bool
+fn any_pending(past: &Past, pass: &Pass<'_>, issued: usize) -> bool
+    requires { issued ≡ issued_count past.now pass.now }
     ensures { result
         ≡ list_any (λ g. is_full past.now pass.now g && not (is_closed past.now pass.now g))
         (range_with_len 0 (group_count pass.now)) }
 {
-    (0..pass.group_count()).any(|g| is_pending(past, pass, g))
+    (0..pass.group_count()).any(|g| is_pending(past, pass, issued, g))
 }
 
 /// Whether some group of the pass is full and not closed.
-pub fn waits_for_round(past: &Past<'_>, pass: &Pass<'_>) -> bool
+pub fn waits_for_round(past: &Past, pass: &Pass<'_>) -> bool
     ensures { result ≡ waits_for_round past.now pass.now }
 {
-    has_rounds(pass.job()) && any_pending(past, pass)
+    has_rounds(pass.job()) && any_pending(past, pass, issued_count(past, pass))
 }
 
-fn all_closed(past: &Past<'_>, pass: &Pass<'_>) -> bool
+// Whether a group is closed, where so many draws of its pass were issued.
+fn is_closed_at(past: &Past, pass: &Pass<'_>, issued: usize, g: usize) -> bool
+    requires { issued ≡ issued_count past.now pass.now }
+    ensures { result ≡ is_closed past.now pass.now g }
+{
+    is_full_at(issued, pass, g) && group_settled(past, pass, g)
+}
+
+fn all_closed(past: &Past, pass: &Pass<'_>, issued: usize) -> bool
+    requires { issued ≡ issued_count past.now pass.now }
     ensures { result
         ≡ list_all (λ g. is_closed past.now pass.now g) (range_with_len 0 (group_count pass.now)) }
 {
-    (0..pass.group_count()).all(|g| is_closed(past, pass, g))
+    (0..pass.group_count()).all(|g| is_closed_at(past, pass, issued, g))
 }
 
 /// Whether each group of the pass is closed.
-pub fn rounds_closed(past: &Past<'_>, pass: &Pass<'_>) -> bool
+pub fn rounds_closed(past: &Past, pass: &Pass<'_>) -> bool
     ensures { result ≡ rounds_closed past.now pass.now }
 {
-    !has_rounds(pass.job()) || all_closed(past, pass)
+    !has_rounds(pass.job()) || all_closed(past, pass, issued_count(past, pass))
 }
 
 /// Whether nothing of the clone is in flight.
-pub fn nothing_flies_of(past: &Past<'_>, clone: u32) -> bool
+pub fn nothing_flies_of(past: &Past, clone: u32) -> bool
     ensures { result ≡ nothing_flies_of past.now clone }
 {
     flying_count(past, clone) == 0
 }
 
 // Whether something of the clone's pass is in flight.
-fn flies_in(past: &Past<'_>, clone: u32, pass: u32) -> bool
+fn flies_in(past: &Past, clone: u32, pass: u32) -> bool
     ensures { result
         ≡ list_any (λ (io : Started). io.write.pass == pass) (in_flight_of past.now clone) }
 {
@@ -204,14 +195,14 @@ fn flies_in(past: &Past<'_>, clone: u32, pass: u32) -> bool
 }
 
 /// Whether nothing of the pass is in flight.
-pub fn nothing_flies_in(past: &Past<'_>, pass: &Pass<'_>) -> bool
+pub fn nothing_flies_in(past: &Past, pass: &Pass<'_>) -> bool
     ensures { result ≡ nothing_flies_in past.now pass.now }
 {
     !flies_in(past, pass.job().clone_number(), pass.number())
 }
 
 /// Whether all draws of the pass were issued, none is in flight, and its rounds are closed.
-pub fn pass_finished(past: &Past<'_>, pass: &Pass<'_>) -> bool
+pub fn pass_finished(past: &Past, pass: &Pass<'_>) -> bool
     ensures { result ≡ pass_finished past.now pass.now }
 {
     all_issued(past, pass) && nothing_flies_in(past, pass) && rounds_closed(past, pass)

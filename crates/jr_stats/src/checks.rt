@@ -10,7 +10,7 @@ use crate::fields::read_line;
 use crate::legal::legal_event;
 use jr_model::{Event, Memory, Totals};
 use jr_options::Plan;
-use jr_replay::{Past, Workload, complete, totals_among};
+use jr_replay::{Past, Workload, complete_among, totals_among};
 use std::alloc::Global;
 
 /// Checks a trace: what each clone did, where the text is the trace of a whole legal run of the plan; else its
@@ -19,46 +19,46 @@ pub fn check_trace(alloc: Global, plan: &Plan, text: &[u8]) -> Result<Vec<Totals
     ensures ok { IfOk result (λ totals. check_of plan.now text.now ≡ Ok totals.items) }
     ensures err { IfErr result (λ fault. IsRefusal fault (check_of plan.now text.now)) }
 {
-    let history = history_in(alloc, plan, text)?;
-    if !complete(alloc, plan, history.as_slice())? {
+    let work = Workload::new(alloc, plan)?;
+    let past = past_in(alloc, &work, text)?;
+    if !complete_among(&work, &past) {
         return Err(TraceFault::Unfinished);
     }
-    Ok(all_totals(alloc, plan, history.as_slice())?)
+    Ok(all_totals(alloc, plan, &past)?)
 }
 
 // What each clone did.
-fn all_totals(alloc: Global, plan: &Plan, history: &[Event]) -> Result<Vec<Totals>, Memory>
-    requires legal { is_legal plan.now history.now ≡ true }
-    requires few { length (started history.now) ≤ 2 ^ 32 }
-    ensures { IfOk result (λ totals. totals.items ≡ all_totals plan.now history.now) }
+fn all_totals(alloc: Global, plan: &Plan, past: &Past) -> Result<Vec<Totals>, Memory>
+    requires legal { is_legal plan.now past.now ≡ true }
+    requires few { length (started past.now) ≤ 2 ^ 32 }
+    ensures { IfOk result (λ totals. totals.items ≡ all_totals plan.now past.now) }
 {
-    let past = Past::new(alloc, history)?;
     let mut totals = Vec::new(alloc);
     for i in 0..plan.clones() {
-        totals.push(totals_among(&past, plan.clone_at(i).clone_number()))?;
+        totals.push(totals_among(past, plan.clone_at(i).clone_number()))?;
     }
     Ok(totals)
 }
 
 // The history that a text says.
-pub fn history_in(alloc: Global, plan: &Plan, text: &[u8]) -> Result<Vec<Event>, TraceFault>
-    ensures ok { IfOk result (λ history. history_in plan.now text.now ≡ Ok history.items) }
-    ensures legal { IfOk result (λ history. is_legal plan.now history.items ≡ true) }
-    ensures few { IfOk result (λ history. length (started history.items) ≤ 2 ^ 32) }
-    ensures err { IfErr result (λ fault. IsRefusal fault (history_in plan.now text.now)) }
+pub fn past_in(alloc: Global, work: &Workload<'_>, text: &[u8]) -> Result<Past, TraceFault>
+    ensures ok { IfOk result (λ past. history_in work.now text.now ≡ Ok past) }
+    ensures legal { IfOk result (λ past. is_legal work.now past ≡ true) }
+    ensures few { IfOk result (λ past. length (started past) ≤ 2 ^ 32) }
+    ensures err { IfErr result (λ fault. IsRefusal fault (history_in work.now text.now)) }
 {
-    let work = Workload::new(alloc, plan)?;
-    let mut history = Vec::new(alloc);
+    let mut past = Past::new(alloc, &[])?;
     let mut rest = text;
     while !rest.is_empty() {
-        let number = history.len() as u64 + 1;
+        let number = past.ledger().len() as u64 + 1;
         let Some((line, after)) = next_line(rest) else {
             return Err(TraceFault::Line(number));
         };
-        history.push(line_event(alloc, &work, history.as_slice(), number, line)?)?;
+        let event = line_event(alloc, work, &past, number, line)?;
+        past = past.followed_by(alloc, event)?;
         rest = after;
     }
-    Ok(history)
+    Ok(past)
 }
 
 // The first line of a text, and what follows its line feed; nothing where it has none.
@@ -88,18 +88,17 @@ fn line_len(text: &[u8]) -> usize
 fn line_event(
     alloc: Global,
     work: &Workload<'_>,
-    history: &[Event],
+    past: &Past,
     number: u64,
     line: &[u8],
 ) -> Result<Event, TraceFault>
-    ensures ok { IfOk result (λ event. line_event work.now history.now number line.now ≡ Ok event) }
-    ensures err { IfErr result (λ fault. IsRefusal fault (line_event work.now history.now number line.now)) }
+    ensures ok { IfOk result (λ event. line_event work.now past.now number line.now ≡ Ok event) }
+    ensures err { IfErr result (λ fault. IsRefusal fault (line_event work.now past.now number line.now)) }
 {
     let Some(entry) = read_line(line) else {
         return Err(TraceFault::Line(number));
     };
-    let past = Past::new(alloc, history)?;
-    match legal_event(alloc, work, &past, &entry)? {
+    match legal_event(alloc, work, past, &entry)? {
         Some(event) => Ok(event),
         None => Err(TraceFault::Illegal(number)),
     }

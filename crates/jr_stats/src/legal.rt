@@ -12,7 +12,7 @@ use std::alloc::Global;
 pub fn legal_event(
     alloc: Global,
     work: &Workload<'_>,
-    past: &Past<'_>,
+    past: &Past,
     entry: &Entry,
 ) -> Result<Option<Event>, Memory>
     ensures { IfOk result (λ event. event ≡ legal_event work.now past.now entry.now) }
@@ -29,7 +29,7 @@ pub fn legal_event(
 fn legal_issue(
     alloc: Global,
     work: &Workload<'_>,
-    past: &Past<'_>,
+    past: &Past,
     start: &Start,
 ) -> Result<Option<Event>, Memory>
     ensures { IfOk result (λ event. event ≡ legal_event work.now past.now (Entry.Issue start.now)) }
@@ -44,7 +44,7 @@ fn legal_issue(
 fn legal_probe(
     alloc: Global,
     work: &Workload<'_>,
-    past: &Past<'_>,
+    past: &Past,
     start: &Start,
 ) -> Result<Option<Event>, Memory>
     ensures { IfOk result (λ event. event ≡ legal_event work.now past.now (Entry.Probe start.now)) }
@@ -59,7 +59,7 @@ fn legal_probe(
 fn legal_skip(
     alloc: Global,
     work: &Workload<'_>,
-    past: &Past<'_>,
+    past: &Past,
     worker: u64,
     write: &Name,
 ) -> Result<Option<Event>, Memory>
@@ -74,7 +74,7 @@ fn legal_skip(
 }
 
 // The worker and the draw of a start that has the next number.
-fn begun(past: &Past<'_>, start: &Start) -> Option<(u32, WriteId)>
+fn begun(past: &Past, start: &Start) -> Option<(u32, WriteId)>
     ensures { result ≡ begun past.now start.now }
 {
     let worker = small(start.worker)?;
@@ -88,7 +88,7 @@ fn begun(past: &Past<'_>, start: &Start) -> Option<(u32, WriteId)>
 }
 
 // The end of an I/O, where it may end so.
-fn ended(past: &Past<'_>, worker: u64, io: u64, ending: &Ending) -> Option<Event>
+fn ended(past: &Past, worker: u64, io: u64, ending: &Ending) -> Option<Event>
     ensures { result ≡ ended past.now worker io ending.now }
 {
     let worker = small(worker)?;
@@ -106,7 +106,7 @@ fn ended(past: &Past<'_>, worker: u64, io: u64, ending: &Ending) -> Option<Event
 }
 
 // The verdict on a check, where it may have it.
-fn judged(plan: &Plan, past: &Past<'_>, by: u64, io: u64, finding: &Finding) -> Option<Event>
+fn judged(plan: &Plan, past: &Past, by: u64, io: u64, finding: &Finding) -> Option<Event>
     ensures { result ≡ judged plan.now past.now by io finding.now }
 {
     let worker = small(by)?;

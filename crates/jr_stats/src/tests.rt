@@ -1,4 +1,4 @@
-use crate::checks::history_in;
+use crate::checks::past_in;
 use crate::traces::trace_text;
 use crate::{TraceFault, accepted_is_a_trace, check_trace, numbers_fit, trace_is_accepted};
 use jr_model::Totals;
@@ -74,8 +74,9 @@ fn accepts_a_whole_run_and_writes_it_again(rt: HostRuntime) -> Result<(), Fail> 
     let text = with_line(alloc, 0, None)?;
     let totals = check_trace(alloc, &plan, text.as_bytes())?;
     assert_eq!(rt; totals.as_slice(), [done(2, 0)].as_slice());
-    let history = history_in(alloc, &plan, text.as_bytes())?;
-    let again = trace_text(alloc, history.as_slice())?;
+    let work = Workload::new(alloc, &plan)?;
+    let past = past_in(alloc, &work, text.as_bytes())?;
+    let again = trace_text(alloc, past.events())?;
     assert_eq!(rt; again.as_slice(), text.as_bytes());
     Ok(())
 }
@@ -206,8 +207,9 @@ fn accepts_a_run_that_a_fault_halts(rt: HostRuntime) -> Result<(), Fail> {
         let totals = check_trace(alloc, &plan, text.as_bytes())?;
         assert_eq!(rt; totals.len(), 1);
         assert_eq!(rt; totals[0].faults, 1, "at {ending}");
-        let history = history_in(alloc, &plan, text.as_bytes())?;
-        let again = trace_text(alloc, history.as_slice())?;
+        let work = Workload::new(alloc, &plan)?;
+        let past = past_in(alloc, &work, text.as_bytes())?;
+        let again = trace_text(alloc, past.events())?;
         assert_eq!(rt; again.as_slice(), text.as_bytes());
     }
     Ok(())

@@ -22,25 +22,22 @@ one_more history jobs i job totals t at so here =
 
 pub totals_among-requires-clause-reads : goal.totals_among-requires-clause-reads
 totals_among-requires-clause-reads c =
-    let few = moved_at_most_started c.args.plan.now c.args.history.now is_read c.clone_number.result c.requires.legal in
-    let same : c.in_ok-past.past ≡ c.args.history.now = c.in_ok-past.ensures in
-    rw same (omega (arith, few, c.requires.few))
+    let few = moved_at_most_started c.args.plan.now c.args.past.now is_read c.clone_number.result c.requires.legal in
+    omega (arith, few, c.requires.few)
 
 pub totals_among-requires-clause-writes : goal.totals_among-requires-clause-writes
 totals_among-requires-clause-writes c =
-    let few = moved_at_most_started c.args.plan.now c.args.history.now is_write c.clone_number.result c.requires.legal in
-    let same : c.in_ok-past.past ≡ c.args.history.now = c.in_ok-past.ensures in
-    rw same (omega (arith, few, c.requires.few))
+    let few = moved_at_most_started c.args.plan.now c.args.past.now is_write c.clone_number.result c.requires.legal in
+    omega (arith, few, c.requires.few)
 
 pub loop-i-preserved : goal.loop-i-preserved
 loop-i-preserved c =
-    let same : c.in_ok-past.past ≡ c.args.history.now = c.in_ok-past.ensures in
-    let there : c.totals_among.result ≡ totals_of c.args.history.now c.clone_at.result.now.clone =
-    c.totals_among.ensures ∙ ap (λ (h : List Event). totals_of h c.clone_number.result) same ∙ ap (totals_of c.args.history.now) c.clone_number.ensures in
-    c.in_ok-push.ensures.items ∙ one_more c.args.history.now c.args.plan.now.clones c.loop-i.i c.clone_at.result.now c.loop-i.totals.items c.totals_among.result c.clone_at.ensures.value c.loop-i.invariant there
+    let there : c.totals_among.result ≡ totals_of c.args.past.now c.clone_at.result.now.clone =
+    c.totals_among.ensures ∙ ap (totals_of c.args.past.now) c.clone_number.ensures in
+    c.in_ok-push.ensures.items ∙ one_more c.args.past.now c.args.plan.now.clones c.loop-i.i c.clone_at.result.now c.loop-i.totals.items c.totals_among.result c.clone_at.ensures.value c.loop-i.invariant there
 
 pub returns : goal.returns
 returns c =
     c.loop-i.invariant
-    ∙ ap (λ (jobs : List SubJob). map (λ (job : SubJob). totals_of c.args.history.now job.clone) jobs)
+    ∙ ap (λ (jobs : List SubJob). map (λ (job : SubJob). totals_of c.args.past.now job.clone) jobs)
     (take_all c.loop-i.i c.args.plan.now.clones (omega (arith, c.clones-i-end.ensures.value)))

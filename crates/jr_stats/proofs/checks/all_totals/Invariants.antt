@@ -6,4 +6,4 @@ use Rattle.jr_stats.proofs.checks.all_totals.Given as goal
 
 -- the totals of the first clones
 abbrev pub invariant-loop-i : goal.invariant-loop-i
-invariant-loop-i l = l.totals.items ≡ map (λ (job : SubJob). totals_of l.history job.clone) (take l.i l.plan.clones)
+invariant-loop-i l = l.totals.items ≡ map (λ (job : SubJob). totals_of l.past job.clone) (take l.i l.plan.clones)

@@ -1,0 +1,4 @@
+pub mod KeyLemmas
+pub mod MarkLemmas
+pub mod UnfinishedLemmas
+pub mod WriteEndLemmas

@@ -1,0 +1,4 @@
+pub mod Ledgers
+pub mod Marks
+pub mod Unfinished
+pub mod WriteEnds

@@ -1,0 +1,22 @@
+// A history with what it says of its I/Os and writes worked out: once from a list of events, or kept
+// up event by event.
+#![tactic(auto)]
+
+mod events;
+mod histories;
+mod last_writes;
+mod ledgers;
+mod marking;
+mod marks;
+
+pub use events::{
+    end_of, ended_whole, is_judged, is_probe, is_verdict_on, is_write, outcome_of, same_piece,
+    same_write, started, started_by,
+};
+pub use histories::Past;
+pub use last_writes::{is_intact, last_write};
+pub use ledgers::Ledger;
+pub use marks::WriteEnd;
+
+#[cfg(test)]
+mod tests;
