@@ -4,7 +4,6 @@ ghost use Rattle.jr_model.specs.declared.events.Started.{Started};
 ghost use Rattle.jr_model.specs.declared.workloads.Draw.{Draw};
 ghost use Rattle.jr_model.specs.History.{in_flight_of, is_of_clone};
 ghost use Rattle.jr_model.specs.Rounds.{write_id, group_of, group_count, issued_count, all_issued, issued_among, is_full, is_settled, is_closed, no_issue_flies, is_open, waits_for_round, rounds_closed, nothing_flies_of, nothing_flies_in, pass_finished};
-
 ghost use Rattle.jr_replay.specs.Rounds.{is_full_at};
 
 use crate::passes::{Pass, has_rounds};
@@ -66,8 +65,7 @@ fn is_full_at(issued: usize, pass: &Pass<'_>, g: usize) -> bool
     ensures { result ≡ is_full_at issued pass.now g }
 {
     let backlog = pass.job().backlog() as usize;
-    issued == pass.draws().len()
-        || (0 < backlog && numbers_below(pass.group(g), issued) == backlog)
+    issued == pass.draws().len() || (0 < backlog && numbers_below(pass.group(g), issued) == backlog)
 }
 
 /// Whether a group has as many issued writes as it can have: all, or as many as the backlog.

@@ -3,6 +3,7 @@ use crate::traces::trace_text;
 use crate::{TraceFault, accepted_is_a_trace, check_trace, numbers_fit, trace_is_accepted};
 use jr_model::Totals;
 use jr_options::{Plan, plan};
+use jr_replay::Workload;
 use jr_text::sections;
 use std::alloc::Global;
 use std::test::Fail;
