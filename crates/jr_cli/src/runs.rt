@@ -7,7 +7,7 @@ ghost use Rattle.jr_model.specs.Serial.{serial_history};
 ghost use Rattle.jr_crew.specs.Runs.{IsFresh};
 ghost use Rattle.jr_cli.specs.Checked.{IsCheckFault};
 ghost use Rattle.jr_cli.specs.Executed.{HasRun, IsCutShort, IsReported, IsTraced};
-ghost use Rattle.jr_options.specs.PlanText.{plan_text};
+ghost use Rattle.jr_plan.specs.PlanText.{plan_text};
 ghost use Rattle.jr_stats.specs.TraceChecks.{check_of};
 ghost use Rattle.jr_stats.specs.Traces.{trace_of};
 ghost use Rattle.jr_cli.specs.JobRefusals.{job_refusal, IsRefusedBy, IsWantOfMemory, IsPlanOf};

@@ -20,7 +20,7 @@ use Rattle.jr_model.specs.Plan.{Plan}
 use Rattle.jr_model.specs.Replies.{EngineState}
 use Rattle.jr_model.proofs.LegalLaws.{is_legal-more}
 use Rattle.jr_model.proofs.SerialLaws.{first_given-append, any-append}
-use Rattle.jr_options.specs.PlanFacts.{IsPlanned}
+use Rattle.jr_plan.specs.PlanFacts.{IsPlanned}
 use Rattle.jr_engines.specs.Answers.{AnswerParts, Answers}
 use Rattle.jr_header.specs.Served.{asked_with, is_whole_check}
 use Rattle.jr_laws.proofs.StartedLemmas.{started-other, started-append}

@@ -18,7 +18,7 @@ use Rattle.jr_model.specs.Plan.{Plan}
 use Rattle.jr_model.specs.Replies.{FileBytes}
 use Rattle.jr_model.specs.Serial.{carried_out, goes_on, serial_after, serial_history}
 use Rattle.jr_model.proofs.LegalLaws.{is_legal-more, choice_may_happen}
-use Rattle.jr_options.specs.PlanFacts.{IsPlanned}
+use Rattle.jr_plan.specs.PlanFacts.{IsPlanned}
 use Rattle.jr_laws.specs.Memory.{HoldsLastWrites}
 use Rattle.jr_laws.proofs.CountLaws.{numbered_of, serial_stops_all}
 use Rattle.jr_laws.proofs.Memories.{holds_on}

@@ -22,7 +22,7 @@ use Rattle.jr_model.specs.Machine.{content_of_io, verdict_on, work_of}
 use Rattle.jr_model.specs.Plan.{Plan, SubJob}
 use Rattle.jr_model.specs.Replies.{EngineState, FileBytes, asked, covers, memory_with, outcome_for, scripted_reply, stored, stored_in}
 use Rattle.jr_model.specs.Serial.{serial_history}
-use Rattle.jr_options.specs.PlanFacts.{IsPlanned}
+use Rattle.jr_plan.specs.PlanFacts.{IsPlanned}
 use Rattle.jr_engines.specs.Answers.{AnswerParts, Answers, Leaves}
 use Rattle.jr_engines.proofs.MemoryLemmas.{covers_after_asked}
 use Rattle.jr_header.specs.Served.{is_whole_check}

@@ -18,7 +18,7 @@ use Rattle.jr_model.specs.Machine.{verdict_on}
 use Rattle.jr_model.specs.Plan.{Plan, SubJob}
 use Rattle.jr_model.specs.Replies.{EngineState, FileBytes, covers, asked, next_reply}
 use Rattle.jr_model.specs.Tied.{KnownEngine, called, TiedAlong, IsTied}
-use Rattle.jr_options.specs.PlanFacts.{IsPlanned}
+use Rattle.jr_plan.specs.PlanFacts.{IsPlanned}
 use Rattle.jr_engines.specs.Answers.{AnswerParts, Answers, Leaves, is_failed}
 use Rattle.jr_engines.proofs.MemoryLemmas.{covers_after_asked}
 use Rattle.jr_header.specs.Served.{asked_with, ticket_content, is_whole_check}

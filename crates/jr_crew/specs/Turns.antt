@@ -10,7 +10,7 @@ use Rattle.jr_model.specs.Legal.{is_legal, is_complete}
 use Rattle.jr_model.specs.Plan.{Plan}
 use Rattle.jr_model.specs.Replies.{EngineState}
 use Rattle.jr_model.specs.Tickets.{ticket_fits}
-use Rattle.jr_options.specs.PlanFacts.{IsPlanned}
+use Rattle.jr_plan.specs.PlanFacts.{IsPlanned}
 use Rattle.jr_engines.specs.Answers.{AnswerParts, Answers}
 use Rattle.jr_header.specs.Served.{asked_with, is_whole_check, is_to_judge, answer_verdict}
 use Rattle.jr_desk.specs.DeskState.{DeskState}

@@ -23,7 +23,7 @@ use Rattle.jr_model.specs.Rounds.{pass_of}
 use Rattle.jr_model.specs.Tickets.{piece_fits, has_pattern, suits_kind, suits_method, ticket_fits}
 use Rattle.jr_model.proofs.LegalLaws.{choice_is_step, cases_step_of}
 use Rattle.jr_model.proofs.SerialLaws.{EndsWereStarted, ends-more, first_given-append}
-use Rattle.jr_options.specs.PlanFacts.{IsPlanned}
+use Rattle.jr_plan.specs.PlanFacts.{IsPlanned}
 use Rattle.jr_laws.specs.Drawn.{FitsPlan}
 use Rattle.jr_laws.proofs.CountLaws.{numbered_of, along_legal}
 use Rattle.jr_laws.proofs.DrawnLaws.{started_fit-law}

@@ -29,7 +29,7 @@ use Rattle.jr_model.specs.Plan.{Plan, SubJob, IsNumbered, clone_of}
 use Rattle.jr_model.specs.Report.{all_totals}
 use Rattle.jr_model.proofs.LegalLaws.{is_legal-more, choice_may_happen}
 use Rattle.jr_model.proofs.MachineLaws.{verdict_of_fits}
-use Rattle.jr_options.specs.PlanFacts.{IsPlanned}
+use Rattle.jr_plan.specs.PlanFacts.{IsPlanned}
 use Rattle.jr_header.specs.Served.{is_whole_check}
 use Rattle.jr_laws.specs.Drawn.{FitsPlan}
 use Rattle.jr_laws.proofs.CountLaws.{numbered_of}

@@ -8,7 +8,7 @@ use Rattle.jr_model.specs.Legal.{is_legal}
 use Rattle.jr_model.specs.Machine.{State, Played, first_state, machine_run, machine_step}
 use Rattle.jr_model.specs.Plan.{Plan}
 use Rattle.jr_model.proofs.MachineLaws.{legal_run}
-use Rattle.jr_options.specs.PlanFacts.{IsPlanned}
+use Rattle.jr_plan.specs.PlanFacts.{IsPlanned}
 use Rattle.jr_engines.specs.Answers.{AnswerParts}
 use Rattle.jr_laws.specs.Memory.{CoversFiles}
 use Rattle.jr_laws.proofs.CountLaws.{numbered_of}

@@ -11,8 +11,8 @@ use Rattle.jr_model.specs.Report.{all_totals}
 use Rattle.jr_model.specs.declared.totals.Totals.{Totals}
 use Rattle.jr_laws.proofs.StartedLemmas.{same_some}
 use Rattle.std.proofs.lemmas.List.{map-append}
-use Rattle.jr_options.specs.PlanFacts.{IsPlanned}
-use Rattle.jr_options.specs.PlanFacts as facts
+use Rattle.jr_plan.specs.PlanFacts.{IsPlanned}
+use Rattle.jr_plan.specs.PlanFacts as facts
 use Rattle.jr_replay.proofs.LegalMoves.{moved_at_most_started}
 use Rattle.jr_laws.proofs.CountLaws.{started_few}
 

@@ -13,7 +13,7 @@ use Rattle.jr_model.specs.Honest.{IsWholeCheck}
 use Rattle.jr_model.specs.Legal.{is_legal}
 use Rattle.jr_model.specs.Machine.{State, Stepped}
 use Rattle.jr_model.specs.Plan.{Plan}
-use Rattle.jr_options.specs.PlanFacts.{IsPlanned}
+use Rattle.jr_plan.specs.PlanFacts.{IsPlanned}
 use Rattle.jr_engines.specs.Answers.{AnswerParts}
 use Rattle.jr_header.specs.Served.{answer_verdict, is_to_judge}
 use Rattle.jr_laws.specs.Memory.{CoversFiles}

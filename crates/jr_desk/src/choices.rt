@@ -1,6 +1,6 @@
 ghost use Rattle.std.specs.Prelude.{◌≡◌, IfOk};
 ghost use Rattle.jr_model.specs.Machine.{is_skip};
-ghost use Rattle.jr_options.specs.PlanFacts.{IsPlanned};
+ghost use Rattle.jr_plan.specs.PlanFacts.{IsPlanned};
 ghost use Rattle.jr_desk.specs.Takes.{IsChosen};
 
 use jr_model::{Event, Memory, Started};

@@ -13,7 +13,7 @@ use Rattle.jr_model.specs.declared.workloads.IoType.TheVariants as io
 use Rattle.jr_model.specs.CellSet.{first_free, free_cell_from, free_run, free_count}
 use Rattle.jr_model.specs.Draws.{Places, sequential, mapped, unmapped, Progress, Choice, all_drawn, pass_over, first_cell, cell_count, places_after, progress_after, chosen_cells, direction_of, by_direction, size_at}
 use Rattle.jr_model.specs.Plan.{SubJob}
-use Rattle.jr_options.specs.PlanFacts.{has_reads, has_writes, SizesFit}
+use Rattle.jr_plan.specs.PlanFacts.{has_reads, has_writes, SizesFit}
 use Rattle.jr_map.proofs.CellFacts.{free-first_free, free-first_free-drop, slice_get-drop, free_run-within, free_count-with_cells, length-with_cells}
 use Rattle.jr_draw.specs.DrawFacts.{IsDrawable, PlacesFit, IsSound, AreFree, ChoiceFits}
 

@@ -8,7 +8,7 @@ use Rattle.jr_model.specs.CellSet.{no_cells}
 use Rattle.jr_model.specs.Draws.{Places, mapped, fresh_places, fresh_progress, draws_from, draws_over}
 use Rattle.jr_model.specs.Plan.{SubJob}
 use Rattle.jr_model.specs.Tickets.{piece_fits}
-use Rattle.jr_options.specs.PlanFacts.{KeepsLimits}
+use Rattle.jr_plan.specs.PlanFacts.{KeepsLimits}
 use Rattle.jr_draw.specs.DrawFacts.{IsDrawable, IsSound}
 use Rattle.jr_draw.specs.PassLaw.{is_random, is_mapped, IsInRegion, CoversOnce, PassLaw}
 use Rattle.jr_draw.proofs.CoverLaws.{disjoint_from, whole_from}

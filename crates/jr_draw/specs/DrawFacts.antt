@@ -4,7 +4,7 @@ use Rattle.jr_model.specs.declared.contents.VerifyKind.TheVariants as verify
 use Rattle.jr_model.specs.CellSet.{free_run, free_count}
 use Rattle.jr_model.specs.Draws.{Places, sequential, mapped, unmapped, Progress, Choice, cells_left}
 use Rattle.jr_model.specs.Plan.{SubJob}
-use Rattle.jr_options.specs.PlanFacts.{has_reads, has_writes, SizesFit}
+use Rattle.jr_plan.specs.PlanFacts.{has_reads, has_writes, SizesFit}
 
 -- the limits of a clone that its draws rest on
 pub record IsDrawable (job : SubJob) : Type 0 where

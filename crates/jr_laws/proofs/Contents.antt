@@ -3,7 +3,7 @@ use Rattle.std.proofs.Common.{◌≡◌, ℕ, ◌+◌, ◌-◌, ◌*◌, ◌/◌
 use Rattle.std.specs.Prelude.{Option, Some, None, slice_get, nat_lt, nat_le, ◌==◌}
 use Rattle.std.proofs.lemmas.Bool.{and_parts, and_from, eqb-true, eq-eqb, ltb-true, lt-ltb, leb-true, le-leb}
 use Rattle.std.proofs.lemmas.Option.{slice_get_within, slice_get-get_or, get_or_from_slice_get}
-use Rattle.jr_model.specs.declared.blocks.TheConstants.{SECTOR, LARGEST_BLOCK, LARGEST_END}
+use Rattle.jr_model.specs.declared.limits.TheConstants.{SECTOR, LARGEST_BLOCK, LARGEST_END}
 use Rattle.jr_model.specs.declared.blocks.Piece.{Piece}
 use Rattle.jr_model.specs.declared.contents.Method.{Method}
 use Rattle.jr_model.specs.declared.contents.VerifyKind.{VerifyKind}
@@ -19,7 +19,7 @@ use Rattle.jr_model.specs.Machine.{content_in_job, content_of_io, seed_of_draw}
 use Rattle.jr_model.specs.Plan.{Plan, SubJob, FileSpec, clone_of}
 use Rattle.jr_model.specs.Tickets.{piece_fits}
 use Rattle.jr_model.specs.Words.{seeded, words_from, pass_words}
-use Rattle.jr_options.specs.PlanFacts.{IsPlanned}
+use Rattle.jr_plan.specs.PlanFacts.{IsPlanned}
 use Rattle.jr_words.proofs.WordLemmas.{length-word_bytes, length-words_from}
 use Rattle.jr_draw.specs.PassLaw.{IsInRegion}
 use Rattle.jr_draw.proofs.TheLaw.{pass_law, drawable_of}

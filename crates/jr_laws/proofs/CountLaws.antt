@@ -22,7 +22,7 @@ use Rattle.jr_model.specs.Serial.{carried_out, goes_on, serial_after, serial_his
 use Rattle.jr_model.specs.Words.{pass_words}
 use Rattle.jr_model.proofs.LegalLaws.{is_legal-more, choice_may_happen, choice_is_step, cases_step_of}
 use Rattle.jr_model.proofs.SerialLaws.{IsWell, well_choice}
-use Rattle.jr_options.specs.PlanFacts.{IsPlanned}
+use Rattle.jr_plan.specs.PlanFacts.{IsPlanned}
 use Rattle.jr_draw.proofs.TheLaw.{pass_law, drawable_of}
 use Rattle.jr_laws.proofs.CountLemmas.{sum_of_plan_within}
 use Rattle.jr_laws.proofs.CountSteps.{IssuedWithin, issued_within-more, unissued, is_untaken, untaken, all_unissued, all_untaken, all_unissued_most, all_untaken_most, issue_falls, probe_falls, skip_falls}

@@ -21,7 +21,7 @@ use Rattle.jr_model.specs.Machine.{work_of}
 use Rattle.jr_model.specs.Plan.{Plan}
 use Rattle.jr_model.specs.Serial.{carried_out, goes_on, serial_after, serial_history}
 use Rattle.jr_model.proofs.SerialLaws.{first_given-append, any-append, legal_serial}
-use Rattle.jr_options.specs.PlanFacts.{IsPlanned}
+use Rattle.jr_plan.specs.PlanFacts.{IsPlanned}
 use Rattle.jr_laws.proofs.PlaceLemmas.{keeps_none}
 use Rattle.jr_laws.proofs.IdleLaws.{numbered_of, idle_is_over}
 

@@ -23,7 +23,7 @@ use Rattle.jr_model.specs.Plan.{Plan, SubJob, FileSpec, clone_of, is_verified}
 use Rattle.jr_model.specs.Rounds.{Pass, pass_of, passes_of, write_id, is_write_draw, issues_of, issued_count, all_issued, has_rounds, group_of, group_index, issued_among, is_full, is_closed, is_open, no_issue_flies, waits_for_round, pass_finished, is_current}
 use Rattle.jr_model.specs.Tickets.{piece_fits}
 use Rattle.jr_model.specs.Words.{pass_words}
-use Rattle.jr_options.specs.PlanFacts.{IsPlanned}
+use Rattle.jr_plan.specs.PlanFacts.{IsPlanned}
 use Rattle.jr_draw.specs.PassLaw.{IsInRegion}
 use Rattle.jr_draw.proofs.TheLaw.{pass_law, drawable_of}
 use Rattle.jr_laws.specs.Drawn.{is_kind_of, IsDrawn, FitsPlan}

@@ -11,7 +11,7 @@ use Rattle.jr_model.specs.History.{in_flight, awaiting, is_of_clone}
 use Rattle.jr_model.specs.Legal.{is_halted, is_over, is_at_rest, phase_is_open, has_room, is_clear, takes_up, may_take_up, may_issue, check_or_skip, step_of, is_legal, is_complete}
 use Rattle.jr_model.specs.Plan.{Plan, SubJob, IsNumbered}
 use Rattle.jr_model.specs.Rounds.{Pass, pass_of, passes_of, write_id, is_write_draw, issued_count, all_issued, issued_among, has_rounds, group_of, group_count, group_index, is_full, is_settled, is_closed, no_issue_flies, is_open, waits_for_round, rounds_closed, nothing_flies_of, nothing_flies_in, pass_finished, clone_finished, is_current}
-use Rattle.jr_options.specs.PlanFacts.{IsPlanned}
+use Rattle.jr_plan.specs.PlanFacts.{IsPlanned}
 use Rattle.jr_laws.proofs.PlaceLemmas.{item_at, all_from, first_fails, any_found, any_at, none_given, got_ranged, ranged_at, got_made, made_at}
 use Rattle.jr_laws.proofs.GroupLaws.{AreNumbered, group_write}
 use Rattle.jr_laws.proofs.IssueLaws.{numbered_draws, issued_at_most}

@@ -23,7 +23,7 @@ use Rattle.jr_model.specs.Plan.{Plan}
 use Rattle.jr_model.specs.Rounds.{is_write_draw}
 use Rattle.jr_model.proofs.LegalLaws.{is_legal-more, same_write_refl}
 use Rattle.jr_model.proofs.SerialLaws.{EndsWereStarted, first_given-append, ends-more}
-use Rattle.jr_options.specs.PlanFacts.{IsPlanned}
+use Rattle.jr_plan.specs.PlanFacts.{IsPlanned}
 use Rattle.jr_laws.proofs.Starts.{some_same, same_write-eq, checkable, issuable, clear_of, probe_event, draw_started}
 use Rattle.jr_laws.proofs.Contents.{IsWholeBlocks, block_of, covers_from, lies_in_file}
 

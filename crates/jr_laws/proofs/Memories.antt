@@ -18,7 +18,7 @@ use Rattle.jr_model.specs.Legal.{is_legal}
 use Rattle.jr_model.specs.Machine.{content_of_io}
 use Rattle.jr_model.specs.Plan.{Plan, FileSpec}
 use Rattle.jr_model.specs.Replies.{FileBytes, covered_in, covers, stored_in, stored, placed, file_with, memory_with, fresh_file, fresh_memory}
-use Rattle.jr_options.specs.PlanFacts.{IsPlanned}
+use Rattle.jr_plan.specs.PlanFacts.{IsPlanned}
 use Rattle.jr_laws.specs.Memory.{CoversFiles, HoldsLastWrites}
 use Rattle.jr_laws.proofs.Blocks.{part_of_take, length-placed, before-placed, behind-placed, within-placed}
 use Rattle.jr_laws.proofs.Starts.{some_same, draw_started}

@@ -24,7 +24,7 @@ use Rattle.jr_model.specs.Words.{seeded, pass_seed, pass_words}
 use Rattle.jr_model.proofs.LegalLaws.{same_write_refl}
 use Rattle.jr_model.proofs.SerialLaws.{any-append}
 use Rattle.jr_words.proofs.WordLemmas.{length-words_from}
-use Rattle.jr_options.specs.PlanFacts.{IsPlanned}
+use Rattle.jr_plan.specs.PlanFacts.{IsPlanned}
 use Rattle.jr_draw.specs.PassLaw.{is_mapped}
 use Rattle.jr_draw.proofs.TheLaw.{pass_law, drawable_of}
 use Rattle.jr_laws.specs.Drawn.{IsDrawn}

@@ -22,7 +22,7 @@ use Rattle.jr_model.specs.Machine.{State, Stepped, taken, take_answer, work_of, 
 use Rattle.jr_model.specs.Plan.{Plan}
 use Rattle.jr_model.specs.Replies.{outcome_for, stored, reply_to_write}
 use Rattle.jr_model.proofs.MachineLaws.{IsSound, three_conds, four_conds, sound_step, none_kept}
-use Rattle.jr_options.specs.PlanFacts.{IsPlanned}
+use Rattle.jr_plan.specs.PlanFacts.{IsPlanned}
 use Rattle.jr_laws.specs.Checks.{has_miscompare, keeps_bytes, is_quiet_step}
 use Rattle.jr_laws.specs.Memory.{HoldsLastWrites}
 use Rattle.jr_laws.proofs.Starts.{draw_started}

@@ -21,7 +21,7 @@ use Rattle.jr_model.specs.Replies.{FileBytes, memory_with}
 use Rattle.jr_model.specs.Rounds.{pass_of}
 use Rattle.jr_model.proofs.LegalLaws.{is_legal-more, choice_may_happen, choice_is_step, cases_step_of}
 use Rattle.jr_model.proofs.SerialLaws.{first_given-append, any-append, whole_some}
-use Rattle.jr_options.specs.PlanFacts.{IsPlanned}
+use Rattle.jr_plan.specs.PlanFacts.{IsPlanned}
 use Rattle.jr_laws.specs.Checks.{is_miscompare, has_miscompare}
 use Rattle.jr_laws.specs.Memory.{CoversFiles, HoldsLastWrites}
 use Rattle.jr_laws.proofs.Starts.{some_same, draw_started}

@@ -25,7 +25,7 @@ use Rattle.jr_model.specs.Plan.{Plan, SubJob, clone_of, is_verified}
 use Rattle.jr_model.specs.Tickets.{has_pattern}
 use Rattle.jr_model.proofs.MachineLaws.{got_front}
 use Rattle.jr_model.proofs.SerialLaws.{first_given-append}
-use Rattle.jr_options.specs.PlanFacts.{IsPlanned}
+use Rattle.jr_plan.specs.PlanFacts.{IsPlanned}
 use Rattle.jr_header.proofs.Laws.{good_on_content, good_on_no_other}
 use Rattle.jr_laws.specs.Checks.{is_miscompare, has_miscompare, GivesWholePieces, AreToldApart, IsToldApart}
 use Rattle.jr_laws.proofs.Starts.{legal_at, some_same, IsCheckable, check_started}

@@ -18,7 +18,7 @@ use Rattle.jr_model.specs.LastWrite.{is_intact}
 use Rattle.jr_model.specs.Legal.{is_legal, is_bad}
 use Rattle.jr_model.specs.Machine.{content_of_io, seed_of_draw, first_state, machine_run}
 use Rattle.jr_model.specs.Plan.{Plan, SubJob, clone_of}
-use Rattle.jr_options.specs.PlanFacts.{IsPlanned}
+use Rattle.jr_plan.specs.PlanFacts.{IsPlanned}
 use Rattle.jr_laws.specs.Memory.{HoldsLastWrites}
 
 -- the event is a Bad verdict

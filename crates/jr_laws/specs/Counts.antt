@@ -7,7 +7,7 @@ use Rattle.jr_model.specs.Legal.{is_legal}
 use Rattle.jr_model.specs.Machine.{Appends, taken, work_of}
 use Rattle.jr_model.specs.Plan.{Plan}
 use Rattle.jr_model.specs.Serial.{serial_history}
-use Rattle.jr_options.specs.PlanFacts.{IsPlanned}
+use Rattle.jr_plan.specs.PlanFacts.{IsPlanned}
 
 -- a legal history starts at most two I/Os for each draw: the draw's own, and the check of a write
 abbrev pub StartedAreFew : Type 0

@@ -14,7 +14,7 @@ use Rattle.jr_model.specs.Pieces.{piece_end, pieces_overlap}
 use Rattle.jr_model.specs.Plan.{Plan, SubJob, FileSpec, clone_of, is_verified}
 use Rattle.jr_model.specs.Rounds.{has_rounds}
 use Rattle.jr_model.specs.Tickets.{piece_fits, has_pattern}
-use Rattle.jr_options.specs.PlanFacts.{IsPlanned}
+use Rattle.jr_plan.specs.PlanFacts.{IsPlanned}
 use Rattle.jr_draw.specs.PassLaw.{is_mapped}
 
 -- an I/O of this kind may be started for a draw of this direction; only writes of verified clones are checked

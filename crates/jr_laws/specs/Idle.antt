@@ -6,7 +6,7 @@ use Rattle.jr_model.specs.History.{in_flight, awaiting}
 use Rattle.jr_model.specs.Legal.{is_legal, is_complete}
 use Rattle.jr_model.specs.Plan.{Plan}
 use Rattle.jr_model.specs.Serial.{serial_history}
-use Rattle.jr_options.specs.PlanFacts.{IsPlanned}
+use Rattle.jr_plan.specs.PlanFacts.{IsPlanned}
 
 -- a legal history after which nothing may be started, in which nothing flies and no verdict is missing, is complete: so a
 -- worker waits only where something is in flight or awaits its verdict

@@ -1,6 +1,6 @@
 -- A memory that keeps what was written last.
 use Rattle.std.specs.Prelude.{◌≡◌, ◌-◌, ◌*◌, ℕ, true, List, Some, slice_get}
-use Rattle.jr_model.specs.declared.blocks.TheConstants.{SECTOR}
+use Rattle.jr_model.specs.declared.limits.TheConstants.{SECTOR}
 use Rattle.jr_model.specs.declared.events.Event.{Event}
 use Rattle.jr_model.specs.declared.events.WriteId.{WriteId}
 use Rattle.jr_model.specs.Honest.{written_in}

@@ -1,6 +1,7 @@
 pub mod CellSet
 pub mod Choice
 pub mod Content
+pub mod Directions
 pub mod Draws
 pub mod FaultTexts
 pub mod History

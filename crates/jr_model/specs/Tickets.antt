@@ -1,6 +1,6 @@
 -- When a ticket can be carried out (of this project).
 use Rattle.std.specs.Prelude.{ℕ, ◌+◌, ◌%◌, nat_lt, nat_le, ◌==◌, Bool, true, false, ◌&&◌, Option, is_some, List}
-use Rattle.jr_model.specs.declared.blocks.TheConstants.{SECTOR, LARGEST_BLOCK, LARGEST_END}
+use Rattle.jr_model.specs.declared.limits.TheConstants.{SECTOR, LARGEST_BLOCK, LARGEST_END, MOST_PASSES}
 use Rattle.jr_model.specs.declared.blocks.Piece.{Piece}
 use Rattle.jr_model.specs.declared.contents.VerifyKind.{VerifyKind}
 use Rattle.jr_model.specs.declared.contents.VerifyKind.TheVariants as verify
@@ -63,4 +63,4 @@ expected_fits t = suits_kind t.kind t.method t.expected
 
 abbrev pub ticket_fits : Ticket → Bool
 ticket_fits t =
-    piece_fits t.piece && nat_lt t.write.pass 1000 && has_pattern t.method.kind t.method.pattern && expected_fits t
+    piece_fits t.piece && nat_lt t.write.pass MOST_PASSES && has_pattern t.method.kind t.method.pattern && expected_fits t

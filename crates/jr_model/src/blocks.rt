@@ -1,15 +1,6 @@
 ghost use Rattle.std.specs.Prelude.{◌≡◌};
 ghost use Rattle.jr_model.specs.Pieces.{pieces_overlap, piece_end};
 
-/// The unit in which pieces are cut and last writes are kept, in bytes.
-pub const SECTOR: u32 = 512;
-
-/// The largest block size of a job, in bytes (4 MiB).
-pub const LARGEST_BLOCK: u32 = 4_194_304;
-
-/// The furthest that a job's region may reach into a file, in bytes (1 PiB).
-pub const LARGEST_END: u64 = 1_125_899_906_842_624;
-
 /// Some adjacent bytes of a file: where an I/O reads or writes.
 #[derive(Clone, Copy, Debug, PartialEq, Eq)]
 pub struct Piece {

@@ -1,5 +1,6 @@
 ghost use Rattle.std.specs.Prelude.{◌≡◌, ◌≤◌, ◌++◌, length, drop, SomeIff};
 ghost use Rattle.jr_model.specs.PatternBytes.{padded};
+ghost use Rattle.jr_model.specs.Plan.{is_verified};
 
 use std::marker::Model;
 
@@ -82,6 +83,15 @@ pub enum VerifyKind {
     Sha1,
     /// A header with the SHA-256 (FIPS 180-4) of the rest of the block.
     Sha256,
+}
+
+impl VerifyKind {
+    /// Whether blocks are verified at all.
+    pub fn is_verified(self) -> bool
+        ensures { result ≡ is_verified self }
+    {
+        self != VerifyKind::Plain
+    }
 }
 
 /// What a job's writes contain, and how its checks judge it.

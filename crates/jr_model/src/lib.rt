@@ -6,6 +6,7 @@ mod blocks;
 mod contents;
 mod events;
 mod laws;
+mod limits;
 mod memory;
 mod replies;
 mod steps;
@@ -15,12 +16,16 @@ mod tickets;
 mod totals;
 mod workloads;
 
-pub use blocks::{Dir, LARGEST_BLOCK, LARGEST_END, Piece, SECTOR, overlaps};
+pub use blocks::{Dir, Piece, overlaps};
 pub use contents::{Expected, Method, Pattern, VerifyKind};
 pub use events::{Event, IoId, Outcome, Started, Verdict, What, WriteId};
 pub use laws::{
     choice_may_happen, every_run_is_legal, front_is_legal, legal_goes_on, serial_is_legal,
     verdict_is_of_its_kind,
+};
+pub use limits::{
+    LARGEST_BLOCK, LARGEST_END, MOST_CELLS, MOST_CLONES, MOST_DEPTH, MOST_PASSES, MOST_VERIFIERS,
+    MOST_WORK, SECTOR,
 };
 pub use memory::Memory;
 pub use replies::{Reply, ReplyBytes};

@@ -1,9 +1,10 @@
 ghost use Rattle.std.specs.Prelude.{◌≡◌};
 ghost use Rattle.jr_model.specs.PatternBytes.{same_pattern};
 
-use crate::blocks::{LARGEST_BLOCK, LARGEST_END, Piece, SECTOR};
+use crate::blocks::Piece;
 use crate::contents::{Expected, Method, Pattern, VerifyKind};
 use crate::events::{IoId, WriteId};
+use crate::limits::{LARGEST_BLOCK, LARGEST_END, MOST_PASSES, SECTOR};
 
 /// What a ticket asks for.
 #[derive(Clone, Copy, Debug, PartialEq, Eq)]
@@ -39,7 +40,7 @@ impl Ticket {
         ensures { result ≡ ticket_fits self.now }
     {
         self.has_fitting_piece()
-            && self.write.pass < 1000
+            && self.write.pass < MOST_PASSES
             && (self.method.kind != VerifyKind::Pattern || self.method.pattern.is_some())
             && self.has_fitting_expected()
     }

@@ -1,3 +1,6 @@
+ghost use Rattle.std.specs.Prelude.{◌≡◌};
+ghost use Rattle.jr_model.specs.Directions.{has_reads, has_writes};
+
 use crate::blocks::{Dir, Piece};
 
 /// The I/O type of a job (fio's `rw`).
@@ -11,6 +14,22 @@ pub enum IoType {
     ReadWrite,
     /// Random, reads and writes mixed.
     RandRw,
+}
+
+impl IoType {
+    /// Whether a job of this type reads.
+    pub fn has_reads(self) -> bool
+        ensures { result ≡ has_reads self }
+    {
+        !matches!(self, IoType::Write | IoType::RandWrite)
+    }
+
+    /// Whether a job of this type writes.
+    pub fn has_writes(self) -> bool
+        ensures { result ≡ has_writes self }
+    {
+        !matches!(self, IoType::Read | IoType::RandRead)
+    }
 }
 
 /// What carries out the I/O of a run.

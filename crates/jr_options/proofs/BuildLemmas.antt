@@ -4,11 +4,11 @@ use Rattle.std.specs.Prelude.{fold}
 use Rattle.std.specs.List.{list_any}
 use Rattle.std.proofs.lemmas.List.{take_more, at_drop_more, at_drop_all}
 use Rattle.jr_text.specs.Records.{SectionText}
-use Rattle.jr_options.specs.declared.drafts.PlannedJob.{PlannedJob}
+use Rattle.jr_options.specs.declared.planned.PlannedJob.{PlannedJob}
 use Rattle.jr_settings.specs.declared.faults.JobFault.{JobFault}
-use Rattle.jr_options.specs.Drafts.{Clones}
+use Rattle.jr_plan.specs.Drafts.{Clones}
 use Rattle.jr_options.specs.Jobs.{planned_job, job_with, shaped_job}
-use Rattle.jr_options.specs.PlanFacts.{work_of}
+use Rattle.jr_plan.specs.PlanFacts.{work_of}
 use Rattle.jr_options.specs.PlanOf.{HasRoom, job_asked, jobs_below, phased_job, clones_asked, planned_as, with_asked, no_clones, clones_of}
 use Rattle.jr_settings.specs.Shapes.{shape_in}
 use Rattle.jr_options.specs.Surveys.{is_planned, tally_fault, empty_tally}

@@ -7,10 +7,12 @@ use Rattle.std.proofs.Math.Nat.{mul-add}
 use Rattle.std.proofs.lemmas.List.{length_push}
 use Rattle.std.proofs.lemmas.List.Sums.{sum_by-append, fold-append}
 use Rattle.jr_model.specs.Plan.{SubJob}
-use Rattle.jr_options.specs.declared.drafts.PlannedJob.{PlannedJob}
-use Rattle.jr_options.specs.Drafts.{Clones, planned_clone, with_clone}
-use Rattle.jr_options.specs.Files.{file_place}
-use Rattle.jr_options.specs.PlanFacts.{work_of}
+use Rattle.jr_options.specs.declared.planned.PlannedJob.{PlannedJob}
+use Rattle.jr_options.specs.Planned.{workload_of}
+use Rattle.jr_plan.specs.Clones.{planned_clone}
+use Rattle.jr_plan.specs.Drafts.{Clones, with_clone}
+use Rattle.jr_plan.specs.Files.{file_place}
+use Rattle.jr_plan.specs.PlanFacts.{work_of}
 use Rattle.jr_options.specs.PlanOf.{JobAsked, PhasedJob, HasRoom, stonewalls, clones_asked, planned_as, with_asked, no_clones, clones_of, file_of}
 use Rattle.jr_settings.specs.Shapes.{shape_in}
 use Rattle.jr_options.specs.Surveys.{start_of}
@@ -21,11 +23,11 @@ visits_each p = (shape_in p.job.options).cells * p.job.options.passes
 
 one_longer : (d : Clones) (p : PhasedJob) (index : ℕ) → length (with_asked d (index, p)).clones ≡ length d.clones + 1
 one_longer d p index =
-    omega (arith, length_push d.clones (planned_clone (planned_as p) p.job.name (length d.clones) (file_place d.files (file_of p.job index)) (start_of p.job.options index)))
+    omega (arith, length_push d.clones (planned_clone (workload_of (planned_as p)) p.job.name (length d.clones) (file_place d.files (file_of p.job index)) (start_of p.job.options index)))
 
 one_more : (d : Clones) (p : PhasedJob) (index : ℕ) → work_of (with_asked d (index, p)).clones ≡ work_of d.clones + visits_each p
 one_more d p index =
-    let job = planned_clone (planned_as p) p.job.name (length d.clones) (file_place d.files (file_of p.job index)) (start_of p.job.options index) in
+    let job = planned_clone (workload_of (planned_as p)) p.job.name (length d.clones) (file_place d.files (file_of p.job index)) (start_of p.job.options index) in
     let all = sum_by-append (λ (j : SubJob). j.cells * j.passes) d.clones (job ∷ []) in
     let one : work_of (job ∷ []) ≡ 0 + visits_each p = refl in
     omega (arith, all, one)
@@ -89,13 +91,13 @@ adding-done p index d all h past =
     sym (ap (λ n. fold with_asked d (enumerate_from index (replicate n p))) none) ∙ h.made
 
 -- one clone of a job, by what it was made of
-pub asked_as : (d next : Clones) (job : PlannedJob) (p : PhasedJob) (name file : List ℕ) (start index : ℕ) → next ≡ with_clone d job name file start → job ≡ planned_as p → name ≡ p.job.name → file ≡ file_of p.job index → start ≡ start_of p.job.options index → next ≡ with_asked d (index, p)
+pub asked_as : (d next : Clones) (job : PlannedJob) (p : PhasedJob) (name file : List ℕ) (start index : ℕ) → next ≡ with_clone d (workload_of job) name file start → job ≡ planned_as p → name ≡ p.job.name → file ≡ file_of p.job index → start ≡ start_of p.job.options index → next ≡ with_asked d (index, p)
 asked_as d next job p name file start index is e1 e2 e3 e4 =
     is
-    ∙ ap (λ x. with_clone d x name file start) e1
-    ∙ ap (λ x. with_clone d (planned_as p) x file start) e2
-    ∙ ap (λ x. with_clone d (planned_as p) p.job.name x start) e3
-    ∙ ap (λ x. with_clone d (planned_as p) p.job.name (file_of p.job index) x) e4
+    ∙ ap (λ x. with_clone d (workload_of x) name file start) e1
+    ∙ ap (λ x. with_clone d (workload_of (planned_as p)) x file start) e2
+    ∙ ap (λ x. with_clone d (workload_of (planned_as p)) p.job.name x start) e3
+    ∙ ap (λ x. with_clone d (workload_of (planned_as p)) p.job.name (file_of p.job index) x) e4
 
 -- the clones of jobs, each after those of the jobs before it, and in their phases
 abbrev pub next_phase : ℕ → JobAsked → ℕ

@@ -5,14 +5,16 @@ use Rattle.std.proofs.lemmas.Bool.{cases_lt, eq-eqb, ne_eqb}
 use Rattle.std.proofs.lemmas.List.{map-append}
 use Rattle.std.proofs.lemmas.List.Elements.{All-nil, All-push, All-weaker, Contains-append_left, Contains-push, filter-append}
 use Rattle.jr_model.specs.Plan.{SubJob, FileSpec}
-use Rattle.jr_options.specs.declared.drafts.PlannedJob.{PlannedJob}
-use Rattle.jr_settings.specs.OptionWords.{same_text}
-use Rattle.jr_options.specs.Drafts.{Clones, planned_clone, with_clone}
+use Rattle.jr_options.specs.declared.planned.PlannedJob.{PlannedJob}
+use Rattle.jr_plan.specs.Files.{same_text}
+use Rattle.jr_options.specs.Planned.{workload_of}
+use Rattle.jr_plan.specs.Clones.{planned_clone}
+use Rattle.jr_plan.specs.Drafts.{Clones, with_clone}
 use Rattle.jr_options.specs.FileLaws.{users_of, start_in, end_in, IsLeast, IsGreatest, LowIsLeast, HighIsGreatest}
-use Rattle.jr_options.specs.Files.{file_place, with_file, widened}
+use Rattle.jr_plan.specs.Files.{file_place, with_file, widened}
 use Rattle.jr_options.specs.PlanOf.{PhasedJob, jobs_below, phased, clones_asked, planned_as, with_asked, no_clones, file_of, plan_of}
 use Rattle.jr_options.specs.Surveys.{start_of}
-use Rattle.jr_options.proofs.DraftLemmas.{slice_get-push, lengths}
+use Rattle.jr_plan.proofs.DraftLemmas.{slice_get-push, lengths}
 
 -- the least of some numbers and of one more
 least-push : (ns : List ℕ) (n m : ℕ) → IsLeast n ns → IsLeast (min n m) (ns ++ m ∷ [])
@@ -94,9 +96,9 @@ record AreSpanned (d : Clones) : Type 0 where
   low : (f : ℕ) (spec : FileSpec) → slice_get d.files f ≡ Some spec → IsLeast spec.low (of_users start_in f d.clones)
   high : (f : ℕ) (spec : FileSpec) → slice_get d.files f ≡ Some spec → IsGreatest spec.high (of_users end_in f d.clones)
 
-spanned-more : (d : Clones) (job : PlannedJob) (name file : List ℕ) (start : ℕ) → AreSpanned d → AreSpanned (with_clone d job name file start)
+spanned-more : (d : Clones) (job : PlannedJob) (name file : List ℕ) (start : ℕ) → AreSpanned d → AreSpanned (with_clone d (workload_of job) name file start)
 spanned-more d job name file start h =
-    let clone = planned_clone job name (length d.clones) (file_place d.files file) start in
+    let clone = planned_clone (workload_of job) name (length d.clones) (file_place d.files file) start in
     let high = start + job.shape.cells * job.shape.cell in
     let sizes = lengths d.files file start high in
     record {

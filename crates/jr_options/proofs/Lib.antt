@@ -1,10 +1,7 @@
 pub mod BuildLemmas
 pub mod CloneLemmas
-pub mod DraftLemmas
 pub mod FileEnds
-pub mod FileLemmas
 pub mod LimitLemmas
-pub mod ListLemmas
 pub mod RefusalLemmas
 pub mod Rows
 pub mod SectionLemmas

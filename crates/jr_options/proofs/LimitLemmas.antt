@@ -1,51 +1,19 @@
 -- What the shape of a job gives its clones.
-use Rattle.std.proofs.Common.{◌≡◌, ℕ, ◌+◌, ◌-◌, ◌*◌, ◌/◌, ◌%◌, ◌^◌, ◌<◌, ◌≤◌, Bool, true, false, not, ◌||◌, leb, eqb, List, [], ◌∷◌, ap, arith, refl, ◌⊎◌, inl, inr}
-use Rattle.std.proofs.lemmas.Bool.{and_parts, or_cases, cases_lt, lt-ltb, le-ltb, leb-true, eqb-true}
-use Rattle.std.proofs.lemmas.List.Sums.{sum_by-append}
+use Rattle.std.proofs.Common.{◌≡◌, ℕ, ◌+◌, ◌-◌, ◌*◌, ◌/◌, ◌%◌, ◌<◌, ◌≤◌, Bool, true, false, not, ◌&&◌, ◌||◌, leb, ltb, eqb, length, None, ap, arith, refl, ◌⊎◌, inl, inr}
+use Rattle.std.proofs.lemmas.Bool.{and_parts, and_from, le-ltb, le-leb, lt-leb, leb-true, eq-eqb, eqb-true}
 use Rattle.jr_model.specs.declared.workloads.IoType.{IoType}
 use Rattle.jr_model.specs.declared.workloads.IoType.TheVariants as io
-use Rattle.jr_model.specs.Draws.{size_at}
-use Rattle.jr_sizes.specs.SplitEntries.{percents_total}
 use Rattle.jr_settings.specs.declared.options.JobOptions.{JobOptions}
 use Rattle.jr_settings.specs.declared.shapes.Shape.{Shape}
-use Rattle.jr_options.specs.declared.drafts.PlannedJob.{PlannedJob}
-use Rattle.jr_options.specs.Drafts.{planned_clone}
 use Rattle.jr_settings.specs.Options.{AreInRange}
-use Rattle.jr_options.specs.PlanFacts.{SizesFit, KeepsLimits, has_reads, has_writes}
-use Rattle.jr_settings.specs.Shapes.{HasShape, entry_fits, split_fits}
-
--- what an entry's size keeps
-abbrev Fitting : ℕ → ℕ → Type 0
-Fitting cell size = (size % cell ≡ 0) × (cell ≤ size) × (size ≤ 4194304)
-
-entry-fitting : (cell size percent : ℕ) → entry_fits cell (size, percent) ≡ true → 0 < percent → Fitting cell size
-entry-fitting cell size percent fits some =
-    elim (or_cases (eqb percent 0) _ fits) [
-      | inl none ↦ absurd (omega (arith, eqb-true percent 0 none))
-      | inr all ↦
-          let parts = and_parts _ (leb size 4194304) all in
-          let front = and_parts (leb cell size) (eqb (size % cell) 0) parts.0 in
-          (eqb-true _ _ front.1, leb-true _ _ front.0, leb-true _ _ parts.1)
-    ]
-
--- each size that a fitting split gives fits
-size_at-fitting : (cell : ℕ) (split : List (ℕ × ℕ)) (t : ℕ) → split_fits cell split ≡ true → t < percents_total split → Fitting cell (size_at split t)
-size_at-fitting cell [] t fits within = absurd (omega arith)
-size_at-fitting cell (entry ∷ split) t fits within =
-    let parts = and_parts (entry_fits cell entry) (split_fits cell split) fits in
-    let total = sum_by-append (λ (e : ℕ × ℕ). e.1) (entry ∷ []) split in
-    let first : percents_total (entry ∷ []) ≡ 0 + entry.1 = refl in
-    elim (cases_lt t entry.1) [
-      | inl below ↦ rw (lt-ltb t entry.1 below) (entry-fitting cell entry.0 entry.1 parts.0 (omega arith))
-      | inr above ↦ rw (le-ltb t entry.1 above) (size_at-fitting cell split (t - entry.1) parts.1 (omega arith))
-    ]
-
-pub sizes_fit : (cell : ℕ) (split : List (ℕ × ℕ)) → split_fits cell split ≡ true → percents_total split ≡ 100 → SizesFit cell split
-sizes_fit cell split fits total = record {
-  multiple = λ t h. (size_at-fitting cell split t fits (omega arith)).0;
-  least = λ t h. (size_at-fitting cell split t fits (omega arith)).1;
-  most = λ t h. (size_at-fitting cell split t fits (omega arith)).2;
-}
+use Rattle.jr_settings.specs.Shapes.{HasShape}
+use Rattle.jr_plan.specs.Drafts.{Clones, clone_fault}
+use Rattle.jr_plan.specs.PlanFacts.{SizesFit, has_reads, has_writes, work_of}
+use Rattle.jr_plan.specs.Sizes.{split_fits}
+use Rattle.jr_plan.specs.Workloads.{is_cut, numbers_fit}
+use Rattle.jr_plan.proofs.LimitLemmas.{sizes_fit, if_needed}
+use Rattle.jr_options.specs.declared.planned.PlannedJob.{PlannedJob}
+use Rattle.jr_options.specs.Planned.{workload_of}
 
 -- each type reads or writes
 some_direction : (t : IoType) → (has_reads t ≡ true) ⊎ (has_writes t ≡ true)
@@ -56,10 +24,6 @@ some_direction io.RandRw = inl refl
 some_direction io.Write = inr refl
 some_direction io.RandWrite = inr refl
 
-if_needed : (needed fits : Bool) → (not needed || fits) ≡ true → needed ≡ true → fits ≡ true
-if_needed true fits h e = h
-if_needed false fits h e = absurd (cc)
-
 -- what the tests of a job's options mean
 pub record Fit (o : JobOptions) (shape : Shape) : Type 0 where
   pub cell_least : 512 ≤ shape.cell
@@ -68,6 +32,12 @@ pub record Fit (o : JobOptions) (shape : Shape) : Type 0 where
   pub step : o.offset_step % 512 ≡ 0
   pub reads : has_reads o.io_type ≡ true → SizesFit shape.cell shape.reads
   pub writes : has_writes o.io_type ≡ true → SizesFit shape.cell shape.writes
+
+tests_of : (o : JobOptions) (shape : Shape) → HasShape o shape → ((not (has_reads o.io_type) || split_fits shape.cell shape.reads) ≡ true) × ((not (has_writes o.io_type) || split_fits shape.cell shape.writes) ≡ true)
+tests_of o shape h =
+    let p5 = and_parts _ (not (has_writes o.io_type) || split_fits shape.cell shape.writes) h.fits in
+    let p4 = and_parts _ (not (has_reads o.io_type) || split_fits shape.cell shape.reads) p5.0 in
+    (p4.1, p5.1)
 
 pub fit_of : (o : JobOptions) (shape : Shape) → HasShape o shape → Fit o shape
 fit_of o shape h =
@@ -94,34 +64,35 @@ cell_most o shape fit =
       | inr e ↦ let s = fit.writes e in omega (arith, s.least 0 (omega arith), s.most 0 (omega arith))
     ]
 
+unneeded : (a b : Bool) → (a ≡ true → b ≡ true) → (a && not b) ≡ false
+unneeded true true h = refl
+unneeded true false h = absurd (let e : false ≡ true = h refl in cc)
+unneeded false b h = refl
+
 pub cells_within : (o : JobOptions) (shape : Shape) → HasShape o shape → shape.cells * shape.cell ≤ shape.size
 cells_within o shape h =
     let fit = fit_of o shape h in
     let some : 0 < shape.cell = omega (arith, fit.cell_least) in
     rw h.cells (omega arith)
 
--- the clone of a sound job keeps the limits
-pub limits_kept : (job : PlannedJob) (name : List ℕ) (number file start : ℕ) → AreInRange job.options → HasShape job.options job.shape → start % 512 ≡ 0 → start + job.shape.size ≤ 2 ^ 50 → job.shape.cells ≤ 2 ^ 24 → KeepsLimits (planned_clone job name number file start)
-limits_kept job name number file start range h place region cells =
-    let fit = fit_of job.options job.shape h in
-    record {
-      cell_sectors = fit.cell_sectors;
-      cell_least = fit.cell_least;
-      cell_most = cell_most job.options job.shape fit;
-      cells_least = h.cells_least;
-      cells_most = cells;
-      start_sectors = place;
-      region = omega (arith, cells_within job.options job.shape h);
-      percent = range.percent;
-      depth_least = range.depth_least;
-      depth_most = range.depth_most;
-      passes_least = range.passes_least;
-      passes_most = range.passes_most;
-      reads = fit.reads;
-      writes = fit.writes;
-      pattern = h.pattern;
-      verified = h.verified;
-    }
+-- nothing speaks against a clone of a sound job, where there is room for it
+pub none_against : (d : Clones) (job : PlannedJob) (start : ℕ) → AreInRange job.options → HasShape job.options job.shape → start % 512 ≡ 0 → start + job.shape.size ≤ 1125899906842624 → job.shape.cells ≤ 16777216 → length d.clones < 64 → work_of d.clones + job.shape.cells * job.options.passes ≤ 1073741824 → clone_fault d (workload_of job) start ≡ None
+none_against d job start range h place region cells room work =
+    let o = job.options in
+    let w = workload_of job in
+    let fit = fit_of o job.shape h in
+    let tests = tests_of o job.shape h in
+    let within = cells_within o job.shape h in
+    let cut : is_cut w start ≡ true =
+    and_from _ _ (and_from _ _ (and_from _ _ (and_from _ _ (and_from _ _ (and_from _ _ (le-leb 512 w.cell fit.cell_least) (le-leb w.cell 4194304 (cell_most o job.shape fit))) (eq-eqb (w.cell % 512) 0 fit.cell_sectors)) (eq-eqb (start % 512) 0 place)) (le-leb 1 w.cells h.cells_least)) tests.0) tests.1 in
+    let numbers : numbers_fit w ≡ true =
+    and_from _ _ (and_from _ _ (and_from _ _ (and_from _ _ (le-leb w.read_percent 100 range.percent) (le-leb 1 w.depth range.depth_least)) (le-leb w.depth 256 range.depth_most)) (le-leb 1 w.passes range.passes_least)) (le-leb w.passes 1000 range.passes_most) in
+    let verified = unneeded _ _ h.verified in
+    let few : leb 64 (length d.clones) ≡ false = lt-leb 64 (length d.clones) room in
+    let near : ltb 1125899906842624 (start + w.cells * w.cell) ≡ false = le-ltb 1125899906842624 (start + w.cells * w.cell) (omega (arith, within, region)) in
+    let short : ltb 16777216 w.cells ≡ false = le-ltb 16777216 w.cells cells in
+    let little : ltb 1073741824 (work_of d.clones + w.cells * w.passes) ≡ false = le-ltb 1073741824 (work_of d.clones + w.cells * w.passes) work in
+    rw (cut, numbers, h.pattern, verified, few, near, short, little) refl
 
 -- clones of a sound job begin at whole blocks
 pub start_sectors : (o : JobOptions) (shape : Shape) (index start : ℕ) → HasShape o shape → start ≡ o.offset + o.offset_step * index → start % 512 ≡ 0

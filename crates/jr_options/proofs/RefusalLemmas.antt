@@ -10,7 +10,7 @@ use Rattle.jr_model.specs.History.{first_given}
 use Rattle.jr_model.specs.declared.workloads.EngineKind.{EngineKind}
 use Rattle.jr_model.proofs.SerialLaws.{first_given-append}
 use Rattle.jr_text.specs.Records.{LineText, SectionText}
-use Rattle.jr_settings.specs.declared.faults.Bound.TheVariants as bound
+use Rattle.jr_plan.specs.declared.faults.Bound.TheVariants as bound
 use Rattle.jr_settings.specs.declared.faults.JobFault.{JobFault}
 use Rattle.jr_settings.specs.declared.faults.JobFault.TheVariants as fault
 use Rattle.jr_settings.specs.declared.options.JobOptions.{JobOptions}

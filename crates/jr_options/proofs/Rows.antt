@@ -6,7 +6,7 @@ use Rattle.jr_text.specs.Number.{number_of}
 use Rattle.jr_text.specs.Records.{LineText, SectionText}
 use Rattle.jr_settings.specs.declared.faults.JobFault.TheVariants as fault
 use Rattle.jr_options.specs.PlanOf.{default_name, plan_of}
-use Rattle.jr_options.specs.PlanText.{plan_text, place_text, size_text, work_text}
+use Rattle.jr_plan.specs.PlanText.{plan_text, place_text, size_text, work_text}
 use Rattle.jr_options.specs.Refusals.{refusal_of}
 use Rattle.jr_settings.specs.Settings.{setting_of}
 use Rattle.jr_settings.specs.Shapes.{shape_of}

@@ -1,7 +1,7 @@
 -- Which clones the sections of a job file plan (fio's manual, "Job file format").
 use Rattle.std.specs.Prelude.{ℕ, ◌+◌, List, [], ◌∷◌, ◌++◌, Result, Ok, Err, if◌then◌else◌}
 use Rattle.jr_text.specs.Records.{LineText, SectionText}
-use Rattle.jr_options.specs.declared.drafts.PlannedJob.{PlannedJob}
+use Rattle.jr_options.specs.declared.planned.PlannedJob.{PlannedJob}
 use Rattle.jr_settings.specs.declared.faults.JobFault.{JobFault}
 use Rattle.jr_settings.specs.declared.options.JobOptions.{JobOptions}
 use Rattle.jr_settings.specs.declared.shapes.Shape.{Shape}

@@ -1,10 +1,7 @@
-pub mod Drafts
 pub mod FileLaws
-pub mod Files
 pub mod Jobs
-pub mod PlanFacts
 pub mod PlanOf
-pub mod PlanText
+pub mod Planned
 pub mod Refusals
 pub mod Surveys
 pub use Rattle.jr_settings.specs.FaultTexts

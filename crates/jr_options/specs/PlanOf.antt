@@ -1,4 +1,4 @@
--- The plan that the sections of a job file ask for (fio's manual, "Job file format"; the names and the numbers of clones
+-- Believed: the plan that the sections of a job file ask for (fio's manual, "Job file format"; the names and the numbers of clones
 -- and files are of this project).
 use Rattle.std.specs.Prelude.{ℕ, ◌+◌, ◌-◌, ◌*◌, ◌^◌, ◌≤◌, ◌==◌, max, Bool, List, [], ◌∷◌, ◌++◌, length, take, replicate, map, flat_map, fold, count_by, slice_index, Option, Some, None, unwrap_or, if◌then◌else◌, codes, decimal}
 use Rattle.std.specs.List.{enumerate_from}
@@ -6,12 +6,15 @@ use Rattle.jr_model.specs.declared.workloads.EngineKind.{EngineKind}
 use Rattle.jr_model.specs.declared.workloads.EngineKind.TheVariants as engine
 use Rattle.jr_model.specs.Plan.{Plan}
 use Rattle.jr_text.specs.Records.{SectionText}
-use Rattle.jr_options.specs.declared.drafts.PlannedJob.{PlannedJob}
+use Rattle.jr_options.specs.declared.planned.PlannedJob.{PlannedJob}
 use Rattle.jr_settings.specs.declared.options.JobOptions.{JobOptions}
-use Rattle.jr_options.specs.Drafts.{Clones, with_clone}
+use Rattle.jr_plan.specs.Drafts.{Clones, with_clone}
+pub use Rattle.jr_plan.specs.Drafts.{no_clones}
+use Rattle.jr_options.specs.Planned.{workload_of}
+use Rattle.jr_model.specs.declared.limits.TheConstants.{LARGEST_END, MOST_CELLS, MOST_CLONES, MOST_WORK}
 use Rattle.jr_options.specs.Jobs.{effective_lines}
 use Rattle.jr_settings.specs.Lookups.{options_in, last_value}
-use Rattle.jr_options.specs.PlanFacts.{work_of}
+use Rattle.jr_plan.specs.PlanFacts.{work_of}
 use Rattle.jr_settings.specs.Shapes.{shape_in}
 use Rattle.jr_options.specs.Surveys.{is_planned, start_of}
 
@@ -79,10 +82,7 @@ abbrev pub planned_as : PhasedJob → PlannedJob
 planned_as p = record { phase = p.phase; options = p.job.options; shape = shape_in p.job.options }
 
 abbrev pub with_asked : Clones → ℕ × PhasedJob → Clones
-with_asked d c = with_clone d (planned_as c.1) c.1.job.name (file_of c.1.job c.0) (start_of c.1.job.options c.0)
-
-abbrev pub no_clones : Clones
-no_clones = record { clones = []; files = [] }
+with_asked d c = with_clone d (workload_of (planned_as c.1)) c.1.job.name (file_of c.1.job c.0) (start_of c.1.job.options c.0)
 
 -- the clones of these jobs, numbered from 0, and their files in the order of their first use
 abbrev pub clones_of : List JobAsked → Clones
@@ -98,10 +98,10 @@ verifiers_of jobs = fold (λ most (job : JobAsked). max most job.options.verifie
 
 -- there is room for the clones of one more job within the limits
 pub record HasRoom (d : Clones) (job : PlannedJob) : Type 0 where
-  pub count : length d.clones + job.options.clones ≤ 64
-  pub region : start_of job.options (job.options.clones - 1) + job.shape.size ≤ 2 ^ 50
-  pub cells : job.shape.cells ≤ 2 ^ 24
-  pub work : work_of d.clones + job.shape.cells * job.options.passes * job.options.clones ≤ 2 ^ 30
+  pub count : length d.clones + job.options.clones ≤ MOST_CLONES
+  pub region : start_of job.options (job.options.clones - 1) + job.shape.size ≤ LARGEST_END
+  pub cells : job.shape.cells ≤ MOST_CELLS
+  pub work : work_of d.clones + job.shape.cells * job.options.passes * job.options.clones ≤ MOST_WORK
 
 -- the plan of the jobs that are asked for
 abbrev pub plan_for : List JobAsked → Plan

@@ -1,12 +1,13 @@
--- Why the sections of a job file make no plan (the faults and the limits are of this project): the first faulty line, else the
+-- Believed: why the sections of a job file make no plan (the faults and the limits are of this project): the first faulty line, else the
 -- first job at fault, else what is wrong with all jobs together.
 use Rattle.std.specs.Prelude.{ℕ, ◌+◌, ◌-◌, ◌*◌, ◌^◌, nat_lt, ◌==◌, Bool, not, ◌||◌, List, [], filter, flat_map, sum_by, Option, Some, None, if◌then◌else◌}
 use Rattle.std.specs.List.{list_any}
 use Rattle.std.specs.Option.{option_or}
 use Rattle.std.specs.Result.{result_err}
+use Rattle.jr_model.specs.declared.limits.TheConstants.{LARGEST_END, MOST_CELLS, MOST_CLONES, MOST_WORK}
 use Rattle.jr_model.specs.History.{first_given}
 use Rattle.jr_text.specs.Records.{LineText, SectionText}
-use Rattle.jr_settings.specs.declared.faults.Bound.TheVariants as bound
+use Rattle.jr_plan.specs.declared.faults.Bound.TheVariants as bound
 use Rattle.jr_settings.specs.declared.faults.JobFault.{JobFault}
 use Rattle.jr_settings.specs.declared.faults.JobFault.TheVariants as fault
 use Rattle.jr_options.specs.PlanOf.{JobAsked, jobs_below, engine_of}
@@ -45,11 +46,11 @@ clones_in job = job.options.clones
 
 -- the region of the job's last clone ends beyond the furthest end
 abbrev pub is_far : JobAsked → Bool
-is_far job = nat_lt (2 ^ 50) (start_of job.options (job.options.clones - 1) + (shape_in job.options).size)
+is_far job = nat_lt LARGEST_END (start_of job.options (job.options.clones - 1) + (shape_in job.options).size)
 
 -- each clone of the job has more cells than a clone may have
 abbrev pub is_long : JobAsked → Bool
-is_long job = nat_lt (2 ^ 24) (shape_in job.options).cells
+is_long job = nat_lt MOST_CELLS (shape_in job.options).cells
 
 -- the cells that all passes of all clones of a job visit
 abbrev pub work_in : JobAsked → ℕ
@@ -59,10 +60,10 @@ work_in job = (shape_in job.options).cells * job.options.passes * job.options.cl
 abbrev pub joint_fault : List JobAsked → Option JobFault
 joint_fault jobs =
     if are_mixed jobs then Some fault.MixedEngines
-    else (if nat_lt 64 (sum_by clones_in jobs) then Some (fault.Limit bound.Clones)
+    else (if nat_lt MOST_CLONES (sum_by clones_in jobs) then Some (fault.Limit bound.Clones)
     else (if list_any is_far jobs then Some (fault.Limit bound.Region)
     else (if list_any is_long jobs then Some (fault.Limit bound.Cells)
-    else (if nat_lt (2 ^ 30) (sum_by work_in jobs) then Some (fault.Limit bound.Work) else None))))
+    else (if nat_lt MOST_WORK (sum_by work_in jobs) then Some (fault.Limit bound.Work) else None))))
 
 -- the first fault of jobs whose lines are right
 abbrev pub jobs_fault : List JobAsked → Option JobFault

@@ -9,18 +9,12 @@ ghost use Rattle.jr_options.specs.Refusals.{refusal_of};
 ghost use Rattle.jr_settings.specs.Shapes.{HasShape};
 ghost use Rattle.jr_options.specs.Surveys.{IsCapped, start_of, is_global, is_planned, empty_tally, and_job, and_shape, tally_fault, is_other_engine, engine_number, first_survey, with_section, survey_from, tally_in};
 
-use crate::drafts::{Draft, PlannedJob};
-use crate::plans::Plan;
-use jr_model::EngineKind;
-use jr_settings::{Bound, JobFault, JobOptions, Shape};
+use crate::planned::PlannedJob;
+use jr_model::{EngineKind, LARGEST_END, MOST_CELLS, MOST_CLONES, MOST_WORK};
+use jr_plan::{Bound, Draft, Plan, PlanFault};
+use jr_settings::{JobFault, JobOptions, Shape};
 use jr_text::{Line, Section};
 use std::alloc::{AllocError, Global};
-
-const FURTHEST_END: u128 = 1 << 50;
-
-const MOST_CELLS: u64 = 1 << 24;
-
-const MOST_WORK: u64 = 1 << 30;
 
 // The section's lines count for the jobs below it; it is no job.
 fn is_global(section: &Section) -> bool
@@ -119,7 +113,7 @@ impl Tally {
         let mut tally = self;
         tally.is_mixed = tally.is_mixed || is_other_engine(tally.engine, options.engine);
         tally.engine = Some(tally.engine.unwrap_or(options.engine));
-        tally.clones = (tally.clones + u64::from(options.clones)).min(65);
+        tally.clones = (tally.clones + u64::from(options.clones)).min(1 + MOST_CLONES as u64);
         tally.verifiers = tally.verifiers.max(options.verifiers);
         match options.shape(line) {
             Ok(shape) => tally.with_shape(options, &shape),
@@ -138,8 +132,8 @@ impl Tally {
     {
         let mut tally = self;
         let end = furthest_start(options) + u128::from(shape.size);
-        tally.is_far = tally.is_far || end > FURTHEST_END;
-        tally.is_long = tally.is_long || shape.cells > MOST_CELLS;
+        tally.is_far = tally.is_far || end > u128::from(LARGEST_END);
+        tally.is_long = tally.is_long || shape.cells > u64::from(MOST_CELLS);
         tally.work = (tally.work + visits(options, shape)).min(1 + u128::from(MOST_WORK));
         tally
     }
@@ -155,7 +149,7 @@ impl Tally {
         if self.is_mixed {
             return Some(JobFault::MixedEngines);
         }
-        if self.clones > 64 {
+        if self.clones > MOST_CLONES as u64 {
             return Some(JobFault::Limit(Bound::Clones));
         }
         if self.is_far {
@@ -355,7 +349,7 @@ fn build(
         }
     }
     let engine = tally.engine.unwrap_or(EngineKind::File);
-    Ok(Plan::of_draft(draft, engine, tally.verifiers))
+    Ok(draft.finish(engine, tally.verifiers))
 }
 
 // The job of a section below others, after the jobs up to a phase.
@@ -394,13 +388,33 @@ fn with_clones(
     ensures err { IfErr result (λ fault. fault ≡ OutOfMemory) }
 {
     let options = &job.options;
+    let workload = job.workload();
     let mut draft = draft;
     for index in 0..options.clones {
         let start = start_of(options, index) as u64;
         let file = file_name(alloc, above, section, index)?;
-        draft = draft.add(alloc, job, section.name(), file, start)?;
+        match draft.add(alloc, &workload, section.name(), file, start) {
+            Ok(()) => {}
+            // The survey has found the job sound.
+            Err(fault) => return Err(only_memory(fault)),
+        }
     }
     Ok(draft)
+}
+
+// The fault of a plan where only memory is wanting.
+fn only_memory(fault: PlanFault) -> JobFault
+    requires { fault ≡ PlanFault.Memory }
+    ensures { result ≡ OutOfMemory }
+{
+    match fault {
+        PlanFault::Memory => JobFault::Memory,
+        PlanFault::Block
+        | PlanFault::Number
+        | PlanFault::NoPattern
+        | PlanFault::VerifyNeedsWrite
+        | PlanFault::Limit(_) => unreachable!(),
+    }
 }
 
 // The value of the last line of this key among some lines, else the one found before.

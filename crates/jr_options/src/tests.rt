@@ -1,9 +1,8 @@
 use crate::laws::{high_is_greatest, low_is_least};
-use crate::plans::Plan;
 use crate::reading::plan;
-use crate::texts::plan_text;
 use jr_model::EngineKind;
-use jr_settings::{Bound, JobFault};
+use jr_plan::{Bound, Plan, plan_text};
+use jr_settings::JobFault;
 use jr_text::sections;
 use std::alloc::Global;
 use std::test::Fail;

@@ -19,8 +19,8 @@ use Rattle.jr_model.specs.Legal.{is_legal, is_complete, may_happen, takes_up}
 use Rattle.jr_model.specs.Plan.{Plan, SubJob, clone_of}
 use Rattle.jr_model.specs.Rounds.{pass_of, write_id, is_write_draw, issued_count, is_closed, is_full, is_settled, settles, is_probe_of, has_rounds, group_of, group_count, group_index}
 use Rattle.jr_model.specs.Totals.{is_skip_of}
-use Rattle.jr_options.specs.Files.{are_apart}
-use Rattle.jr_options.specs.PlanFacts.{IsPlanned}
+use Rattle.jr_plan.specs.Files.{are_apart}
+use Rattle.jr_plan.specs.PlanFacts.{IsPlanned}
 use Rattle.jr_quiet.specs.Quiet.{is_quiet, stays_last}
 use Rattle.jr_quiet.proofs.Tallies.{total, marked, upto, total_push}
 use Rattle.jr_quiet.proofs.Steps.{IsStep, along, IsNamed, IsTakeUp, probe_of, skip_of}

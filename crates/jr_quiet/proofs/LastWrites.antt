@@ -6,7 +6,7 @@ use Rattle.std.specs.List.{list_any, list_all, cons_option, enumerate_from}
 use Rattle.std.proofs.lemmas.Bool.{and_parts, and_from, eqb-true, eq-eqb, ne_eqb, lt-ltb, ltb-true, leb-true, cases_Bool, cases_eq, not-true, or_parts, or_left, or_right, both_ways, true_from_ne_false}
 use Rattle.std.proofs.lemmas.List.Sums.{fold_push}
 use Rattle.std.proofs.lemmas.Option.{slice_get_within}
-use Rattle.jr_model.specs.declared.blocks.TheConstants.{SECTOR}
+use Rattle.jr_model.specs.declared.limits.TheConstants.{SECTOR}
 use Rattle.jr_model.specs.declared.blocks.Dir.{Dir}
 use Rattle.jr_model.specs.declared.blocks.Dir.TheVariants as direction
 use Rattle.jr_model.specs.declared.blocks.Piece.{Piece}
@@ -24,7 +24,7 @@ use Rattle.jr_model.specs.Legal.{is_legal, end_fits, conflicts, is_clear, may_ha
 use Rattle.jr_model.specs.Pieces.{pieces_overlap}
 use Rattle.jr_model.specs.Plan.{Plan, IsNumbered}
 use Rattle.jr_model.specs.Rounds.{is_write_draw, pass_of}
-use Rattle.jr_options.specs.PlanFacts.{IsPlanned}
+use Rattle.jr_plan.specs.PlanFacts.{IsPlanned}
 use Rattle.jr_quiet.specs.Quiet.{is_quiet, issued_over, last_issued, writes_block}
 use Rattle.jr_quiet.proofs.Steps.{IsStep, along, refers, all_refer, started_push, got_within, got_at_end, got_push, Agrees, issue_of}
 use Rattle.jr_quiet.proofs.Ends.{has_ended, has_ended_push, not_ended_yet, or_false, none_is_none, some_if, some_within}

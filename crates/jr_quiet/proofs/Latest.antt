@@ -5,7 +5,7 @@ use Rattle.std.specs.List.{list_any, list_all, range_with_len}
 use Rattle.std.proofs.lemmas.Bool.{and_parts, and_from, and_left, and_right, eqb-true, eq-eqb, ne_eqb, lt-ltb, le-leb, ltb-true, cases_Bool, cases_lt, cases_order, not-true, not-false, or_left, or_right, or_cases, both_ways}
 use Rattle.std.proofs.lemmas.List.Elements.{All-get_or}
 use Rattle.std.proofs.lemmas.Option.{slice_get_within, get_or_from_slice_get}
-use Rattle.jr_model.specs.declared.blocks.TheConstants.{SECTOR, LARGEST_BLOCK, LARGEST_END}
+use Rattle.jr_model.specs.declared.limits.TheConstants.{SECTOR, LARGEST_BLOCK, LARGEST_END}
 use Rattle.jr_model.specs.declared.blocks.Dir.{Dir}
 use Rattle.jr_model.specs.declared.blocks.Dir.TheVariants as direction
 use Rattle.jr_model.specs.declared.blocks.Piece.{Piece}
@@ -23,8 +23,8 @@ use Rattle.jr_model.specs.Plan.{Plan, SubJob, IsNumbered, clone_of}
 use Rattle.jr_model.specs.Rounds.{pass_of, write_id, is_write_draw, issued_count, is_closed, group_of, group_count, group_index}
 use Rattle.jr_model.specs.Tickets.{piece_fits}
 use Rattle.jr_model.specs.Words.{pass_words}
-use Rattle.jr_options.specs.Files.{are_apart}
-use Rattle.jr_options.specs.PlanFacts.{IsPlanned}
+use Rattle.jr_plan.specs.Files.{are_apart}
+use Rattle.jr_plan.specs.PlanFacts.{IsPlanned}
 use Rattle.jr_draw.specs.PassLaw.{PassLaw, IsInRegion}
 use Rattle.jr_draw.proofs.TheLaw.{pass_law, drawable_of}
 use Rattle.jr_quiet.specs.Quiet.{is_quiet, last_issued, later_over, stays_last}

@@ -23,8 +23,8 @@ use Rattle.jr_model.specs.Quiet.{checks_of_pass, bytes_drawn, quiet_totals, quie
 use Rattle.jr_model.specs.Report.{Miscompare, miscompare_on, miscompare_by, miscompares, miscompare_line, on_write, of_pass, of_clone, in_order, totals_lines, all_totals, report_of}
 use Rattle.jr_model.specs.Rounds.{Pass, pass_of, passes_of, write_id, is_write_draw, has_rounds}
 use Rattle.jr_model.specs.Totals.{is_read, moved, bytes_of, is_verdict_of, is_skip_of, is_fault_of, totals_of}
-use Rattle.jr_options.specs.Files.{are_apart}
-use Rattle.jr_options.specs.PlanFacts.{IsPlanned}
+use Rattle.jr_plan.specs.Files.{are_apart}
+use Rattle.jr_plan.specs.PlanFacts.{IsPlanned}
 use Rattle.jr_quiet.specs.Quiet.{is_calm, is_quiet}
 use Rattle.jr_quiet.proofs.Tallies.{total, got, upto, total-filter, total-filter_map, total_same, total_zero, total-sum, total-map, total_upto, sum_map-total, count_by-total, length-total, upto_same_below, upto-sum}
 use Rattle.jr_quiet.proofs.Steps.{IsStep, along, started_push}

@@ -17,8 +17,8 @@ use Rattle.jr_model.specs.Plan.{Plan, SubJob, clone_of}
 use Rattle.jr_model.specs.Quiet.{quiet_report}
 use Rattle.jr_model.specs.Report.{report_of}
 use Rattle.jr_model.specs.Rounds.{Pass, pass_of, group_of, group_index}
-use Rattle.jr_options.specs.Files.{are_apart}
-use Rattle.jr_options.specs.PlanFacts.{IsPlanned}
+use Rattle.jr_plan.specs.Files.{are_apart}
+use Rattle.jr_plan.specs.PlanFacts.{IsPlanned}
 
 -- the event is no fault and no bad verdict
 abbrev pub is_calm : Event → Bool

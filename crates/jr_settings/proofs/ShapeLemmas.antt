@@ -7,7 +7,7 @@ use Rattle.jr_settings.specs.declared.faults.JobFault.{JobFault}
 use Rattle.jr_settings.specs.declared.faults.JobFault.TheVariants as fault
 use Rattle.jr_settings.specs.declared.options.JobOptions.{JobOptions}
 use Rattle.jr_settings.specs.declared.shapes.Shape.{Shape}
-use Rattle.jr_settings.specs.Directions.{has_writes}
+use Rattle.jr_model.specs.Directions.{has_writes}
 use Rattle.jr_settings.specs.Shapes.{shape_of, shape_with, shape_in, options_fit, cell_of, reads_of, writes_of}
 
 -- a job of some shape has the one that its options say

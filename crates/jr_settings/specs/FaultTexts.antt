@@ -1,15 +1,8 @@
 -- What the faults print.
 use Rattle.std.specs.Prelude.{ℕ, List, ◌++◌, codes, decimal}
-use Rattle.jr_settings.specs.declared.faults.Bound.{Bound}
-use Rattle.jr_settings.specs.declared.faults.Bound.TheVariants as bound
 use Rattle.jr_settings.specs.declared.faults.JobFault.{JobFault}
 use Rattle.jr_settings.specs.declared.faults.JobFault.TheVariants as fault
-
-abbrev pub bound_text : Bound → List ℕ
-bound_text bound.Clones = codes "clones"
-bound_text bound.Region = codes "region"
-bound_text bound.Cells = codes "cells"
-bound_text bound.Work = codes "work"
+pub use Rattle.jr_plan.specs.FaultTexts.{bound_text}
 
 -- what is wrong with an option line, or with the job whose section a line opens
 abbrev pub at_line : ℕ → List ℕ → List ℕ

@@ -1,4 +1,3 @@
-pub mod Directions
 pub mod FaultTexts
 pub mod Lookups
 pub mod OptionValues

@@ -7,7 +7,7 @@ use Rattle.jr_settings.specs.declared.faults.JobFault.{JobFault}
 use Rattle.jr_settings.specs.declared.options.JobOptions.{JobOptions}
 use Rattle.jr_settings.specs.declared.settings.Setting.{Setting}
 use Rattle.jr_settings.specs.declared.settings.Setting.TheVariants as setting
-use Rattle.jr_settings.specs.OptionWords.{same_text}
+use Rattle.jr_plan.specs.Files.{same_text}
 use Rattle.jr_settings.specs.Options.{default_options, with_setting}
 use Rattle.jr_settings.specs.Settings.{setting_of}
 

@@ -1,7 +1,6 @@
 -- The words of a job file and what they mean (fio's manual, "Parameters"; which of them are read is of this project).
-use Rattle.std.specs.Prelude.{ℕ, nat_eq, Bool, true, false, List, [], ◌∷◌, Option, Some, None, if◌then◌else◌, codes}
+use Rattle.std.specs.Prelude.{ℕ, Bool, true, false, List, [], ◌∷◌, Option, Some, None, if◌then◌else◌, codes}
 use Rattle.std.specs.Borrow.{Bor}
-use Rattle.std.specs.Cmp.Lexicographic.{pointwise}
 use Rattle.jr_model.specs.declared.contents.VerifyKind.{VerifyKind}
 use Rattle.jr_model.specs.declared.contents.VerifyKind.TheVariants as verify
 use Rattle.jr_model.specs.declared.workloads.EngineKind.{EngineKind}
@@ -14,10 +13,7 @@ use Rattle.jr_settings.specs.declared.keys.ChoiceKey.TheVariants as choice
 use Rattle.jr_settings.specs.declared.keys.NumberKey.TheVariants as number
 use Rattle.jr_settings.specs.declared.keys.FlagKey.TheVariants as flag
 use Rattle.jr_settings.specs.declared.keys.TextKey.TheVariants as text
-
--- the same bytes
-abbrev pub same_text : List ℕ → List ℕ → Bool
-same_text a b = pointwise nat_eq a b
+pub use Rattle.jr_plan.specs.Files.{same_text}
 
 -- what the first entry for a word says
 abbrev pub meaning_of : {X : Type 0} → List (List ℕ × X) → List ℕ → Option X

@@ -3,6 +3,7 @@ use Rattle.std.specs.Prelude.{◌≤◌, true, false, List, [], ◌∷◌, Some,
 use Rattle.jr_model.specs.declared.contents.VerifyKind.TheVariants as verify
 use Rattle.jr_model.specs.declared.workloads.EngineKind.TheVariants as engine
 use Rattle.jr_model.specs.declared.workloads.IoType.TheVariants as io
+use Rattle.jr_model.specs.declared.limits.TheConstants.{MOST_CLONES, MOST_DEPTH, MOST_PASSES, MOST_VERIFIERS}
 use Rattle.jr_text.specs.Records.{LineText}
 use Rattle.jr_settings.specs.declared.faults.JobFault.{JobFault}
 use Rattle.jr_settings.specs.declared.options.JobOptions.{JobOptions}
@@ -65,12 +66,12 @@ with_setting o setting.Nothing = o
 pub record AreInRange (o : JobOptions) : Type 0 where
   pub percent : o.read_percent ≤ 100
   pub clones_least : 1 ≤ o.clones
-  pub clones_most : o.clones ≤ 64
+  pub clones_most : o.clones ≤ MOST_CLONES
   pub passes_least : 1 ≤ o.passes
-  pub passes_most : o.passes ≤ 1000
+  pub passes_most : o.passes ≤ MOST_PASSES
   pub depth_least : 1 ≤ o.depth
-  pub depth_most : o.depth ≤ 256
-  pub verifiers : o.verifiers ≤ 16
+  pub depth_most : o.depth ≤ MOST_DEPTH
+  pub verifiers : o.verifiers ≤ MOST_VERIFIERS
 
 -- the options once a line says something; a fault stays
 abbrev pub and_setting : JobOptions → Result Setting JobFault → Result JobOptions JobFault

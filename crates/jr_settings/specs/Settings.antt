@@ -2,6 +2,7 @@
 use Rattle.std.specs.Prelude.{ℕ, ◌-◌, ◌≤◌, ◌==◌, nat_lt, Bool, not, List, length, Option, Some, None, is_some, Result, Ok, Err, ok_or, if◌then◌else◌}
 use Rattle.std.specs.List.{position_or_len}
 use Rattle.std.specs.Option.{option_map}
+use Rattle.jr_model.specs.declared.limits.TheConstants.{MOST_CLONES, MOST_DEPTH, MOST_PASSES, MOST_VERIFIERS}
 use Rattle.jr_text.specs.Records.{LineText}
 use Rattle.jr_settings.specs.declared.faults.JobFault.{JobFault}
 use Rattle.jr_settings.specs.declared.faults.JobFault.TheVariants as fault
@@ -27,20 +28,20 @@ setting_number_range number.WritePercent = (0, 100)
 setting_number_range number.Size = (0, 18446744073709551615)
 setting_number_range number.Offset = (0, 18446744073709551615)
 setting_number_range number.OffsetStep = (0, 18446744073709551615)
-setting_number_range number.Clones = (1, 64)
-setting_number_range number.Passes = (1, 1000)
-setting_number_range number.Depth = (1, 256)
+setting_number_range number.Clones = (1, MOST_CLONES)
+setting_number_range number.Passes = (1, MOST_PASSES)
+setting_number_range number.Depth = (1, MOST_DEPTH)
 setting_number_range number.Seed = (0, 18446744073709551615)
 setting_number_range number.Backlog = (0, 4294967295)
-setting_number_range number.Verifiers = (0, 16)
+setting_number_range number.Verifiers = (0, MOST_VERIFIERS)
 
 -- a setting's number is one that its option may have
 abbrev pub IsInRange : Setting → Type 0
 IsInRange (setting.ReadPercent n) = n ≤ 100
-IsInRange (setting.Clones n) = (1 ≤ n) × (n ≤ 64)
-IsInRange (setting.Passes n) = (1 ≤ n) × (n ≤ 1000)
-IsInRange (setting.Depth n) = (1 ≤ n) × (n ≤ 256)
-IsInRange (setting.Verifiers n) = n ≤ 16
+IsInRange (setting.Clones n) = (1 ≤ n) × (n ≤ MOST_CLONES)
+IsInRange (setting.Passes n) = (1 ≤ n) × (n ≤ MOST_PASSES)
+IsInRange (setting.Depth n) = (1 ≤ n) × (n ≤ MOST_DEPTH)
+IsInRange (setting.Verifiers n) = n ≤ MOST_VERIFIERS
 IsInRange _ = Unit {0}
 
 -- what one of a few words sets

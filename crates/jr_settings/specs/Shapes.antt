@@ -1,27 +1,20 @@
--- How a job's region is cut into cells (fio's manual, "Block size"; the limits are of this project).
+-- Believed: how a job's region is cut into cells (fio's manual, "Block size"; the limits are of this project).
 use Rattle.std.specs.Prelude.{◌≡◌, ℕ, ◌/◌, ◌%◌, ◌≤◌, nat_le, min, ◌==◌, Bool, true, not, ◌&&◌, ◌||◌, List, [], ◌∷◌, Option, Some, None, Result, Ok, Err, unwrap_or, if◌then◌else◌}
-use Rattle.std.specs.List.{list_all}
+use Rattle.jr_model.specs.declared.limits.TheConstants.{SECTOR}
 use Rattle.jr_model.specs.Plan.{is_verified}
 use Rattle.jr_model.specs.Tickets.{has_pattern}
 use Rattle.jr_settings.specs.declared.faults.JobFault.{JobFault}
 use Rattle.jr_settings.specs.declared.faults.JobFault.TheVariants.{MissingSize, BadBlock, NoPattern, VerifyNeedsWrite}
 use Rattle.jr_settings.specs.declared.options.JobOptions.{JobOptions}
 use Rattle.jr_settings.specs.declared.shapes.Shape.{Shape}
-use Rattle.jr_sizes.specs.SplitEntries.{percents_total}
-use Rattle.jr_settings.specs.Directions.{has_reads, has_writes}
-
--- a size that is given at all is a multiple of the cell, from the cell on up to the largest block
-abbrev pub entry_fits : ℕ → ℕ × ℕ → Bool
-entry_fits cell entry =
-    (entry.1 == 0) || (nat_le cell entry.0 && (entry.0 % cell == 0) && nat_le entry.0 4194304)
-
-abbrev pub split_fits : ℕ → List (ℕ × ℕ) → Bool
-split_fits cell split = list_all (entry_fits cell) split
+use Rattle.jr_plan.specs.Sizes.{split_fits}
+use Rattle.jr_plan.specs.SplitEntries.{percents_total}
+use Rattle.jr_model.specs.Directions.{has_reads, has_writes}
 
 -- the cell and the offsets are whole blocks of 512 bytes, and the sizes in use fit the cell
 abbrev pub options_fit : JobOptions → ℕ → List (ℕ × ℕ) → List (ℕ × ℕ) → Bool
 options_fit o cell reads writes =
-    nat_le 512 cell && (cell % 512 == 0) && (o.offset % 512 == 0) && (o.offset_step % 512 == 0)
+    nat_le SECTOR cell && (cell % SECTOR == 0) && (o.offset % SECTOR == 0) && (o.offset_step % SECTOR == 0)
     && (not (has_reads o.io_type) || split_fits cell reads)
     && (not (has_writes o.io_type) || split_fits cell writes)
 

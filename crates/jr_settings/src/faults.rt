@@ -1,22 +1,10 @@
 ghost use Rattle.std.specs.Prelude.{◌≡◌};
 ghost use Rattle.jr_settings.specs.declared.faults.JobFault.TheVariants.{Memory as OutOfMemory};
 
+use jr_plan::Bound;
 use std::alloc::{AllocError, AllocFailed};
 use std::error::Error;
 use std::fmt;
-
-/// What a run may not have more of.
-#[derive(Clone, Copy, Debug, PartialEq, Eq)]
-pub enum Bound {
-    /// 64 clones.
-    Clones,
-    /// An end of a region at 2^50.
-    Region,
-    /// 2^24 cells of a clone.
-    Cells,
-    /// 2^30 cells over all clones and their passes.
-    Work,
-}
 
 /// Why sections make no plan. A number is that of a line, from 1: of the option at fault, or of the
 /// line that opens the job's section.
@@ -45,22 +33,6 @@ pub enum JobFault {
     SeveralFiles(u32),
     Limit(Bound),
     Memory,
-}
-
-impl fmt::Display for Bound {
-    ghost use Rattle.std.specs.Prelude.{Some};
-    ghost use Rattle.jr_settings.specs.FaultTexts.{bound_text};
-
-    ghost output = { λ bound. Some (bound_text bound) };
-
-    fn fmt<W: fmt::Write>(&self, f: &mut fmt::Formatter<W>) -> fmt::Result {
-        match self {
-            Bound::Clones => write!(f, "clones"),
-            Bound::Region => write!(f, "region"),
-            Bound::Cells => write!(f, "cells"),
-            Bound::Work => write!(f, "work"),
-        }
-    }
 }
 
 impl fmt::Display for JobFault {

@@ -11,6 +11,7 @@ mod tests;
 mod values;
 mod words;
 
-pub use faults::{Bound, JobFault};
+pub use faults::JobFault;
+pub use jr_plan::Bound;
 pub use options::JobOptions;
 pub use shapes::Shape;

@@ -6,7 +6,7 @@ ghost use Rattle.jr_settings.specs.Options.{AreInRange, default_options, with_se
 use crate::faults::JobFault;
 use crate::settings::{Setting, setting_of};
 use jr_model::{EngineKind, IoType, Pattern, VerifyKind};
-use jr_sizes::Split;
+use jr_plan::Split;
 use jr_text::Line;
 
 /// What the option lines of a job say, but for the names of its files.

@@ -6,8 +6,10 @@ use crate::faults::JobFault;
 use crate::keys::{ChoiceKey, FlagKey, Key, NumberKey, TextKey};
 use crate::values::{block_sizes, flag, number_within, pattern, splits};
 use crate::words;
-use jr_model::{EngineKind, IoType, Pattern, VerifyKind};
-use jr_sizes::Split;
+use jr_model::{
+    EngineKind, IoType, MOST_CLONES, MOST_DEPTH, MOST_PASSES, MOST_VERIFIERS, Pattern, VerifyKind,
+};
+use jr_plan::Split;
 use jr_text::Line;
 
 /// What one option line says.
@@ -107,11 +109,11 @@ fn range(key: NumberKey) -> (u64, u64)
             0,
             u64::MAX,
         ),
-        NumberKey::Clones => (1, 64),
-        NumberKey::Passes => (1, 1000),
-        NumberKey::Depth => (1, 256),
+        NumberKey::Clones => (1, MOST_CLONES as u64),
+        NumberKey::Passes => (1, MOST_PASSES as u64),
+        NumberKey::Depth => (1, MOST_DEPTH as u64),
         NumberKey::Backlog => (0, 0xffff_ffff),
-        NumberKey::Verifiers => (0, 16),
+        NumberKey::Verifiers => (0, MOST_VERIFIERS as u64),
     }
 }
 

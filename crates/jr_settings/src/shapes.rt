@@ -1,14 +1,11 @@
-ghost use Rattle.std.specs.Prelude.{◌≡◌, ◌<◌, ◌==◌, true, IfOk, Some};
-ghost use Rattle.std.specs.List.{list_all};
-ghost use Rattle.jr_settings.specs.Directions.{has_reads, has_writes};
-ghost use Rattle.jr_settings.specs.Shapes.{HasShape, entry_fits, split_fits, options_fit, least_size, cell_of, shape_with, shape_in, shape_of};
-ghost use Rattle.jr_model.specs.Plan.{is_verified};
+ghost use Rattle.std.specs.Prelude.{◌≡◌, IfOk, Some};
+ghost use Rattle.jr_settings.specs.Shapes.{HasShape, options_fit, least_size, cell_of, shape_with, shape_in, shape_of};
 ghost use Rattle.jr_model.specs.Tickets.{has_pattern};
 
 use crate::faults::JobFault;
 use crate::options::JobOptions;
-use jr_model::{IoType, LARGEST_BLOCK, VerifyKind};
-use jr_sizes::Split;
+use jr_model::{SECTOR, VerifyKind};
+use jr_plan::Split;
 
 /// How a job's region is cut: its cell, the number of cells, and the sizes of its I/Os.
 #[derive(Clone, Copy, Debug)]
@@ -23,39 +20,6 @@ pub struct Shape {
     pub reads: Split,
     /// The sizes of writes.
     pub writes: Split,
-}
-
-fn has_reads(io_type: IoType) -> bool
-    ensures { result ≡ has_reads io_type }
-{
-    match io_type {
-        IoType::Read | IoType::RandRead | IoType::ReadWrite | IoType::RandRw => true,
-        IoType::Write | IoType::RandWrite => false,
-    }
-}
-
-fn has_writes(io_type: IoType) -> bool
-    ensures { result ≡ has_writes io_type }
-{
-    match io_type {
-        IoType::Write | IoType::RandWrite | IoType::ReadWrite | IoType::RandRw => true,
-        IoType::Read | IoType::RandRead => false,
-    }
-}
-
-// Whether each size that a split gives is a multiple of the cell, from the cell up to the largest block.
-fn split_fits(split: &Split, cell: u32) -> bool
-    requires { 0 < cell }
-    ensures { result ≡ split_fits cell split.now }
-{
-    split.entries().iter().all(|entry| entry_fits(entry, cell))
-}
-
-fn entry_fits(entry: &(u32, u8), cell: u32) -> bool
-    requires { 0 < cell }
-    ensures { result ≡ entry_fits cell entry.now }
-{
-    entry.1 == 0 || (cell <= entry.0 && entry.0 % cell == 0 && entry.0 <= LARGEST_BLOCK)
 }
 
 // The least size of a split that it gives at all.
@@ -76,12 +40,12 @@ impl JobOptions {
     fn cell(&self, reads: &Split, writes: &Split) -> u32
         ensures { result ≡ cell_of self.now reads.now writes.now }
     {
-        let least_read = if has_reads(self.io_type) {
+        let least_read = if self.io_type.has_reads() {
             least_size(reads)
         } else {
             u32::MAX
         };
-        let least_write = if has_writes(self.io_type) {
+        let least_write = if self.io_type.has_writes() {
             least_size(writes)
         } else {
             u32::MAX
@@ -92,12 +56,13 @@ impl JobOptions {
     fn fits(&self, cell: u32, reads: &Split, writes: &Split) -> bool
         ensures { result ≡ options_fit self.now cell reads.now writes.now }
     {
-        cell >= 512
-            && cell % 512 == 0
-            && self.offset % 512 == 0
-            && self.offset_step % 512 == 0
-            && (!has_reads(self.io_type) || split_fits(reads, cell))
-            && (!has_writes(self.io_type) || split_fits(writes, cell))
+        let sector = u64::from(SECTOR);
+        cell >= SECTOR
+            && cell % SECTOR == 0
+            && self.offset % sector == 0
+            && self.offset_step % sector == 0
+            && (!self.io_type.has_reads() || reads.fits(cell))
+            && (!self.io_type.has_writes() || writes.fits(cell))
     }
 
     // Whether blocks can be verified as the job wants it: a pattern needs one.
@@ -106,15 +71,6 @@ impl JobOptions {
     {
         match self.kind {
             VerifyKind::Pattern => self.pattern.is_some(),
-            _ => true,
-        }
-    }
-
-    fn is_verified(&self) -> bool
-        ensures { result ≡ is_verified self.now.kind }
-    {
-        match self.kind {
-            VerifyKind::Plain => false,
             _ => true,
         }
     }
@@ -153,7 +109,7 @@ impl JobOptions {
         if !self.has_pattern() {
             return Err(JobFault::NoPattern(line));
         }
-        if self.is_verified() && !has_writes(self.io_type) {
+        if self.kind.is_verified() && !self.io_type.has_writes() {
             return Err(JobFault::VerifyNeedsWrite(line));
         }
         Ok(Shape {

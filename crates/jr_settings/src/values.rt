@@ -5,7 +5,7 @@ ghost use Rattle.std.specs.Option.{option_map};
 ghost use Rattle.jr_settings.specs.OptionValues.{number_within, flag_of, is_comma, by_direction, values_in, block_size, block_sizes, split_part, splits, pattern_of, decimal_pattern, hex_digit, hex_byte, hex_pairs, hex_pattern, with_bytes};
 
 use jr_model::Pattern;
-use jr_sizes::Split;
+use jr_sizes::{ReadSplit, Split};
 use jr_text::number;
 
 // The number that a text writes, where it lies within these bounds.

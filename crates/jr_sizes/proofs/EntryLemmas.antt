@@ -6,7 +6,7 @@ use Rattle.std.proofs.lemmas.List.Sums.{sum_by-cons}
 use Rattle.std.proofs.lemmas.Bool.{lt-ltb, le-ltb, eq-eqb, ne_eqb, cases_eq}
 use Rattle.jr_sizes.specs.declared.faults.SplitFault.{SplitFault}
 use Rattle.jr_sizes.specs.declared.faults.SplitFault.TheVariants.{TooMany}
-use Rattle.jr_sizes.specs.SplitEntries.{IsPadded, padded, percents_total}
+use Rattle.jr_plan.specs.SplitEntries.{padded, percents_total}
 use Rattle.jr_sizes.specs.Splits.{and_entries, entries_of, entry_of, with_entries, given_total, blank_count, is_colon, share, share_step, shared, shared_of, split_of}
 
 -- an entry goes to the end of what stands in front
@@ -87,19 +87,6 @@ share_total each extra (entry ∷ entries) =
 -- blanks that share what is missing make it 100
 pub whole_share : (given blanks each extra : ℕ) → given ≤ 100 → 0 < blanks → each ≡ (100 - given) / blanks → extra ≡ (100 - given) % blanks → given + (each * blanks + min extra blanks) ≡ 100
 whole_share given blanks each extra most some each_is extra_is = rw (each_is, extra_is) (omega arith)
-
--- the entries in their array
-pub padded_entries : (entries : List (ℕ × ℕ)) → 1 ≤ length entries → length entries ≤ 64 → percents_total entries ≡ 100 → IsPadded (length entries) (padded entries)
-padded_entries entries least most total =
-    let empty : ℕ × ℕ = (0, 0) in
-    let front = take_at entries (replicate (64 - length entries) (0, 0)) (length entries) refl in
-    record {
-      least = least;
-      most = most;
-      size = omega (arith, length-append entries (replicate (64 - length entries) empty), length-replicate (64 - length entries) empty);
-      rest = ap padded (sym front);
-      total = ap percents_total front ∙ total;
-    }
 
 -- an element within a list, whatever stands for one past it
 pub same_default : {X : Type 0} (xs : List X) (i : ℕ) (d e : X) → i < length xs → slice_index_or xs i d ≡ slice_index_or xs i e

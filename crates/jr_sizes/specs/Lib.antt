@@ -1,3 +1,2 @@
 pub mod FaultTexts
-pub mod SplitEntries
 pub mod Splits

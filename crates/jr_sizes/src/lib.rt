@@ -1,4 +1,4 @@
-// The block sizes of a job and their percentages (fio's `bssplit`; a plain block size is a split of
+// The splits of block sizes that a job file says (fio's `bssplit`; a plain block size is a split of
 // one entry).
 #![tactic(auto)]
 
@@ -9,4 +9,5 @@ mod splits;
 mod tests;
 
 pub use faults::SplitFault;
-pub use splits::{Split, mix};
+pub use jr_plan::{Split, mix};
+pub use splits::ReadSplit;

@@ -1,7 +1,7 @@
 ghost use Rattle.std.specs.Prelude.{◌≡◌, ◌≤◌, ◌<◌, ◌+◌, ◌*◌, ◌^◌, ◌++◌, List, ℕ, Option, length, take, MatchResult, IfOk, IfErr, IfSome, All, count_by, Ok, Err};
 ghost use Rattle.std.specs.List.{slice_split};
 ghost use Rattle.jr_text.specs.Number.{number_of};
-ghost use Rattle.jr_sizes.specs.SplitEntries.{padded};
+ghost use Rattle.jr_plan.specs.SplitEntries.{padded};
 ghost use Rattle.jr_sizes.specs.Splits.{is_colon, small_size, percent_in, entry_with, entry_of, entries_of, given_total, blank_count, share, share_step};
 
 use crate::faults::SplitFault;

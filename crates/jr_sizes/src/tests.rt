@@ -1,5 +1,6 @@
 use crate::faults::SplitFault;
-use crate::splits::{Split, mix};
+use crate::splits::ReadSplit;
+use jr_plan::{Split, mix};
 use jr_model::Dir;
 use std::test::Fail;
 

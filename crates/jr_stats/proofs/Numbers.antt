@@ -5,7 +5,7 @@ use Rattle.std.proofs.lemmas.Bool.{and_parts, leb-true, lt-ltb, ltb-true}
 use Rattle.std.proofs.lemmas.Option.{slice_get_within}
 use Rattle.jr_model.specs.declared.blocks.Dir.{Dir}
 use Rattle.jr_model.specs.declared.blocks.Piece.{Piece}
-use Rattle.jr_model.specs.declared.blocks.TheConstants.{SECTOR, LARGEST_BLOCK, LARGEST_END}
+use Rattle.jr_model.specs.declared.limits.TheConstants.{SECTOR, LARGEST_BLOCK, LARGEST_END}
 use Rattle.jr_model.specs.declared.events.Event.{Event}
 use Rattle.jr_model.specs.declared.events.Event.TheVariants.{Issue, Probe, Skip, End, Verdict}
 use Rattle.jr_model.specs.declared.events.Outcome.{Outcome}
@@ -24,7 +24,7 @@ use Rattle.jr_model.specs.Legal.{end_fits, is_legal, job_says, kind_says, legal_
 use Rattle.jr_model.specs.Plan.{Plan, SubJob, clone_of}
 use Rattle.jr_model.specs.Rounds.{pass_of}
 use Rattle.jr_model.proofs.LegalLaws.{is_legal-more}
-use Rattle.jr_options.specs.PlanFacts.{IsPlanned}
+use Rattle.jr_plan.specs.PlanFacts.{IsPlanned}
 use Rattle.jr_laws.proofs.CountLaws.{draws_within}
 use Rattle.jr_laws.proofs.DrawnLaws.{current_pass, issuable, started_fit-law, taken_up_within}
 use Rattle.jr_laws.proofs.StepLaws.{may_issue_of, may_probe_of, may_skip_of}

@@ -24,7 +24,7 @@ use Rattle.jr_model.specs.Plan.{Plan, SubJob, clone_of}
 use Rattle.jr_model.specs.Report.{all_totals}
 use Rattle.jr_model.specs.Rounds.{Pass, pass_of}
 use Rattle.jr_model.proofs.LegalLaws.{cases_step_of}
-use Rattle.jr_options.specs.PlanFacts.{IsPlanned}
+use Rattle.jr_plan.specs.PlanFacts.{IsPlanned}
 use Rattle.jr_stats.specs.declared.faults.TraceFault.{TraceFault}
 use Rattle.jr_stats.specs.declared.faults.TraceFault.TheVariants.{Illegal, Unfinished}
 use Rattle.jr_stats.specs.TraceChecks.{after, check_of, entry_event, entry_fits, event_of, if_legal, is_newline, is_numbered, legal_event, line_event, lines_read, outcome_of, verdict_of}

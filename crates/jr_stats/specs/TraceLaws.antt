@@ -15,7 +15,7 @@ use Rattle.jr_model.specs.History.{started}
 use Rattle.jr_model.specs.Legal.{is_legal, is_complete}
 use Rattle.jr_model.specs.Plan.{Plan}
 use Rattle.jr_model.specs.Report.{all_totals}
-use Rattle.jr_options.specs.PlanFacts.{IsPlanned}
+use Rattle.jr_plan.specs.PlanFacts.{IsPlanned}
 use Rattle.jr_stats.specs.declared.entries.Ending.{Ending}
 use Rattle.jr_stats.specs.declared.entries.Ending.TheVariants as ending
 use Rattle.jr_stats.specs.declared.entries.Entry.{Entry}

@@ -1,7 +1,7 @@
 use Rattle.std.proofs.Common.{◌≡◌, ◌-◌, ◌*◌, length, false}
 use Rattle.jr_model.specs.History.{started}
 use Rattle.jr_model.specs.Machine.{work_of}
-use Rattle.jr_options.specs.PlanFacts.{IsPlanned}
+use Rattle.jr_plan.specs.PlanFacts.{IsPlanned}
 use Rattle.jr_crew.specs.Runs.{IsFresh}
 use Rattle.jr_crew.proofs.Serially.{IsSerialSoFar}
 use Rattle.jr_crew.proofs.Turning.{IsSoFar}

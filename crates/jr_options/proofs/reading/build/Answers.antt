@@ -3,9 +3,9 @@ use Rattle.std.specs.Option.{option_copied}
 use Rattle.jr_model.specs.declared.workloads.EngineKind.{EngineKind}
 use Rattle.jr_model.specs.declared.workloads.EngineKind.TheVariants as engine
 use Rattle.jr_model.specs.Plan.{Plan}
-use Rattle.jr_options.specs.declared.drafts.PlannedJob.{PlannedJob}
+use Rattle.jr_options.specs.declared.planned.PlannedJob.{PlannedJob}
 use Rattle.jr_options.specs.declared.reading.Tally.{Tally}
-use Rattle.jr_options.specs.Drafts.{Clones}
+use Rattle.jr_plan.specs.Drafts.{Clones}
 use Rattle.jr_options.specs.PlanOf.{HasRoom, clones_asked, clones_of, engine_of, job_asked, jobs_below, phased_job, plan_of, with_asked}
 use Rattle.jr_options.specs.Surveys.{is_planned}
 use Rattle.jr_options.proofs.BuildLemmas.{AreLeft, left-first, left-phase, left-at, left-on, left-none, left-room, left-skip, left-take, never_refused, phase_is, planned_is}
@@ -106,7 +106,7 @@ returns-clause-ok c =
     let found = surveyed only sections c.args.tally c.requires.surveyed in
     let made : Clones → EngineKind → ℕ → Plan = λ (d : Clones) (e : EngineKind) (v : ℕ). record { clones = d.clones; files = d.files; engine = e; verifiers = v } in
     let kind : c.unwrap_or-engine.result ≡ unwrap_or c.args.tally.engine engine.File = c.unwrap_or-engine.ensures in
-    c.of_draft.ensures
+    c.finish.ensures
     ∙ ap (λ d. made d c.unwrap_or-engine.result c.args.tally.verifiers) done.0
     ∙ ap (λ e. made (clones_of jobs) e c.args.tally.verifiers) (kind ∙ ap (λ (t : Tally). unwrap_or t.engine engine.File) (sym found.0) ∙ engine_is jobs)
     ∙ ap (made (clones_of jobs) (engine_of jobs)) (ap (λ (t : Tally). t.verifiers) (sym found.0) ∙ verifiers_are jobs)

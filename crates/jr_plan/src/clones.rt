@@ -1,0 +1,172 @@
+ghost use Rattle.std.specs.Prelude.{◌≡◌};
+ghost use Rattle.jr_plan.specs.PlanFacts.{KeepsLimits};
+
+use crate::splits::Split;
+use crate::workloads::Workload;
+use jr_model::{IoType, Method};
+use std::marker::Model;
+
+/// One planned clone: one of the `numjobs` threads of a job.
+#[derive(Debug, Drop)]
+pub struct SubJob {
+    pub(crate) job: String,
+    pub(crate) clone: u32,
+    pub(crate) file: u32,
+    pub(crate) start: u64,
+    pub(crate) workload: Workload,
+}
+
+impl Model for SubJob {
+    ghost use Rattle.std.specs.Prelude.{string_bytes};
+    ghost use Rattle.jr_model.specs.Plan.{SubJob as JobRecord};
+    ghost use Rattle.jr_plan.specs.Clones.{planned_clone};
+    ghost use Rattle.jr_plan.specs.PlanFacts.{KeepsLimits};
+
+    ghost Value = { JobRecord };
+
+    ghost view = { λ a. planned_clone a.workload (string_bytes a.job) a.clone a.file a.start };
+
+    ghost invariant = { λ a. KeepsLimits (planned_clone a.workload (string_bytes a.job) a.clone a.file a.start) };
+}
+
+impl SubJob {
+    /// Nothing: its contract says what holds of every planned clone.
+    pub fn facts(&self)
+        ensures { KeepsLimits self.now }
+    {
+        let _ = &self.clone;
+    }
+
+    /// The name of its job.
+    pub fn job(&self) -> &str
+        ensures { result.now ≡ self.now.job }
+    {
+        self.job.as_str()
+    }
+
+    /// Its number over the run, from 0.
+    pub fn clone_number(&self) -> u32
+        ensures { result ≡ self.now.clone }
+    {
+        self.clone
+    }
+
+    /// Its phase: it waits for all clones of earlier phases.
+    pub fn phase(&self) -> u32
+        ensures { result ≡ self.now.phase }
+    {
+        self.workload.phase
+    }
+
+    /// Its file, by its place in the plan's list.
+    pub fn file(&self) -> u32
+        ensures { result ≡ self.now.file }
+    {
+        self.file
+    }
+
+    /// Where its region begins, in bytes.
+    pub fn start(&self) -> u64
+        ensures { result ≡ self.now.start }
+    {
+        self.start
+    }
+
+    /// The least of its block sizes, in bytes.
+    pub fn cell(&self) -> u32
+        ensures { result ≡ self.now.cell }
+    {
+        self.workload.cell
+    }
+
+    /// How many cells its region has.
+    pub fn cells(&self) -> u32
+        ensures { result ≡ self.now.cells }
+    {
+        self.workload.cells
+    }
+
+    /// What it reads and writes, and in which order.
+    pub fn io_type(&self) -> IoType
+        ensures { result ≡ self.now.io_type }
+    {
+        self.workload.io_type
+    }
+
+    /// The percentage of reads, where the type mixes both.
+    pub fn read_percent(&self) -> u8
+        ensures { result ≡ self.now.read_percent }
+    {
+        self.workload.read_percent
+    }
+
+    /// The sizes of its reads.
+    pub fn read_split(&self) -> &Split
+        ensures { result.now ≡ self.now.read_split }
+    {
+        &self.workload.reads
+    }
+
+    /// The sizes of its writes.
+    pub fn write_split(&self) -> &Split
+        ensures { result.now ≡ self.now.write_split }
+    {
+        &self.workload.writes
+    }
+
+    /// Whether a random pass visits each cell once.
+    pub fn has_map(&self) -> bool
+        ensures { result ≡ self.now.has_map }
+    {
+        self.workload.has_map
+    }
+
+    /// What its generator is seeded from.
+    pub fn seed(&self) -> u64
+        ensures { result ≡ self.now.seed }
+    {
+        self.workload.seed
+    }
+
+    /// How many of its I/Os may be in flight.
+    pub fn depth(&self) -> u32
+        ensures { result ≡ self.now.depth }
+    {
+        self.workload.depth
+    }
+
+    /// How often it goes over its region.
+    pub fn passes(&self) -> u32
+        ensures { result ≡ self.now.passes }
+    {
+        self.workload.passes
+    }
+
+    /// What its writes contain, and how they are checked.
+    pub fn method(&self) -> Method
+        ensures { result ≡ self.now.method }
+    {
+        self.workload.method
+    }
+
+    /// Whether its writes are read back (`do_verify`).
+    pub fn checks_writes(&self) -> bool
+        ensures { result ≡ self.now.checks_writes }
+    {
+        self.workload.checks_writes
+    }
+
+    /// After how many writes they are checked; 0 is after all of a pass.
+    pub fn backlog(&self) -> u32
+        ensures { result ≡ self.now.backlog }
+    {
+        self.workload.backlog
+    }
+
+    /// Whether a bad verdict halts it.
+    pub fn is_fatal(&self) -> bool
+        ensures { result ≡ self.now.is_fatal }
+    {
+        self.workload.is_fatal
+    }
+}

@@ -1,0 +1,87 @@
+ghost use Rattle.std.specs.Prelude.{◌≡◌};
+ghost use Rattle.jr_plan.specs.declared.faults.PlanFault.TheVariants.{Memory as OutOfMemory};
+
+use std::alloc::{AllocError, AllocFailed};
+use std::error::Error;
+use std::fmt;
+
+/// What a run may not have more of.
+#[derive(Clone, Copy, Debug, PartialEq, Eq)]
+pub enum Bound {
+    /// 64 clones.
+    Clones,
+    /// An end of a region at 2^50.
+    Region,
+    /// 2^24 cells of a clone.
+    Cells,
+    /// 2^30 cells over all clones and their passes.
+    Work,
+}
+
+/// Why a plan doesn't take a clone.
+#[derive(Clone, Copy, Debug, PartialEq, Eq)]
+pub enum PlanFault {
+    /// A start or a cell that isn't whole blocks of 512 bytes, a cell past the largest block, no cells, or a
+    /// size that isn't a multiple of the cell, up to the largest block.
+    Block,
+    /// A percentage above 100, a depth outside 1 to 256, or passes outside 1 to 1000.
+    Number,
+    /// Verification by a pattern without one.
+    NoPattern,
+    /// Verification without writes.
+    VerifyNeedsWrite,
+    Limit(Bound),
+    Memory,
+}
+
+impl fmt::Display for Bound {
+    ghost use Rattle.std.specs.Prelude.{Some};
+    ghost use Rattle.jr_plan.specs.FaultTexts.{bound_text};
+
+    ghost output = { λ bound. Some (bound_text bound) };
+
+    fn fmt<W: fmt::Write>(&self, f: &mut fmt::Formatter<W>) -> fmt::Result {
+        match self {
+            Bound::Clones => write!(f, "clones"),
+            Bound::Region => write!(f, "region"),
+            Bound::Cells => write!(f, "cells"),
+            Bound::Work => write!(f, "work"),
+        }
+    }
+}
+
+impl fmt::Display for PlanFault {
+    ghost use Rattle.std.specs.Prelude.{Some};
+    ghost use Rattle.jr_plan.specs.FaultTexts.{plan_fault_text};
+
+    ghost output = { λ fault. Some (plan_fault_text fault) };
+
+    fn fmt<W: fmt::Write>(&self, f: &mut fmt::Formatter<W>) -> fmt::Result {
+        match self {
+            PlanFault::Block => write!(f, "bad block size or place"),
+            PlanFault::Number => write!(f, "number out of range"),
+            PlanFault::NoPattern => write!(f, "no pattern"),
+            PlanFault::VerifyNeedsWrite => write!(f, "verify needs a write"),
+            PlanFault::Limit(bound) => write!(f, "limit of {bound}"),
+            PlanFault::Memory => write!(f, "out of memory"),
+        }
+    }
+}
+
+impl Error for PlanFault {}
+
+impl From<AllocError> for PlanFault {
+    ghost from_gives = { λ _ fault. fault ≡ OutOfMemory };
+
+    fn from(_error: AllocError) -> PlanFault {
+        PlanFault::Memory
+    }
+}
+
+impl<T: Drop> From<AllocFailed<T>> for PlanFault {
+    ghost from_gives = { λ _ fault. fault ≡ OutOfMemory };
+
+    fn from(_error: AllocFailed<T>) -> PlanFault {
+        PlanFault::Memory
+    }
+}

@@ -1,0 +1,122 @@
+ghost use Rattle.std.specs.Prelude.{◌≡◌, ◌≤◌, ◌<◌, ◌==◌, length, slice_get, Some};
+ghost use Rattle.std.specs.List.{list_any};
+ghost use Rattle.jr_plan.specs.Files.{are_apart};
+ghost use Rattle.jr_plan.specs.PlanFacts.{AreDrafted, IsPlanned, IsPlaced, KeepsLimits};
+
+use crate::files::FileSpec;
+use crate::clones::SubJob;
+use jr_model::{EngineKind, MOST_VERIFIERS};
+use std::marker::Model;
+
+/// What a run does: its clones, their files, and how it is carried out.
+#[derive(Debug, Drop)]
+pub struct Plan {
+    clones: Vec<SubJob>,
+    files: Vec<FileSpec>,
+    engine: EngineKind,
+    verifiers: u32,
+}
+
+impl Model for Plan {
+    ghost use Rattle.jr_model.specs.Plan.{Plan as PlanRecord};
+    ghost use Rattle.jr_plan.specs.PlanFacts.{IsPlanned};
+
+    ghost Value = { PlanRecord };
+
+    ghost view = { λ a. record { clones = a.clones.items; files = a.files.items; engine = a.engine; verifiers = a.verifiers } };
+
+    ghost invariant = { λ a. IsPlanned (record { clones = a.clones.items; files = a.files.items; engine = a.engine; verifiers = a.verifiers }) };
+}
+
+impl Plan {
+    // The plan of clones that were drafted.
+    pub(crate) fn of_parts(
+        clones: Vec<SubJob>,
+        files: Vec<FileSpec>,
+        engine: EngineKind,
+        verifiers: u32,
+    ) -> Plan
+        requires some { 1 ≤ length clones.items }
+        requires drafted { AreDrafted clones.items files.items }
+        requires verifiers { verifiers ≤ MOST_VERIFIERS }
+        ensures { result ≡ record { clones = clones.items; files = files.items; engine = engine; verifiers = verifiers } }
+    {
+        Plan {
+            clones,
+            files,
+            engine,
+            verifiers,
+        }
+    }
+
+    /// Nothing: its contract says what holds of every plan.
+    pub fn facts(&self)
+        ensures { IsPlanned self.now }
+    {
+        let _ = &self.engine;
+    }
+
+    /// How many clones it has, 1 to 64.
+    pub fn clones(&self) -> usize
+        ensures value { result ≡ length self.now.clones }
+        ensures facts { IsPlanned self.now }
+    {
+        self.clones.len()
+    }
+
+    /// The clone of this number.
+    pub fn clone_at(&self, i: usize) -> &SubJob
+        requires { i < length self.now.clones }
+        ensures value { slice_get self.now.clones i ≡ Some result.now }
+        ensures placed { IsPlaced self.now.files i result.now }
+        ensures limited { KeepsLimits result.now }
+    {
+        &self.clones[i]
+    }
+
+    /// The files of its clones, in the order of their first use.
+    pub fn files(&self) -> &[FileSpec]
+        ensures value { result.now ≡ self.now.files }
+        ensures facts { IsPlanned self.now }
+    {
+        self.files.as_slice()
+    }
+
+    /// What carries out the I/O of all clones.
+    pub fn engine(&self) -> EngineKind
+        ensures { result ≡ self.now.engine }
+    {
+        self.engine
+    }
+
+    /// How many threads beside the workers judge checks; with 0 the workers do.
+    pub fn verifiers(&self) -> u32
+        ensures { result ≡ self.now.verifiers }
+    {
+        self.verifiers
+    }
+
+    /// Whether no file is used by two clones.
+    pub fn apart(&self) -> bool
+        ensures { result ≡ are_apart self.now.clones }
+    {
+        are_apart(&self.clones)
+    }
+}
+
+fn are_apart(clones: &[SubJob]) -> bool
+    ensures { result ≡ are_apart clones.now }
+{
+    for (i, job) in clones.iter().enumerate() {
+        if has_file(&clones[i + 1..], job.file()) {
+            return false;
+        }
+    }
+    true
+}
+
+fn has_file(clones: &[SubJob], file: u32) -> bool
+    ensures { result ≡ list_any (λ job. job.file == file) clones.now }
+{
+    clones.iter().any(|job| job.file() == file)
+}

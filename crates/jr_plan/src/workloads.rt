@@ -1,0 +1,90 @@
+ghost use Rattle.std.specs.Prelude.{◌≡◌};
+ghost use Rattle.jr_model.specs.Tickets.{has_pattern};
+ghost use Rattle.jr_plan.specs.Workloads.{is_cut, numbers_fit, workload_fault};
+
+use crate::faults::PlanFault;
+use crate::splits::Split;
+use jr_model::{IoType, LARGEST_BLOCK, MOST_DEPTH, MOST_PASSES, Method, SECTOR, VerifyKind};
+
+/// What a clone does, and when; where it does so is its start and its file.
+#[derive(Clone, Copy, Debug, PartialEq, Eq)]
+pub struct Workload {
+    /// It waits for all clones of earlier phases.
+    pub phase: u32,
+    /// The unit of its region in bytes: in a plan of a job file the least of its block sizes.
+    pub cell: u32,
+    /// How many cells its region has.
+    pub cells: u32,
+    pub io_type: IoType,
+    /// The percentage of reads, where the type mixes both.
+    pub read_percent: u8,
+    /// The sizes of its reads.
+    pub reads: Split,
+    /// The sizes of its writes.
+    pub writes: Split,
+    /// Whether a random pass visits each cell once.
+    pub has_map: bool,
+    /// What its generator is seeded from.
+    pub seed: u64,
+    /// How many of its I/Os may be in flight, 1 to 256.
+    pub depth: u32,
+    /// How often it goes over its region, 1 to 1000.
+    pub passes: u32,
+    pub method: Method,
+    /// Whether its writes are read back (`do_verify`).
+    pub checks_writes: bool,
+    /// After how many writes they are checked; 0 is after all of a pass.
+    pub backlog: u32,
+    /// Whether a bad verdict halts it.
+    pub is_fatal: bool,
+}
+
+impl Workload {
+    // Whether its region is whole blocks, cells and fitting sizes.
+    fn is_cut(&self, start: u64) -> bool
+        ensures { result ≡ is_cut self.now start }
+    {
+        self.cell >= SECTOR
+            && self.cell <= LARGEST_BLOCK
+            && self.cell % SECTOR == 0
+            && start % u64::from(SECTOR) == 0
+            && self.cells >= 1
+            && (!self.io_type.has_reads() || self.reads.fits(self.cell))
+            && (!self.io_type.has_writes() || self.writes.fits(self.cell))
+    }
+
+    fn numbers_fit(&self) -> bool
+        ensures { result ≡ numbers_fit self.now }
+    {
+        self.read_percent <= 100
+            && self.depth >= 1
+            && self.depth <= MOST_DEPTH
+            && self.passes >= 1
+            && self.passes <= MOST_PASSES
+    }
+
+    fn has_pattern(&self) -> bool
+        ensures { result ≡ has_pattern self.now.method.kind self.now.method.pattern }
+    {
+        self.method.kind != VerifyKind::Pattern || self.method.pattern.is_some()
+    }
+
+    /// What keeps a clone that begins at `start` (in bytes) out of every plan.
+    pub fn fault(&self, start: u64) -> Option<PlanFault>
+        ensures { result ≡ workload_fault self.now start }
+    {
+        if !self.is_cut(start) {
+            return Some(PlanFault::Block);
+        }
+        if !self.numbers_fit() {
+            return Some(PlanFault::Number);
+        }
+        if !self.has_pattern() {
+            return Some(PlanFault::NoPattern);
+        }
+        if self.method.kind.is_verified() && !self.io_type.has_writes() {
+            return Some(PlanFault::VerifyNeedsWrite);
+        }
+        None
+    }
+}
