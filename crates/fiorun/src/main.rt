@@ -7,7 +7,7 @@ use jr_cli::{
 };
 use jr_engines::{Engine, MemoryEngine, NullEngine};
 use jr_model::EngineKind;
-use jr_options::Plan;
+use jr_plan::Plan;
 use std::alloc::Global;
 use std::env::Env;
 use std::fs::Files;

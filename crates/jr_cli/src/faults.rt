@@ -18,8 +18,8 @@ pub enum CliFault {
     Job(JobFault),
     /// Standard input or the job file can't be read.
     Read,
-    /// The plan asks for what isn't there yet.
-    NotYet,
+    /// The files of the plan can't be made, made long enough or opened.
+    Open,
     Run(RunFault),
     Trace(TraceFault),
     /// The trace to check can't be read.
@@ -41,9 +41,9 @@ impl CliFault {
             CliFault::Text(TextFault::Memory)
             | CliFault::Job(JobFault::Memory)
             | CliFault::Trace(TraceFault::Memory) => 3,
-            CliFault::Words | CliFault::Text(_) | CliFault::Job(_) | CliFault::NotYet => 2,
+            CliFault::Words | CliFault::Text(_) | CliFault::Job(_) => 2,
             CliFault::Trace(_) => 2,
-            CliFault::Read | CliFault::ReadTrace | CliFault::Run(_) => 3,
+            CliFault::Read | CliFault::ReadTrace | CliFault::Open | CliFault::Run(_) => 3,
             CliFault::Write | CliFault::Memory => 3,
         }
     }
@@ -61,7 +61,7 @@ impl fmt::Display for CliFault {
             CliFault::Text(fault) => write!(f, "{fault}"),
             CliFault::Job(fault) => write!(f, "{fault}"),
             CliFault::Read => write!(f, "cannot read the job file"),
-            CliFault::NotYet => write!(f, "job file: not run yet"),
+            CliFault::Open => write!(f, "cannot open the files"),
             CliFault::Run(fault) => write!(f, "{fault}"),
             CliFault::Trace(fault) => write!(f, "{fault}"),
             CliFault::ReadTrace => write!(f, "cannot read the trace"),

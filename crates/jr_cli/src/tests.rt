@@ -219,7 +219,7 @@ fn faults_have_their_text_and_status(rt: HostRuntime) -> Result<(), Fail> {
         (CliFault::Read, 3, "cannot read the job file"),
         (CliFault::Write, 3, "cannot write"),
         (CliFault::Memory, 3, "out of memory"),
-        (CliFault::NotYet, 2, "job file: not run yet"),
+        (CliFault::Open, 3, "cannot open the files"),
         (CliFault::Words, 2, "command line: not UTF-8"),
     ] {
         let said = format!(in rt.alloc(); "{fault}")?;

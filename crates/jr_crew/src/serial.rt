@@ -13,7 +13,7 @@ use jr_desk::{Desk, Take};
 use jr_engines::Engine;
 use jr_header::{Served, rule, serve};
 use jr_model::{Event, Memory, Ticket};
-use jr_options::Plan;
+use jr_plan::Plan;
 use std::alloc::Global;
 
 /// Runs a plan with one worker, 0, which waits for nobody and judges its own checks.
@@ -32,7 +32,7 @@ pub fn run_serial(alloc: Global, plan: Plan, engine: &mut dyn Engine) -> Result<
     ensures memory { IfErr result (λ fault. fault ≡ RunFault.Memory) }
 {
     // Its contract says what holds of every plan.
-    let _ = plan.clones();
+    plan.facts();
     let mut desk = Desk::new(alloc, plan)?;
     loop {
         if !turn(alloc, &mut desk, engine)? {

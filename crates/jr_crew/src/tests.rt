@@ -1,13 +1,9 @@
 use crate::run_serial;
 use jr_engines::{Engine, MemoryEngine, NullEngine, Reply, ScriptedEngine};
-use jr_model::Totals;
-use jr_options::{Plan, plan};
-use jr_text::sections;
+use jr_model::{EngineKind, IoType, Method, Pattern, Totals, VerifyKind};
+use jr_plan::{Draft, Plan, Workload};
 use std::alloc::Global;
 use std::test::Fail;
-
-const WRITES: &str =
-    "[w]\nioengine=memory\nrw=write\nsize=16k\nverify=pattern\nverify_pattern=0xab\n";
 
 const NOTHING: Totals = Totals {
     reads: 0,
@@ -22,15 +18,26 @@ const NOTHING: Totals = Totals {
     faults: 0,
 };
 
-// The plan of a job text.
-fn plan_of(alloc: Global, text: &str) -> Result<Plan, Fail> {
-    let sections = sections(alloc, text.as_bytes())?;
-    Ok(plan(alloc, sections.as_slice(), None)?)
+// So many writes of 4096 bytes that are checked by a pattern of one byte.
+fn writes(alloc: Global, cells: u32, byte: u8) -> Result<Plan, Fail> {
+    let checked = Workload {
+        method: Method {
+            kind: VerifyKind::Pattern,
+            pattern: Pattern::new(&[byte]),
+        },
+        ..Workload::plain(IoType::Write, 4096, cells)
+    };
+    let mut draft = Draft::new(alloc);
+    draft.add(alloc, &checked, "w", String::from_str(alloc, "w.0.0")?, 0)?;
+    if draft.clones() == 0 {
+        return Err(Fail::from("no clones"));
+    }
+    Ok(draft.finish(EngineKind::Memory, 0))
 }
 
 // What a run of one clone over an engine of zeros counts.
-fn null_run(alloc: Global, text: &str) -> Result<Totals, Fail> {
-    let desk = run_serial(alloc, plan_of(alloc, text)?, &mut NullEngine::new())?;
+fn null_run(alloc: Global, byte: u8) -> Result<Totals, Fail> {
+    let desk = run_serial(alloc, writes(alloc, 1, byte)?, &mut NullEngine::new())?;
     match desk.totals() {
         [totals] => Ok(*totals),
         _ => Err(Fail::from("one clone")),
@@ -39,7 +46,7 @@ fn null_run(alloc: Global, text: &str) -> Result<Totals, Fail> {
 
 #[test]
 fn each_write_is_checked_behind_the_last(rt: HostRuntime) -> Result<(), Fail> {
-    let plan = plan_of(rt.alloc(), WRITES)?;
+    let plan = writes(rt.alloc(), 4, 0xab)?;
     let mut engine = MemoryEngine::new(rt.alloc(), &plan)?;
     let desk = run_serial(rt.alloc(), plan, &mut engine)?;
     // Four writes with their ends, and four checks with their ends and verdicts.
@@ -60,7 +67,7 @@ fn each_write_is_checked_behind_the_last(rt: HostRuntime) -> Result<(), Fail> {
 
 #[test]
 fn a_failed_write_ends_its_clone(rt: HostRuntime) -> Result<(), Fail> {
-    let plan = plan_of(rt.alloc(), WRITES)?;
+    let plan = writes(rt.alloc(), 4, 0xab)?;
     let memory = MemoryEngine::new(rt.alloc(), &plan)?;
     let script = Vec::from_array(rt.alloc(), [(1, Reply::Fail)])?;
     let mut engine = ScriptedEngine::new(memory, script);
@@ -87,11 +94,9 @@ fn an_engine_of_zeros_keeps_nothing(rt: HostRuntime) -> Result<(), Fail> {
         checks: 1,
         ..NOTHING
     };
-    let ones = "[n]\nioengine=null\nrw=write\nsize=4k\nverify=pattern\nverify_pattern=0x01\n";
-    let found = null_run(rt.alloc(), ones)?;
+    let found = null_run(rt.alloc(), 1)?;
     assert_eq!(rt; found, Totals { bad: 1, ..checked });
-    let zeros = "[n]\nioengine=null\nrw=write\nsize=4k\nverify=pattern\nverify_pattern=0x00\n";
-    let found = null_run(rt.alloc(), zeros)?;
+    let found = null_run(rt.alloc(), 0)?;
     assert_eq!(rt; found, Totals { good: 1, ..checked });
     Ok(())
 }

@@ -4,8 +4,9 @@ ghost use Rattle.jr_plan.specs.PlanFacts.{IsPlanned};
 ghost use Rattle.jr_desk.specs.Takes.{IsChosen};
 
 use jr_model::{Event, Memory, Started};
-use jr_options::Plan;
-use jr_replay::{choice, started_by};
+use jr_past::started_by;
+use jr_plan::Plan;
+use jr_replay::choice;
 use std::alloc::Global;
 
 // The history with what a take by this worker appends, skips while the choice is one and then a check or an issue; and
@@ -19,7 +20,7 @@ pub fn chosen(
     ensures chosen { IfOk result (λ chosen. IsChosen plan.now worker before.now chosen.0.items chosen.1) }
     ensures planned { IsPlanned plan.now }
 {
-    let _ = plan.clones();
+    plan.facts();
     let mut history = Vec::from_slice(alloc, before)?;
     'choices: loop {
         let Some(event) = choice(alloc, plan, &history, worker)? else {

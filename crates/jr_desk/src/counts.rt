@@ -4,8 +4,9 @@ ghost use Rattle.jr_model.specs.Report.{all_totals};
 ghost use Rattle.jr_model.specs.Totals.{totals_of};
 
 use jr_model::{Event, Memory, Totals};
-use jr_options::Plan;
-use jr_replay::{Past, totals_among};
+use jr_past::Past;
+use jr_plan::Plan;
+use jr_replay::totals_among;
 use std::alloc::Global;
 
 // What each clone did in a history, in the order of the clones.
@@ -27,6 +28,6 @@ fn totals_in(plan: &Plan, past: &Past, clone: u32) -> Totals
     requires { is_legal plan.now past.now ≡ true }
     ensures { result ≡ totals_of past.now clone }
 {
-    let _ = plan.clones();
+    plan.facts();
     totals_among(past, clone)
 }

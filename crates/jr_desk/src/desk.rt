@@ -14,8 +14,9 @@ use crate::takes::{Take, answer_with};
 use crate::workings::{ticket_for, with_ticket};
 use jr_header::{Ruling, Served};
 use jr_model::{DeskFault, Event, Memory, Ticket, Totals};
-use jr_options::Plan;
-use jr_replay::{complete, ended_whole, is_judged, outcome_of};
+use jr_past::{ended_whole, is_judged, outcome_of};
+use jr_plan::Plan;
+use jr_replay::complete;
 use std::alloc::Global;
 use std::marker::Model;
 
@@ -125,7 +126,7 @@ impl Desk {
         let ticket = *ruling.served().ticket();
         self.check_own(&ticket)?;
         let io = place_of(ticket.id);
-        let _ = self.plan.clones();
+        self.plan.facts();
         if is_judged(self.history.as_slice(), io) {
             return Err(DeskFault::Twice);
         }

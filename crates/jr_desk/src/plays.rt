@@ -14,8 +14,8 @@ use crate::takes::Take;
 use jr_engines::{MemoryEngine, ScriptedEngine};
 use jr_header::{Served, rule};
 use jr_model::{DeskFault, IoId, Memory, Reply, Step, StepReply, Ticket, TicketKind};
-use jr_options::Plan;
-use jr_replay::outcome_of;
+use jr_past::outcome_of;
+use jr_plan::Plan;
 use std::alloc::Global;
 
 /// What a list of steps came to.
@@ -38,7 +38,7 @@ pub fn play(alloc: Global, plan: Plan, steps: &[Step]) -> Result<Played, Memory>
     ensures desk { IfOk result (λ played. played.desk ≡ desk_in plan (machine_run plan (first_state plan) steps.now).state) }
 {
     // Its contract says what holds of every plan.
-    let _ = plan.clones();
+    plan.facts();
     let mut player = Player::new(alloc, plan)?;
     let mut replies = Vec::new(alloc);
     for step in steps {

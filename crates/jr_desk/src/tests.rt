@@ -1,57 +1,38 @@
 use crate::{Played, play};
-use jr_model::{DeskFault, Reply, Step, StepReply, Totals};
-use jr_options::{Plan, plan};
-use jr_text::sections;
+use jr_model::{
+    DeskFault, EngineKind, IoType, Method, Pattern, Reply, Step, StepReply, Totals, VerifyKind,
+};
+use jr_plan::{Draft, Plan, Workload};
 use std::alloc::Global;
 use std::test::Fail;
 
-const TWO_IN_FLIGHT: &str = "[w]
-ioengine=memory
-rw=write
-size=8k
-iodepth=2
-verify=pattern
-verify_pattern=1
-";
+// A plan over memory: of clones with these files and starts.
+fn plan_of(alloc: Global, clones: &[(Workload, &str, u64)]) -> Result<Plan, Fail> {
+    let mut draft = Draft::new(alloc);
+    for (workload, file, start) in clones {
+        draft.add(alloc, workload, "w", String::from_str(alloc, file)?, *start)?;
+    }
+    if draft.clones() == 0 {
+        return Err(Fail::from("no clones"));
+    }
+    Ok(draft.finish(EngineKind::Memory, 0))
+}
 
-const ONE_FILE: &str = "[w]
-ioengine=memory
-rw=write
-size=8k
-numjobs=2
-filename=f
-verify=pattern
-verify_pattern=1
-";
-
-const STONEWALLED: &str = "[a]
-ioengine=memory
-rw=write
-size=4k
-[b]
-ioengine=memory
-rw=write
-size=4k
-stonewall
-";
-
-const FOUR_BLOCKS: &str = "[w]
-ioengine=memory
-rw=write
-size=16k
-verify=pattern
-verify_pattern=0xab
-";
-
-fn planned(alloc: Global, text: &str) -> Result<Plan, Fail> {
-    let sections = sections(alloc, text.as_bytes())?;
-    Ok(plan(alloc, sections.as_slice(), None)?)
+// So many writes of 4096 bytes that are checked by a pattern.
+fn checked(cells: u32) -> Workload {
+    Workload {
+        method: Method {
+            kind: VerifyKind::Pattern,
+            pattern: Pattern::new(&[1]),
+        },
+        ..Workload::plain(IoType::Write, 4096, cells)
+    }
 }
 
 // Plays the steps of a table, and gives what came of it beside the replies that the table has.
 fn played(
     alloc: Global,
-    text: &str,
+    clones: &[(Workload, &str, u64)],
     table: Vec<(Step, StepReply)>,
 ) -> Result<(Played, Vec<StepReply>), Fail> {
     let mut steps = Vec::new(alloc);
@@ -60,7 +41,7 @@ fn played(
         steps.push(step)?;
         replies.push(reply)?;
     }
-    let played = play(alloc, planned(alloc, text)?, steps.as_slice())?;
+    let played = play(alloc, plan_of(alloc, clones)?, steps.as_slice())?;
     Ok((played, replies))
 }
 
@@ -98,7 +79,11 @@ fn two_in_flight_and_a_flipped_read(rt: HostRuntime) -> Result<(), Fail> {
         (Step::Judge(0, 2), StepReply::Judged),
         (Step::Take(0), StepReply::Finished),
     ]?;
-    let (played, replies) = played(alloc, TWO_IN_FLIGHT, table)?;
+    let two_deep = Workload {
+        depth: 2,
+        ..checked(2)
+    };
+    let (played, replies) = played(alloc, &[(two_deep, "f", 0)], table)?;
     assert_eq!(rt; played.replies.as_slice(), replies.as_slice());
     assert_eq!(rt; played.desk.totals(), [wrote(2, 1, 1, 0)].as_slice());
     Ok(())
@@ -129,7 +114,7 @@ fn two_clones_over_one_file(rt: HostRuntime) -> Result<(), Fail> {
         (Step::Judge(0, 6), StepReply::Judged),
         (Step::Take(0), StepReply::Finished),
     ]?;
-    let (played, replies) = played(alloc, ONE_FILE, table)?;
+    let (played, replies) = played(alloc, &[(checked(2), "f", 0), (checked(2), "f", 0)], table)?;
     assert_eq!(rt; played.replies.as_slice(), replies.as_slice());
     assert_eq!(rt;
         played.desk.totals(),
@@ -149,7 +134,9 @@ fn a_stonewall_is_waited_for(rt: HostRuntime) -> Result<(), Fail> {
         (Step::End(1, Reply::Pass), StepReply::Ended),
         (Step::Take(0), StepReply::Finished),
     ]?;
-    let (played, replies) = played(alloc, STONEWALLED, table)?;
+    let early = Workload::plain(IoType::Write, 4096, 1);
+    let late = Workload { phase: 1, ..early };
+    let (played, replies) = played(alloc, &[(early, "a", 0), (late, "b", 0)], table)?;
     assert_eq!(rt; played.replies.as_slice(), replies.as_slice());
     assert!(rt; played.desk.is_complete());
     Ok(())
@@ -172,7 +159,7 @@ fn refusals_by_name(rt: HostRuntime) -> Result<(), Fail> {
             StepReply::Refused(DeskFault::Stopped)
         ),
     ]?;
-    let (played, replies) = played(alloc, FOUR_BLOCKS, table)?;
+    let (played, replies) = played(alloc, &[(checked(4), "f", 0)], table)?;
     assert_eq!(rt; played.replies.as_slice(), replies.as_slice());
     assert_eq!(rt; played.desk.history().len(), 1);
     Ok(())
@@ -189,7 +176,7 @@ fn a_second_end_is_refused(rt: HostRuntime) -> Result<(), Fail> {
             StepReply::Refused(DeskFault::Twice)
         ),
     ]?;
-    let (played, replies) = played(alloc, FOUR_BLOCKS, table)?;
+    let (played, replies) = played(alloc, &[(checked(4), "f", 0)], table)?;
     assert_eq!(rt; played.replies.as_slice(), replies.as_slice());
     assert!(rt;
         played

@@ -8,7 +8,7 @@ ghost use Rattle.jr_desk.specs.Tickets.{CanBeServed, method_of, seed_of, ticket_
 
 use jr_header::fill;
 use jr_model::{Expected, Memory, Method, Started, Ticket, TicketKind, VerifyKind};
-use jr_options::Plan;
+use jr_plan::Plan;
 use jr_replay::Pass;
 use std::alloc::Global;
 

@@ -4,8 +4,7 @@ ghost use Rattle.jr_draw.specs.DrawFacts.{part_of, ChoiceFits};
 
 use crate::places::Places;
 use jr_model::{Dir, Draw, IoType, Memory, Piece};
-use jr_options::SubJob;
-use jr_sizes::{self, Split};
+use jr_plan::{Split, SubJob, mix};
 use std::alloc::Global;
 use std::marker::Model;
 
@@ -126,7 +125,7 @@ impl Course {
             IoType::Read | IoType::RandRead => Dir::Read,
             IoType::Write | IoType::RandWrite => Dir::Write,
             IoType::ReadWrite | IoType::RandRw => {
-                jr_sizes::mix((word % 100) as u8, self.read_percent)
+                mix((word % 100) as u8, self.read_percent)
             }
         }
     }

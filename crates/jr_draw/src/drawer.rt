@@ -6,7 +6,7 @@ ghost use Rattle.jr_draw.specs.PassLaw.{is_mapped, CoversOnce, PassLaw};
 
 use crate::course::Course;
 use jr_model::{Draw, Memory};
-use jr_options::SubJob;
+use jr_plan::SubJob;
 use jr_words::{WordSource, Words};
 use std::alloc::Global;
 

@@ -7,7 +7,7 @@ ghost use Rattle.jr_engines.specs.Files.{Gets, IsMemoryRead, all_or_outside, cou
 use crate::faults::EngineFault;
 use crate::slices::{copy_at, read_by, write_by};
 use jr_model::{Memory, Reply};
-use jr_options::FileSpec;
+use jr_plan::FileSpec;
 use std::alloc::Global;
 use std::marker::Model;
 

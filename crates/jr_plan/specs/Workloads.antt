@@ -1,6 +1,8 @@
 -- Believed: which workload a clone may have (fio's manual, "Block size", "iodepth", "loops", "verify"; the limits are of this project).
-use Rattle.std.specs.Prelude.{ℕ, ◌%◌, nat_le, ◌==◌, Bool, not, ◌&&◌, ◌||◌, Option, Some, None, if◌then◌else◌}
+use Rattle.std.specs.Prelude.{ℕ, ◌%◌, nat_le, ◌==◌, Bool, true, false, not, ◌&&◌, ◌||◌, List, [], ◌∷◌, Option, Some, None, if◌then◌else◌}
 use Rattle.jr_model.specs.declared.limits.TheConstants.{SECTOR, LARGEST_BLOCK, MOST_DEPTH, MOST_PASSES}
+use Rattle.jr_model.specs.declared.contents.VerifyKind.TheVariants as verify
+use Rattle.jr_model.specs.declared.workloads.IoType.{IoType}
 use Rattle.jr_model.specs.Directions.{has_reads, has_writes}
 use Rattle.jr_model.specs.Plan.{is_verified}
 use Rattle.jr_model.specs.Tickets.{has_pattern}
@@ -8,6 +10,26 @@ use Rattle.jr_plan.specs.declared.faults.PlanFault.{PlanFault}
 use Rattle.jr_plan.specs.declared.faults.PlanFault.TheVariants as fault
 use Rattle.jr_plan.specs.declared.workloads.Workload.{Workload}
 use Rattle.jr_plan.specs.Sizes.{split_fits}
+
+-- what a job file plans that says no more than this
+abbrev pub plain_workload : IoType → ℕ → ℕ → Workload
+plain_workload io_type block cells = record {
+  phase = 0;
+  cell = block;
+  cells = cells;
+  io_type = io_type;
+  read_percent = 50;
+  reads = (block, 100) ∷ [];
+  writes = (block, 100) ∷ [];
+  has_map = true;
+  seed = 1;
+  depth = 1;
+  passes = 1;
+  method = record { kind = verify.Plain; pattern = None };
+  checks_writes = true;
+  backlog = 0;
+  is_fatal = false;
+}
 
 -- its region is whole blocks of 512 bytes and has cells, and the sizes in use fit the cell
 abbrev pub is_cut : Workload → ℕ → Bool

@@ -3,8 +3,8 @@ ghost use Rattle.std.specs.List.{list_any};
 ghost use Rattle.jr_plan.specs.Files.{are_apart};
 ghost use Rattle.jr_plan.specs.PlanFacts.{AreDrafted, IsPlanned, IsPlaced, KeepsLimits};
 
-use crate::files::FileSpec;
 use crate::clones::SubJob;
+use crate::files::FileSpec;
 use jr_model::{EngineKind, MOST_VERIFIERS};
 use std::marker::Model;
 

@@ -1,8 +1,8 @@
 ghost use Rattle.std.specs.Prelude.{◌≡◌, ◌++◌, ◌<◌, length, IfOk, OnOk, string_bytes};
 ghost use Rattle.jr_plan.specs.PlanText.{io_type_word, verify_word, place_text, size_text, work_text, clone_line, plan_text};
 
-use crate::files::FileSpec;
 use crate::clones::SubJob;
+use crate::files::FileSpec;
 use crate::plans::Plan;
 use jr_model::{IoType, Memory, VerifyKind};
 use std::alloc::{AllocError, Global};

@@ -1,6 +1,6 @@
 ghost use Rattle.std.specs.Prelude.{◌≡◌};
 ghost use Rattle.jr_model.specs.Tickets.{has_pattern};
-ghost use Rattle.jr_plan.specs.Workloads.{is_cut, numbers_fit, workload_fault};
+ghost use Rattle.jr_plan.specs.Workloads.{is_cut, numbers_fit, plain_workload, workload_fault};
 
 use crate::faults::PlanFault;
 use crate::splits::Split;
@@ -40,6 +40,33 @@ pub struct Workload {
 }
 
 impl Workload {
+    /// What a job file plans that says no more than this: blocks of one size (in bytes), nothing verified, one I/O in
+    /// flight, one pass, a map, and half of a mixed job's I/Os reads.
+    pub fn plain(io_type: IoType, block: u32, cells: u32) -> Workload
+        ensures { result ≡ plain_workload io_type block cells }
+    {
+        Workload {
+            phase: 0,
+            cell: block,
+            cells,
+            io_type,
+            read_percent: 50,
+            reads: Split::single(block),
+            writes: Split::single(block),
+            has_map: true,
+            seed: 1,
+            depth: 1,
+            passes: 1,
+            method: Method {
+                kind: VerifyKind::Plain,
+                pattern: None,
+            },
+            checks_writes: true,
+            backlog: 0,
+            is_fatal: false,
+        }
+    }
+
     // Whether its region is whole blocks, cells and fitting sizes.
     fn is_cut(&self, start: u64) -> bool
         ensures { result ≡ is_cut self.now start }

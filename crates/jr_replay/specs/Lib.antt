@@ -1,5 +1,5 @@
+pub mod Agendas
 pub mod Counts
 pub mod Laws
 pub mod Passes
 pub mod Rounds
-pub mod Workloads

@@ -6,17 +6,17 @@ ghost use Rattle.jr_model.specs.Plan.{clone_of};
 
 use crate::legal::{is_over, step_of};
 use crate::passes::Pass;
-use crate::workloads::{PlannedClone, Workload};
+use crate::agendas::{PlannedClone, Agenda};
 use jr_model::{
     Dir, Draw, Event, Memory, Outcome, Piece, Started, Verdict, VerifyKind, What, WriteId,
 };
-use jr_options::Plan;
+use jr_plan::Plan;
 use jr_past::{Past, ended_whole, is_probe, same_piece, same_write};
 use std::alloc::Global;
 
 // What may happen with a draw that may not be there.
 fn step_of_draw(
-    work: &Workload<'_>,
+    work: &Agenda<'_>,
     past: &Past,
     worker: u32,
     clone: &PlannedClone<'_>,
@@ -35,7 +35,7 @@ fn step_of_draw(
 // What may happen with the draw of this name of a clone now, if anything.
 fn step_of_clone(
     alloc: Global,
-    work: &Workload<'_>,
+    work: &Agenda<'_>,
     past: &Past,
     worker: u32,
     write: &WriteId,
@@ -56,7 +56,7 @@ fn step_of_clone(
 /// What may happen with the draw of this name now, if anything.
 pub fn step_at(
     alloc: Global,
-    work: &Workload<'_>,
+    work: &Agenda<'_>,
     past: &Past,
     worker: u32,
     write: &WriteId,
@@ -224,7 +224,7 @@ fn step_after(
 ) -> Result<Option<Event>, Memory>
     ensures { IfOk result (λ step. step ≡ step_at plan.now past.now worker write.now) }
 {
-    let work = Workload::new(alloc, plan)?;
+    let work = Agenda::new(alloc, plan)?;
     step_at(alloc, &work, past, worker, write)
 }
 
@@ -265,7 +265,7 @@ pub fn allowed(alloc: Global, plan: &Plan, history: &[Event], event: &Event) -> 
 }
 
 // Whether each clone is finished or halted.
-fn all_over(work: &Workload<'_>, past: &Past) -> bool
+fn all_over(work: &Agenda<'_>, past: &Past) -> bool
     ensures { result ≡ list_all (is_over past.now) work.now.clones }
 {
     work.clones().iter().all(|clone| is_over(past, clone))
@@ -273,7 +273,7 @@ fn all_over(work: &Workload<'_>, past: &Past) -> bool
 
 /// Whether a history is a whole run of the plan: nothing is in flight, no verdict is to come, and
 /// each clone is finished or halted.
-pub fn complete_among(work: &Workload<'_>, past: &Past) -> bool
+pub fn complete_among(work: &Agenda<'_>, past: &Past) -> bool
     ensures { result ≡ is_complete work.now past.now }
 {
     past.in_flight().is_empty() && past.awaiting().is_empty() && all_over(work, past)
@@ -284,6 +284,6 @@ pub fn complete(alloc: Global, plan: &Plan, history: &[Event]) -> Result<bool, M
     ensures { IfOk result (λ yes. yes ≡ is_complete plan.now history.now) }
 {
     let past = Past::new(alloc, history)?;
-    let work = Workload::new(alloc, plan)?;
+    let work = Agenda::new(alloc, plan)?;
     Ok(complete_among(&work, &past))
 }

@@ -3,15 +3,15 @@ ghost use Rattle.jr_model.specs.Choice.{choice_of_pass, choice_of_clone, choice}
 
 use crate::legal::step_of;
 use crate::passes::Pass;
-use crate::workloads::{PlannedClone, Workload};
+use crate::agendas::{PlannedClone, Agenda};
 use jr_model::{Event, Memory};
-use jr_options::Plan;
+use jr_plan::Plan;
 use jr_past::Past;
 use std::alloc::Global;
 
 // The least step of a pass, by number.
 fn choice_of_pass(
-    work: &Workload<'_>,
+    work: &Agenda<'_>,
     past: &Past,
     worker: u32,
     clone: &PlannedClone<'_>,
@@ -31,7 +31,7 @@ fn choice_of_pass(
 
 // The least step of a clone.
 fn choice_of_clone(
-    work: &Workload<'_>,
+    work: &Agenda<'_>,
     past: &Past,
     worker: u32,
     clone: &PlannedClone<'_>,
@@ -48,7 +48,7 @@ fn choice_of_clone(
 }
 
 /// What is started next, if anything may be: the least step by clone, pass and number.
-pub fn choice_among(work: &Workload<'_>, past: &Past, worker: u32) -> Option<Event>
+pub fn choice_among(work: &Agenda<'_>, past: &Past, worker: u32) -> Option<Event>
     ensures { result ≡ choice work.now past.now worker }
 {
     for clone in work.clones() {
@@ -70,6 +70,6 @@ pub fn choice(
     ensures { IfOk result (λ step. step ≡ choice plan.now history.now worker) }
 {
     let past = Past::new(alloc, history)?;
-    let work = Workload::new(alloc, plan)?;
+    let work = Agenda::new(alloc, plan)?;
     Ok(choice_among(&work, &past, worker))
 }

@@ -5,7 +5,7 @@ ghost use Rattle.jr_model.specs.Words.{words_from};
 
 use jr_draw::Drawer;
 use jr_model::{Draw, Memory};
-use jr_options::SubJob;
+use jr_plan::SubJob;
 use jr_words::{Words, pass_seed};
 use std::alloc::Global;
 

@@ -9,9 +9,9 @@ use crate::rounds::{
     flying_count, is_of_clone, is_open, issued_count, nothing_flies_of, pass_finished,
     waits_for_round,
 };
-use crate::workloads::{PlannedClone, Workload};
+use crate::agendas::{PlannedClone, Agenda};
 use jr_model::{Draw, Event, Outcome, Piece, Started, Verdict, overlaps};
-use jr_options::SubJob;
+use jr_plan::SubJob;
 use jr_past::{Past, is_intact, is_write};
 
 // Whether an I/O is there and of this clone.
@@ -99,7 +99,7 @@ fn lets_begin(past: &Past, phase: u32, other: &PlannedClone<'_>) -> bool
 }
 
 /// Whether all clones of earlier phases are at rest.
-pub fn phase_is_open(work: &Workload<'_>, past: &Past, job: &SubJob) -> bool
+pub fn phase_is_open(work: &Agenda<'_>, past: &Past, job: &SubJob) -> bool
     ensures { result ≡ phase_is_open work.now past.now job.now }
 {
     let phase = job.phase();
@@ -160,7 +160,7 @@ pub fn is_current(past: &Past, clone: &PlannedClone<'_>, pass: &Pass<'_>) -> boo
 
 /// Whether a draw of a pass may be issued.
 pub fn may_issue(
-    work: &Workload<'_>,
+    work: &Agenda<'_>,
     past: &Past,
     clone: &PlannedClone<'_>,
     pass: &Pass<'_>,
@@ -209,7 +209,7 @@ fn check_or_skip(past: &Past, worker: u32, pass: &Pass<'_>, draw: &Draw) -> Even
 
 /// What may happen with a draw of a pass now, if anything: its check or skip, or its issue.
 pub fn step_of(
-    work: &Workload<'_>,
+    work: &Agenda<'_>,
     past: &Past,
     worker: u32,
     clone: &PlannedClone<'_>,

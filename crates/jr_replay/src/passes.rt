@@ -5,7 +5,7 @@ ghost use Rattle.jr_model.specs.Rounds.{pass_of, passes_of, write_id, is_write_d
 
 use crate::draws::draws_of;
 use jr_model::{Dir, Draw, Memory, VerifyKind, WriteId};
-use jr_options::SubJob;
+use jr_plan::SubJob;
 use std::alloc::Global;
 use std::marker::Model;
 

@@ -1,16 +1,37 @@
+use crate::draws::draws_of;
 use crate::{
-    Pass, Past, PlannedClone, Workload, allowed, choice, choice_among, complete, draws_of,
-    is_intact, last_write, started, step_at, totals,
+    Agenda, Pass, PlannedClone, allowed, choice, choice_among, complete, step_at, totals,
 };
-use jr_model::{Dir, Event, Outcome, Piece, TicketKind, Totals, Verdict, What, WriteId};
-use jr_options::{Plan, plan};
-use jr_text::sections;
+use jr_model::{
+    Dir, EngineKind, Event, IoType, Method, Outcome, Pattern, Piece, TicketKind, Totals, Verdict,
+    VerifyKind, What, WriteId,
+};
+use jr_past::{Past, is_intact, last_write, started};
+use jr_plan::{Draft, Plan, Workload};
 use std::alloc::Global;
 use std::test::Fail;
 
-fn plan_of(alloc: Global, text: &str) -> Result<Plan, Fail> {
-    let sections = sections(alloc, text.as_bytes())?;
-    Ok(plan(alloc, &sections, None)?)
+// A plan over memory: of clones with these files and starts.
+fn plan_of(alloc: Global, clones: &[(Workload, &str, u64)]) -> Result<Plan, Fail> {
+    let mut draft = Draft::new(alloc);
+    for (workload, file, start) in clones {
+        draft.add(alloc, workload, "w", String::from_str(alloc, file)?, *start)?;
+    }
+    if draft.clones() == 0 {
+        return Err(Fail::from("no clones"));
+    }
+    Ok(draft.finish(EngineKind::Memory, 0))
+}
+
+// Writes of 4096 bytes, so many, that are checked by their pattern.
+fn checked(cells: u32) -> Workload {
+    Workload {
+        method: Method {
+            kind: VerifyKind::Pattern,
+            pattern: Pattern::new(&[1]),
+        },
+        ..Workload::plain(IoType::Write, 4096, cells)
+    }
 }
 
 // Write k of a clone's first pass.
@@ -80,9 +101,6 @@ fn two_checked() -> [Event; 10] {
     ]
 }
 
-const TWO_CHECKED: &str =
-    "[w]\nioengine=memory\nrw=write\nsize=8k\nverify=pattern\nverify_pattern=1\n";
-
 // The first events of a history, so many.
 fn front(history: &[Event], count: usize) -> &[Event] {
     &history[..count.min(history.len())]
@@ -100,7 +118,7 @@ fn legal_front(alloc: Global, plan: &Plan, history: &[Event]) -> Result<usize, F
 
 #[test]
 fn a_checked_run_is_legal_and_complete(rt: HostRuntime) -> Result<(), Fail> {
-    let plan = plan_of(rt.alloc(), TWO_CHECKED)?;
+    let plan = plan_of(rt.alloc(), &[(checked(2), "f", 0)])?;
     let history = two_checked();
     assert_eq!(rt; legal_front(rt.alloc(), &plan, &history)?, 10);
     assert!(rt; complete(rt.alloc(), &plan, &history)?);
@@ -110,7 +128,7 @@ fn a_checked_run_is_legal_and_complete(rt: HostRuntime) -> Result<(), Fail> {
 
 #[test]
 fn a_run_with_events_exchanged_is_not_legal(rt: HostRuntime) -> Result<(), Fail> {
-    let plan = plan_of(rt.alloc(), TWO_CHECKED)?;
+    let plan = plan_of(rt.alloc(), &[(checked(2), "f", 0)])?;
     let mut history = two_checked();
     history.swap(0, 1);
     assert_eq!(rt; legal_front(rt.alloc(), &plan, &history)?, 0);
@@ -122,7 +140,7 @@ fn a_run_with_events_exchanged_is_not_legal(rt: HostRuntime) -> Result<(), Fail>
 
 #[test]
 fn each_start_of_a_run_is_the_choice(rt: HostRuntime) -> Result<(), Fail> {
-    let plan = plan_of(rt.alloc(), TWO_CHECKED)?;
+    let plan = plan_of(rt.alloc(), &[(checked(2), "f", 0)])?;
     let history = two_checked();
     for start in [0, 2, 4, 7] {
         let step = choice(rt.alloc(), &plan, front(&history, start), 0)?;
@@ -140,7 +158,7 @@ fn each_start_of_a_run_is_the_choice(rt: HostRuntime) -> Result<(), Fail> {
 
 #[test]
 fn what_is_not_its_own_is_not_allowed(rt: HostRuntime) -> Result<(), Fail> {
-    let plan = plan_of(rt.alloc(), TWO_CHECKED)?;
+    let plan = plan_of(rt.alloc(), &[(checked(2), "f", 0)])?;
     let history = two_checked();
     let none = &history[..0];
     let one = &history[..1];
@@ -180,7 +198,7 @@ fn what_is_not_its_own_is_not_allowed(rt: HostRuntime) -> Result<(), Fail> {
 
 #[test]
 fn a_pattern_finds_a_byte_and_no_header(rt: HostRuntime) -> Result<(), Fail> {
-    let plan = plan_of(rt.alloc(), TWO_CHECKED)?;
+    let plan = plan_of(rt.alloc(), &[(checked(2), "f", 0)])?;
     let history = two_checked();
     let says = |what| Event::Verdict {
         worker: 0,
@@ -195,7 +213,7 @@ fn a_pattern_finds_a_byte_and_no_header(rt: HostRuntime) -> Result<(), Fail> {
 
 #[test]
 fn a_fault_halts_its_clone(rt: HostRuntime) -> Result<(), Fail> {
-    let plan = plan_of(rt.alloc(), TWO_CHECKED)?;
+    let plan = plan_of(rt.alloc(), &[(checked(2), "f", 0)])?;
     let history = [issue(0, write(0, 0), block(0)), end(0, 0, Outcome::Failed)];
     assert_eq!(rt; choice(rt.alloc(), &plan, &history, 0)?, None);
     assert!(rt; complete(rt.alloc(), &plan, &history)?);
@@ -218,9 +236,7 @@ fn shared() -> [Event; 6] {
 
 #[test]
 fn a_write_that_another_clone_overwrote_is_skipped(rt: HostRuntime) -> Result<(), Fail> {
-    let text =
-        "[w]\nioengine=memory\nrw=write\nsize=8k\nnumjobs=2\nfilename=f\nverify=pattern\nverify_pattern=1\n";
-    let plan = plan_of(rt.alloc(), text)?;
+    let plan = plan_of(rt.alloc(), &[(checked(2), "f", 0), (checked(2), "f", 0)])?;
     let history = shared();
     assert_eq!(rt; legal_front(rt.alloc(), &plan, &history)?, 6);
     assert_eq!(rt;
@@ -253,9 +269,9 @@ fn a_write_that_another_clone_overwrote_is_skipped(rt: HostRuntime) -> Result<()
 
 #[test]
 fn a_later_phase_waits(rt: HostRuntime) -> Result<(), Fail> {
-    let text =
-        "[a]\nioengine=memory\nrw=write\nsize=4k\n[b]\nioengine=memory\nrw=write\nsize=4k\nstonewall\n";
-    let plan = plan_of(rt.alloc(), text)?;
+    let early = Workload::plain(IoType::Write, 4096, 1);
+    let late = Workload { phase: 1, ..early };
+    let plan = plan_of(rt.alloc(), &[(early, "a", 0), (late, "b", 0)])?;
     let first = issue(0, write(0, 0), block(0));
     let next = issue(
         0,
@@ -334,9 +350,13 @@ fn totals_of_a_run(rt: HostRuntime) -> Result<(), Fail> {
 // Seven writes in rounds of three.
 #[test]
 fn the_parts_of_a_plan(rt: HostRuntime) -> Result<(), Fail> {
-    let text = "[w]\nioengine=memory\nrw=write\nsize=28k\nverify_backlog=3\nverify=md5\nloops=2\n";
-    let plan = plan_of(rt.alloc(), text)?;
-    let work = Workload::new(rt.alloc(), &plan)?;
+    let rounds = Workload {
+        backlog: 3,
+        passes: 2,
+        ..checked(7)
+    };
+    let plan = plan_of(rt.alloc(), &[(rounds, "f", 0)])?;
+    let work = Agenda::new(rt.alloc(), &plan)?;
     let clone = work.clones().first().ok_or("no clone")?;
     let draws = draws_of(rt.alloc(), clone.job(), 1)?;
     assert_eq!(rt; draws.len(), 7);

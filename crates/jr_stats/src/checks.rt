@@ -9,8 +9,9 @@ use crate::faults::TraceFault;
 use crate::fields::read_line;
 use crate::legal::legal_event;
 use jr_model::{Event, Memory, Totals};
-use jr_options::Plan;
-use jr_replay::{Past, Workload, complete_among, totals_among};
+use jr_past::Past;
+use jr_plan::Plan;
+use jr_replay::{Agenda, complete_among, totals_among};
 use std::alloc::Global;
 
 /// Checks a trace: what each clone did, where the text is the trace of a whole legal run of the plan; else its
@@ -19,7 +20,7 @@ pub fn check_trace(alloc: Global, plan: &Plan, text: &[u8]) -> Result<Vec<Totals
     ensures ok { IfOk result (λ totals. check_of plan.now text.now ≡ Ok totals.items) }
     ensures err { IfErr result (λ fault. IsRefusal fault (check_of plan.now text.now)) }
 {
-    let work = Workload::new(alloc, plan)?;
+    let work = Agenda::new(alloc, plan)?;
     let past = past_in(alloc, &work, text)?;
     if !complete_among(&work, &past) {
         return Err(TraceFault::Unfinished);
@@ -41,7 +42,7 @@ fn all_totals(alloc: Global, plan: &Plan, past: &Past) -> Result<Vec<Totals>, Me
 }
 
 // The history that a text says.
-pub fn past_in(alloc: Global, work: &Workload<'_>, text: &[u8]) -> Result<Past, TraceFault>
+pub fn past_in(alloc: Global, work: &Agenda<'_>, text: &[u8]) -> Result<Past, TraceFault>
     ensures ok { IfOk result (λ past. history_in work.now text.now ≡ Ok past) }
     ensures legal { IfOk result (λ past. is_legal work.now past ≡ true) }
     ensures few { IfOk result (λ past. length (started past) ≤ 2 ^ 32) }
@@ -87,7 +88,7 @@ fn line_len(text: &[u8]) -> usize
 // The event of a line after a history.
 fn line_event(
     alloc: Global,
-    work: &Workload<'_>,
+    work: &Agenda<'_>,
     past: &Past,
     number: u64,
     line: &[u8],

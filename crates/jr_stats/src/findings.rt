@@ -3,7 +3,7 @@ ghost use Rattle.jr_model.specs.History.{started};
 ghost use Rattle.jr_model.specs.Report.{miscompare_by, miscompare_on, miscompares};
 
 use jr_model::{Event, Memory, Piece, Started, Verdict, What, WriteId};
-use jr_replay::started;
+use jr_past::started;
 use std::alloc::Global;
 use std::marker::Model;
 

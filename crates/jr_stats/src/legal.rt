@@ -4,14 +4,15 @@ ghost use Rattle.jr_stats.specs.TraceSteps.{begun, ended, judged, issue_in, prob
 
 use crate::entries::{Ending, Entry, Finding, Name, Start};
 use jr_model::{Event, Memory, Outcome, Verdict, What, WriteId};
-use jr_options::Plan;
-use jr_replay::{Past, Workload, may_end, may_judge, same_write, step_at};
+use jr_past::{Past, same_write};
+use jr_plan::Plan;
+use jr_replay::{Agenda, may_end, may_judge, step_at};
 use std::alloc::Global;
 
 // The event that a line speaks of, where it may happen after the history.
 pub fn legal_event(
     alloc: Global,
-    work: &Workload<'_>,
+    work: &Agenda<'_>,
     past: &Past,
     entry: &Entry,
 ) -> Result<Option<Event>, Memory>
@@ -28,7 +29,7 @@ pub fn legal_event(
 
 fn legal_issue(
     alloc: Global,
-    work: &Workload<'_>,
+    work: &Agenda<'_>,
     past: &Past,
     start: &Start,
 ) -> Result<Option<Event>, Memory>
@@ -43,7 +44,7 @@ fn legal_issue(
 
 fn legal_probe(
     alloc: Global,
-    work: &Workload<'_>,
+    work: &Agenda<'_>,
     past: &Past,
     start: &Start,
 ) -> Result<Option<Event>, Memory>
@@ -58,7 +59,7 @@ fn legal_probe(
 
 fn legal_skip(
     alloc: Global,
-    work: &Workload<'_>,
+    work: &Agenda<'_>,
     past: &Past,
     worker: u64,
     write: &Name,

@@ -7,8 +7,9 @@ use crate::texts::{push_field, push_number, push_text};
 use crate::totals::totals_text;
 use jr_desk::Desk;
 use jr_model::{Event, Memory, Piece, Totals, What, WriteId};
-use jr_options::{Plan, SubJob};
-use jr_replay::{Pass, same_write};
+use jr_past::same_write;
+use jr_plan::{Plan, SubJob};
+use jr_replay::Pass;
 use std::alloc::Global;
 
 /// The report of a run: a line for each clone, then one for each bad verdict, by clone, pass and number.

@@ -1,14 +1,11 @@
 use crate::checks::past_in;
 use crate::traces::trace_text;
 use crate::{TraceFault, accepted_is_a_trace, check_trace, numbers_fit, trace_is_accepted};
-use jr_model::Totals;
-use jr_options::{Plan, plan};
-use jr_replay::Workload;
-use jr_text::sections;
+use jr_model::{EngineKind, IoType, Method, Pattern, Totals, VerifyKind};
+use jr_plan::{Draft, Plan, Workload};
+use jr_replay::Agenda;
 use std::alloc::Global;
 use std::test::Fail;
-
-const JOB: &[u8] = b"[w]\nioengine=memory\nrw=write\nsize=8k\nverify=pattern\nverify_pattern=1\n";
 
 const LINES: [&str; 10] = [
     "I 0 0 0 0 0",
@@ -23,9 +20,21 @@ const LINES: [&str; 10] = [
     "V 0 3 good",
 ];
 
+// Two writes of 4096 bytes that are checked by their pattern.
 fn planned(alloc: Global) -> Result<Plan, Fail> {
-    let sections = sections(alloc, JOB)?;
-    Ok(plan(alloc, sections.as_slice(), None)?)
+    let checked = Workload {
+        method: Method {
+            kind: VerifyKind::Pattern,
+            pattern: Pattern::new(&[1]),
+        },
+        ..Workload::plain(IoType::Write, 4096, 2)
+    };
+    let mut draft = Draft::new(alloc);
+    draft.add(alloc, &checked, "w", String::from_str(alloc, "w.0.0")?, 0)?;
+    if draft.clones() == 0 {
+        return Err(Fail::from("no clones"));
+    }
+    Ok(draft.finish(EngineKind::Memory, 0))
 }
 
 // The trace with another line at a place, counted from 1, or with none there.
@@ -75,7 +84,7 @@ fn accepts_a_whole_run_and_writes_it_again(rt: HostRuntime) -> Result<(), Fail> 
     let text = with_line(alloc, 0, None)?;
     let totals = check_trace(alloc, &plan, text.as_bytes())?;
     assert_eq!(rt; totals.as_slice(), [done(2, 0)].as_slice());
-    let work = Workload::new(alloc, &plan)?;
+    let work = Agenda::new(alloc, &plan)?;
     let past = past_in(alloc, &work, text.as_bytes())?;
     let again = trace_text(alloc, past.events())?;
     assert_eq!(rt; again.as_slice(), text.as_bytes());
@@ -208,7 +217,7 @@ fn accepts_a_run_that_a_fault_halts(rt: HostRuntime) -> Result<(), Fail> {
         let totals = check_trace(alloc, &plan, text.as_bytes())?;
         assert_eq!(rt; totals.len(), 1);
         assert_eq!(rt; totals[0].faults, 1, "at {ending}");
-        let work = Workload::new(alloc, &plan)?;
+        let work = Agenda::new(alloc, &plan)?;
         let past = past_in(alloc, &work, text.as_bytes())?;
         let again = trace_text(alloc, past.events())?;
         assert_eq!(rt; again.as_slice(), text.as_bytes());

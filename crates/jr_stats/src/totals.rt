@@ -3,7 +3,7 @@ ghost use Rattle.jr_model.specs.Report.{totals_line, totals_lines, moved_fields,
 
 use crate::texts::{push_field, push_text};
 use jr_model::{Memory, Totals};
-use jr_options::{Plan, SubJob};
+use jr_plan::{Plan, SubJob};
 use std::alloc::Global;
 
 /// The lines of all clones (`totals` has one for each), as a report begins with them.

@@ -10,7 +10,7 @@ use crate::faults::TraceFault;
 use crate::texts::{push_number, push_text};
 use jr_desk::Desk;
 use jr_model::{Event, Memory, Outcome, Verdict, What, WriteId};
-use jr_replay::started_by;
+use jr_past::started_by;
 use std::alloc::Global;
 
 /// The trace of a run: a line for each event of its history. Checked, it is accepted where the run is complete, with its
@@ -23,7 +23,7 @@ pub fn trace(alloc: Global, desk: &Desk) -> Result<Vec<u8>, Memory>
         else Err TraceFault.Unfinished)) }
 {
     // Its contract says that the plan keeps the limits.
-    let _ = desk.plan().clones();
+    desk.plan().facts();
     trace_text(alloc, desk.history())
 }
 

@@ -1,12 +1,19 @@
 use super::*;
-use jr_model::{Dir, Piece};
-use jr_options::Plan;
+use jr_model::{Dir, EngineKind, IoType, Piece};
+use jr_plan::{Draft, Plan, Split, Workload};
 use jr_words::WordList;
 use std::test::Fail;
 
-fn plan_of(alloc: Global, text: &[u8]) -> Result<Plan, Fail> {
-    let sections = jr_text::sections(alloc, text)?;
-    Ok(jr_options::plan(alloc, &sections, None)?)
+// A plan over memory: of clones with these files and starts.
+fn plan_of(alloc: Global, clones: &[(Workload, &str, u64)]) -> Result<Plan, Fail> {
+    let mut draft = Draft::new(alloc);
+    for (workload, file, start) in clones {
+        draft.add(alloc, workload, "w", String::from_str(alloc, file)?, *start)?;
+    }
+    if draft.clones() == 0 {
+        return Err(Fail::from("no clones"));
+    }
+    Ok(draft.finish(EngineKind::Memory, 0))
 }
 
 // A write of so many bytes at an offset.
@@ -25,7 +32,7 @@ fn write(number: u32, offset: u64, len: u32, seed: u64) -> Option<Draw> {
 
 #[test]
 fn visits_each_cell_of_a_map_once(rt: HostRuntime) -> Result<(), Fail> {
-    let plan = plan_of(rt.alloc(), b"[w]\nrw=randwrite\nsize=16k\n")?;
+    let plan = plan_of(rt.alloc(), &[(Workload::plain(IoType::RandWrite, 4096, 4), "f", 0)])?;
     assert_eq!(rt; plan.clones(), 1);
     let words = [
         0, 0, 2, 10, 1, 1, 2, 11, 2, 2, 3, 12, 3, 3, 6, 13, 4, 4, 0, 14,
@@ -45,7 +52,11 @@ fn visits_each_cell_of_a_map_once(rt: HostRuntime) -> Result<(), Fail> {
 // A read takes cell 3, and the write of four cells that follows is cut there.
 #[test]
 fn cuts_a_draw_at_a_taken_cell(rt: HostRuntime) -> Result<(), Fail> {
-    let plan = plan_of(rt.alloc(), b"[w]\nrw=randrw\nbs=1k,4k\nsize=8k\n")?;
+    let mixed = Workload {
+        writes: Split::single(4096),
+        ..Workload::plain(IoType::RandRw, 1024, 8)
+    };
+    let plan = plan_of(rt.alloc(), &[(mixed, "f", 0)])?;
     assert_eq!(rt; plan.clones(), 1);
     let words = [49, 0, 11, 1, 50, 0, 9, 2];
     let source = WordList { rest: &words };
@@ -60,8 +71,11 @@ fn cuts_a_draw_at_a_taken_cell(rt: HostRuntime) -> Result<(), Fail> {
 
 #[test]
 fn comes_back_to_a_cell_without_a_map(rt: HostRuntime) -> Result<(), Fail> {
-    let text = b"[w]\nrw=randwrite\nnorandommap=1\nsize=16k\n";
-    let plan = plan_of(rt.alloc(), text)?;
+    let unmapped = Workload {
+        has_map: false,
+        ..Workload::plain(IoType::RandWrite, 4096, 4)
+    };
+    let plan = plan_of(rt.alloc(), &[(unmapped, "f", 0)])?;
     assert_eq!(rt; plan.clones(), 1);
     let words = [0, 0, 2, 0, 0, 0, 2, 0, 0, 0, 2, 0, 0, 0, 0, 0];
     let source = WordList { rest: &words };
@@ -76,8 +90,11 @@ fn comes_back_to_a_cell_without_a_map(rt: HostRuntime) -> Result<(), Fail> {
 // Reads and writes each go on where their own direction stopped, and the last draw is cut.
 #[test]
 fn goes_on_in_order(rt: HostRuntime) -> Result<(), Fail> {
-    let text = b"[w]\nrw=rw\nbs=512,1k\noffset=4k\nsize=3k\n";
-    let plan = plan_of(rt.alloc(), text)?;
+    let mixed = Workload {
+        writes: Split::single(1024),
+        ..Workload::plain(IoType::ReadWrite, 512, 6)
+    };
+    let plan = plan_of(rt.alloc(), &[(mixed, "f", 4096)])?;
     assert_eq!(rt; plan.clones(), 1);
     let words = [50, 0, 4, 0, 49, 0, 4, 0, 99, 0, 4, 0, 150, 0, 4, 0];
     let source = WordList { rest: &words };
@@ -95,8 +112,12 @@ fn goes_on_in_order(rt: HostRuntime) -> Result<(), Fail> {
 // Clone 1 draws its pass 3 from the seed 5 + 1000003 + 3.
 #[test]
 fn seeds_each_pass(rt: HostRuntime) -> Result<(), Fail> {
-    let text = b"[w]\nrw=randwrite\nrandseed=5\nnumjobs=2\nloops=4\nsize=64k\n";
-    let plan = plan_of(rt.alloc(), text)?;
+    let seeded = Workload {
+        seed: 5,
+        passes: 4,
+        ..Workload::plain(IoType::RandWrite, 4096, 16)
+    };
+    let plan = plan_of(rt.alloc(), &[(seeded, "f", 0), (seeded, "g", 0)])?;
     assert_eq!(rt; plan.clones(), 2);
     let mut drawer = Drawer::of_pass(rt.alloc(), plan.clone_at(1), 3)?;
     let source = Words::new(1_000_011);

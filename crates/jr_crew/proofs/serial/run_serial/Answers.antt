@@ -9,11 +9,11 @@ use Rattle.jr_crew.proofs.serial.run_serial.Goals as goal
 pub loop-desk-init : goal.loop-desk-init
 loop-desk-init g c =
     let is = c.in_ok-desk.ensures.ok in record {
-      planned = c.clones.ensures.facts;
+      planned = c.facts.ensures;
       plan = ap (λ (d : DeskState). d.plan) is;
       going = ap (λ (d : DeskState). d.is_stopped) is;
       sofar = first_sofar c.args.plan c.in_ok-desk.desk.history _ (ap (λ (d : DeskState). d.history) is);
-      serial = λ fresh. serial_first c.args.plan c.in_ok-desk.desk.history _ c.clones.ensures.facts (ap (λ (d : DeskState). d.history) is) fresh;
+      serial = λ fresh. serial_first c.args.plan c.in_ok-desk.desk.history _ c.facts.ensures (ap (λ (d : DeskState). d.history) is) fresh;
     }
 
 pub turn-requires-clause-between : goal.turn-requires-clause-between

@@ -14,10 +14,10 @@ pub loop-step-init : goal.loop-step-init
 loop-step-init c =
     let new = c.in_ok-player.ensures in
     let player = c.in_ok-player.player in record {
-      planned = c.clones.ensures.facts;
+      planned = c.facts.ensures;
       played =
           subst (λ (replies : List StepReply). HasPlayed c.args.plan [] replies player) (sym c.new-replies.ensures.items)
-          (first_played c.args.plan player c.clones.ensures.facts new.first new.plan new.reads);
+          (first_played c.args.plan player c.facts.ensures new.first new.plan new.reads);
       calls = omega (arith, new.calls);
     }
 

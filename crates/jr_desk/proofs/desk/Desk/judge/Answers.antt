@@ -46,7 +46,7 @@ happened-requires-clause-may c =
     ap (is_judged history) (sym c.place_of-io.ensures)
     ∙ ap (λ (h : List Event). is_judged h c.place_of-io.result) (sym (c.as_slice.ensures.value ∙ ap (λ (d : DeskState). d.history) c.self.view_is))
     ∙ sym c.if-is_judged.ensures in
-    let planned : IsPlanned plan = subst (λ (d : DeskState). IsPlanned d.plan) c.self.view_is c.clones.ensures.facts in
+    let planned : IsPlanned plan = subst (λ (d : DeskState). IsPlanned d.plan) c.self.view_is c.facts.ensures in
     let legal : is_legal plan history ≡ true = subst (λ (d : DeskState). is_legal d.plan d.history ≡ true) c.self.view_is c.self.invariant.legal in
     let probe : is_probe t.kind ≡ true =
     ap (λ (x : Ticket). is_probe x.kind) same ∙ judged_probe ruling.ticket.kind ruling.outcome c.served.ensures.to_judge in

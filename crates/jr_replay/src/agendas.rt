@@ -5,7 +5,7 @@ ghost use Rattle.jr_model.specs.Rounds.{pass_of, passes_of};
 
 use crate::passes::Pass;
 use jr_model::Memory;
-use jr_options::{Plan, SubJob};
+use jr_plan::{Plan, SubJob};
 use std::alloc::Global;
 use std::marker::Model;
 
@@ -18,7 +18,7 @@ pub struct PlannedClone<'a> {
 
 impl<'a> Model for PlannedClone<'a> {
     ghost use Rattle.jr_model.specs.Plan.{SubJob as JobRecord};
-    ghost use Rattle.jr_replay.specs.Workloads.{ArePasses};
+    ghost use Rattle.jr_replay.specs.Agendas.{ArePasses};
 
     ghost Value = { JobRecord };
 
@@ -64,14 +64,14 @@ fn passes_of<'a>(alloc: Global, job: &'a SubJob) -> Result<Vec<Pass<'a>>, Memory
 
 /// A plan with the passes of all its clones. Contracts see the plan.
 #[derive(Drop)]
-pub struct Workload<'a> {
+pub struct Agenda<'a> {
     plan: &'a Plan,
     clones: Vec<PlannedClone<'a>>,
 }
 
-impl<'a> Model for Workload<'a> {
+impl<'a> Model for Agenda<'a> {
     ghost use Rattle.jr_model.specs.Plan.{Plan as PlanRecord};
-    ghost use Rattle.jr_replay.specs.Workloads.{AreClones};
+    ghost use Rattle.jr_replay.specs.Agendas.{AreClones};
 
     ghost Value = { PlanRecord };
 
@@ -80,13 +80,13 @@ impl<'a> Model for Workload<'a> {
     ghost invariant = { λ w. AreClones w.plan.now w.clones.items };
 }
 
-impl<'a> Workload<'a> {
+impl<'a> Agenda<'a> {
     /// Works out the passes of all clones of a plan.
-    pub fn new(alloc: Global, plan: &'a Plan) -> Result<Workload<'a>, Memory>
+    pub fn new(alloc: Global, plan: &'a Plan) -> Result<Agenda<'a>, Memory>
         ensures { IfOk result (λ work. work ≡ plan.now) }
     {
         let clones = clones_of(alloc, plan)?;
-        Ok(Workload { plan, clones })
+        Ok(Agenda { plan, clones })
     }
 
     /// The plan itself.

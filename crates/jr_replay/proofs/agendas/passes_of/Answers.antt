@@ -3,7 +3,7 @@ use Rattle.std.specs.List.{range_with_len}
 use Rattle.std.proofs.lemmas.List.FromFn.{map-range_with_len_more}
 use Rattle.jr_model.specs.Plan.{SubJob}
 use Rattle.jr_model.specs.Rounds.{Pass, pass_of}
-use Rattle.jr_replay.proofs.workloads.passes_of.Goals as goal
+use Rattle.jr_replay.proofs.agendas.passes_of.Goals as goal
 
 -- one more pass
 passes_more : (job : SubJob) (n : ℕ) (before after : List Pass) (pass : Pass) → before ≡ map (pass_of job) (range_with_len 0 n) → pass ≡ pass_of job n → after ≡ before ++ pass ∷ [] → after ≡ map (pass_of job) (range_with_len 0 (n + 1))

@@ -1,6 +1,6 @@
 use Rattle.std.proofs.lemmas.List.{take_more}
 use Rattle.std.proofs.lemmas.Option.{slice_get_within, get_or_from_slice_get}
-use Rattle.jr_replay.proofs.workloads.clones_of.Goals as goal
+use Rattle.jr_replay.proofs.agendas.clones_of.Goals as goal
 
 pub loop-i-preserved : goal.loop-i-preserved
 loop-i-preserved c =
