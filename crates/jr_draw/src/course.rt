@@ -124,9 +124,7 @@ impl Course {
         match self.io_type {
             IoType::Read | IoType::RandRead => Dir::Read,
             IoType::Write | IoType::RandWrite => Dir::Write,
-            IoType::ReadWrite | IoType::RandRw => {
-                mix((word % 100) as u8, self.read_percent)
-            }
+            IoType::ReadWrite | IoType::RandRw => { mix((word % 100) as u8, self.read_percent) }
         }
     }
 

@@ -1,12 +1,12 @@
 ghost use Rattle.std.specs.Prelude.{◌≡◌, IfOk};
 ghost use Rattle.jr_model.specs.Choice.{choice_of_pass, choice_of_clone, choice};
 
+use crate::agendas::{Agenda, PlannedClone};
 use crate::legal::step_of;
 use crate::passes::Pass;
-use crate::agendas::{PlannedClone, Agenda};
 use jr_model::{Event, Memory};
-use jr_plan::Plan;
 use jr_past::Past;
+use jr_plan::Plan;
 use std::alloc::Global;
 
 // The least step of a pass, by number.

@@ -4,15 +4,15 @@ ghost use Rattle.jr_model.specs.History.{is_of_clone, awaiting, in_flight};
 ghost use Rattle.jr_model.specs.Legal.{is_io_of, is_fault, is_bad, is_halted, is_over, is_at_rest, phase_is_open, has_room, conflicts, is_clear, may_take_up, may_issue, check_or_skip, step_of};
 ghost use Rattle.jr_model.specs.Rounds.{clone_finished, is_current, pass_finished, passes_of};
 
+use crate::agendas::{Agenda, PlannedClone};
 use crate::passes::{Pass, has_rounds, is_write_draw};
 use crate::rounds::{
     flying_count, is_of_clone, is_open, issued_count, nothing_flies_of, pass_finished,
     waits_for_round,
 };
-use crate::agendas::{PlannedClone, Agenda};
 use jr_model::{Draw, Event, Outcome, Piece, Started, Verdict, overlaps};
-use jr_plan::SubJob;
 use jr_past::{Past, is_intact, is_write};
+use jr_plan::SubJob;
 
 // Whether an I/O is there and of this clone.
 pub(crate) fn is_io_of(clone: u32, io: Option<Started>) -> bool

@@ -1,7 +1,5 @@
 use crate::draws::draws_of;
-use crate::{
-    Agenda, Pass, PlannedClone, allowed, choice, choice_among, complete, step_at, totals,
-};
+use crate::{Agenda, Pass, PlannedClone, allowed, choice, choice_among, complete, step_at, totals};
 use jr_model::{
     Dir, EngineKind, Event, IoType, Method, Outcome, Pattern, Piece, TicketKind, Totals, Verdict,
     VerifyKind, What, WriteId,

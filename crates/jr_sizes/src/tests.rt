@@ -1,7 +1,7 @@
 use crate::faults::SplitFault;
 use crate::splits::ReadSplit;
-use jr_plan::{Split, mix};
 use jr_model::Dir;
+use jr_plan::{Split, mix};
 use std::test::Fail;
 
 #[test]

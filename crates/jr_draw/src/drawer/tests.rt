@@ -32,7 +32,10 @@ fn write(number: u32, offset: u64, len: u32, seed: u64) -> Option<Draw> {
 
 #[test]
 fn visits_each_cell_of_a_map_once(rt: HostRuntime) -> Result<(), Fail> {
-    let plan = plan_of(rt.alloc(), &[(Workload::plain(IoType::RandWrite, 4096, 4), "f", 0)])?;
+    let plan = plan_of(
+        rt.alloc(),
+        &[(Workload::plain(IoType::RandWrite, 4096, 4), "f", 0)],
+    )?;
     assert_eq!(rt; plan.clones(), 1);
     let words = [
         0, 0, 2, 10, 1, 1, 2, 11, 2, 2, 3, 12, 3, 3, 6, 13, 4, 4, 0, 14,
