@@ -1,18 +1,5 @@
 ghost use Rattle.std.specs.Prelude.{◌≡◌, IsTrue, OnOk, OnErr};
-ghost use Rattle.jr_backlog.specs.Rounds.{
-  comes_last,
-  is_closed,
-  is_due,
-  is_to_check,
-  IsInOrder,
-  new_round,
-  next_to_check,
-  next_to_check_after,
-  takes_writes,
-  with_exhausted,
-  with_passed,
-  with_written,
-};
+ghost use Rattle.jr_backlog.specs.Rounds.{comes_last, is_closed, is_due, is_to_check, IsInOrder, new_round, next_to_check, next_to_check_after, takes_writes, with_exhausted, with_passed, with_written};
 
 use jr_model::{Memory, WriteId};
 use std::alloc::Global;
@@ -125,3 +112,6 @@ impl Rounds {
         self.due() && self.to_check.is_empty()
     }
 }
+
+#[cfg(test)]
+mod tests;
