@@ -1,0 +1,2 @@
+pub mod OrderedKeys
+pub mod RoundFacts

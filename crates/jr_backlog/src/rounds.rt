@@ -1,0 +1,117 @@
+ghost use Rattle.std.specs.Prelude.{◌≡◌, IsTrue, OnOk, OnErr};
+ghost use Rattle.jr_backlog.specs.Rounds.{comes_last, is_closed, is_due, is_to_check, IsInOrder, new_round, next_to_check, next_to_check_after, takes_writes, with_exhausted, with_passed, with_written};
+
+use jr_model::{Memory, WriteId};
+use std::alloc::Global;
+use std::collections::BTreeSet;
+use std::marker::Model;
+use std::ops::Bound;
+
+/// The rounds of a clone's writes, one after another: a round is filled with writes until it is
+/// due, and is closed once each of them was passed, that is, checked or skipped.
+#[derive(Debug, Drop)]
+pub struct Rounds {
+    limit: u32,
+    // The round's writes, counted no further than the limit.
+    count: u32,
+    exhausted: bool,
+    to_check: BTreeSet<WriteId>,
+}
+
+// Clauses see the current round.
+impl Model for Rounds {
+    ghost use Rattle.std.specs.Prelude.{◌≤◌};
+    ghost use Rattle.jr_backlog.specs.Rounds.{Round, IsInOrder};
+
+    ghost Value = { Round };
+
+    ghost view = { λ r. record { limit = r.limit; count = r.count; exhausted = r.exhausted; to_check = r.to_check.keys } };
+
+    ghost invariant = { λ r. (r.count ≤ r.limit) × IsInOrder r.to_check.keys };
+}
+
+impl Rounds {
+    /// A first round that has no write. A round is due after `limit` writes; where `limit` is 0,
+    /// only once all draws were issued.
+    pub fn new(alloc: Global, limit: u32) -> Rounds
+        ensures { result ≡ new_round limit }
+    {
+        Rounds {
+            limit,
+            count: 0,
+            exhausted: false,
+            to_check: BTreeSet::new(alloc),
+        }
+    }
+
+    /// Adds a write that was issued. It begins the next round where this one is closed. The only
+    /// call that takes memory.
+    pub fn written(&mut self, write: WriteId) -> Result<(), Memory>
+        requires room { IsTrue (takes_writes self.old) }
+        requires last { IsTrue (comes_last self.old write) }
+        ensures ok { OnOk result (self.new ≡ with_written self.old write) }
+        ensures err { OnErr result (self.new ≡ self.old) }
+    {
+        let begins = self.closed();
+        self.to_check.insert(write)?;
+        if begins {
+            self.count = 0;
+            self.exhausted = false;
+        }
+        if self.count < self.limit {
+            self.count += 1;
+        }
+        Ok(())
+    }
+
+    /// Says that all draws were issued, so that the round is due with the writes that it has.
+    pub fn exhausted(&mut self)
+        ensures { self.new ≡ with_exhausted self.old }
+    {
+        self.exhausted = true;
+    }
+
+    /// The round has as many writes as the limit, or all draws were issued.
+    pub fn due(&self) -> bool
+        ensures { result ≡ is_due self.now }
+    {
+        (self.limit != 0 && self.count == self.limit) || self.exhausted
+    }
+
+    /// The first write to check, once the round is due.
+    pub fn next_check(&self) -> Option<WriteId>
+        ensures value { result ≡ next_to_check self.now }
+        ensures in_order { IsInOrder self.now.to_check }
+    {
+        let first = self.to_check.first().copied();
+        if self.due() { first } else { None }
+    }
+
+    /// The first write to check after this one, once the round is due.
+    pub fn next_after(&self, write: &WriteId) -> Option<WriteId>
+        ensures value { result ≡ next_to_check_after self.now write.now }
+        ensures in_order { IsInOrder self.now.to_check }
+    {
+        let later = (Bound::Excluded(*write), Bound::Unbounded);
+        let next = self.to_check.range(later).next().copied();
+        if self.due() { next } else { None }
+    }
+
+    /// Takes out a write that was checked or skipped.
+    pub fn passed(&mut self, write: WriteId)
+        requires { IsTrue (is_to_check self.old write) }
+        ensures { self.new ≡ with_passed self.old write }
+    {
+        self.to_check.remove(&write);
+    }
+
+    /// The round is due, and each of its writes was passed.
+    pub fn closed(&self) -> bool
+        ensures { result ≡ is_closed self.now }
+    {
+        self.due() && self.to_check.is_empty()
+    }
+}
+
+#[cfg(test)]
+mod tests;
