@@ -1,6 +1,6 @@
 -- What overlaps a piece is found among the places from the longest piece before it up to its end.
 use Rattle.std.proofs.Common.{ℕ, ◌≡◌, ◌+◌, ◌-◌, ◌<◌, ◌≤◌, Bool, true, false, cond, List, [], ◌∷◌, length, Some, None, refl, sym, ◌∙◌, ap, subst, arith}
-use Rattle.std.specs.Prelude.{Option, IfSome, not, ◌&&◌, ◌||◌, ◌==◌, nat_lt, max, min, filter, Contains, Any}
+use Rattle.std.specs.Prelude.{Option, IfSome, IsTrue, ◌↔◌, not, ◌&&◌, ◌||◌, ◌==◌, nat_lt, max, min, filter, Contains, Any}
 use Rattle.std.specs.List.{list_any, All}
 use Rattle.std.specs.Map.{lookup}
 use Rattle.std.specs.Cmp.{IsTotalOrder}
@@ -11,7 +11,7 @@ use Rattle.std.specs.declared.ops.Bound.{Bound}
 use Rattle.std.specs.declared.ops.Bound.TheVariants.{Included, Excluded}
 use Rattle.std.specs.BTreeMap.{BTreeMap, get, IsOrdered}
 use Rattle.std.specs.BTreeMap.Range.{entries_between, range_contains}
-use Rattle.std.proofs.lemmas.Bool.{and_parts, and_from, eqb-true, ltb-true}
+use Rattle.std.proofs.lemmas.Bool.{and_parts, and_from, eqb-true, ltb-true, not-true, both_ways, false_from_ne_true}
 use Rattle.std.proofs.lemmas.Cmp.{nat_cmp_total, then_total, on_total}
 use Rattle.std.proofs.lemmas.Bool.Decides.{nat_tests}
 use Rattle.std.proofs.lemmas.Grind.{common_steps}
@@ -80,8 +80,8 @@ pub list_any-filter : {X : Type 0} (p keep : X → Bool) (xs : List X) → list_
 list_any-filter p keep [] = refl
 list_any-filter {X} p keep (x ∷ xs) =
     elim (keep x) as (λ (k : Bool). list_any p (cond k (x ∷ filter keep xs) (filter keep xs)) ≡ ((k && p x) || list_any (λ y. keep y && p y) xs)) [
-      true ↦ ap (λ (b : Bool). p x || b) (list_any-filter p keep xs)
-    | false ↦ list_any-filter p keep xs
+      | true ↦ ap (λ (b : Bool). p x || b) (list_any-filter p keep xs)
+      | false ↦ list_any-filter p keep xs
     ]
 
 same_truth : (a b : Bool) → (a ≡ true → b ≡ true) → (b ≡ true → a ≡ true) → a ≡ b
@@ -106,7 +106,7 @@ overlap_within piece other longest id short shared =
     let common : max other.offset piece.offset < min (piece_end other) (piece_end piece) = ltb-true (max other.offset piece.offset) (min (piece_end other) (piece_end piece)) parts.1 in
     subst (λ (f : ℕ). range_contains place_cmp (Included (piece.file, piece.offset - longest, 0)) (Excluded (piece.file, piece_end piece, 0)) (f, other.offset, id) ≡ true) (sym same)
     (and_from _ _ (from_start piece.file (piece.offset - longest) other.offset id (omega arith))
-     (ap not (before_end piece.file (piece_end piece) other.offset id (omega arith))))
+    (ap not (before_end piece.file (piece_end piece) other.offset id (omega arith))))
 
 -- the entries of places from `longest` before the piece up to its end
 abbrev near : Piece → ℕ → List (Place × Io) → List (Place × Io)
@@ -144,7 +144,25 @@ module _ (dir : Dir) (piece : Piece) (ids : BTreeMap ℕ Io) (places : BTreeMap 
   any_near ordered =
       list_any-filter (λ (e : Place × Io). conflicts dir piece e.1) (λ (e : Place × Io). is_near piece longest e.0) places.entries
       ∙ same_truth _ _
-        (λ found. entry_found exact_unsigned ids (λ (e : ℕ × Io). conflicts dir piece e.1)
-          (flies_there (finds_entry place_cmp_total places ordered (λ (e : Place × Io). is_near piece longest e.0 && conflicts dir piece e.1) found)))
-        (λ found. entry_found place_cmp_exact places (λ (e : Place × Io). is_near piece longest e.0 && conflicts dir piece e.1)
-          (stands_near (finds_entry nat_cmp_total ids kept.ordered (λ (e : ℕ × Io). conflicts dir piece e.1) found)))
+      (λ found. entry_found exact_unsigned ids (λ (e : ℕ × Io). conflicts dir piece e.1)
+      (flies_there (finds_entry place_cmp_total places ordered (λ (e : Place × Io). is_near piece longest e.0 && conflicts dir piece e.1) found)))
+      (λ found. entry_found place_cmp_exact places (λ (e : Place × Io). is_near piece longest e.0 && conflicts dir piece e.1)
+      (stands_near (finds_entry nat_cmp_total ids kept.ordered (λ (e : ℕ × Io). conflicts dir piece e.1) found)))
+
+-- a test that is false of what is there
+if_there : (p : Io → Bool) (o : Option Io) → ((io : Io) → o ≡ Some io → p io ≡ false) → IfSome o (λ io. p io ≡ false)
+if_there p None below = tt
+if_there p (Some io) below = below io refl
+
+-- no entry passes exactly if nothing passes under any number
+pub none_passes : (p : Io → Bool) (ids : BTreeMap ℕ Io) → IsOrdered nat_cmp ids → IsTrue (not (list_any (λ (e : ℕ × Io). p e.1) ids.entries)) ↔ ((id : ℕ) → IfSome (get nat_cmp ids id) (λ io. p io ≡ false))
+none_passes p ids ordered =
+    let test : ℕ × Io → Bool = λ (e : ℕ × Io). p e.1 in (
+      (λ none id. if_there p (get nat_cmp ids id) (λ io there.
+          false_from_ne_true (p io) (λ pass.
+          both_ways (list_any test ids.entries) (not-true (list_any test ids.entries) none)
+          (entry_found exact_unsigned ids test (record { key = id; value = io; there = there; pass = pass }))))),
+      (λ below. ap not (false_from_ne_true (list_any test ids.entries) (λ found.
+          let f = finds_entry nat_cmp_total ids ordered test found in
+          both_ways (p f.value) (subst (λ (o : Option Io). IfSome o (λ io. p io ≡ false)) f.there (below f.key)) f.pass))),
+    )

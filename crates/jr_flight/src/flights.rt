@@ -1,4 +1,4 @@
-ghost use Rattle.std.specs.Prelude.{◌≡◌, ◌≤◌, ℕ, true, [], Some, None, is_some, if◌then◌else◌, ◌==◌, IfOk, OnOk, OnErr, IfSome};
+ghost use Rattle.std.specs.Prelude.{◌≡◌, ◌≤◌, ℕ, true, [], Some, None, is_some, if◌then◌else◌, ◌==◌, ◌↔◌, IsTrue, false, IfOk, OnOk, OnErr, IfSome};
 ghost use Rattle.std.specs.Option.{ok_or};
 ghost use Rattle.std.specs.BTreeMap.{insert_entry, is_at};
 ghost use Rattle.std.specs.Map.{remove_entry};
@@ -17,7 +17,7 @@ use std::marker::Model;
 type Place = (u32, u64, IoId);
 
 /// The I/Os in flight. Contracts see the entries of the map from their numbers, in order.
-#[derive(Drop)]
+#[derive(Debug, Drop)]
 pub struct Flight {
     ids: BTreeMap<IoId, Io>,
     places: BTreeMap<Place, Io>,
@@ -61,7 +61,8 @@ impl Flight {
         requires some { 1 ≤ piece.now.len }
         requires largest { piece.now.len ≤ LARGEST_BLOCK }
         requires within { piece_end piece.now ≤ LARGEST_END }
-        ensures { result ≡ is_clear dir piece.now self.now }
+        ensures value { result ≡ is_clear dir piece.now self.now }
+        ensures at_each { IsTrue result ↔ ((id : ℕ) → IfSome (flying_io id self.now) (λ io. conflicts dir piece.now io ≡ false)) }
     {
         let first = piece.offset.saturating_sub(u64::from(self.longest));
         let end = piece.offset + u64::from(piece.len);
@@ -78,7 +79,7 @@ impl Flight {
         requires within { piece_end io.piece ≤ LARGEST_END }
         requires clear { is_clear io.dir io.piece self.old ≡ true }
         requires new { flying_io io.id self.old ≡ None }
-        ensures ok { OnOk result (self.new ≡ insert_entry nat_cmp self.old io.id io) }
+        ensures entries { OnOk result (self.new ≡ insert_entry nat_cmp self.old io.id io) }
         ensures at_each { OnOk result ((id : ℕ) → flying_io id self.new ≡ (if io.id == id then Some io else flying_io id self.old)) }
         ensures err { OnErr result (self.new ≡ self.old) }
     {
@@ -100,7 +101,7 @@ impl Flight {
     pub fn end(&mut self, id: IoId) -> Result<Io, FlightFault>
         ensures value { result ≡ ok_or (flying_io id self.old) FlightFault.Stranger }
         ensures own { IfOk result (λ io. io.id ≡ id) }
-        ensures left { self.new ≡ remove_entry (is_at (nat_cmp id)) self.old }
+        ensures entries { self.new ≡ remove_entry (is_at (nat_cmp id)) self.old }
         ensures at_each { (other : ℕ) → flying_io other self.new ≡ (if id == other then None else flying_io other self.old) }
         ensures err { OnErr result (self.new ≡ self.old) }
     {
