@@ -66,7 +66,7 @@ impl WriteLog {
             ≡ (if same_write write other then Some (record { piece = piece; expected = expected }) else if_apart piece (logged self.old other))) }
         ensures err { OnErr result (self.new ≡ self.old) }
     {
-        put(&mut self.writes, &mut self.spots, write, Logged { piece, expected })?;
+        put(&mut self.writes, &mut self.spots, write, piece, expected)?;
         take_out(&mut self.writes, &mut self.spots, &piece, Some(write));
         Ok(())
     }

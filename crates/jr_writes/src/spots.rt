@@ -5,7 +5,7 @@ ghost use Rattle.jr_writes.specs.Index.{AreDisjoint, IsIndexed, IsLastBefore, Is
 ghost use Rattle.jr_writes.specs.LoggedWrites.{logged, settled, write_order};
 
 use crate::logs::Logged;
-use jr_model::{Memory, Piece, WriteId, overlaps};
+use jr_model::{Expected, Memory, Piece, WriteId, overlaps};
 use std::collections::BTreeMap;
 
 // The write whose piece begins at a place, and the piece's length.
@@ -21,22 +21,25 @@ pub fn put(
     writes: &mut BTreeMap<WriteId, Logged>,
     spots: &mut BTreeMap<(u32, u64), Spot>,
     write: WriteId,
-    entry: Logged,
+    piece: Piece,
+    expected: Expected,
 ) -> Result<(), Memory>
-    requires filled { 1 ≤ entry.piece.len }
+    requires filled { 1 ≤ piece.len }
     requires fresh { logged writes.old.entries write ≡ None }
     requires indexed { IsIndexed None (logged writes.old.entries) (spot_at spots.old.entries) }
-    ensures entries { OnOk result (filter (stays (Some write) entry.piece) writes.new.entries ≡ settled writes.old.entries write entry.piece entry.expected) }
+    ensures entries { OnOk result (filter (stays (Some write) piece) writes.new.entries ≡ settled writes.old.entries write piece expected) }
     ensures indexed { OnOk result (IsIndexed (Some write) (logged writes.new.entries) (spot_at spots.new.entries)) }
-    ensures stands { OnOk result (StandsHere (Some write) entry.piece (spot_at spots.new.entries)) }
+    ensures stands { OnOk result (StandsHere (Some write) piece (spot_at spots.new.entries)) }
     ensures err { OnErr result ((writes.new.entries ≡ writes.old.entries) × (spots.new.entries ≡ spots.old.entries)) }
     ensures ordered { IsOrdered write_order writes.new }
     ensures was_ordered { IsOrdered write_order writes.old }
 {
-    writes.insert(write, entry)?;
-    let place = (entry.piece.file, entry.piece.offset);
-    let len = entry.piece.len;
-    match spots.insert(place, Spot { write, len }) {
+    writes.insert(write, Logged { piece, expected })?;
+    let spot = Spot {
+        write,
+        len: piece.len,
+    };
+    match spots.insert((piece.file, piece.offset), spot) {
         Ok(None) => Ok(()),
         Ok(Some(older)) => {
             let _ = writes.remove(&older.write);
