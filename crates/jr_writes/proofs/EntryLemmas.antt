@@ -93,6 +93,7 @@ module _ {K X : Type 0} where
           kept : (b : Bool) → cmp k e.0 ≡ Greater → cond b (e ∷ insert_entry cmp (filter r es) k v) (insert_entry cmp (filter r es) k v) ≡ insert_entry cmp (cond b (e ∷ filter r es) (filter r es)) k v
           kept true h = sym (ap (λ (x : Ordering). match_ordering x ((k, v) ∷ e ∷ filter r es) ((e.0, v) ∷ filter r es) (e ∷ insert_entry cmp (filter r es) k v)) h)
           kept false h = refl
+
           by : filter p (insert_entry cmp es k v) ≡ insert_entry cmp (filter r es) k v → (x : Ordering) → cmp k e.0 ≡ x → filter p (match_ordering x ((k, v) ∷ e ∷ es) ((e.0, v) ∷ es) (e ∷ insert_entry cmp es k v)) ≡ insert_entry cmp (filter r (e ∷ es)) k v
           by rest Less h =
               ap (λ (b : Bool). cond b ((k, v) ∷ filter p (e ∷ es)) (filter p (e ∷ es))) mine
@@ -114,6 +115,7 @@ module _ {K X : Type 0} where
         turned true false h = refl
         turned false true h = refl
         turned false false h = refl
+
         equal : (x : K) → is_at (cmp q) x ≡ true → cmp q x ≡ Equal
         equal x h = is_equal (cmp q x) h
           where
@@ -121,6 +123,7 @@ module _ {K X : Type 0} where
             is_equal Less h = cc
             is_equal Equal h = refl
             is_equal Greater h = cc
+
         by : lookup (is_at (cmp q)) (insert_entry cmp es k v) ≡ cond (is_at (cmp q) k) (Some v) (lookup (is_at (cmp q)) es) → (x : Ordering) → cmp k e.0 ≡ x → lookup (is_at (cmp q)) (match_ordering x ((k, v) ∷ e ∷ es) ((e.0, v) ∷ es) (e ∷ insert_entry cmp es k v)) ≡ cond (is_at (cmp q) k) (Some v) (lookup (is_at (cmp q)) (e ∷ es))
         by rest Less h = refl
         by rest Equal h = absurd (apart_from_head e es none h)

@@ -88,12 +88,12 @@ module _ (kept : Option WriteId) (entry_of left_of : WriteId → Option Logged) 
       let was = left_at (is_at (write_order spot.write) write) (entry_of write) entry (sym (without write) ∙ h) in
       let stood = index.stands write entry was.1 in
       let other : is_at (place_order place) (place_of entry.piece) ≡ false =
-          false_from_ne_true (is_at (place_order place) (place_of entry.piece))
-          (λ here.
-          let same : place ≡ place_of entry.piece = place_same place (place_of entry.piece) here in
-          let one : spot ≡ spot_of write entry.piece = cc in
-          let named : spot.write ≡ write = ap (λ (s : Spot). s.write) one in
-          both (is_at (write_order spot.write) write) (ap (λ (w : WriteId). is_at (write_order spot.write) w) (sym named) ∙ write_itself spot.write) was.0) in
+      false_from_ne_true (is_at (place_order place) (place_of entry.piece))
+      (λ here.
+      let same : place ≡ place_of entry.piece = place_same place (place_of entry.piece) here in
+      let one : spot ≡ spot_of write entry.piece = cc in
+      let named : spot.write ≡ write = ap (λ (s : Spot). s.write) one in
+      both (is_at (write_order spot.write) write) (ap (λ (w : WriteId). is_at (write_order spot.write) w) (sym named) ∙ write_itself spot.write) was.0) in
       gone (place_of entry.piece) ∙ ap (λ (b : Bool). cond b None (spot_in (place_of entry.piece))) other ∙ stood
 
   still_leads : (q : ℕ × ℕ) (t : Spot) → left_in q ≡ Some t → option_map (λ e. e.piece) (left_of t.write) ≡ Some (piece_at q t)
@@ -102,13 +102,13 @@ module _ (kept : Option WriteId) (entry_of left_of : WriteId → Option Logged) 
       let back = index.leads_back q t was.1 in
       let here = index.leads_back place spot at in
       let other : is_at (write_order spot.write) t.write ≡ false =
-          false_from_ne_true (is_at (write_order spot.write) t.write)
-          (λ same.
-          let one : spot.write ≡ t.write = write_same spot.write t.write same in
-          let pieces : piece_at place spot ≡ piece_at q t =
-              same_Some (piece_at place spot) (piece_at q t) (sym here ∙ ap (λ (w : WriteId). option_map (λ (e : Logged). e.piece) (entry_of w)) one ∙ back) in
-          let places : place ≡ q = same_place place q (ap (λ (x : Piece). x.file) pieces) (ap (λ (x : Piece). x.offset) pieces) in
-          both (is_at (place_order place) q) (ap (λ (x : ℕ × ℕ). is_at (place_order place) x) (sym places) ∙ place_itself place) was.0) in
+      false_from_ne_true (is_at (write_order spot.write) t.write)
+      (λ same.
+      let one : spot.write ≡ t.write = write_same spot.write t.write same in
+      let pieces : piece_at place spot ≡ piece_at q t =
+      same_Some (piece_at place spot) (piece_at q t) (sym here ∙ ap (λ (w : WriteId). option_map (λ (e : Logged). e.piece) (entry_of w)) one ∙ back) in
+      let places : place ≡ q = same_place place q (ap (λ (x : Piece). x.file) pieces) (ap (λ (x : Piece). x.offset) pieces) in
+      both (is_at (place_order place) q) (ap (λ (x : ℕ × ℕ). is_at (place_order place) x) (sym places) ∙ place_itself place) was.0) in
       ap (λ (o : Option Logged). option_map (λ (e : Logged). e.piece) o)
       (without t.write ∙ ap (λ (b : Bool). cond b None (entry_of t.write)) other)
       ∙ back
@@ -146,8 +146,8 @@ module _ (entry_of new_of : WriteId → Option Logged) (spot_in new_in : ℕ × 
       (λ (there : (is_at (write_order write) w ≡ false) × (entry_of w ≡ Some e)).
       let stood = index.stands w e there.1 in
       let other : is_at (place_order (place_of entry.piece)) (place_of e.piece) ≡ false =
-          false_from_ne_true (is_at (place_order (place_of entry.piece)) (place_of e.piece))
-          (λ here. none-some (spot_of w e.piece) (sym free ∙ ap spot_in (place_same (place_of entry.piece) (place_of e.piece) here) ∙ stood)) in
+      false_from_ne_true (is_at (place_order (place_of entry.piece)) (place_of e.piece))
+      (λ here. none-some (spot_of w e.piece) (sym free ∙ ap spot_in (place_same (place_of entry.piece) (place_of e.piece) here) ∙ stood)) in
       put (place_of e.piece) ∙ ap (λ (b : Bool). cond b (Some (spot_of write entry.piece)) (spot_in (place_of e.piece))) other ∙ stood)
       (put_at (is_at (write_order write) w) entry (entry_of w) e (sym (with w) ∙ h))
 
@@ -162,10 +162,10 @@ module _ (entry_of new_of : WriteId → Option Logged) (spot_in new_in : ℕ × 
       (λ (there : (is_at (place_order (place_of entry.piece)) q ≡ false) × (spot_in q ≡ Some t)).
       let back = index.leads_back q t there.1 in
       let other : is_at (write_order write) t.write ≡ false =
-          false_from_ne_true (is_at (write_order write) t.write)
-          (λ same.
-          let one : write ≡ t.write = write_same write t.write same in
-          none-some (piece_at q t) (ap (λ (o : Option Logged). option_map (λ (e : Logged). e.piece) o) (sym fresh ∙ ap entry_of one) ∙ back)) in
+      false_from_ne_true (is_at (write_order write) t.write)
+      (λ same.
+      let one : write ≡ t.write = write_same write t.write same in
+      none-some (piece_at q t) (ap (λ (o : Option Logged). option_map (λ (e : Logged). e.piece) o) (sym fresh ∙ ap entry_of one) ∙ back)) in
       ap (λ (o : Option Logged). option_map (λ (e : Logged). e.piece) o) (with t.write ∙ ap (λ (b : Bool). cond b (Some entry) (entry_of t.write)) other) ∙ back)
       (is_in q t h)
 

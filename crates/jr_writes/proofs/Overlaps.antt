@@ -53,11 +53,13 @@ module _ (kept : Option WriteId) (piece : Piece) (spot_in : ℕ × ℕ → Optio
     where
       missed : pieces_overlap piece (piece_at p s) ≡ true → ⊥
       missed h = both _ h apart
+
       met : (p.0 ≡ q.0) → pieces_overlap piece (piece_at q t) ≡ true → q.1 ≡ p.1 → ⊥
       met file shared same =
           let e : q ≡ p = same_place q p (sym file) same in
           let spots : t ≡ s = cc in
           missed (subst (λ (x : (ℕ × ℕ) × Spot). pieces_overlap piece (piece_at x.0 x.1) ≡ true) (λ i. (e i, spots i)) shared)
+
       below : (p.0 ≡ q.0) → pieces_overlap piece (piece_at q t) ≡ true → q.1 < p.1 → ⊥
       below file shared less =
           let parts = overlap_parts piece (piece_at q t) shared in
@@ -75,6 +77,7 @@ module _ (kept : Option WriteId) (piece : Piece) (spot_in : ℕ × ℕ → Optio
           by_end h =
               let parts = overlap_parts piece (piece_at q t) shared in
               ⊎_elim (λ (x : p.0 < piece.file). omega arith) (λ (x : (p.0 ≡ piece.file) × (p.1 < piece_end piece)). x.1) h
+
       crossed : pieces_overlap piece (piece_at q t) ≡ true → ⊥
       crossed shared =
           let parts = overlap_parts piece (piece_at q t) shared in
@@ -113,17 +116,18 @@ module _ (kept : Option WriteId) (piece : Piece) (spot_in : ℕ × ℕ → Optio
       (λ shared.
       let empty = none q (before_here here p s last is q t at other shared) in
       none-some t (sym empty ∙ at))
-  last_before_kept here p s last is (Some f) found =
-      (found.0,
-      false_from_ne_true (is_kept kept f.1.write)
-      (λ same.
-      let e : f.0.1 ≡ piece.offset = ap (λ (x : Piece). x.offset) (here f.0 f.1 found.0 same) in
-      ⊎_elim
-      (λ (h : f.0.0 < piece.file). let file : f.0.0 ≡ piece.file = ap (λ (x : Piece). x.file) (here f.0 f.1 found.0 same) in omega arith)
-      (λ (h : (f.0.0 ≡ piece.file) × (f.0.1 < piece.offset)). omega arith)
-      (before_parts f.0 (place_of piece) found.1)),
-      before_end (before_parts f.0 (place_of piece) found.1),
-      λ q t at other shared. found.2 q (before_here here p s last is q t at other shared) (some_is (spot_in q) t at))
+  last_before_kept here p s last is (Some f) found = (
+    found.0,
+    false_from_ne_true (is_kept kept f.1.write)
+        (λ same.
+        let e : f.0.1 ≡ piece.offset = ap (λ (x : Piece). x.offset) (here f.0 f.1 found.0 same) in
+        ⊎_elim
+        (λ (h : f.0.0 < piece.file). let file : f.0.0 ≡ piece.file = ap (λ (x : Piece). x.file) (here f.0 f.1 found.0 same) in omega arith)
+        (λ (h : (f.0.0 ≡ piece.file) × (f.0.1 < piece.offset)). omega arith)
+        (before_parts f.0 (place_of piece) found.1)),
+    before_end (before_parts f.0 (place_of piece) found.1),
+    λ q t at other shared. found.2 q (before_here here p s last is q t at other shared) (some_is (spot_in q) t at),
+  )
     where
       before_end : (f.0.0 < piece.file) ⊎ ((f.0.0 ≡ piece.file) × (f.0.1 < piece.offset)) → place_order f.0 (piece.file, piece_end piece) ≡ Less
       before_end h = grind (arith, nat_tests)

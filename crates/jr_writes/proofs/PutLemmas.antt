@@ -98,6 +98,7 @@ module _ (write : WriteId) (entry : Logged) (older : Spot) (es : List (WriteId �
     where
       differs : is_at (write_order write) older.write ≡ false
       differs = older_differs (logged es) spot_in write entry older index fresh at filled
+
       shared : pieces_overlap entry.piece (piece_at (place_of entry.piece) older) ≡ true
       shared =
           let size = index.disjoint.sized (place_of entry.piece) older at in

@@ -107,17 +107,16 @@ fn last_other(
 {
     let end = piece.offset + u64::from(piece.len);
     match last_before(spots, (piece.file, end)) {
-        Some((_, spot)) if is_kept(kept, &spot.write) =>
-            last_before(spots, (piece.file, piece.offset)),
+        Some((_, spot)) if is_kept(kept, &spot.write) => last_before(
+            spots,
+            (piece.file, piece.offset),
+        ),
         last => last,
     }
 }
 
 // The last place before the bound at which something stands, and what stands there.
-fn last_before(
-    spots: &BTreeMap<(u32, u64), Spot>,
-    bound: (u32, u64),
-) -> Option<((u32, u64), Spot)>
+fn last_before(spots: &BTreeMap<(u32, u64), Spot>, bound: (u32, u64)) -> Option<((u32, u64), Spot)>
     ensures found { IsLastBefore (spot_at spots.now.entries) bound result }
     ensures ordered { IsOrdered place_order spots.now }
 {

@@ -44,8 +44,9 @@ returns-in-Ok-Some-clause-stands c =
 
 pub returns-in-Err-clause-err : goal.returns-in-Err-clause-err
 returns-in-Err-clause-err c =
-    let entry : Logged = record { piece = c.args.piece; expected = c.args.expected } in
-    (c.remove-in-Err.ensures.entries
-    ∙ ap (remove_entry (is_at (write_order c.args.write))) c.in_ok-insert.ensures.entries
-    ∙ remove-insert_entry write_order_total c.args.write entry c.args.writes.now.entries c.requires.fresh,
-    c.in-Err.ensures.err)
+    let entry : Logged = record { piece = c.args.piece; expected = c.args.expected } in (
+      c.remove-in-Err.ensures.entries
+          ∙ ap (remove_entry (is_at (write_order c.args.write))) c.in_ok-insert.ensures.entries
+          ∙ remove-insert_entry write_order_total c.args.write entry c.args.writes.now.entries c.requires.fresh,
+      c.in-Err.ensures.err,
+    )
