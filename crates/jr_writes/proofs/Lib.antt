@@ -1,0 +1,5 @@
+pub mod EntryLemmas
+pub mod IndexLemmas
+pub mod LogLemmas
+pub mod Overlaps
+pub mod PutLemmas

@@ -1,0 +1,11 @@
+// The log of the intact writes of a run: which writes are the last on each block of their piece, and
+// what their checks compare with.
+#![tactic(auto)]
+
+mod logs;
+mod spots;
+
+pub use logs::{Logged, WriteLog};
+
+#[cfg(test)]
+mod tests;

@@ -1,0 +1,99 @@
+use crate::spots::{Spot, put, take_out};
+use jr_model::{Expected, Memory, Piece, WriteId};
+use std::alloc::Global;
+use std::collections::BTreeMap;
+use std::marker::Model;
+
+/// What the log has of a write: where it lies, and what its checks compare with.
+#[derive(Clone, Copy, Debug, PartialEq, Eq)]
+pub struct Logged {
+    pub piece: Piece,
+    pub expected: Expected,
+}
+
+/// The intact writes of a run: those that were settled, and of whose pieces no byte was settled or
+/// unsettled since.
+#[derive(Debug, Drop)]
+pub struct WriteLog {
+    writes: BTreeMap<WriteId, Logged>,
+    spots: BTreeMap<(u32, u64), Spot>,
+}
+
+// Clauses see the entries of the log, in the order of the writes.
+impl Model for WriteLog {
+    ghost use Rattle.std.specs.Prelude.{List, None};
+    ghost use Rattle.std.specs.BTreeMap.{IsOrdered};
+    ghost use Rattle.jr_model.specs.declared.events.WriteId.{WriteId as Name};
+    ghost use Rattle.jr_writes.specs.declared.logs.Logged.{Logged as Entry};
+
+    ghost Value = { List (Name × Entry) };
+
+    ghost use Rattle.jr_writes.specs.Index.{IsIndexed, place_order, spot_at};
+    ghost use Rattle.jr_writes.specs.LoggedWrites.{logged, write_order};
+
+    ghost view = { λ log. log.writes.entries };
+
+    // The writes and their places are in order, and the pieces of the places are disjoint.
+    ghost invariant = { λ log. IsOrdered write_order log.writes × IsOrdered place_order log.spots
+        × IsIndexed None (logged log.writes.entries) (spot_at log.spots.entries) };
+}
+
+impl WriteLog {
+    ghost use Rattle.std.specs.Prelude.{◌≡◌, [], Some, None, IsTrue, OnOk, OnErr, is_some, if◌then◌else◌};
+    ghost use Rattle.std.specs.Option.{option_copied, option_map};
+    ghost use Rattle.jr_model.specs.declared.events.WriteId.{WriteId as Name};
+    ghost use Rattle.jr_model.specs.History.{same_write};
+    ghost use Rattle.jr_model.specs.Tickets.{piece_fits};
+    ghost use Rattle.jr_writes.specs.LoggedWrites.{if_apart, logged, settled, unsettled};
+
+    /// An empty log. It takes the memory of its entries from `alloc`.
+    pub fn new(alloc: Global) -> WriteLog
+        ensures { result ≡ [] }
+    {
+        WriteLog {
+            writes: BTreeMap::new(alloc),
+            spots: BTreeMap::new(alloc),
+        }
+    }
+
+    /// Takes in a write that ended whole, and takes out all whose pieces it overlaps. The only call
+    /// of a log that can want memory.
+    pub fn settle(&mut self, write: WriteId, piece: Piece, expected: Expected) -> Result<(), Memory>
+        requires fits { IsTrue (piece_fits piece) }
+        requires fresh { logged self.old write ≡ None }
+        ensures ok { OnOk result (self.new ≡ settled self.old write piece expected) }
+        ensures look_up { OnOk result ((other : Name) → logged self.new other
+            ≡ (if same_write write other then Some (record { piece = piece; expected = expected }) else if_apart piece (logged self.old other))) }
+        ensures err { OnErr result (self.new ≡ self.old) }
+    {
+        put(&mut self.writes, &mut self.spots, write, piece, expected)?;
+        take_out(&mut self.writes, &mut self.spots, &piece, Some(write));
+        Ok(())
+    }
+
+    /// Takes out all writes whose pieces the piece overlaps, as where a write of it failed.
+    pub fn unsettle(&mut self, piece: &Piece)
+        requires { IsTrue (piece_fits piece.now) }
+        ensures entries { self.new ≡ unsettled self.old piece.now }
+        ensures look_up { (other : Name) → logged self.new other ≡ if_apart piece.now (logged self.old other) }
+    {
+        take_out(&mut self.writes, &mut self.spots, piece, None);
+    }
+
+    /// Whether the write is in the log.
+    pub fn intact(&self, write: &WriteId) -> bool
+        ensures { result ≡ is_some (logged self.now write.now) }
+    {
+        self.writes.contains_key(write)
+    }
+
+    /// What the checks of an intact write compare with.
+    pub fn expected(&self, write: &WriteId) -> Option<&Expected>
+        ensures { option_copied result ≡ option_map (λ entry. entry.expected) (logged self.now write.now) }
+    {
+        match self.writes.get(write) {
+            Some(entry) => Some(&entry.expected),
+            None => None,
+        }
+    }
+}

@@ -1,0 +1,148 @@
+ghost use Rattle.std.specs.Prelude.{◌≡◌, ◌^◌, ◌<◌, ◌≤◌, Some, None, filter, OnOk, OnErr};
+ghost use Rattle.std.specs.BTreeMap.{IsOrdered};
+ghost use Rattle.jr_model.specs.Pieces.{piece_end};
+ghost use Rattle.jr_writes.specs.Index.{AreDisjoint, IsIndexed, IsLastBefore, IsLastOther, IsOverlapped, StandsHere, is_kept, piece_at, place_order, spot_at, stays};
+ghost use Rattle.jr_writes.specs.LoggedWrites.{logged, settled, write_order};
+
+use crate::logs::Logged;
+use jr_model::{Expected, Memory, Piece, WriteId, overlaps};
+use std::collections::BTreeMap;
+
+// The write whose piece begins at a place, and the piece's length.
+#[derive(Clone, Copy, Debug)]
+pub struct Spot {
+    pub write: WriteId,
+    pub len: u32,
+}
+
+// Puts a new write into both maps, in place of one whose piece begins where its piece does. Pieces
+// that it overlaps stay.
+pub fn put(
+    writes: &mut BTreeMap<WriteId, Logged>,
+    spots: &mut BTreeMap<(u32, u64), Spot>,
+    write: WriteId,
+    piece: Piece,
+    expected: Expected,
+) -> Result<(), Memory>
+    requires filled { 1 ≤ piece.len }
+    requires fresh { logged writes.old.entries write ≡ None }
+    requires indexed { IsIndexed None (logged writes.old.entries) (spot_at spots.old.entries) }
+    ensures entries { OnOk result (filter (stays (Some write) piece) writes.new.entries ≡ settled writes.old.entries write piece expected) }
+    ensures indexed { OnOk result (IsIndexed (Some write) (logged writes.new.entries) (spot_at spots.new.entries)) }
+    ensures stands { OnOk result (StandsHere (Some write) piece (spot_at spots.new.entries)) }
+    ensures err { OnErr result ((writes.new.entries ≡ writes.old.entries) × (spots.new.entries ≡ spots.old.entries)) }
+    ensures ordered { IsOrdered write_order writes.new }
+    ensures was_ordered { IsOrdered write_order writes.old }
+{
+    writes.insert(write, Logged { piece, expected })?;
+    let spot = Spot {
+        write,
+        len: piece.len,
+    };
+    match spots.insert((piece.file, piece.offset), spot) {
+        Ok(None) => Ok(()),
+        Ok(Some(older)) => {
+            let _ = writes.remove(&older.write);
+            Ok(())
+        }
+        Err(_) => {
+            let _ = writes.remove(&write);
+            Err(Memory)
+        }
+    }
+}
+
+// Takes out every write, other than the kept one, whose piece shares a byte with this one.
+pub fn take_out(
+    writes: &mut BTreeMap<WriteId, Logged>,
+    spots: &mut BTreeMap<(u32, u64), Spot>,
+    piece: &Piece,
+    kept: Option<WriteId>,
+)
+    requires fits { piece_end piece.now < 2 ^ 64 }
+    requires indexed { IsIndexed kept (logged writes.old.entries) (spot_at spots.old.entries) }
+    requires stands { StandsHere kept piece.now (spot_at spots.old.entries) }
+    requires ordered { IsOrdered write_order writes.old }
+    ensures entries { writes.new.entries ≡ filter (stays kept piece.now) writes.old.entries }
+    ensures indexed { IsIndexed None (logged writes.new.entries) (spot_at spots.new.entries) }
+    ensures ordered { IsOrdered write_order writes.new }
+    ensures places_ordered { IsOrdered place_order spots.new }
+{
+    while let Some((place, spot)) = overlapped(spots, piece, kept) {
+        let _ = spots.remove(&place);
+        let _ = writes.remove(&spot.write);
+    }
+}
+
+// A place at which a write other than the kept one stands whose piece shares a byte with this one,
+// and what stands there.
+fn overlapped(
+    spots: &BTreeMap<(u32, u64), Spot>,
+    piece: &Piece,
+    kept: Option<WriteId>,
+) -> Option<((u32, u64), Spot)>
+    requires fits { piece_end piece.now < 2 ^ 64 }
+    requires disjoint { AreDisjoint kept (spot_at spots.now.entries) }
+    requires stands { StandsHere kept piece.now (spot_at spots.now.entries) }
+    ensures found { IsOverlapped kept piece.now (spot_at spots.now.entries) result }
+    ensures ordered { IsOrdered place_order spots.now }
+{
+    match last_other(spots, piece, kept) {
+        Some((place, spot)) if overlaps(piece, &piece_at(place, spot)) => Some((place, spot)),
+        _ => None,
+    }
+}
+
+// The last place before the piece's end at which a write other than the kept one stands, and what
+// stands there.
+fn last_other(
+    spots: &BTreeMap<(u32, u64), Spot>,
+    piece: &Piece,
+    kept: Option<WriteId>,
+) -> Option<((u32, u64), Spot)>
+    requires fits { piece_end piece.now < 2 ^ 64 }
+    requires stands { StandsHere kept piece.now (spot_at spots.now.entries) }
+    ensures found { IsLastOther kept piece.now (spot_at spots.now.entries) result }
+    ensures ordered { IsOrdered place_order spots.now }
+{
+    let end = piece.offset + u64::from(piece.len);
+    match last_before(spots, (piece.file, end)) {
+        Some((_, spot)) if is_kept(kept, &spot.write) => last_before(
+            spots,
+            (piece.file, piece.offset),
+        ),
+        last => last,
+    }
+}
+
+// The last place before the bound at which something stands, and what stands there.
+fn last_before(spots: &BTreeMap<(u32, u64), Spot>, bound: (u32, u64)) -> Option<((u32, u64), Spot)>
+    ensures found { IsLastBefore (spot_at spots.now.entries) bound result }
+    ensures ordered { IsOrdered place_order spots.now }
+{
+    match spots.range(..bound).next_back() {
+        Some((place, spot)) => Some((*place, *spot)),
+        None => None,
+    }
+}
+
+// Whether the write is the kept one.
+fn is_kept(kept: Option<WriteId>, write: &WriteId) -> bool
+    ensures { result ≡ is_kept kept write.now }
+{
+    match kept {
+        Some(kept) => kept == *write,
+        None => false,
+    }
+}
+
+// The piece of a spot.
+fn piece_at(place: (u32, u64), spot: Spot) -> Piece
+    ensures { result ≡ piece_at place spot }
+{
+    Piece {
+        file: place.0,
+        offset: place.1,
+        len: spot.len,
+    }
+}
