@@ -1,7 +1,7 @@
-ghost use Rattle.std.specs.Prelude.{◌≡◌, ◌+◌, ◌^◌, ◌≤◌, ◌<◌, false, not, Some, length, slice_get, IfOk, IfSome};
-ghost use Rattle.std.specs.List.{prefix_len};
-ghost use Rattle.jr_model.specs.CellSet.{first_free, free_cell_from, free_run, with_cells, no_cells, free_count};
+ghost use Rattle.std.specs.Prelude.{◌≡◌, ◌≤◌, ◌<◌, false, Some, length, slice_get, IfOk, IfSome};
+ghost use Rattle.jr_model.specs.CellSet.{free_cell_from, free_run, with_cells, no_cells, free_count};
 
+use crate::levels::Levels;
 use jr_model::Memory;
 use std::alloc::Global;
 use std::marker::Model;
@@ -12,21 +12,25 @@ pub const MOST_CELLS: u32 = 16_777_216;
 /// A set of the cells of a region, each of which is free or taken.
 #[derive(Debug, Drop)]
 pub struct CellMap {
-    taken: Vec<bool>,
+    levels: Levels,
+    cells: u32,
     left: u32,
 }
 
 // Clauses see a flag for each cell: true where it is taken.
 impl Model for CellMap {
-    ghost use Rattle.std.specs.Prelude.{◌≡◌, ◌≤◌, ◌^◌, Bool, List, length};
-    ghost use Rattle.jr_model.specs.CellSet.{free_count};
+    ghost use Rattle.std.specs.Prelude.{Bool, List};
 
     ghost Value = { List Bool };
 
-    ghost view = { λ map. map.taken.items };
+    ghost use Rattle.jr_map.specs.Levels.{flags_of, IsCellMap};
 
-    ghost invariant = { λ map. (1 ≤ length map.taken.items) × (length map.taken.items ≤ 2 ^ 24)
-        × (map.left ≡ free_count map.taken.items) };
+    ghost view = { λ map. flags_of map.levels.lowest.items map.cells };
+
+    // A bit of the lowest level is set exactly where its cell is taken or lies at the number of cells or
+    // above (`marked`); a bit of an upper level is set exactly where its word below is full or isn't
+    // there (`summed`).
+    ghost invariant = { λ map. IsCellMap map.levels map.cells map.left };
 }
 
 impl CellMap {
@@ -36,8 +40,12 @@ impl CellMap {
         requires most { n ≤ MOST_CELLS }
         ensures { IfOk result (λ map. map ≡ no_cells n) }
     {
-        let taken = vec![in alloc; false; n as usize]?;
-        Ok(CellMap { taken, left: n })
+        let levels = Levels::new(alloc, n as usize)?;
+        Ok(CellMap {
+            levels,
+            cells: n,
+            left: n,
+        })
     }
 
     /// The first free cell from `r` on, or from the first cell on where there is none.
@@ -46,10 +54,9 @@ impl CellMap {
         ensures value { result ≡ free_cell_from self.now r }
         ensures free { IfSome result (λ x. slice_get self.now x ≡ Some false) }
     {
-        let start = r as usize;
-        match first_free(&self.taken[start..]) {
-            Some(k) => Some((start + k) as u32),
-            None => first_free(self.taken.as_slice()).map(|x| x as u32),
+        match self.levels.next_clear(r as usize) {
+            Some(x) => Some(x as u32),
+            None => Some(self.levels.next_clear(0)? as u32),
         }
     }
 
@@ -58,7 +65,7 @@ impl CellMap {
         requires { slice_get self.now x ≡ Some false }
         ensures { result ≡ free_run self.now x want }
     {
-        free_front(&self.taken[x as usize..]).min(want as usize) as u32
+        self.levels.run(x as usize, want as usize) as u32
     }
 
     /// Takes the `m` cells from `x` on, which are all free.
@@ -67,7 +74,8 @@ impl CellMap {
         ensures cells { self.new ≡ with_cells self.old x m }
         ensures len { length self.new ≡ length self.old }
     {
-        mark(&mut self.taken, x as usize, m as usize);
+        let start = x as usize;
+        self.levels.mark(start, start + m as usize);
         self.left -= m;
     }
 
@@ -83,36 +91,8 @@ impl CellMap {
         ensures cells { self.new ≡ no_cells (length self.old) }
         ensures len { length self.new ≡ length self.old }
     {
-        self.taken.fill(false);
-        self.left = self.taken.len() as u32;
-    }
-}
-
-// The first cell that isn't taken.
-fn first_free(taken: &[bool]) -> Option<usize>
-    ensures value { result ≡ first_free taken.now }
-    ensures within { IfSome result (λ x. x < length taken.now) }
-    ensures free { IfSome result (λ x. slice_get taken.now x ≡ Some false) }
-{
-    taken.iter().position(|taken| !*taken)
-}
-
-// How many cells at the front are free without a gap.
-fn free_front(taken: &[bool]) -> usize
-    ensures { result ≡ prefix_len not taken.now }
-{
-    taken.iter().take_while(|taken| !**taken).count()
-}
-
-// Takes `count` cells from `start` on, which are all free.
-fn mark(cells: &mut [bool], start: usize, count: usize)
-    requires free { free_run cells.old start count ≡ count }
-    requires fits { start + count < 2 ^ 64 }
-    ensures cells { cells.new ≡ with_cells cells.old start count }
-    ensures left { free_count cells.new + count ≡ free_count cells.old }
-{
-    for x in start..start + count {
-        cells[x] = true;
+        self.levels.clear(self.cells as usize);
+        self.left = self.cells;
     }
 }
 

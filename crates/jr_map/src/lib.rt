@@ -2,5 +2,7 @@
 #![tactic(auto)]
 
 mod cells;
+mod levels;
+mod words;
 
 pub use cells::{CellMap, MOST_CELLS};

@@ -1,0 +1,13 @@
+use Rattle.jr_map.proofs.LevelFacts.{none_above, least_above}
+use Rattle.jr_map.proofs.levels.Levels.next_in_second.Goals as goal
+
+pub returns-in_err-word : goal.returns-in_err-word
+returns-in_err-word c =
+    let here = rw c.deref.ensures.value at c.in_default.ensures in
+    let above = c.in_err-word.ensures in
+    rw c.from_residual.ensures (none_above c.args.self.now.second.items c.args.self.now.third.items c.args.from c.requires.summed.third here above)
+
+pub returns : goal.returns
+returns c =
+    let here = rw c.deref.ensures.value at c.in_default.ensures in
+    least_above c.args.self.now.second.items c.args.self.now.third.items c.args.from c.in_ok-word.word c.first_in_word.result c.requires.summed.third here (c.in_ok-word.ensures) (rw c.deref-2.ensures.value at c.first_in_word.ensures.bit) c.first_in_word.ensures.within

@@ -1,0 +1,14 @@
+use Rattle.std.proofs.Common.{◌+◌, ◌/◌}
+use Rattle.jr_map.proofs.LevelFacts.{none_above, least_above, none_in_top}
+use Rattle.jr_map.proofs.levels.Levels.next_in_third.Goals as goal
+
+pub returns-in_err-word : goal.returns-in_err-word
+returns-in_err-word c =
+    let here = rw c.deref.ensures.value at c.in_default.ensures in
+    let above = none_in_top c.args.self.now.top.items (c.args.from / 64 + 1) c.requires.shape.one (rw c.deref-2.ensures.value at (c.in_err-word.ensures)) in
+    rw c.from_residual.ensures (none_above c.args.self.now.third.items c.args.self.now.top.items c.args.from c.requires.summed.top here above)
+
+pub returns : goal.returns
+returns c =
+    let here = rw c.deref.ensures.value at c.in_default.ensures in
+    least_above c.args.self.now.third.items c.args.self.now.top.items c.args.from c.in_ok-word.word c.first_in_word.result c.requires.summed.top here (rw c.deref-2.ensures.value at (c.in_ok-word.ensures)) (rw c.deref-3.ensures.value at c.first_in_word.ensures.bit) c.first_in_word.ensures.within
