@@ -1,8 +1,14 @@
 -- Lemmas on reads and writes that go on with parts.
-use Rattle.std.proofs.Common.{◌≡◌, ℕ, ◌+◌, ◌-◌, ◌≤◌, List, ◌++◌, length, take, drop, IsTrue, refl, sym, subst, ap, ◌∙◌, arith, length-append, length-drop, length-take, append_assoc}
-use Rattle.std.proofs.lemmas.List.{length-take-le, take-append-le, take_at, drop-drop}
+use Rattle.std.proofs.Common.{◌≡◌, ℕ, ◌+◌, ◌-◌, ◌<◌, ◌≤◌, List, ◌++◌, length, take, drop, map, slice_get, slice_set, slice_index_or, Some, Result, IsTrue, refl, sym, subst, ap, ◌∙◌, arith, length-append, length-drop, length-take, append_assoc}
+use Rattle.std.specs.Option.{option_map}
+use Rattle.std.proofs.lemmas.Bool.Decides.{nat_tests}
+use Rattle.std.proofs.lemmas.List.{length-take-le, take-append-le, take_at, drop-drop, map-set}
+use Rattle.std.proofs.lemmas.Option.{slice_get-map, slice_get-get_or}
 use Rattle.std.proofs.Math.Seq.{take-add, take-append-add, drop-append-add}
 use Rattle.jr_model.specs.Replies.{placed}
+use Rattle.jr_engines.specs.declared.faults.EngineFault.{EngineFault}
+use Rattle.jr_files.specs.Engines.{WritesKnown, has_place}
+use Rattle.jr_files.specs.Moves.{Stores}
 use Rattle.jr_files.specs.Parts.{FileView}
 
 -- a read so far: the file is as it was, and so many bytes of it stand first in the buffer
@@ -98,3 +104,24 @@ written_more old now after offset d n m buffer so_far same sum most stored =
           let inside_now : offset + d + length (drop d buffer) ≤ length now.bytes = omega (arith, length-drop d buffer, long_now) in
           stored known_now inside_now ∙ ap (λ (z : List ℕ). placed z (offset + d) (take n (drop d buffer))) now_is ∙ placed_more old.bytes offset d n buffer inside most;
     })
+
+-- what is known of one of some files is what is known of the file there
+view_of : {F : Type 0} (view : F → FileView) (files : List F) (place : ℕ) (other : F) (before : FileView) → place < length files → slice_get (map view files) place ≡ Some before → view (slice_index_or files place other) ≡ before
+view_of view files place other before inside known =
+    let there : slice_get files place ≡ Some (slice_index_or files place other) = slice_get-get_or files place other inside in
+    let seen : slice_get (map view files) place ≡ Some (view (slice_index_or files place other)) =
+      slice_get-map view files place ∙ ap (λ o. option_map view o) there
+    in
+    cc
+
+-- a write to one of some files, seen from all of them
+pub writes_known : {F : Type 0} (view : F → FileView) (files : List F) (place offset : ℕ) (buffer : List ℕ) (answer : Result ℕ EngineFault) (other after : F) → IsTrue (has_place (length files) place offset (length buffer)) → (view after).is_known ≡ (view (slice_index_or files place other)).is_known → (IsTrue (view (slice_index_or files place other)).is_known → offset + length buffer ≤ length (view (slice_index_or files place other)).bytes → Stores (view (slice_index_or files place other)).bytes offset buffer answer (view after).bytes) → WritesKnown (map view files) place offset buffer answer (map view (slice_set files place after))
+writes_known view files place offset buffer answer other after places known stores =
+    let inside : place < length files = grind (arith, nat_tests) in
+    record {
+      after = view after;
+      files = map-set view files place after;
+      known = λ before there. known ∙ ap (λ (v : FileView). v.is_known) (view_of view files place other before inside there);
+      stores = λ before there.
+        subst (λ (v : FileView). IsTrue v.is_known → offset + length buffer ≤ length v.bytes → Stores v.bytes offset buffer answer (view after).bytes) (view_of view files place other before inside there) stores;
+    }

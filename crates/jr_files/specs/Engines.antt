@@ -1,16 +1,25 @@
 -- Believed: what contracts see of an engine over files of the system, and of files that couldn't be opened.
-use Rattle.std.specs.Prelude.{ℕ, ◌+◌, ◌<◌, ◌^◌, nat_lt, Bool, false, ◌&&◌, []}
+use Rattle.std.specs.Prelude.{◌≡◌, ℕ, ◌+◌, ◌<◌, ◌≤◌, ◌^◌, nat_lt, IsTrue, Bool, false, ◌&&◌, List, [], length, slice_get, slice_set, Some, Result}
 use Rattle.jr_model.specs.Replies.{EngineState}
+use Rattle.jr_engines.specs.declared.faults.EngineFault.{EngineFault}
 use Rattle.jr_files.specs.declared.faults.FileFault.{FileFault}
 use Rattle.jr_files.specs.declared.faults.FileFault.TheVariants as fault
+use Rattle.jr_files.specs.Moves.{GetsAll, Stores}
+use Rattle.jr_files.specs.Parts.{FileView}
 
--- its calls so far, how many of them failed, and how many files it has
+-- its calls so far, how many of them failed, and what is known of each of its files
 pub record FilesState : Type 0 where
   pub calls : ℕ
   pub failures : ℕ
-  pub files : ℕ
+  pub files : List FileView
 
--- others may change the files too, so the calls alone are known
+-- an engine over so many files that has had no call
+pub record IsFresh (engine : FilesState) (files : ℕ) : Type 0 where
+  pub calls : engine.calls ≡ 0
+  pub failures : engine.failures ≡ 0
+  pub files_count : length engine.files ≡ files
+
+-- a file may refuse any call, so of a run the calls alone are known
 abbrev pub files_state : FilesState → EngineState
 files_state engine =
     record { calls = engine.calls; failures = engine.failures; is_known = false; memory = []; script = [] }
@@ -22,6 +31,20 @@ is_addressable offset n = nat_lt (offset + n) (2 ^ 63)
 -- one of so many files, and bytes of it that the system can name
 abbrev pub has_place : ℕ → ℕ → ℕ → ℕ → Bool
 has_place files file offset n = nat_lt file files && is_addressable offset n
+
+-- a read of a file whose bytes are known gets them
+abbrev pub ReadsKnown : List FileView → ℕ → ℕ → List ℕ → Result ℕ EngineFault → List ℕ → Type 0
+ReadsKnown files file offset before answer after =
+    (known : FileView) → slice_get files file ≡ Some known → IsTrue known.is_known
+    → GetsAll known.bytes offset before answer after
+
+-- a write changes no other file, and in a file whose bytes are known those that it took
+pub record WritesKnown (old : List FileView) (file offset : ℕ) (buffer : List ℕ) (answer : Result ℕ EngineFault) (new : List FileView) : Type 0 where
+  pub after : FileView
+  pub files : new ≡ slice_set old file after
+  pub known : (before : FileView) → slice_get old file ≡ Some before → after.is_known ≡ before.is_known
+  pub stores : (before : FileView) → slice_get old file ≡ Some before → IsTrue before.is_known
+    → offset + length buffer ≤ length before.bytes → Stores before.bytes offset buffer answer after.bytes
 
 -- the fault names one of so many files
 abbrev pub NamesFile : FileFault → ℕ → Type 0

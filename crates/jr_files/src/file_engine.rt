@@ -1,9 +1,10 @@
-ghost use Rattle.std.specs.Prelude.{◌≡◌, ◌-◌, ◌^◌, ◌<◌, ◌≤◌, ◌↔◌, false, length, IfOk, IfErr};
+ghost use Rattle.std.specs.Prelude.{◌≡◌, ◌-◌, ◌^◌, ◌<◌, ◌≤◌, ◌↔◌, false, length, map, IsTrue, IfOk, IfErr};
 ghost use Rattle.jr_engines.specs.Calls.{Counts, ReadsInside, WritesInside};
-ghost use Rattle.jr_files.specs.Engines.{IsOpenFault, files_state, has_place};
+ghost use Rattle.jr_files.specs.Engines.{IsFresh, IsOpenFault, ReadsKnown, WritesKnown, files_state, has_place};
 
 use crate::faults::FileFault;
 use crate::moving::{LARGEST_OFFSET, read_whole, write_whole};
+use crate::positioned::Positioned;
 use jr_engines::{Engine, EngineFault, Tally};
 use jr_options::Plan;
 use std::alloc::Global;
@@ -12,34 +13,45 @@ use std::io;
 use std::marker::Model;
 use std::rt::Files;
 
-/// An engine over files of the system, each open for reading and writing.
+/// An engine over open files, those of the system where nothing else is said.
 ///
-/// Bytes go between the caller's buffer and the file with no copy between. Nothing is claimed of them: others may
-/// change the files too.
+/// Bytes go between the caller's buffer and the file with no copy between. Of a file of the system nothing is claimed
+/// of them: others may change it too.
 #[derive(Drop)]
-pub struct FileEngine {
-    files: Vec<File>,
+pub struct FileEngine<F: Positioned = File> {
+    files: Vec<F>,
     tally: Tally,
 }
 
-impl Model for FileEngine {
-    ghost use Rattle.std.specs.Prelude.{vec_len};
+impl<F: Positioned> Model for FileEngine<F> {
+    ghost use Rattle.std.specs.Prelude.{map};
     ghost use Rattle.jr_files.specs.Engines.{FilesState};
 
     ghost Value = { FilesState };
 
-    ghost view = { λ a. record { calls = a.tally.calls; failures = a.tally.failures; files = vec_len a.files } };
+    ghost view = { λ a. record { calls = a.tally.calls; failures = a.tally.failures; files = map F.view a.files.items } };
 }
 
-impl FileEngine {
+impl<F: Positioned> FileEngine<F> {
+    /// The engine over these files, which are numbered in their order.
+    pub fn over(files: Vec<F>) -> FileEngine<F>
+        ensures { result ≡ record { calls = 0; failures = 0; files = map F.view files.items } }
+    {
+        FileEngine {
+            files,
+            tally: Tally::new(),
+        }
+    }
+}
+
+impl FileEngine<File> {
     /// Opens the plan's files, which have to be there (`lay_out` makes them), each for this engine alone.
     pub fn new<R: Files<File = File>>(
         rt: &R,
         alloc: Global,
         plan: &Plan,
     ) -> Result<FileEngine, FileFault>
-        ensures ok { let count = length plan.now.files in
-            IfOk result (λ engine. engine ≡ record { calls = 0; failures = 0; files = count }) }
+        ensures ok { IfOk result (λ engine. IsFresh engine (length plan.now.files)) }
         ensures err { IfErr result (λ fault. IsOpenFault fault (length plan.now.files)) }
     {
         let mut files = Vec::new(alloc);
@@ -49,19 +61,17 @@ impl FileEngine {
             };
             files.push(file)?;
         }
-        Ok(FileEngine {
-            files,
-            tally: Tally::new(),
-        })
+        Ok(FileEngine::over(files))
     }
 }
 
-impl Engine for FileEngine {
+impl<F: Positioned> Engine for FileEngine<F> {
     ghost state = { files_state };
 
     fn read(&mut self, file: u32, offset: u64, buf: &mut [u8]) -> Result<usize, EngineFault>
         requires { self.old.calls < 2 ^ 64 - 1 }
-        ensures outside { (result ≡ Err EngineFault.Outside) ↔ (has_place self.old.files file offset (length buf.old) ≡ false) }
+        ensures outside { (result ≡ Err EngineFault.Outside) ↔ (has_place (length self.old.files) file offset (length buf.old) ≡ false) }
+        ensures bytes { ReadsKnown self.old.files file offset buf.old result buf.new }
         ensures files { self.new.files ≡ self.old.files }
         ensures counts { Counts (files_state self.old) result (files_state self.new) }
         ensures few { (files_state self.new).failures ≤ (files_state self.new).calls }
@@ -75,8 +85,11 @@ impl Engine for FileEngine {
 
     fn write(&mut self, file: u32, offset: u64, buf: &[u8]) -> Result<usize, EngineFault>
         requires { self.old.calls < 2 ^ 64 - 1 }
-        ensures outside { (result ≡ Err EngineFault.Outside) ↔ (has_place self.old.files file offset (length buf.now) ≡ false) }
-        ensures files { self.new.files ≡ self.old.files }
+        ensures outside { (result ≡ Err EngineFault.Outside) ↔ (has_place (length self.old.files) file offset (length buf.now) ≡ false) }
+        ensures bytes { IsTrue (has_place (length self.old.files) file offset (length buf.now))
+            → WritesKnown self.old.files file offset buf.now result self.new.files }
+        ensures unchanged { has_place (length self.old.files) file offset (length buf.now) ≡ false
+            → self.new.files ≡ self.old.files }
         ensures counts { Counts (files_state self.old) result (files_state self.new) }
         ensures few { (files_state self.new).failures ≤ (files_state self.new).calls }
         ensures most { IfOk result (λ n. n ≤ length buf.now) }
@@ -109,13 +122,15 @@ fn has_place(count: usize, file: u32, offset: u64, len: usize) -> bool
 }
 
 // Reads from the files: none where there is no such place.
-fn read_files(
-    files: &mut [File],
+fn read_files<F: Positioned>(
+    files: &mut [F],
     file: u32,
     offset: u64,
     buf: &mut [u8],
 ) -> Result<usize, EngineFault>
     ensures outside { (result ≡ Err EngineFault.Outside) ↔ (has_place (length files.old) file offset (length buf.old) ≡ false) }
+    ensures bytes { ReadsKnown (map F.view files.old) file offset buf.old result buf.new }
+    ensures files { map F.view files.new ≡ map F.view files.old }
     ensures most { IfOk result (λ n. n ≤ length buf.old) }
 {
     if !has_place(files.len(), file, offset, buf.len()) {
@@ -125,8 +140,17 @@ fn read_files(
 }
 
 // Writes to the files: nothing where there is no such place.
-fn write_files(files: &mut [File], file: u32, offset: u64, buf: &[u8]) -> Result<usize, EngineFault>
+fn write_files<F: Positioned>(
+    files: &mut [F],
+    file: u32,
+    offset: u64,
+    buf: &[u8],
+) -> Result<usize, EngineFault>
     ensures outside { (result ≡ Err EngineFault.Outside) ↔ (has_place (length files.old) file offset (length buf.now) ≡ false) }
+    ensures bytes { IsTrue (has_place (length files.old) file offset (length buf.now))
+        → WritesKnown (map F.view files.old) file offset buf.now result (map F.view files.new) }
+    ensures unchanged { has_place (length files.old) file offset (length buf.now) ≡ false
+        → map F.view files.new ≡ map F.view files.old }
     ensures most { IfOk result (λ n. n ≤ length buf.now) }
 {
     if !has_place(files.len(), file, offset, buf.len()) {

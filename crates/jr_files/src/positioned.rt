@@ -8,7 +8,7 @@ use std::os::unix::fs::FileExt;
 /// An open file whose bytes are read and written by their offsets. A call may move a part of what was asked for.
 ///
 /// Contracts see its bytes where they are known (`FileView`). Of a file of the system they aren't.
-pub trait Positioned {
+pub trait Positioned: Drop {
     ghost view: { Self → FileView };
 
     /// Reads bytes from `offset` on into the buffer, and answers how many: none at the file's end.

@@ -1,0 +1,6 @@
+use Rattle.std.proofs.Math.Seq.{map-set_same}
+use Rattle.jr_files.proofs.file_engine.read_files.Goals as goal
+
+pub returns-clause-files : goal.returns-clause-files
+returns-clause-files g c =
+    map-set_same g.F.Positioned.view c.args.files.now c.args.file c.read_whole.new.file c.index-files-file.result c.read_whole.ensures.known
