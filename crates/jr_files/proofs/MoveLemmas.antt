@@ -7,20 +7,23 @@ use Rattle.std.proofs.lemmas.Option.{slice_get-map, slice_get-get_or}
 use Rattle.std.proofs.Math.Seq.{take-add, take-append-add, drop-append-add}
 use Rattle.jr_model.specs.Replies.{placed}
 use Rattle.jr_engines.specs.declared.faults.EngineFault.{EngineFault}
-use Rattle.jr_files.specs.Engines.{WritesKnown, has_place}
+use Rattle.jr_files.specs.Engines.{ReadsFile, ReadsKnown, WritesFile, WritesKnown, has_place}
 use Rattle.jr_files.specs.Moves.{Stores}
 use Rattle.jr_files.specs.Parts.{FileView}
 
--- a read so far: the file is as it was, and so many bytes of it stand first in the buffer
-pub record ReadSoFar (old now : FileView) (offset done : ℕ) (buffer : List ℕ) : Type 0 where
+-- a read so far, after so many calls: the file is as it was, and so many bytes of it stand first in the buffer
+pub record ReadSoFar (old now : FileView) (offset calls done : ℕ) (buffer : List ℕ) : Type 0 where
   pub same : now ≡ old
+  pub goes_on : IsTrue old.is_sound → calls ≤ done
   pub most : done ≤ length buffer
   pub within : IsTrue old.is_known → done ≤ length (drop offset old.bytes)
   pub got : IsTrue old.is_known → take done buffer ≡ take done (drop offset old.bytes)
 
--- a write so far: so many bytes of the buffer stand in the file, and its others are as they were
-pub record WrittenSoFar (old now : FileView) (offset done : ℕ) (buffer : List ℕ) : Type 0 where
+-- a write so far, after so many calls: so many bytes of the buffer stand in the file, and its others are as they were
+pub record WrittenSoFar (old now : FileView) (offset calls done : ℕ) (buffer : List ℕ) : Type 0 where
   pub same : now.is_known ≡ old.is_known
+  pub stays : now.is_sound ≡ old.is_sound
+  pub goes_on : IsTrue old.is_sound → calls ≤ done
   pub most : done ≤ length buffer
   pub stored : IsTrue old.is_known → offset + length buffer ≤ length old.bytes → now.bytes ≡ placed old.bytes offset (take done buffer)
 
@@ -34,8 +37,8 @@ front_more there buffer part rest d n has room front got =
     cut ∙ ap (λ z. take d buffer ++ z) (take-append-le n part rest room ∙ got) ∙ ap (λ z. z ++ take n (drop d there)) front ∙ sym (take-add d n there)
 
 -- n bytes more of the file stand in the buffer
-pub read_more : (old now after : FileView) (offset d n m : ℕ) (buffer part rest : List ℕ) → ReadSoFar old now offset d buffer → after ≡ now → m ≡ d + n → n ≤ length part → (IsTrue now.is_known → n ≤ length (drop (offset + d) now.bytes)) → (IsTrue now.is_known → take n part ≡ take n (drop (offset + d) now.bytes)) → ReadSoFar old after offset m (take d buffer ++ (part ++ rest))
-read_more old now after offset d n m buffer part rest so_far same sum room within got =
+pub read_more : (old now after : FileView) (offset calls d n m : ℕ) (buffer part rest : List ℕ) → ReadSoFar old now offset calls d buffer → after ≡ now → m ≡ d + n → (IsTrue now.is_sound → 0 < n) → n ≤ length part → (IsTrue now.is_known → n ≤ length (drop (offset + d) now.bytes)) → (IsTrue now.is_known → take n part ≡ take n (drop (offset + d) now.bytes)) → ReadSoFar old after offset (calls + 1) m (take d buffer ++ (part ++ rest))
+read_more old now after offset calls d n m buffer part rest so_far same sum goes_on room within got =
     let now_is : now ≡ old = so_far.same in
     let within_old : IsTrue old.is_known → n ≤ length (drop (offset + d) old.bytes) =
     subst (λ (v : FileView). IsTrue v.is_known → n ≤ length (drop (offset + d) v.bytes)) now_is within
@@ -52,8 +55,12 @@ read_more old now after offset d n m buffer part rest so_far same sum room withi
     let long_left : length (drop (offset + d) old.bytes) ≡ length (drop offset old.bytes) - d =
     ap (λ (z : List ℕ). length z) (sym left) ∙ length-drop d (drop offset old.bytes)
     in
-    subst (λ (k : ℕ). ReadSoFar old after offset k (take d buffer ++ (part ++ rest))) (sym sum) (record {
+    subst (λ (k : ℕ). ReadSoFar old after offset (calls + 1) k (take d buffer ++ (part ++ rest))) (sym sum) (record {
       same = same ∙ now_is;
+      goes_on = λ sound.
+          let a : calls ≤ d = so_far.goes_on sound in
+          let b : 0 < n = goes_on (subst (λ (v : FileView). IsTrue v.is_sound) (sym now_is) sound) in
+          omega (arith, a, b);
       most = most;
       within = λ known. let a : d ≤ length (drop offset old.bytes) = so_far.within known in
           let b : n ≤ length (drop (offset + d) old.bytes) = within_old known in
@@ -86,10 +93,15 @@ placed_more bytes offset d n buffer inside most =
     ∙ ap (λ (z : List ℕ). z ++ drop (offset + length (take (d + n) buffer)) bytes) (append_assoc front t s ∙ ap (λ (z : List ℕ). front ++ z) (sym both))
 
 -- n bytes more of the buffer stand in the file
-pub written_more : (old now after : FileView) (offset d n m : ℕ) (buffer : List ℕ) → WrittenSoFar old now offset d buffer → after.is_known ≡ now.is_known → m ≡ d + n → d + n ≤ length buffer → (IsTrue now.is_known → offset + d + length (drop d buffer) ≤ length now.bytes → after.bytes ≡ placed now.bytes (offset + d) (take n (drop d buffer))) → WrittenSoFar old after offset m buffer
-written_more old now after offset d n m buffer so_far same sum most stored =
-    subst (λ (k : ℕ). WrittenSoFar old after offset k buffer) (sym sum) (record {
+pub written_more : (old now after : FileView) (offset calls d n m : ℕ) (buffer : List ℕ) → WrittenSoFar old now offset calls d buffer → after.is_known ≡ now.is_known → after.is_sound ≡ now.is_sound → m ≡ d + n → (IsTrue now.is_sound → 0 < n) → d + n ≤ length buffer → (IsTrue now.is_known → offset + d + length (drop d buffer) ≤ length now.bytes → after.bytes ≡ placed now.bytes (offset + d) (take n (drop d buffer))) → WrittenSoFar old after offset (calls + 1) m buffer
+written_more old now after offset calls d n m buffer so_far same stays sum goes_on most stored =
+    subst (λ (k : ℕ). WrittenSoFar old after offset (calls + 1) k buffer) (sym sum) (record {
       same = same ∙ so_far.same;
+      stays = stays ∙ so_far.stays;
+      goes_on = λ sound.
+          let a : calls ≤ d = so_far.goes_on sound in
+          let b : 0 < n = goes_on (subst (λ b. IsTrue b) (sym so_far.stays) sound) in
+          omega (arith, a, b);
       most = most;
       stored = λ known inside.
           let now_is : now.bytes ≡ placed old.bytes offset (take d buffer) = so_far.stored known inside in
@@ -110,18 +122,22 @@ view_of : {F : Type 0} (view : F → FileView) (files : List F) (place : ℕ) (o
 view_of view files place other before inside known =
     let there : slice_get files place ≡ Some (slice_index_or files place other) = slice_get-get_or files place other inside in
     let seen : slice_get (map view files) place ≡ Some (view (slice_index_or files place other)) =
-      slice_get-map view files place ∙ ap (λ o. option_map view o) there
+    slice_get-map view files place ∙ ap (λ o. option_map view o) there
     in
     cc
 
+-- a read of one of some files, seen from all of them
+pub reads_known : {F : Type 0} (view : F → FileView) (files : List F) (place offset : ℕ) (before : List ℕ) (answer : Result ℕ EngineFault) (after : List ℕ) (other : F) → IsTrue (has_place (length files) place offset (length before)) → ReadsFile (view (slice_index_or files place other)) offset before answer after → ReadsKnown (map view files) place offset before answer after
+reads_known view files place offset before answer after other places reads known there =
+    let inside : place < length files = grind (arith, nat_tests) in
+    subst (λ (v : FileView). ReadsFile v offset before answer after) (view_of view files place other known inside there) reads
+
 -- a write to one of some files, seen from all of them
-pub writes_known : {F : Type 0} (view : F → FileView) (files : List F) (place offset : ℕ) (buffer : List ℕ) (answer : Result ℕ EngineFault) (other after : F) → IsTrue (has_place (length files) place offset (length buffer)) → (view after).is_known ≡ (view (slice_index_or files place other)).is_known → (IsTrue (view (slice_index_or files place other)).is_known → offset + length buffer ≤ length (view (slice_index_or files place other)).bytes → Stores (view (slice_index_or files place other)).bytes offset buffer answer (view after).bytes) → WritesKnown (map view files) place offset buffer answer (map view (slice_set files place after))
-writes_known view files place offset buffer answer other after places known stores =
+pub writes_known : {F : Type 0} (view : F → FileView) (files : List F) (place offset : ℕ) (buffer : List ℕ) (answer : Result ℕ EngineFault) (other after : F) → IsTrue (has_place (length files) place offset (length buffer)) → WritesFile (view (slice_index_or files place other)) offset buffer answer (view after) → WritesKnown (map view files) place offset buffer answer (map view (slice_set files place after))
+writes_known view files place offset buffer answer other after places writes =
     let inside : place < length files = grind (arith, nat_tests) in
     record {
       after = view after;
       files = map-set view files place after;
-      known = λ before there. known ∙ ap (λ (v : FileView). v.is_known) (view_of view files place other before inside there);
-      stores = λ before there.
-        subst (λ (v : FileView). IsTrue v.is_known → offset + length buffer ≤ length v.bytes → Stores v.bytes offset buffer answer (view after).bytes) (view_of view files place other before inside there) stores;
+      writes = λ before there. subst (λ (v : FileView). WritesFile v offset buffer answer (view after)) (view_of view files place other before inside there) writes;
     }

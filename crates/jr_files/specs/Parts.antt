@@ -3,14 +3,16 @@ use Rattle.std.specs.Prelude.{ℕ, ◌+◌, ◌<◌, ◌≤◌, ◌≡◌, Bool,
 use Rattle.std.specs.Result.{result_ok}
 use Rattle.jr_model.specs.Replies.{placed}
 
--- what is known of a file: whether its bytes are, and then they
+-- what is known of a file: whether no call fails or is interrupted, and each that is given bytes to write takes some; whether its
+-- bytes are known, and then they
 pub record FileView : Type 0 where
+  pub is_sound : Bool
   pub is_known : Bool
   pub bytes : List ℕ
 
 -- a file that others may change, and of which nothing is known
 abbrev pub unknown_view : FileView
-unknown_view = record { is_known = false; bytes = [] }
+unknown_view = record { is_sound = false; is_known = false; bytes = [] }
 
 -- a read of these bytes from offset on: the first n of them stand first in the buffer, and there are some unless none are left
 -- or the buffer has no room

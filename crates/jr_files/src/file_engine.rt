@@ -71,7 +71,9 @@ impl<F: Positioned> Engine for FileEngine<F> {
     fn read(&mut self, file: u32, offset: u64, buf: &mut [u8]) -> Result<usize, EngineFault>
         requires { self.old.calls < 2 ^ 64 - 1 }
         ensures outside { (result ≡ Err EngineFault.Outside) ↔ (has_place (length self.old.files) file offset (length buf.old) ≡ false) }
-        ensures bytes { ReadsKnown self.old.files file offset buf.old result buf.new }
+        ensures bytes { IsTrue (has_place (length self.old.files) file offset (length buf.old))
+            → ReadsKnown self.old.files file offset buf.old result buf.new }
+        ensures unchanged { has_place (length self.old.files) file offset (length buf.old) ≡ false → buf.new ≡ buf.old }
         ensures files { self.new.files ≡ self.old.files }
         ensures counts { Counts (files_state self.old) result (files_state self.new) }
         ensures few { (files_state self.new).failures ≤ (files_state self.new).calls }
@@ -129,7 +131,9 @@ fn read_files<F: Positioned>(
     buf: &mut [u8],
 ) -> Result<usize, EngineFault>
     ensures outside { (result ≡ Err EngineFault.Outside) ↔ (has_place (length files.old) file offset (length buf.old) ≡ false) }
-    ensures bytes { ReadsKnown (map F.view files.old) file offset buf.old result buf.new }
+    ensures bytes { IsTrue (has_place (length files.old) file offset (length buf.old))
+        → ReadsKnown (map F.view files.old) file offset buf.old result buf.new }
+    ensures unchanged { has_place (length files.old) file offset (length buf.old) ≡ false → buf.new ≡ buf.old }
     ensures files { map F.view files.new ≡ map F.view files.old }
     ensures most { IfOk result (λ n. n ≤ length buf.old) }
 {

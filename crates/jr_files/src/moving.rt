@@ -1,4 +1,4 @@
-ghost use Rattle.std.specs.Prelude.{◌≡◌, ◌+◌, ◌^◌, ◌<◌, ◌≤◌, IsTrue, IfOk, IfErr, length};
+ghost use Rattle.std.specs.Prelude.{◌≡◌, ◌+◌, ◌≤◌, IsTrue, IsOk, IfOk, IfErr, length};
 ghost use Rattle.jr_files.specs.Moves.{GetsAll, Stores};
 
 use crate::positioned::Positioned;
@@ -20,6 +20,7 @@ pub fn read_whole<F: Positioned>(
     ensures most { IfOk result (λ n. n ≤ length buf.old) }
     ensures device { IfErr result (λ fault. fault ≡ EngineFault.Device) }
     ensures known { F.view file.new ≡ F.view file.old }
+    ensures sound { IsTrue (F.view file.old).is_sound → IsOk result }
     ensures bytes { IsTrue (F.view file.old).is_known
         → GetsAll (F.view file.old).bytes offset buf.old result buf.new }
 {
@@ -30,7 +31,7 @@ pub fn read_whole<F: Positioned>(
         }
         match file.read_at(&mut buf[done..], offset + done as u64) {
             Ok(0) => return Ok(done),
-            Ok(count) => done += count,
+            Ok(got) => done += got,
             Err(error) if error.kind() == ErrorKind::Interrupted => {}
             Err(_) => return Err(EngineFault::Device),
         }
@@ -50,6 +51,8 @@ pub fn write_whole<F: Positioned>(
     ensures most { IfOk result (λ n. n ≤ length buf.now) }
     ensures device { IfErr result (λ fault. fault ≡ EngineFault.Device) }
     ensures known { (F.view file.new).is_known ≡ (F.view file.old).is_known }
+    ensures stays { (F.view file.new).is_sound ≡ (F.view file.old).is_sound }
+    ensures sound { IsTrue (F.view file.old).is_sound → result ≡ Ok (length buf.now) }
     ensures bytes { IsTrue (F.view file.old).is_known → offset + length buf.now ≤ length (F.view file.old).bytes
         → Stores (F.view file.old).bytes offset buf.now result (F.view file.new).bytes }
 {
@@ -60,7 +63,7 @@ pub fn write_whole<F: Positioned>(
         }
         match file.write_at(&buf[done..], offset + done as u64) {
             Ok(0) => return Ok(done),
-            Ok(count) => done += count,
+            Ok(taken) => done += taken,
             Err(error) if error.kind() == ErrorKind::Interrupted => {}
             Err(_) => return Err(EngineFault::Device),
         }

@@ -249,6 +249,27 @@ fn parts_are_gone_on_with(rt: HostRuntime) {
     assert_eq!(rt; file.bytes, [11, 12, 3, 4, 5, 6, 7, 8]);
 }
 
+#[test]
+fn files_of_another_kind(rt: HostRuntime) -> Result<(), Fail> {
+    let mut files = Vec::new(rt.alloc());
+    for last in [9, 4] {
+        files.push(Piecemeal {
+            bytes: [1; 8],
+            calls: 0,
+            last,
+        })?;
+    }
+    let mut engine = FileEngine::over(files);
+    assert_eq!(rt; engine.write(0, 3, &[2, 3, 4]), Ok(3));
+    let mut buf = [9; 4];
+    assert_eq!(rt; engine.read(0, 2, &mut buf), Ok(4));
+    assert_eq!(rt; buf, [1, 2, 3, 4]);
+    assert_eq!(rt; engine.write(1, 3, &[2, 3, 4]), Err(EngineFault::Device));
+    assert_eq!(rt; engine.write(2, 3, &[2]), Err(EngineFault::Outside));
+    assert_eq!(rt; (engine.calls(), engine.failures()), (4, 2));
+    Ok(())
+}
+
 // Writes by an engine that has calls left, and then reads what stands before that.
 fn write_and_read(engine: &mut dyn Engine, offset: u64, byte: u8) -> Option<u8> {
     if engine.calls() >= 9 {

@@ -1,4 +1,5 @@
 use Rattle.std.proofs.Common.{◌≡◌, ◌+◌, ◌-◌, ◌≤◌, ℕ, List, length, drop, take, subst, arith, length-drop}
+use Rattle.std.proofs.lemmas.Bool.{false≢true}
 use Rattle.std.proofs.lemmas.List.{take_rest}
 use Rattle.jr_model.specs.Replies.{placed}
 use Rattle.jr_files.proofs.MoveLemmas.{written_more}
@@ -17,14 +18,16 @@ loop-preserved g c =
     let left = length-drop c.loop.done c.args.buf.now in
     elim c.match-write_at.branch [
       | in-Ok w ↦
-          let taken : w.in-Ok.count ≤ length (drop c.loop.done c.args.buf.now) =
-          subst (λ (z : List ℕ). w.in-Ok.count ≤ length z) rest w.in-Ok.ensures.most
+          let taken : w.in-Ok.taken ≤ length (drop c.loop.done c.args.buf.now) =
+          subst (λ (z : List ℕ). w.in-Ok.taken ≤ length z) rest w.in-Ok.ensures.most
           in
-          written_more _ _ _ c.args.offset c.loop.done w.in-Ok.count c.match-write_at.done c.args.buf.now c.loop.invariant c.write_at.ensures.known w.done-is
+          written_more _ _ _ c.args.offset c.loop.counter c.loop.done w.in-Ok.taken c.match-write_at.done c.args.buf.now c.loop.invariant c.write_at.ensures.known c.write_at.ensures.stays w.done-is
+          (λ sound. omega (arith, w.in-Ok.taken-test.1))
           (omega (arith, taken, left, most))
-          (λ known. of_the_rest _ _ (c.args.offset + c.loop.done) c.loop.done w.in-Ok.count c.args.buf.now (w.in-Ok.ensures.part known))
+          (λ known. of_the_rest _ _ (c.args.offset + c.loop.done) c.loop.done w.in-Ok.taken c.args.buf.now (w.in-Ok.ensures.part known))
       | in-Err w ↦
-          written_more _ _ _ c.args.offset c.loop.done 0 c.match-write_at.done c.args.buf.now c.loop.invariant c.write_at.ensures.known (omega (arith, w.done-is))
+          written_more _ _ _ c.args.offset c.loop.counter c.loop.done 0 c.match-write_at.done c.args.buf.now c.loop.invariant c.write_at.ensures.known c.write_at.ensures.stays (omega (arith, w.done-is))
+          (λ sound. absurd (false≢true (w.in-Err.ensures.sound sound)))
           (omega (arith, most))
           (λ known. of_the_rest _ _ (c.args.offset + c.loop.done) c.loop.done 0 c.args.buf.now (w.in-Err.ensures.part known))
     ]
