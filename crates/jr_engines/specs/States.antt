@@ -2,6 +2,7 @@
 use Rattle.std.specs.Prelude.{ℕ, true, false, List, [], ◌++◌, Option, option_to_list}
 use Rattle.jr_model.specs.declared.replies.Reply.{Reply}
 use Rattle.jr_model.specs.Replies.{EngineState, FileBytes}
+use Rattle.jr_engines.specs.Tally.{Tally}
 
 -- a memory engine: its calls so far, how many of them failed, and its files
 pub record MemoryState : Type 0 where
@@ -40,3 +41,8 @@ pub record NullState : Type 0 where
 -- it has no memory to speak of
 abbrev pub null_state : NullState → EngineState
 null_state engine = record { calls = engine.calls; failures = 0; is_known = false; memory = []; script = [] }
+
+-- an engine whose bytes others may change too: its calls so far, and how many of them failed, are all that is known
+abbrev pub counted_state : Tally → EngineState
+counted_state engine =
+    record { calls = engine.calls; failures = engine.failures; is_known = false; memory = []; script = [] }

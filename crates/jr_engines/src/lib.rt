@@ -8,6 +8,7 @@ mod files;
 mod memory_engine;
 mod null_engine;
 mod scripted_engine;
+mod shared_memory;
 mod slices;
 mod tallies;
 
@@ -18,6 +19,8 @@ pub use jr_model::{Reply, ReplyBytes};
 pub use memory_engine::MemoryEngine;
 pub use null_engine::NullEngine;
 pub use scripted_engine::ScriptedEngine;
+pub use shared_memory::SharedMemory;
+pub use tallies::Tally;
 
 #[cfg(test)]
 mod tests;

@@ -4,7 +4,7 @@ ghost use Rattle.jr_engines.specs.Tally.{Notes};
 use crate::faults::EngineFault;
 use std::marker::Model;
 
-// The calls that an engine has had, and how many of them failed.
+/// The calls that an engine has had, and how many of them failed, for engines to keep.
 #[derive(Debug, Drop)]
 pub struct Tally {
     calls: u64,
@@ -23,6 +23,7 @@ impl Model for Tally {
 }
 
 impl Tally {
+    /// No call yet.
     pub fn new() -> Tally
         ensures { result ≡ record { calls = 0; failures = 0 } }
     {
@@ -32,7 +33,7 @@ impl Tally {
         }
     }
 
-    // Notes one more call and how it ended.
+    /// Notes one more call and how it ended.
     pub fn note(&mut self, answer: &Result<usize, EngineFault>)
         requires { self.old.calls < 2 ^ 64 - 1 }
         ensures notes { Notes self.old answer.now self.new }
@@ -44,12 +45,14 @@ impl Tally {
         }
     }
 
+    /// How many calls there were.
     pub fn calls(&self) -> u64
         ensures { result ≡ self.now.calls }
     {
         self.calls
     }
 
+    /// How many of them answered an error.
     pub fn failures(&self) -> u64
         ensures value { result ≡ self.now.failures }
         ensures few { self.now.failures ≤ self.now.calls }

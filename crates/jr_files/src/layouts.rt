@@ -1,0 +1,38 @@
+ghost use Rattle.std.specs.Prelude.{length, IfErr};
+ghost use Rattle.jr_files.specs.Engines.{NamesFile};
+
+use crate::faults::FileFault;
+use jr_options::Plan;
+use std::fs::OpenOptions;
+use std::io;
+use std::io::{Seek, SeekFrom, Write};
+use std::rt::Files;
+
+/// Makes each file of the plan that is missing, and extends each that is shorter than its end by one zero byte.
+///
+/// A file's length is where a seek to its end stands, so that a device of the right size isn't written to.
+/// At an error the files before the one that it names are laid out, and those behind it aren't touched.
+pub fn lay_out<R: Files>(rt: &R, plan: &Plan) -> Result<(), FileFault>
+    ensures { IfErr result (λ fault. NamesFile fault (length plan.now.files)) }
+{
+    for (index, spec) in plan.files().iter().enumerate() {
+        if extend(rt, spec.name(), spec.high()).is_err() {
+            return Err(FileFault::File(index));
+        }
+    }
+    Ok(())
+}
+
+// Makes the file if it is missing, and lets it have at least so many bytes.
+fn extend<R: Files>(rt: &R, name: &str, high: u64) -> io::Result<()> {
+    let mut file = OpenOptions::new()
+        .read(true)
+        .write(true)
+        .create(true)
+        .open(rt, name)?;
+    if file.seek(SeekFrom::End(0))? < high {
+        file.seek(SeekFrom::Start(high - 1))?;
+        file.write_all(&[0])?;
+    }
+    Ok(())
+}

@@ -1,0 +1,17 @@
+// Files of the system as an engine, and the files of a plan made long enough for it.
+#![tactic(auto)]
+
+mod faults;
+mod file_engine;
+mod layouts;
+mod moving;
+mod positioned;
+
+pub use faults::FileFault;
+pub use file_engine::FileEngine;
+pub use layouts::lay_out;
+pub use moving::{LARGEST_OFFSET, read_whole, write_whole};
+pub use positioned::Positioned;
+
+#[cfg(test)]
+mod tests;
