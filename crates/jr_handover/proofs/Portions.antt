@@ -43,7 +43,7 @@ all_idle whole [] (v ∷ views) positive none each = absurd each
 all_idle whole (s ∷ shares) [] positive none each = absurd each
 all_idle whole (s ∷ shares) (v ∷ views) positive none each =
     idle_cons v views (idle_share whole s v positive (omega (arith, none, sum-cons s shares)) each.0)
-        (all_idle whole shares views positive (omega (arith, none, sum-cons s shares)) each.1)
+    (all_idle whole shares views positive (omega (arith, none, sum-cons s shares)) each.1)
 
 -- the share of one view, and what comes of changing it
 pub record Portion (whole : ℕ) (shares : List ℕ) (views : List Hand) (i : ℕ) (v : Hand) : Type 0 where
@@ -82,7 +82,7 @@ portion whole (s ∷ shares) (x ∷ views) (suc i) v each e = let behind = porti
   all = λ t. omega (arith, behind.all t, sum-cons s shares, sum-cons s (set shares i t));
   alone = λ positive sum_is.
       alone_behind x v views (idle_share whole s x positive (omega (arith, sum_is, behind.within, sum-cons s shares)) each.0)
-          (behind.alone positive (omega (arith, sum_is, behind.within, sum-cons s shares)));
+      (behind.alone positive (omega (arith, sum_is, behind.within, sum-cons s shares)));
 }
 
 -- the same shares of a whole that is so many times as large

@@ -1,5 +1,5 @@
 -- Each step of the hand-over keeps its rule.
-use Rattle.std.proofs.Common.{◌≡◌, ℕ, zero, suc, ◌+◌, ◌*◌, ◌-◌, ◌<◌, ◌≤◌, ◌≢◌, Bool, true, false, eqb, eqb-true, ltb-true, nat_lt, ◌==◌, if◌then◌else◌, length-append, List, [], ◌∷◌, ◌++◌, length, sum, sum_by, flat_map, set, refl, sym, ap, ◌∙◌, subst, arith, append-nil, append_assoc, mul_assoc, mul_comm, add-mul, suc-mul, one-mul, mul-pos, ⊎_elim, IsPermutation, lit<}
+use Rattle.std.proofs.Common.{◌≡◌, ℕ, zero, suc, ◌+◌, ◌*◌, ◌-◌, ◌<◌, ◌≤◌, ◌≢◌, Bool, true, false, eqb, eqb-true, eq-eqb, ltb-true, lt-ltb, nat_lt, ◌==◌, if◌then◌else◌, length-append, List, [], ◌∷◌, ◌++◌, length, sum, sum_by, flat_map, set, refl, sym, ap, ◌∙◌, subst, arith, append-nil, append_assoc, mul_assoc, mul_comm, add-mul, suc-mul, one-mul, mul-pos, ⊎_elim, IsPermutation, lit<}
 use native.Mathlib.Nat.{mul_right_comm, zero-mul, eq_of_mul-eq-mul_right}
 use Rattle.std.proofs.lemmas.List.Sums.{sum_by-append, sum_by-cons}
 use Rattle.std.proofs.lemmas.List.Sorted.{IsPermutation-refl, sum_by-IsPermutation, length_permutation}
@@ -34,7 +34,7 @@ changed : (old new : List Parcel) (views : List Hand) (i : ℕ) (v w : Hand) →
     → IsPermutation (all_put views) (all_taken views ++ old) → IsPermutation (all_put (set views i w)) (all_taken (set views i w) ++ new)
 changed old new views i v w at e p =
     balances new (set views i w)
-        (λ h. omega (arith, e h, weighs old views p h, flat_map-set (λ u. u.put) h views i v w at, flat_map-set (λ u. u.taken) h views i v w at))
+    (λ h. omega (arith, e h, weighs old views p h, flat_map-set (λ u. u.put) h views i v w at, flat_map-set (λ u. u.taken) h views i v w at))
 
 -- a view that keeps its parts keeps its share
 kept_share : (views : List Hand) (i : ℕ) (v w : Hand) → get_elem? views i ≡ some v → 0 < v.parts → w.parts ≡ v.parts → w.of ≡ v.of → IsShared views → IsShared (set views i w)
@@ -162,7 +162,7 @@ sums_by false whole s p d t q e same one other has d_some e_some = record {
   exact =
       let first : s * (d * e) ≡ p * e * whole = sym (mul_assoc s d e) ∙ ap (λ n. n * e) one ∙ mul_right_comm p whole e in
       let second : t * (d * e) ≡ q * d * whole =
-          ap (λ n. t * n) (mul_comm d e) ∙ sym (mul_assoc t e d) ∙ ap (λ n. n * d) other ∙ mul_right_comm q whole d in
+      ap (λ n. t * n) (mul_comm d e) ∙ sym (mul_assoc t e d) ∙ ap (λ n. n * d) other ∙ mul_right_comm q whole d in
       add-mul s t (d * e) ∙ omega (arith, first, second, add-mul (p * e) (q * d) whole);
   has = let some_part : 0 < p * e = mul-pos has e_some in omega (arith, some_part);
   cut = mul-pos d_some e_some;
@@ -207,9 +207,12 @@ joins i v j w has items views b at two still =
     let at_other : get_elem? views j ≡ some w = ⊎_elim (λ x. absurd (two x.0)) (λ x. x.1) (at_set views i j (joined_of v w) w still) in
     record {
       parcels = balances items (set (set views i (joined_of v w)) j spent_hand) (λ h.
-          omega (arith, weighs items views b.parcels h,
-              joined_weight (λ u. u.put) h views i j v w (joined_of v w) spent_hand at still refl refl,
-              joined_weight (λ u. u.taken) h views i j v w (joined_of v w) spent_hand at still refl refl));
+          omega (
+            arith,
+            weighs items views b.parcels h,
+            joined_weight (λ u. u.put) h views i j v w (joined_of v w) spent_hand at still refl refl,
+            joined_weight (λ u. u.taken) h views i j v w (joined_of v w) spent_hand at still refl refl,
+          ));
       parts = joined_share views i j v w at at_other still has b.parts;
     }
 
@@ -230,3 +233,11 @@ nothing_left taken (x ∷ left) e = absurd (omega (arith, e, length-append taken
 -- where as much was taken as was put, nothing is left
 pub settles : (put taken left : List Parcel) → length taken ≡ length put → IsPermutation put (taken ++ left) → IsPermutation put taken
 settles put taken left e p = subst (IsPermutation put) (nothing_left taken left (length_permutation put (taken ++ left) p ∙ sym e)) p
+
+-- a pass that has parts to give isn't cut further
+pub cut-many : (v : Hand) → 1 < v.parts → (cut_parts v - 1 + 1 ≡ v.parts) × (cut_of v ≡ v.of)
+cut-many v more = let e : nat_lt 1 v.parts ≡ true = lt-ltb 1 v.parts more in (rw e (omega (arith, more)), rw e refl)
+
+-- parts that are as large as one another add up
+pub joined-alike : (v w : Hand) → v.of ≡ w.of → (joined_parts v w ≡ v.parts + w.parts) × (joined_of_parts v w ≡ v.of)
+joined-alike v w same = let e : (v.of == w.of) ≡ true = eq-eqb v.of w.of same in (rw e refl, rw e refl)

@@ -67,9 +67,9 @@ module _ {X : Type 0} (coded : Coded X) where
   weigh_same (x ∷ xs) ys e =
       let at = stands x ys (omega (arith, e (one x), sum_by-cons (one x) x xs, one_itself x)) in
       let rest : (h : X → ℕ) → sum_by h xs ≡ sum_by h (at.0 ++ at.1) =
-          λ h. omega (arith, e h, ap (sum_by h) at.2, sum_by-cons h x xs, sum_by-append h at.0 (x ∷ at.1), sum_by-cons h x at.1, sum_by-append h at.0 at.1) in
+      λ h. omega (arith, e h, ap (sum_by h) at.2, sum_by-cons h x xs, sum_by-append h at.0 (x ∷ at.1), sum_by-cons h x at.1, sum_by-append h at.0 at.1) in
       subst (IsPermutation (x ∷ xs)) (sym at.2)
-          (IsPermutation-trans _ _ _ (IsPermutation-cons x xs (at.0 ++ at.1) (weigh_same xs (at.0 ++ at.1) rest)) (IsPermutation-sym _ _ (IsPermutation-middle at.0 x at.1)))
+      (IsPermutation-trans _ _ _ (IsPermutation-cons x xs (at.0 ++ at.1) (weigh_same xs (at.0 ++ at.1) rest)) (IsPermutation-sym _ _ (IsPermutation-middle at.0 x at.1)))
 
 -- what the lists of all views weigh after one view was changed
 pub flat_map-set : {V X : Type 0} (f : V → List X) (h : X → ℕ) (views : List V) (i : ℕ) (v w : V) → get_elem? views i ≡ some v

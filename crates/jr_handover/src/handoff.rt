@@ -23,7 +23,7 @@ pub struct Pass {
 }
 
 impl Handoff {
-    ghost use Rattle.std.specs.Prelude.{◌≡◌, ◌++◌, ◌≤◌, List, length, IfOk, IsOkAnd};
+    ghost use Rattle.std.specs.Prelude.{◌≡◌, ◌+◌, ◌++◌, ◌<◌, ◌≤◌, List, length, IfOk, IsOkAnd};
     ghost use Rattle.std.specs.List.Sorted.{IsPermutation};
     ghost use Rattle.jr_handover.specs.Hands.{first_hand, kept_of, given_of, joined_of, with_put, with_taken, IsWhole};
     ghost use Rattle.jr_handover.specs.Passes.{IsPassOf, hand_of, room_of};
@@ -44,6 +44,10 @@ impl Handoff {
         requires { IsPassOf self.now pass.old }
         ensures pass { IsPassOf self.now pass.new }
         ensures kept { hand_of pass.new ≡ kept_of (hand_of pass.old) }
+
+        // While a pass has parts to give, they are as large as before.
+        ensures parts { let old = hand_of pass.old in let new = hand_of pass.new in
+            1 < old.parts → (new.parts + 1 ≡ old.parts) × (new.of ≡ old.of) }
         ensures given { IsOkAnd result (λ given. IsPassOf self.now given × (hand_of given ≡ given_of (hand_of pass.old))) }
     {
         let seat = self.sender.another::<Cut>(&mut pass.seat);
@@ -56,6 +60,10 @@ impl Handoff {
         requires other { IsPassOf self.now other }
         ensures pass { IsPassOf self.now pass.new }
         ensures joined { hand_of pass.new ≡ joined_of (hand_of pass.old) (hand_of other) }
+
+        // Parts that are as large as one another add up.
+        ensures parts { let old = hand_of pass.old in let new = hand_of pass.new in let more = hand_of other in
+            old.of ≡ more.of → (new.parts ≡ old.parts + more.parts) × (new.of ≡ old.of) }
     {
         let Pass { seat } = other;
         self.sender.absorb::<Cut>(&mut pass.seat, seat);

@@ -7,3 +7,6 @@ mod parcel;
 
 pub use handoff::{Handoff, Pass};
 pub use parcel::Parcel;
+
+#[cfg(test)]
+mod tests;

@@ -10,4 +10,4 @@ pub returns-clause-all_taken : goal.returns-clause-all_taken
 returns-clause-all_taken c =
     let left = c.learn_as.ensures.rule in
     λ as_many. settles _ _ left.0 as_many
-        (subst (λ (v : Hand). IsPermutation v.put (v.taken ++ left.0)) (sym c.learn_as.ensures.channel.2) left.1)
+    (subst (λ (v : Hand). IsPermutation v.put (v.taken ++ left.0)) (sym c.learn_as.ensures.channel.2) left.1)
