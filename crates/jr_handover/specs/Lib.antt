@@ -1,0 +1,4 @@
+pub mod Hands
+pub mod Shares
+pub mod Balance
+pub mod Passes

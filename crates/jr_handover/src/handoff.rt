@@ -1,0 +1,114 @@
+ghost use Rattle.std.specs.Prelude.{◌≡◌};
+ghost use Rattle.crossbeam_channel.specs.Ends.{sends_on, receives_on};
+
+use crate::balance::{Account, Balance, Cut, Puts, Takes};
+use crate::parcel::{Hand, Parcel};
+use crossbeam_channel::{RuledReceiver, RuledSender, bounded_with};
+use jr_model::Memory;
+use std::alloc::Global;
+use std::sync::Wait;
+
+/// The channel from workers to verifiers, which threads share by reference.
+#[derive(Drop)]
+pub struct Handoff {
+    sender: RuledSender<Parcel, Hand, Balance>,
+    receiver: RuledReceiver<Parcel, Hand, Balance>,
+    ghost joined: { receives_on receiver ≡ sends_on sender },
+}
+
+/// What one thread knows of a hand-over: what it put and what it took. It has no bytes.
+#[derive(Drop)]
+pub struct Pass {
+    seat: crossbeam_channel::Pass<Parcel, Hand>,
+}
+
+impl Handoff {
+    ghost use Rattle.std.specs.Prelude.{◌≡◌, ◌+◌, ◌++◌, ◌<◌, ◌≤◌, List, length, IfOk, IsOkAnd};
+    ghost use Rattle.std.specs.List.Sorted.{IsPermutation};
+    ghost use Rattle.jr_handover.specs.Hands.{first_hand, kept_of, given_of, joined_of, with_put, with_taken, IsWhole};
+    ghost use Rattle.jr_handover.specs.Passes.{IsPassOf, hand_of, room_of};
+
+    /// A channel for so many parcels, and the pass of the thread that makes it.
+    pub fn new<R>(_rt: &R, alloc: Global, capacity: usize) -> Result<(Handoff, Pass), Memory>
+        requires { 1 ≤ capacity }
+        ensures pass { IfOk result (λ made. IsPassOf made.0 made.1) }
+        ensures nothing { IfOk result (λ made. hand_of made.1 ≡ first_hand) }
+        ensures capacity { IfOk result (λ made. room_of made.0 ≡ capacity) }
+    {
+        let (sender, receiver, seat) = bounded_with(alloc, capacity)?;
+        Ok((Handoff { sender, receiver }, Pass { seat }))
+    }
+
+    /// A pass for another thread. It takes no memory, so it isn't refused.
+    pub fn split(&self, pass: &mut Pass) -> Result<Pass, Memory>
+        requires { IsPassOf self.now pass.old }
+        ensures pass { IsPassOf self.now pass.new }
+        ensures kept { hand_of pass.new ≡ kept_of (hand_of pass.old) }
+
+        // While a pass has parts to give, they are as large as before.
+        ensures parts { let old = hand_of pass.old in let new = hand_of pass.new in
+            1 < old.parts → (new.parts + 1 ≡ old.parts) × (new.of ≡ old.of) }
+        ensures given { IsOkAnd result (λ given. IsPassOf self.now given × (hand_of given ≡ given_of (hand_of pass.old))) }
+    {
+        let seat = self.sender.another::<Cut>(&mut pass.seat);
+        Ok(Pass { seat })
+    }
+
+    /// Takes in the pass of a thread that has ended.
+    pub fn join(&self, pass: &mut Pass, other: Pass)
+        requires pass { IsPassOf self.now pass.old }
+        requires other { IsPassOf self.now other }
+        ensures pass { IsPassOf self.now pass.new }
+        ensures joined { hand_of pass.new ≡ joined_of (hand_of pass.old) (hand_of other) }
+
+        // Parts that are as large as one another add up.
+        ensures parts { let old = hand_of pass.old in let new = hand_of pass.new in let more = hand_of other in
+            old.of ≡ more.of → (new.parts ≡ old.parts + more.parts) × (new.of ≡ old.of) }
+    {
+        let Pass { seat } = other;
+        self.sender.absorb::<Cut>(&mut pass.seat, seat);
+    }
+
+    /// Puts the parcel at the back, and waits while the channel is full.
+    pub fn put<R: Wait>(&self, rt: &R, pass: &mut Pass, parcel: Parcel)
+        requires { IsPassOf self.now pass.old }
+        ensures pass { IsPassOf self.now pass.new }
+        ensures put { hand_of pass.new ≡ with_put (hand_of pass.old) parcel }
+    {
+        let mut parcel = parcel;
+        for _ in rt.forever() {
+            match self.sender.send_as::<Puts, R>(rt, &mut pass.seat, parcel) {
+                Ok(()) => return,
+                Err(refused) => parcel = refused.into_inner(),
+            }
+        }
+        unreachable!()
+    }
+
+    /// Takes the parcel at the front, and waits while there is none.
+    pub fn take<R: Wait>(&self, rt: &R, pass: &mut Pass) -> Parcel
+        requires { IsPassOf self.now pass.old }
+        ensures pass { IsPassOf self.now pass.new }
+        ensures taken { hand_of pass.new ≡ with_taken (hand_of pass.old) result }
+    {
+        for _ in rt.forever() {
+            if let Ok(parcel) = self.receiver.recv_as::<Takes, R>(rt, &mut pass.seat) {
+                return parcel;
+            }
+        }
+        unreachable!()
+    }
+
+    /// What holds once every pass was joined into this one.
+    pub fn account(&self, pass: &mut Pass)
+        requires pass { IsPassOf self.now pass.old }
+        requires whole { IsWhole (hand_of pass.old) }
+        ensures pass { IsPassOf self.now pass.new }
+        ensures same { hand_of pass.new ≡ hand_of pass.old }
+        ensures left { (left : List Parcel) × IsPermutation (hand_of pass.new).put ((hand_of pass.new).taken ++ left) }
+        ensures all_taken { length (hand_of pass.new).taken ≡ length (hand_of pass.new).put
+            → IsPermutation (hand_of pass.new).put (hand_of pass.new).taken }
+    {
+        self.sender.learn_as::<Account>(&mut pass.seat);
+    }
+}
