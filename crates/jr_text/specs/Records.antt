@@ -1,4 +1,4 @@
--- What contracts see of a section and of an option line: numbers and lists of bytes.
+-- Believed: what contracts see of a section and of an option line: numbers and lists of bytes.
 use Rattle.std.specs.Prelude.{ℕ, List, Option}
 
 -- an option line: its number from 1, its key, and its value where it has one

@@ -1,7 +1,7 @@
 ghost use Rattle.std.specs.Prelude.{◌≡◌, Ok, IfErr, IfOk, OnErr, OnOk, option_copied};
-ghost use Rattle.jr_text.specs.JobText.{option_in};
-ghost use Rattle.jr_text.specs.Reading.{opened, with_option};
-ghost use Rattle.jr_text.specs.Refusals.{IsRefusal};
+ghost use Rattle.std.specs.Result.{result_err};
+ghost use Rattle.jr_text.specs.JobText.{name_fault, name_in, option_in};
+ghost use Rattle.jr_text.specs.Reading.{opened, with_option, IsRefusal};
 
 use crate::cuts::trimmed;
 use crate::faults::TextFault;
@@ -103,13 +103,7 @@ impl Section {
         ensures ok { IfOk result (λ section. opened line rest.now ≡ Ok section) }
         ensures err { IfErr result (λ fault. IsRefusal fault (opened line rest.now)) }
     {
-        let Some((name, _)) = rest.split_once(']') else {
-            return Err(TextFault::OpenBracket(line));
-        };
-        if name.is_empty() {
-            return Err(TextFault::EmptyName(line));
-        }
-        let name = String::from_str(alloc, name)?;
+        let name = String::from_str(alloc, section_name(line, rest)?)?;
         Ok(Section {
             name,
             line,
@@ -144,5 +138,17 @@ impl Section {
         ensures { result.now ≡ self.now.lines }
     {
         self.options.as_slice()
+    }
+}
+
+// The name of the section that a line opens; `rest` is what follows its `[`.
+pub(crate) fn section_name(line: u32, rest: &str) -> Result<&str, TextFault>
+    ensures fault { result_err result ≡ name_fault line rest.now }
+    ensures name { IfOk result (λ name. name.now ≡ name_in rest.now) }
+{
+    match rest.split_once(']') {
+        Some((name, _)) if name.is_empty() => Err(TextFault::EmptyName(line)),
+        Some((name, _)) => Ok(name),
+        None => Err(TextFault::OpenBracket(line)),
     }
 }
