@@ -12,3 +12,10 @@ pub record SectionText : Type 0 where
   pub name : List ℕ
   pub line : ℕ
   pub lines : List LineText
+
+-- those of these parts
+abbrev pub line_text : ℕ → List ℕ → Option (List ℕ) → LineText
+line_text line key value = record { line = line; key = key; value = value }
+
+abbrev pub section_text : List ℕ → ℕ → List LineText → SectionText
+section_text name line lines = record { name = name; line = line; lines = lines }

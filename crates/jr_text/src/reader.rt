@@ -129,7 +129,7 @@ fn add_option(
     let Some(section) = found.last_mut() else {
         return Err(TextFault::Outside(number));
     };
-    section.push(Line::new(alloc, number, before_comment(content))?)?;
+    section.push(Line::read(alloc, number, before_comment(content))?)?;
     Ok(())
 }
 
@@ -225,6 +225,37 @@ mod tests {
         );
         let shown = format!(in rt.alloc(); "{}; {}", TextFault::NotUtf8, TextFault::Memory)?;
         assert_eq!(rt; shown.as_str(), "job file: not UTF-8; out of memory");
+        Ok(())
+    }
+
+    #[test]
+    fn a_section_is_made_and_taken_apart(rt: HostRuntime) -> Result<(), Fail> {
+        let size = Line::new(
+            4,
+            String::from_str(rt.alloc(), "size")?,
+            Some(String::from_str(rt.alloc(), "1m")?),
+        );
+        let stonewall = Line::new(6, String::from_str(rt.alloc(), "stonewall")?, None);
+        let mut lines = Vec::new(rt.alloc());
+        lines.push(size)?;
+        lines.push(stonewall)?;
+        let section = Section::new(String::from_str(rt.alloc(), "a")?, 3, lines);
+        let sections = vec![in rt.alloc(); section]?;
+        let text = shown(rt.alloc(), sections.as_slice())?;
+        assert_eq!(rt; text.as_str(), "3 [a]\n4 size=1m\n6 stonewall\n");
+        for section in sections {
+            let (name, line, mut lines) = section.into_parts();
+            assert_eq!(rt; name.as_str(), "a");
+            assert_eq!(rt; line, 3);
+            assert_eq!(rt; lines.len(), 2);
+            let Some(last) = lines.pop() else {
+                panic!(rt; "no line")
+            };
+            let (line, key, value) = last.into_parts();
+            assert_eq!(rt; line, 6);
+            assert_eq!(rt; key.as_str(), "stonewall");
+            assert!(rt; value.is_none());
+        }
         Ok(())
     }
 
