@@ -1,7 +1,7 @@
 -- A verdict is Good on the bytes that a write put there, and on no others as far as digests tell them apart.
-use Rattle.std.proofs.Common.{◌≡◌, ℕ, ◌-◌, List, ◌++◌, length, take, drop, replicate, Bool, true, false, Some, None, Option, refl, sym, ap, ◌∙◌, arith, length-append}
+use Rattle.std.proofs.Common.{◌≡◌, ℕ, List, ◌++◌, length, take, drop, Bool, true, false, Some, None, Option, refl, sym, ap, ◌∙◌, arith, length-append}
 use Rattle.std.specs.Prelude.{slice_range, is_some, if◌then◌else◌}
-use Rattle.std.proofs.lemmas.List.{take_at, drop_at, take-append-drop, drop-drop, append_assoc, append_cancel_right}
+use Rattle.std.proofs.lemmas.List.{take_at, drop_at, take-append-drop, drop-drop, append_assoc}
 use Rattle.std.proofs.lemmas.Slice.Eq.{bytes_eq-Decides}
 use Rattle.jr_model.specs.declared.blocks.Piece.{Piece}
 use Rattle.jr_model.specs.declared.events.WriteId.{WriteId}
@@ -11,11 +11,11 @@ use Rattle.jr_model.specs.declared.contents.VerifyKind.{VerifyKind}
 use Rattle.jr_model.specs.declared.contents.VerifyKind.TheVariants as verify
 use Rattle.jr_model.specs.declared.contents.Method.{Method}
 use Rattle.jr_model.specs.Content.{pattern_bytes, digest_of, digest_length, header_front, header_back, header_of, headed_block, data_area, content_of, expected_of, expected_pattern, filler_of}
-use Rattle.jr_model.specs.Judgement.{is_checked, same_bytes, header_verdict, first_difference, byte_verdict, verdict_of, TellsApart}
+use Rattle.jr_model.specs.Judgement.{digest_in, is_checked, same_bytes, header_verdict, first_difference, byte_verdict, verdict_of, TellsApart}
 use Rattle.jr_header.proofs.Differences.{none_differs, same_from-first_difference}
 use Rattle.jr_header.proofs.Headers.{length-header_front, length-header_back}
 use Rattle.jr_header.proofs.Patterns.{length-pattern_bytes}
-use Rattle.jr_header.proofs.Verdicts.{all_same}
+use Rattle.jr_header.proofs.Verdicts.{all_same, digest-header_back}
 
 -- the same list twice
 same_twice : (xs ys : List ℕ) → xs ≡ ys → same_bytes xs ys ≡ true
@@ -37,7 +37,7 @@ good_block kind front back area front_len back_len is =
     all_same kind header (header ++ area)
     (same_twice _ _ (bytes_front ∙ sym header_first))
     (same_twice _ _ (bytes_back ∙ sym header_rest))
-    (same_twice _ _ (ap (header_back kind) bytes_area ∙ sym is ∙ sym header_rest))
+    (same_twice _ _ (ap (digest_of kind) bytes_area ∙ sym (ap (take (digest_length kind)) (header_rest ∙ is) ∙ digest-header_back kind area)))
 
 good_headed : (method : Method) (write : WriteId) (piece : Piece) (seed : ℕ) (kind : VerifyKind) → kind ≡ method.kind
     → header_verdict kind (header_of method write piece seed) (headed_block method write piece seed) ≡ Good
@@ -65,7 +65,7 @@ good_on_content method write piece seed verify.Sha256 same = good_headed method 
 pub record IsGood (kind : VerifyKind) (header bytes : List ℕ) : Type 0 where
   pub front : take 32 bytes ≡ take 32 header
   pub back : slice_range bytes 32 64 ≡ drop 32 header
-  pub area : header_back kind (drop 64 bytes) ≡ drop 32 header
+  pub area : digest_of kind (drop 64 bytes) ≡ digest_in kind header
 
 tests : (a b c : Bool) → (if a then (if b then (if c then Good else Bad DataArea) else Bad Digest) else Bad Header) ≡ Good
     → (a ≡ true) × (b ≡ true) × (c ≡ true)
@@ -77,11 +77,11 @@ tests false b c good = absurd (cc)
 IsGood-from_verdict : (kind : VerifyKind) (header bytes : List ℕ) → header_verdict kind header bytes ≡ Good → IsGood kind header bytes
 IsGood-from_verdict kind header bytes good =
     let all = tests (same_bytes (take 32 bytes) (take 32 header)) (same_bytes (slice_range bytes 32 64) (drop 32 header))
-    (same_bytes (header_back kind (drop 64 bytes)) (drop 32 header)) good in
+    (same_bytes (digest_of kind (drop 64 bytes)) (digest_in kind header)) good in
     record {
       front = (bytes_eq-Decides (take 32 bytes) (take 32 header)).0 all.0;
       back = (bytes_eq-Decides (slice_range bytes 32 64) (drop 32 header)).0 all.1;
-      area = (bytes_eq-Decides (header_back kind (drop 64 bytes)) (drop 32 header)).0 all.2;
+      area = (bytes_eq-Decides (digest_of kind (drop 64 bytes)) (digest_in kind header)).0 all.2;
     }
 
 -- a block with this header, whose data area has the digest of this area, is that block
@@ -92,7 +92,7 @@ block_from_good kind front area bytes front_len good apart =
     let back : List ℕ = header_back kind area in
     let header_rest : drop 32 (front ++ back) ≡ back = drop_at front back 32 front_len in
     let digests : digest_of kind (drop 64 bytes) ≡ digest_of kind area =
-    append_cancel_right (digest_of kind (drop 64 bytes)) (digest_of kind area) (replicate (32 - digest_length kind) 0) (good.area ∙ header_rest) in
+    good.area ∙ ap (take (digest_length kind)) header_rest ∙ digest-header_back kind area in
     let first : take 32 bytes ≡ front = good.front ∙ take_at front back 32 front_len in
     let second : take 32 (drop 32 bytes) ≡ back = good.back ∙ header_rest in
     let third : drop 32 (drop 32 bytes) ≡ area = drop-drop 32 32 bytes ∙ apart digests in

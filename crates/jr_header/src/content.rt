@@ -3,7 +3,7 @@ ghost use Rattle.jr_model.specs.Content.{kind_code, digest_length, header_front,
 ghost use Rattle.jr_model.specs.Tickets.{ticket_fits};
 ghost use Rattle.jr_header.specs.Served.{ticket_content, ticket_expected};
 
-use crate::digests::header_back;
+use crate::digests::{digest_length, header_back};
 use crate::filler::fill_filler;
 use jr_model::{Expected, Piece, Ticket, VerifyKind, WriteId};
 
@@ -95,17 +95,5 @@ fn kind_code(kind: VerifyKind) -> u8
         VerifyKind::Md5 => 1,
         VerifyKind::Sha1 => 2,
         VerifyKind::Sha256 => 3,
-    }
-}
-
-// How many bytes of a header's second half are the digest.
-fn digest_length(kind: VerifyKind) -> u8
-    ensures { result ≡ digest_length kind }
-{
-    match kind {
-        VerifyKind::Plain | VerifyKind::Pattern => 0,
-        VerifyKind::Md5 => 16,
-        VerifyKind::Sha1 => 20,
-        VerifyKind::Sha256 => 32,
     }
 }

@@ -1,5 +1,5 @@
-ghost use Rattle.std.specs.Prelude.{◌≡◌};
-ghost use Rattle.jr_model.specs.Content.{header_back};
+ghost use Rattle.std.specs.Prelude.{◌≡◌, ◌≤◌};
+ghost use Rattle.jr_model.specs.Content.{digest_length, header_back};
 
 use jr_model::VerifyKind;
 use md5::{Digest as _, Md5};
@@ -18,4 +18,17 @@ pub(crate) fn header_back(kind: VerifyKind, area: &[u8]) -> [u8; 32]
         VerifyKind::Plain | VerifyKind::Pattern => {}
     }
     back
+}
+
+// How many bytes of a header's second half are the digest.
+pub(crate) fn digest_length(kind: VerifyKind) -> u8
+    ensures value { result ≡ digest_length kind }
+    ensures most { result ≤ 32 }
+{
+    match kind {
+        VerifyKind::Plain | VerifyKind::Pattern => 0,
+        VerifyKind::Md5 => 16,
+        VerifyKind::Sha1 => 20,
+        VerifyKind::Sha256 => 32,
+    }
 }

@@ -1,8 +1,8 @@
-ghost use Rattle.std.specs.Prelude.{◌≡◌, ◌≤◌, ◌<◌, ◌^◌, IsTrue, length, slice_index, ◌%◌};
-ghost use Rattle.jr_model.specs.Content.{pattern_bytes};
+ghost use Rattle.std.specs.Prelude.{◌≡◌, ◌≤◌, ◌<◌, ◌^◌, IsTrue, length, slice_index, take, ◌%◌};
+ghost use Rattle.jr_model.specs.Content.{digest_length, digest_of, pattern_bytes};
 ghost use Rattle.jr_model.specs.Judgement.{same_bytes, header_verdict, first_difference, byte_verdict, verdict_of};
 
-use crate::digests::header_back;
+use crate::digests::{digest_length, header_back};
 use jr_model::{Expected, Verdict, VerifyKind, What};
 
 // The verdict on the bytes of a check, by what is expected of it.
@@ -36,11 +36,21 @@ fn header_verdict(kind: VerifyKind, header: &[u8; 64], bytes: &[u8]) -> Verdict
         Verdict::Bad(What::Header)
     } else if !same_bytes(&bytes[32..64], &header[32..]) {
         Verdict::Bad(What::Digest)
-    } else if !same_bytes(&header_back(kind, &bytes[64..]), &header[32..]) {
+    } else if !begins_with_digest(&header[32..], kind, &bytes[64..]) {
         Verdict::Bad(What::DataArea)
     } else {
         Verdict::Good
     }
+}
+
+// Whether the second half of a header begins with the digest of this data area. What stands behind the
+// digest is free.
+fn begins_with_digest(back: &[u8], kind: VerifyKind, area: &[u8]) -> bool
+    requires { 32 ≤ length back.now }
+    ensures { result ≡ same_bytes (digest_of kind area.now) (take (digest_length kind) back.now) }
+{
+    let count = usize::from(digest_length(kind));
+    same_bytes(&header_back(kind, area)[..count], &back[..count])
 }
 
 fn same_bytes(a: &[u8], b: &[u8]) -> bool

@@ -207,6 +207,30 @@ fn what_is_wrong_first_is_named(rt: HostRuntime) -> Result<(), Fail> {
     Ok(())
 }
 
+// A ticket made by hand may have other bytes than zeros behind the digest in its header.
+#[test]
+fn what_stands_behind_the_digest_is_free(rt: HostRuntime) -> Result<(), Fail> {
+    for kind in [VerifyKind::Md5, VerifyKind::Sha1] {
+        let ticket = a_write(kind, None, 512);
+        let (mut block, expected) = filled(&rt, rt.alloc(), &ticket)?;
+        let Expected::Header(mut header) = expected else {
+            panic!(rt; "no header")
+        };
+        header[52..].copy_from_slice(&[7; 12]);
+        let expected = Expected::Header(header);
+        let found = judged(&rt, &ticket, &expected, block.as_slice());
+        assert_eq!(rt; found, Verdict::Bad(What::Digest));
+
+        assert_eq!(rt; block.len(), 512);
+        let block = block.as_mut_slice();
+        block[52..64].copy_from_slice(&[7; 12]);
+        assert_eq!(rt; judged(&rt, &ticket, &expected, block), Verdict::Good);
+        let found = judged_with_flip(&rt, &ticket, &expected, block, 64);
+        assert_eq!(rt; found, Verdict::Bad(What::DataArea));
+    }
+    Ok(())
+}
+
 #[test]
 fn the_block_of_another_write_is_wrong(rt: HostRuntime) -> Result<(), Fail> {
     for kind in [VerifyKind::Md5, VerifyKind::Sha1, VerifyKind::Sha256] {

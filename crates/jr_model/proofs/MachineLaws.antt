@@ -27,10 +27,10 @@ use Rattle.jr_model.specs.declared.steps.Step.TheVariants as step
 use Rattle.jr_model.specs.declared.tickets.TicketKind.{TicketKind}
 use Rattle.jr_model.specs.declared.tickets.TicketKind.TheVariants as ticket
 use Rattle.jr_model.specs.Choice.{choice}
-use Rattle.jr_model.specs.Content.{pattern_bytes, expected_of, expected_pattern, header_back, header_of}
+use Rattle.jr_model.specs.Content.{pattern_bytes, expected_of, expected_pattern, digest_of, header_of}
 use Rattle.jr_model.specs.Draws.{draws_of}
 use Rattle.jr_model.specs.History.{Started, started, started_by, flies, outcome_of, is_judged, is_probe, ended_whole}
-use Rattle.jr_model.specs.Judgement.{first_difference, byte_verdict, verdict_of, header_verdict, same_bytes}
+use Rattle.jr_model.specs.Judgement.{digest_in, first_difference, byte_verdict, verdict_of, header_verdict, same_bytes}
 use Rattle.jr_model.specs.Legal.{is_legal, outcome_fits, end_fits, verdict_fits, kind_says, job_says}
 use Rattle.jr_model.specs.Machine.{State, Stepped, is_skip, choices_after, taken, take_answer, work_of, verdict_in_job, verdict_on, seed_of_draw, content_of_io, read_of, bytes_read, first_state, end_refusal, judge_refusal, is_judgeable, read_ends, ends_by, machine_end_by, machine_judge_by, machine_take, machine_step, machine_run}
 use Rattle.jr_model.specs.Plan.{Plan, SubJob, IsNumbered, clone_of}
@@ -91,7 +91,7 @@ pub header_says : (P : GivenVerdict → Type 0) (kind : VerifyKind) (header byte
 header_says P kind header bytes good front digest area =
     cond_both (same_bytes (take 32 bytes) (take 32 header)) _ (Bad Header) P
     (λ _. cond_both (same_bytes (slice_range bytes 32 64) (drop 32 header)) _ (Bad Digest) P
-    (λ _. cond_both (same_bytes (header_back kind (drop 64 bytes)) (drop 32 header)) Good (Bad DataArea) P (λ _. good) (λ _. area))
+    (λ _. cond_both (same_bytes (digest_of kind (drop 64 bytes)) (digest_in kind header)) Good (Bad DataArea) P (λ _. good) (λ _. area))
     (λ _. digest))
     (λ _. front)
 

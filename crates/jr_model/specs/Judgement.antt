@@ -13,18 +13,22 @@ use Rattle.jr_model.specs.declared.contents.Expected.TheVariants as expected
 use Rattle.jr_model.specs.declared.events.What.TheVariants.{Header, Digest, DataArea, Byte}
 use Rattle.jr_model.specs.declared.events.Verdict.{Verdict}
 use Rattle.jr_model.specs.declared.events.Verdict.TheVariants.{Good, Bad}
-use Rattle.jr_model.specs.Content.{header_back, pattern_bytes}
+use Rattle.jr_model.specs.Content.{digest_of, digest_length, pattern_bytes}
 
 -- the same bytes
 abbrev pub same_bytes : List ℕ → List ℕ → Bool
 same_bytes a b = pointwise nat_eq a b
+
+-- the digest in a header: the first bytes of its second half
+abbrev pub digest_in : VerifyKind → List ℕ → List ℕ
+digest_in kind header = take (digest_length kind) (drop 32 header)
 
 -- the verdict by the header that was written, for a kind with a digest
 abbrev pub header_verdict : VerifyKind → List ℕ → List ℕ → Verdict
 header_verdict kind header bytes =
     if same_bytes (take 32 bytes) (take 32 header)
     then (if same_bytes (slice_range bytes 32 64) (drop 32 header)
-    then (if same_bytes (header_back kind (drop 64 bytes)) (drop 32 header) then Good else Bad DataArea)
+    then (if same_bytes (digest_of kind (drop 64 bytes)) (digest_in kind header) then Good else Bad DataArea)
     else Bad Digest)
     else Bad Header
 

@@ -3,24 +3,26 @@ use Rattle.std.proofs.Common.{◌≡◌, ℕ, ◌+◌, List, [], ◌∷◌, ◌+
 use Rattle.std.specs.List.{filter, filter_map, cons_option}
 use Rattle.std.proofs.lemmas.List.{append-nil, append_assoc}
 use Rattle.std.proofs.lemmas.List.Sums.{take_while-cons}
+use Rattle.jr_text.specs.declared.faults.TextFault.{TextFault}
+use Rattle.jr_text.specs.declared.faults.TextFault.TheVariants.{Outside}
 use Rattle.jr_text.specs.Records.{LineText, SectionText}
-use Rattle.jr_text.specs.JobText.{Fault, before_opening, content_of, is_opening, is_skipped, lines_from, name_fault, name_in, opening_faults, option_of, outside, read_lines, section_of, sections_in, unless_faulty}
+use Rattle.jr_text.specs.JobText.{before_opening, content_of, is_opening, is_skipped, lines_from, name_fault, name_in, opening_faults, option_of, read_lines, section_of, sections_in, unless_faulty}
 use Rattle.jr_text.specs.Reading.{and_option, and_section, opened, opened_unless, with_last_option, with_option}
 use Rattle.jr_text.proofs.Pass.{after, pass}
 
-after_same : {A B : Type 0} (r : Result A Fault) (f g : A → Result B Fault) → ((x : A) → f x ≡ g x) → after r f ≡ after r g
+after_same : {A B : Type 0} (r : Result A TextFault) (f g : A → Result B TextFault) → ((x : A) → f x ≡ g x) → after r f ≡ after r g
 after_same (Ok x) f g h = h x
 after_same (Err fault) f g h = refl
 
 -- the pass over the lines that say something
-abbrev and_said : List SectionText → ℕ × List ℕ → Result (List SectionText) Fault
+abbrev and_said : List SectionText → ℕ × List ℕ → Result (List SectionText) TextFault
 and_said found l = cond (is_opening l.1) (and_section found (opened l.0 (drop 1 l.1))) (and_option found l)
 
-abbrev pass_said : List SectionText → List (ℕ × List ℕ) → Result (List SectionText) Fault
+abbrev pass_said : List SectionText → List (ℕ × List ℕ) → Result (List SectionText) TextFault
 pass_said found [] = Ok found
 pass_said found (l ∷ more) = after (and_said found l) (λ next. pass_said next more)
 
-by_skip : (b : Bool) (found : List SectionText) (l : ℕ × List ℕ) (more : List (ℕ × List ℕ)) (go : List SectionText → Result (List SectionText) Fault) → ((next : List SectionText) → go next ≡ pass_said next more) → after (cond b (Ok found) (and_said found l)) go ≡ pass_said found (cond (not b) (l ∷ more) more)
+by_skip : (b : Bool) (found : List SectionText) (l : ℕ × List ℕ) (more : List (ℕ × List ℕ)) (go : List SectionText → Result (List SectionText) TextFault) → ((next : List SectionText) → go next ≡ pass_said next more) → after (cond b (Ok found) (and_said found l)) go ≡ pass_said found (cond (not b) (l ∷ more) more)
 by_skip true found l more go h = h found
 by_skip false found l more go h = after_same (and_said found l) go (λ next. pass_said next more) h
 
@@ -56,7 +58,7 @@ leading lines = map option_of (before_opening lines)
 abbrev Continues : List (ℕ × List ℕ) → Type 0
 Continues lines = (front : List SectionText) (s : SectionText) → pass_said (front ++ s ∷ []) lines ≡ unless_faulty (opening_faults lines) (front ++ (with_options s (leading lines) ∷ sections_in lines))
 
-opens : (fault : Option Fault) (front : List SectionText) (s : SectionText) (l : ℕ × List ℕ) (lines : List (ℕ × List ℕ)) → Continues lines → after (and_section (front ++ s ∷ []) (opened_unless fault l.0 (drop 1 l.1))) (λ next. pass_said next lines) ≡ unless_faulty (cons_option fault (opening_faults lines)) (front ++ (with_options s [] ∷ (section_of l lines ∷ sections_in lines)))
+opens : (fault : Option TextFault) (front : List SectionText) (s : SectionText) (l : ℕ × List ℕ) (lines : List (ℕ × List ℕ)) → Continues lines → after (and_section (front ++ s ∷ []) (opened_unless fault l.0 (drop 1 l.1))) (λ next. pass_said next lines) ≡ unless_faulty (cons_option fault (opening_faults lines)) (front ++ (with_options s [] ∷ (section_of l lines ∷ sections_in lines)))
 opens (Some fault) front s l lines goes = refl
 opens None front s l lines goes =
     goes (front ++ s ∷ []) (record { name = name_in (drop 1 l.1); line = l.0; lines = [] })
@@ -72,7 +74,7 @@ sets front s l lines goes =
 abbrev openings : List (ℕ × List ℕ) → List (ℕ × List ℕ)
 openings lines = filter (λ l. is_opening l.1) lines
 
-abbrev faults_of : List (ℕ × List ℕ) → List Fault
+abbrev faults_of : List (ℕ × List ℕ) → List TextFault
 faults_of lines = filter_map (λ l. name_fault l.0 (drop 1 l.1)) lines
 
 inside_by : (b : Bool) (front : List SectionText) (s : SectionText) (l : ℕ × List ℕ) (lines : List (ℕ × List ℕ)) → Continues lines → after (cond b (and_section (front ++ s ∷ []) (opened l.0 (drop 1 l.1))) (and_option (front ++ s ∷ []) l)) (λ next. pass_said next lines) ≡ unless_faulty (faults_of (cond b (l ∷ openings lines) (openings lines))) (front ++ (with_options s (map option_of (cond (not b) (l ∷ before_opening lines) [])) ∷ cond b (section_of l lines ∷ sections_in lines) (sections_in lines)))
@@ -86,11 +88,11 @@ inside (l ∷ lines) front s =
     ∙ ap (λ above. unless_faulty (opening_faults (l ∷ lines)) (front ++ (with_options s (map option_of above) ∷ sections_in (l ∷ lines)))) (sym (take_while-cons (λ x. not (is_opening x.1)) l lines))
 
 -- the lines where no section is open yet
-starts : (fault : Option Fault) (l : ℕ × List ℕ) (lines : List (ℕ × List ℕ)) → after (and_section [] (opened_unless fault l.0 (drop 1 l.1))) (λ next. pass_said next lines) ≡ unless_faulty (cons_option fault (opening_faults lines)) (section_of l lines ∷ sections_in lines)
+starts : (fault : Option TextFault) (l : ℕ × List ℕ) (lines : List (ℕ × List ℕ)) → after (and_section [] (opened_unless fault l.0 (drop 1 l.1))) (λ next. pass_said next lines) ≡ unless_faulty (cons_option fault (opening_faults lines)) (section_of l lines ∷ sections_in lines)
 starts (Some fault) l lines = refl
 starts None l lines = inside lines [] (record { name = name_in (drop 1 l.1); line = l.0; lines = [] })
 
-start_by : (b : Bool) (l : ℕ × List ℕ) (lines : List (ℕ × List ℕ)) → after (cond b (and_section [] (opened l.0 (drop 1 l.1))) (and_option [] l)) (λ next. pass_said next lines) ≡ unless_faulty (map (λ x. outside x.0) (cond (not b) (l ∷ before_opening lines) []) ++ faults_of (cond b (l ∷ openings lines) (openings lines))) (cond b (section_of l lines ∷ sections_in lines) (sections_in lines))
+start_by : (b : Bool) (l : ℕ × List ℕ) (lines : List (ℕ × List ℕ)) → after (cond b (and_section [] (opened l.0 (drop 1 l.1))) (and_option [] l)) (λ next. pass_said next lines) ≡ unless_faulty (map (λ x. Outside x.0) (cond (not b) (l ∷ before_opening lines) []) ++ faults_of (cond b (l ∷ openings lines) (openings lines))) (cond b (section_of l lines ∷ sections_in lines) (sections_in lines))
 start_by true l lines = starts (name_fault l.0 (drop 1 l.1)) l lines
 start_by false l lines = refl
 
@@ -98,7 +100,7 @@ all_lines : (lines : List (ℕ × List ℕ)) → pass_said [] lines ≡ read_lin
 all_lines [] = refl
 all_lines (l ∷ lines) =
     start_by (is_opening l.1) l lines
-    ∙ ap (λ above. unless_faulty (map (λ x. outside x.0) above ++ opening_faults (l ∷ lines)) (sections_in (l ∷ lines))) (sym (take_while-cons (λ x. not (is_opening x.1)) l lines))
+    ∙ ap (λ above. unless_faulty (map (λ x. Outside x.0) above ++ opening_faults (l ∷ lines)) (sections_in (l ∷ lines))) (sym (take_while-cons (λ x. not (is_opening x.1)) l lines))
 
 pub pass_is : (lines : List (List ℕ)) → pass [] 1 lines ≡ read_lines (lines_from 1 lines)
 pass_is lines = pass_lines lines [] 1 ∙ all_lines (lines_from 1 lines)

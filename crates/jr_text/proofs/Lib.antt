@@ -1,3 +1,4 @@
+pub mod Checks
 pub mod CutLemmas
 pub mod Grouping
 pub mod LineLemmas

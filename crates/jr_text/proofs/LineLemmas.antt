@@ -1,9 +1,9 @@
 -- What one line adds, case by case.
-use Rattle.std.proofs.Common.{◌≡◌, ◌≢◌, ℕ, zero, suc, ◌-◌, ◌<◌, List, [], ◌∷◌, length, get_or, set, false, Ok, sym, ap, ◌∙◌, refl, arith}
+use Rattle.std.proofs.Common.{◌≡◌, ◌≢◌, ℕ, zero, suc, ◌-◌, ◌<◌, List, [], ◌∷◌, length, get_or, set, Bool, false, Ok, sym, ap, ◌∙◌, refl, arith}
 use Rattle.std.proofs.lemmas.Bool.Decides.{nat_tests}
 use Rattle.jr_text.specs.Records.{LineText, SectionText}
 use Rattle.jr_text.specs.JobText.{is_opening, is_skipped, option_of}
-use Rattle.jr_text.specs.Reading.{and_line, and_option, with_last_option, with_option}
+use Rattle.jr_text.specs.Reading.{and_line, and_option, open_below, open_for_option, with_last_option, with_option}
 
 -- a write to the last section
 set_last : (xs : List SectionText) (n : ℕ) (s : SectionText) (o : LineText) → suc n ≡ length xs → s ≡ get_or xs n s → set xs n (with_option s o) ≡ with_last_option xs o
@@ -32,3 +32,7 @@ is_opening_none (b ∷ rest) h =
 -- a line that neither is skipped nor opens a section sets an option
 pub and_line_option : (found : List SectionText) (l : ℕ × List ℕ) → is_skipped l.1 ≡ false → is_opening l.1 ≡ false → and_line found l ≡ and_option found l
 and_line_option found l said option = simp (said, option)
+
+-- nor does it name a section
+pub open_below_option : (is_open : Bool) (l : ℕ × List ℕ) → is_skipped l.1 ≡ false → is_opening l.1 ≡ false → open_below is_open l ≡ open_for_option is_open l.0
+open_below_option is_open l said option = simp (said, option)

@@ -5,7 +5,8 @@ use Rattle.std.specs.Str.{is_utf8, chars}
 use Rattle.jr_text.specs.declared.faults.NumFault.TheVariants.{NoDigits, BadUnit, UnitOutOfScope, TooLarge}
 use Rattle.jr_text.specs.Number.{number_of}
 use Rattle.jr_text.specs.Records.{LineText, SectionText}
-use Rattle.jr_text.specs.JobText.{sections_of, content_of, option_of, open_bracket, empty_name, outside, not_utf8}
+use Rattle.jr_text.specs.declared.faults.TextFault.TheVariants.{NotUtf8, OpenBracket, EmptyName, Outside}
+use Rattle.jr_text.specs.JobText.{sections_of, content_of, option_of}
 
 -- ---- numbers
 
@@ -74,20 +75,20 @@ one_name : sections_of (codes "[global]") ≡ Ok (section (codes "global") 1 [] 
 unfolding sections_of content_of option_of is_utf8 chars lib.Utf8.encode
 one_name = refl
 
-bracket_left_open : sections_of (codes "[a") ≡ Err (open_bracket 1)
+bracket_left_open : sections_of (codes "[a") ≡ Err (OpenBracket 1)
 unfolding sections_of content_of option_of is_utf8 chars lib.Utf8.encode
 bracket_left_open = refl
 
-no_name : sections_of (codes "[]") ≡ Err (empty_name 1)
+no_name : sections_of (codes "[]") ≡ Err (EmptyName 1)
 unfolding sections_of content_of option_of is_utf8 chars lib.Utf8.encode
 no_name = refl
 
-option_alone : sections_of (codes "bs=4k") ≡ Err (outside 1)
+option_alone : sections_of (codes "bs=4k") ≡ Err (Outside 1)
 unfolding sections_of content_of option_of is_utf8 chars lib.Utf8.encode
 option_alone = refl
 
 -- the first of two faults
-bracket_before_option : sections_of (lines (codes "# a" ∷ codes "[b" ∷ codes "size=1" ∷ [])) ≡ Err (open_bracket 2)
+bracket_before_option : sections_of (lines (codes "# a" ∷ codes "[b" ∷ codes "size=1" ∷ [])) ≡ Err (OpenBracket 2)
 unfolding sections_of content_of option_of is_utf8 chars lib.Utf8.encode
 bracket_before_option = refl
 
@@ -107,6 +108,6 @@ unfolding sections_of content_of option_of is_utf8 chars lib.Utf8.encode
 unusual_ends = refl
 
 -- a byte that no UTF-8 has, behind a faulty line
-no_text : sections_of (codes "[a" ++ (10 ∷ 255 ∷ [])) ≡ Err not_utf8
+no_text : sections_of (codes "[a" ++ (10 ∷ 255 ∷ [])) ≡ Err NotUtf8
 unfolding sections_of content_of option_of is_utf8 chars lib.Utf8.encode
 no_text = refl

@@ -1,4 +1,4 @@
--- What the faults print.
+-- Believed: what the faults print.
 use Rattle.std.specs.Prelude.{ℕ, List, ◌++◌, codes, decimal}
 use Rattle.jr_text.specs.declared.faults.NumFault.{NumFault}
 use Rattle.jr_text.specs.declared.faults.NumFault.TheVariants.{NoDigits, BadUnit, UnitOutOfScope, TooLarge}

@@ -1,17 +1,11 @@
--- What a job file says: its sections, each with the option lines up to the next section, or its first fault.
+-- Believed: what a job file says: its sections, each with the option lines up to the next section, or its first fault.
 use Rattle.std.specs.Prelude.{ℕ, ◌-◌, List, [], ◌∷◌, ◌++◌, length, map, take, drop, filter, filter_map, take_while, Bool, not, nat_lt, ◌==◌, ◌||◌, if◌then◌else◌, Option, Some, None, Result, Ok, Err, slice_index}
 use Rattle.std.specs.List.{prefix_len, suffix_len, position_or_len, before_first, after_first, slice_split, enumerate_from}
 use Rattle.std.specs.Str.{is_utf8}
 use Rattle.std.specs.Str.Lines.{strip_carriage_return}
+use Rattle.jr_text.specs.declared.faults.TextFault.{TextFault}
+use Rattle.jr_text.specs.declared.faults.TextFault.TheVariants.{TooLong, NotUtf8, OpenBracket, EmptyName, Outside}
 use Rattle.jr_text.specs.Records.{LineText, SectionText}
-
--- why a text is no job file; a fault of a line has its number
-pub data Fault : Type 0 where
-  too_long : Fault
-  not_utf8 : Fault
-  open_bracket : (line : ℕ) → Fault
-  empty_name : (line : ℕ) → Fault
-  outside : (line : ℕ) → Fault
 
 -- the characters that have a meaning: a space or a tab, `;` or `#`, `[`, `]`, `=` and the line feed
 abbrev pub is_blank : ℕ → Bool
@@ -58,10 +52,10 @@ is_opening content = is_opening_bracket (slice_index content 0)
 abbrev pub name_in : List ℕ → List ℕ
 name_in rest = before_first is_closing_bracket rest
 
-abbrev pub name_fault : ℕ → List ℕ → Option Fault
+abbrev pub name_fault : ℕ → List ℕ → Option TextFault
 name_fault line rest =
-    if position_or_len is_closing_bracket rest == length rest then Some (open_bracket line)
-    else (if length (name_in rest) == 0 then Some (empty_name line) else None)
+    if position_or_len is_closing_bracket rest == length rest then Some (OpenBracket line)
+    else (if length (name_in rest) == 0 then Some (EmptyName line) else None)
 
 -- the value behind the first `=`, if there is one
 abbrev pub value_in : List ℕ → Option (List ℕ)
@@ -106,22 +100,22 @@ sections_in [] = []
 sections_in (l ∷ below) = if is_opening l.1 then section_of l below ∷ sections_in below else sections_in below
 
 -- what is wrong, in the order of the lines: options above the first section, and then bad names of sections
-abbrev pub opening_faults : List (ℕ × List ℕ) → List Fault
+abbrev pub opening_faults : List (ℕ × List ℕ) → List TextFault
 opening_faults lines = filter_map (λ l. name_fault l.0 (drop 1 l.1)) (filter (λ l. is_opening l.1) lines)
 
-abbrev pub faults_in : List (ℕ × List ℕ) → List Fault
-faults_in lines = map (λ l. outside l.0) (before_opening lines) ++ opening_faults lines
+abbrev pub faults_in : List (ℕ × List ℕ) → List TextFault
+faults_in lines = map (λ l. Outside l.0) (before_opening lines) ++ opening_faults lines
 
 -- the sections, or else the first fault
-abbrev pub unless_faulty : List Fault → List SectionText → Result (List SectionText) Fault
+abbrev pub unless_faulty : List TextFault → List SectionText → Result (List SectionText) TextFault
 unless_faulty [] sections = Ok sections
 unless_faulty (fault ∷ more) sections = Err fault
 
-abbrev pub read_lines : List (ℕ × List ℕ) → Result (List SectionText) Fault
+abbrev pub read_lines : List (ℕ × List ℕ) → Result (List SectionText) TextFault
 read_lines lines = unless_faulty (faults_in lines) (sections_in lines)
 
 -- the sections that a text of at most a mebibyte says
-unfoldable pub sections_of : List ℕ → Result (List SectionText) Fault
+unfoldable pub sections_of : List ℕ → Result (List SectionText) TextFault
 sections_of text =
-    if nat_lt 1048576 (length text) then Err too_long
-    else (if is_utf8 text then read_lines (lines_of text) else Err not_utf8)
+    if nat_lt 1048576 (length text) then Err TooLong
+    else (if is_utf8 text then read_lines (lines_of text) else Err NotUtf8)

@@ -1,4 +1,4 @@
--- What a number is in a job file: decimal digits and a unit, which is a power of 1024.
+-- Believed: what a number is in a job file: decimal digits and a unit, which is a power of 1024.
 use Rattle.std.specs.Prelude.{ℕ, ◌*◌, ◌^◌, List, [], ◌∷◌, map, take, drop, Bool, ◌==◌, nat_lt, ◌&&◌, ◌||◌, if◌then◌else◌, Option, Some, None, Result, Ok, Err, is_some, ok_or, slice_index}
 use Rattle.std.specs.Char.{is_ascii_digit, to_ascii_lowercase}
 use Rattle.std.specs.List.{prefix_len}

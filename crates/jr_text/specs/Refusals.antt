@@ -1,14 +1,9 @@
--- How a refusal of the reader answers a definition: want of memory says nothing of the text.
-use Rattle.std.specs.Prelude.{◌≡◌, ⊤, Result, Err}
+-- Believed: why a text is no job file, want of memory aside.
+use Rattle.std.specs.Prelude.{ℕ, List, Option}
+use Rattle.std.specs.Result.{result_err}
 use Rattle.jr_text.specs.declared.faults.TextFault.{TextFault}
-use Rattle.jr_text.specs.declared.faults.TextFault.TheVariants.{TooLong, NotUtf8, OpenBracket, EmptyName, Outside, Memory}
-use Rattle.jr_text.specs.JobText.{Fault, too_long, not_utf8, open_bracket, empty_name, outside}
+use Rattle.jr_text.specs.JobText.{sections_of}
 
--- the text has this fault, unless memory was refused
-abbrev pub IsRefusal : {T : Type 0} → TextFault → Result T Fault → Type 0
-IsRefusal TooLong read = read ≡ Err too_long
-IsRefusal NotUtf8 read = read ≡ Err not_utf8
-IsRefusal (OpenBracket line) read = read ≡ Err (open_bracket line)
-IsRefusal (EmptyName line) read = read ≡ Err (empty_name line)
-IsRefusal (Outside line) read = read ≡ Err (outside line)
-IsRefusal Memory read = ⊤
+-- the text's first fault, where it has one
+abbrev pub refusal_of : List ℕ → Option TextFault
+refusal_of text = result_err (sections_of text)

@@ -1,7 +1,8 @@
-ghost use Rattle.std.specs.Prelude.{◌≡◌, Ok, IfErr, IfOk, OnErr, OnOk, option_copied};
-ghost use Rattle.jr_text.specs.JobText.{option_in};
-ghost use Rattle.jr_text.specs.Reading.{opened, with_option};
-ghost use Rattle.jr_text.specs.Refusals.{IsRefusal};
+ghost use Rattle.std.specs.Prelude.{◌≡◌, Ok, IfErr, IfOk, OnErr, OnOk, option_copied, option_map, string_bytes};
+ghost use Rattle.std.specs.Result.{result_err};
+ghost use Rattle.jr_text.specs.JobText.{name_fault, name_in, option_in};
+ghost use Rattle.jr_text.specs.Records.{line_text, section_text};
+ghost use Rattle.jr_text.specs.Reading.{opened, with_option, IsRefusal};
 
 use crate::cuts::trimmed;
 use crate::faults::TextFault;
@@ -30,8 +31,19 @@ impl Model for Line {
 }
 
 impl Line {
+    /// An option line of this number, from 1, with this key and value.
+    pub fn new(line: u32, key: String, value: Option<String>) -> Self
+        ensures { result ≡ line_text line (string_bytes key) (option_map (λ text. string_bytes text) value) }
+    {
+        Line {
+            number: line,
+            key,
+            value,
+        }
+    }
+
     // The option that a line without its comment sets.
-    pub(crate) fn new(alloc: Global, number: u32, body: &str) -> Result<Self, AllocError>
+    pub(crate) fn read(alloc: Global, number: u32, body: &str) -> Result<Self, AllocError>
         ensures { IfOk result (λ option. option ≡ option_in number body.now) }
     {
         match body.split_once('=') {
@@ -53,6 +65,14 @@ impl Line {
                 })
             }
         }
+    }
+
+    /// Its number, key and value.
+    pub fn into_parts(self) -> (u32, String, Option<String>)
+        ensures { line_text result.0 (string_bytes result.1) (option_map (λ text. string_bytes text) result.2) ≡ self }
+    {
+        let Line { number, key, value } = self;
+        (number, key, value)
     }
 
     /// Its number in the text, from 1.
@@ -98,18 +118,23 @@ impl Model for Section {
 }
 
 impl Section {
+    /// A section of this name, opened by the line of this number, from 1, with these option lines.
+    pub fn new(name: String, line: u32, lines: Vec<Line>) -> Self
+        ensures { result ≡ section_text (string_bytes name) line lines.items }
+    {
+        Section {
+            name,
+            line,
+            options: lines,
+        }
+    }
+
     // The section that a line opens; `rest` is what follows its `[`.
     pub(crate) fn open(alloc: Global, line: u32, rest: &str) -> Result<Self, TextFault>
         ensures ok { IfOk result (λ section. opened line rest.now ≡ Ok section) }
         ensures err { IfErr result (λ fault. IsRefusal fault (opened line rest.now)) }
     {
-        let Some((name, _)) = rest.split_once(']') else {
-            return Err(TextFault::OpenBracket(line));
-        };
-        if name.is_empty() {
-            return Err(TextFault::EmptyName(line));
-        }
-        let name = String::from_str(alloc, name)?;
+        let name = String::from_str(alloc, section_name(line, rest)?)?;
         Ok(Section {
             name,
             line,
@@ -123,6 +148,18 @@ impl Section {
         ensures err { OnErr result (self.new ≡ self.old) }
     {
         self.options.push(option)
+    }
+
+    /// Its name, the number of the line that opens it, and its option lines.
+    pub fn into_parts(self) -> (String, u32, Vec<Line>)
+        ensures { section_text (string_bytes result.0) result.1 result.2.items ≡ self }
+    {
+        let Section {
+            name,
+            line,
+            options,
+        } = self;
+        (name, line, options)
     }
 
     /// What stands between its brackets.
@@ -144,5 +181,17 @@ impl Section {
         ensures { result.now ≡ self.now.lines }
     {
         self.options.as_slice()
+    }
+}
+
+// The name of the section that a line opens; `rest` is what follows its `[`.
+pub(crate) fn section_name(line: u32, rest: &str) -> Result<&str, TextFault>
+    ensures fault { result_err result ≡ name_fault line rest.now }
+    ensures name { IfOk result (λ name. name.now ≡ name_in rest.now) }
+{
+    match rest.split_once(']') {
+        Some((name, _)) if name.is_empty() => Err(TextFault::EmptyName(line)),
+        Some((name, _)) => Ok(name),
+        None => Err(TextFault::OpenBracket(line)),
     }
 }

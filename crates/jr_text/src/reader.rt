@@ -1,11 +1,13 @@
-ghost use Rattle.std.specs.Prelude.{◌≡◌, ◌≤◌, length, Ok, IfErr, IfOk, OnOk};
+ghost use Rattle.std.specs.Prelude.{◌≡◌, ◌≤◌, length, Ok, Err, None, IfErr, IfOk, IfSome, OnOk};
 ghost use Rattle.std.specs.List.{slice_split};
+ghost use Rattle.std.specs.Result.{result_err};
 ghost use Rattle.jr_text.specs.JobText.{content_of, is_newline, is_skipped, lines_of, read_lines, sections_of};
-ghost use Rattle.jr_text.specs.Reading.{and_line, and_option};
-ghost use Rattle.jr_text.specs.Refusals.{IsRefusal};
+ghost use Rattle.jr_text.specs.declared.faults.TextFault.TheVariants.{Memory as OutOfMemory};
+ghost use Rattle.jr_text.specs.Reading.{and_line, and_option, open_below, IsRefusal};
+ghost use Rattle.jr_text.specs.Refusals.{refusal_of};
 
 use crate::cuts::{before_comment, content};
-use crate::entries::{Line, Section};
+use crate::entries::{Line, Section, section_name};
 use crate::faults::TextFault;
 use std::alloc::Global;
 
@@ -16,15 +18,60 @@ pub const LONGEST_TEXT: usize = 1_048_576;
 /// Any bytes are taken; the first fault is named, a text that is too long before one that isn't UTF-8,
 /// and this before a faulty line. Time grows with the length alone.
 pub fn sections(alloc: Global, text: &[u8]) -> Result<Vec<Section>, TextFault>
-    ensures ok { IfOk result (λ sections. sections_of text.now ≡ Ok sections.items) }
-    ensures err { IfErr result (λ fault. IsRefusal fault (sections_of text.now)) }
+    // The first fault is answered by its name, whatever memory there is.
+    ensures refused { IfSome (refusal_of text.now) (λ fault. result ≡ Err fault) }
+    // Where there is none, only memory can be wanting.
+    ensures memory { refusal_of text.now ≡ None → IfErr result (λ fault. fault ≡ OutOfMemory) }
+    ensures read { IfOk result (λ sections. sections_of text.now ≡ Ok sections.items) }
 {
     if text.len() > LONGEST_TEXT {
         return Err(TextFault::TooLong);
     }
     match str::from_utf8(text) {
-        Ok(text) => read_lines(alloc, text),
+        Ok(text) => read_text(alloc, text),
         Err(_) => Err(TextFault::NotUtf8),
+    }
+}
+
+fn read_text(alloc: Global, text: &str) -> Result<Vec<Section>, TextFault>
+    requires { length text.now ≤ 1048576 }
+    ensures refused { IfSome (result_err (read_lines (lines_of text.now))) (λ fault. result ≡ Err fault) }
+    ensures memory { result_err (read_lines (lines_of text.now)) ≡ None → IfErr result (λ fault. fault ≡ OutOfMemory) }
+    ensures read { IfOk result (λ sections. read_lines (lines_of text.now) ≡ Ok sections.items) }
+{
+    match first_fault(text) {
+        Some(fault) => Err(fault),
+        None => read_lines(alloc, text),
+    }
+}
+
+// Goes over all lines once, without memory.
+fn first_fault(text: &str) -> Option<TextFault>
+    requires { length text.now ≤ 1048576 }
+    ensures { result ≡ result_err (read_lines (lines_of text.now)) }
+{
+    let mut is_open = false;
+    let mut number = 0;
+    for line in text.split('\n') {
+        number += 1;
+        match is_open_below(is_open, number, line) {
+            Ok(below) => is_open = below,
+            Err(fault) => return Some(fault),
+        }
+    }
+    None
+}
+
+// Whether a section is open below a line, where one is above it or not.
+fn is_open_below(is_open: bool, number: u32, line: &str) -> Result<bool, TextFault>
+    ensures { result ≡ open_below is_open (number, content_of line.now) }
+{
+    let content = content(line);
+    match content.strip_prefix('[') {
+        Some(rest) => section_name(number, rest).map(|_| true),
+        None if is_skipped(content) => Ok(is_open),
+        None if is_open => Ok(true),
+        None => Err(TextFault::Outside(number)),
     }
 }
 
@@ -82,7 +129,7 @@ fn add_option(
     let Some(section) = found.last_mut() else {
         return Err(TextFault::Outside(number));
     };
-    section.push(Line::new(alloc, number, before_comment(content))?)?;
+    section.push(Line::read(alloc, number, before_comment(content))?)?;
     Ok(())
 }
 
@@ -179,6 +226,54 @@ mod tests {
         let shown = format!(in rt.alloc(); "{}; {}", TextFault::NotUtf8, TextFault::Memory)?;
         assert_eq!(rt; shown.as_str(), "job file: not UTF-8; out of memory");
         Ok(())
+    }
+
+    #[test]
+    fn a_section_is_made_and_taken_apart(rt: HostRuntime) -> Result<(), Fail> {
+        let size = Line::new(
+            4,
+            String::from_str(rt.alloc(), "size")?,
+            Some(String::from_str(rt.alloc(), "1m")?),
+        );
+        let stonewall = Line::new(6, String::from_str(rt.alloc(), "stonewall")?, None);
+        let mut lines = Vec::new(rt.alloc());
+        lines.push(size)?;
+        lines.push(stonewall)?;
+        let section = Section::new(String::from_str(rt.alloc(), "a")?, 3, lines);
+        let sections = vec![in rt.alloc(); section]?;
+        let text = shown(rt.alloc(), sections.as_slice())?;
+        assert_eq!(rt; text.as_str(), "3 [a]\n4 size=1m\n6 stonewall\n");
+        for section in sections {
+            let (name, line, mut lines) = section.into_parts();
+            assert_eq!(rt; name.as_str(), "a");
+            assert_eq!(rt; line, 3);
+            assert_eq!(rt; lines.len(), 2);
+            let Some(last) = lines.pop() else {
+                panic!(rt; "no line")
+            };
+            let (line, key, value) = last.into_parts();
+            assert_eq!(rt; line, 6);
+            assert_eq!(rt; key.as_str(), "stonewall");
+            assert!(rt; value.is_none());
+        }
+        Ok(())
+    }
+
+    // No request for memory stands before the first fault.
+    #[test]
+    fn names_a_fault_whatever_memory_there_is(rt: HostRuntime) {
+        let texts = [
+            ("[a]\n\n[b", TextFault::OpenBracket(3)),
+            ("[a]\nk=v\n[]", TextFault::EmptyName(3)),
+            ("\nk=v\n[a", TextFault::Outside(2)),
+        ];
+        for (text, fault) in texts {
+            assert_eq!(rt;
+                sections(rt.alloc(), text.as_bytes()).err(),
+                Some(fault),
+                "at {text:?}"
+            );
+        }
     }
 
     #[test]
