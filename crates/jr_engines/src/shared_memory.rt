@@ -7,7 +7,7 @@ use crate::faults::EngineFault;
 use crate::files::{MemoryFile, fresh_files, read_files, write_files};
 use crate::tallies::Tally;
 use jr_model::Memory;
-use jr_options::Plan;
+use jr_plan::Plan;
 use std::alloc::Global;
 use std::marker::Model;
 use std::sync::{Arc, Mutex, Wait};

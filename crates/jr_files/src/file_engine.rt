@@ -6,7 +6,7 @@ use crate::faults::FileFault;
 use crate::moving::{LARGEST_OFFSET, read_whole, write_whole};
 use crate::positioned::Positioned;
 use jr_engines::{Engine, EngineFault, Tally};
-use jr_options::Plan;
+use jr_plan::Plan;
 use std::alloc::Global;
 use std::fs::{File, OpenOptions};
 use std::io;

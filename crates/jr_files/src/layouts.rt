@@ -2,7 +2,7 @@ ghost use Rattle.std.specs.Prelude.{length, IfErr};
 ghost use Rattle.jr_files.specs.Engines.{NamesFile};
 
 use crate::faults::FileFault;
-use jr_options::Plan;
+use jr_plan::Plan;
 use std::fs::OpenOptions;
 use std::io;
 use std::io::{Seek, SeekFrom, Write};

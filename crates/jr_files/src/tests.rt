@@ -2,8 +2,8 @@ ghost use Rattle.std.specs.Prelude.{◌+◌, ◌≤◌, IfOk};
 
 use crate::{FileEngine, FileFault, Positioned, lay_out, read_whole, write_whole};
 use jr_engines::{Engine, EngineFault, SharedMemory};
-use jr_options::{Plan, plan};
-use jr_text::sections;
+use jr_model::{EngineKind, IoType, SECTOR};
+use jr_plan::{Draft, Plan, Workload};
 use std::alloc::{AllocError, Global};
 use std::fs::{File, OpenOptions};
 use std::io::ErrorKind;
@@ -22,11 +22,20 @@ fn fresh_folder<R: Files + Env + AllocGlobal>(rt: &R, id: u32, name: &str) -> io
     Ok(folder)
 }
 
-// The plan of some jobs that write files of this folder.
-fn planned(alloc: Global, folder: &str, jobs: &str) -> Result<Plan, Fail> {
-    let text = format!(in alloc; "[global]\nrw=write\nbs=512\ndirectory={folder}\n{jobs}")?;
-    let sections = sections(alloc, text.as_bytes())?;
-    Ok(plan(alloc, sections.as_slice(), None)?)
+// A job that writes a file of its own: its name, where it begins and how many blocks of 512 bytes it has.
+type Job<'a> = (&'a str, u64, u32);
+
+// The plan of jobs that write files of this folder.
+fn planned(alloc: Global, folder: &str, jobs: &[Job<'_>]) -> Result<Plan, Fail> {
+    let mut draft = Draft::new(alloc);
+    for (name, start, cells) in jobs {
+        let writes = Workload::plain(IoType::Write, SECTOR, *cells);
+        draft.add(alloc, &writes, name, path_in(alloc, folder, name)?, *start)?;
+    }
+    if draft.clones() == 0 {
+        return Err(Fail::from("no clones"));
+    }
+    Ok(draft.finish(EngineKind::File, 0))
 }
 
 fn path_in(alloc: Global, folder: &str, name: &str) -> Result<String, AllocError> {
@@ -53,8 +62,8 @@ fn files_hold_what_was_written(rt: HostRuntime) -> Result<(), Fail> {
     fs::write(&rt, longer.as_str(), &[7; 3000])?;
     fs::write(&rt, linked.as_str(), &[8; 3])?;
     symlink(&rt, linked.as_str(), link.as_str())?;
-    let jobs = "[a]\nsize=4k\noffset=1k\n[b]\nsize=1k\n[c]\nsize=512\n";
-    let plan = planned(alloc, folder.as_str(), jobs)?;
+    let jobs = [("a.0.0", 1024, 8), ("b.0.0", 0, 2), ("c.0.0", 0, 1)];
+    let plan = planned(alloc, folder.as_str(), &jobs)?;
     lay_out(&rt, &plan)?;
     lay_out(&rt, &plan)?;
     let mut engine = FileEngine::new(&rt, alloc, &plan)?;
@@ -83,7 +92,7 @@ fn files_hold_what_was_written(rt: HostRuntime) -> Result<(), Fail> {
 fn shortened_file_gives_a_short_read(rt: HostRuntime) -> Result<(), Fail> {
     let alloc = rt.alloc();
     let folder = fresh_folder(&rt, process::id(rt.process()), "short")?;
-    let plan = planned(alloc, folder.as_str(), "[a]\nsize=1k\n")?;
+    let plan = planned(alloc, folder.as_str(), &[("a.0.0", 0, 2)])?;
     lay_out(&rt, &plan)?;
     let mut engine = FileEngine::new(&rt, alloc, &plan)?;
     let path = path_in(alloc, folder.as_str(), "a.0.0")?;
@@ -106,7 +115,7 @@ fn refused_files_are_named(rt: HostRuntime) -> Result<(), Fail> {
     let plan = planned(
         alloc,
         folder.as_str(),
-        "[a]\nsize=1k\n[b]\nsize=1k\n[c]\nsize=1k\n",
+        &[("a.0.0", 0, 2), ("b.0.0", 0, 2), ("c.0.0", 0, 2)],
     )?;
     assert_eq!(rt;
         FileEngine::new(&rt, alloc, &plan).err(),
@@ -124,7 +133,7 @@ fn refused_files_are_named(rt: HostRuntime) -> Result<(), Fail> {
     let third = path_in(alloc, folder.as_str(), "c.0.0")?;
     assert!(rt; !fs::exists(&rt, third.as_str())?);
     let missing = path_in(alloc, folder.as_str(), "missing")?;
-    let plan = planned(alloc, missing.as_str(), "[a]\nsize=1k\n")?;
+    let plan = planned(alloc, missing.as_str(), &[("a.0.0", 0, 2)])?;
     assert_eq!(rt; lay_out(&rt, &plan), Err(FileFault::File(0)));
     assert_eq!(rt;
         FileEngine::new(&rt, alloc, &plan).err(),
@@ -139,7 +148,7 @@ fn refused_files_are_named(rt: HostRuntime) -> Result<(), Fail> {
 fn file_without_the_right_to_write(rt: HostRuntime) -> Result<(), Fail> {
     let alloc = rt.alloc();
     let folder = fresh_folder(&rt, process::id(rt.process()), "unwritable")?;
-    let plan = planned(alloc, folder.as_str(), "[a]\nsize=1k\n")?;
+    let plan = planned(alloc, folder.as_str(), &[("a.0.0", 0, 2)])?;
     lay_out(&rt, &plan)?;
     let path = path_in(alloc, folder.as_str(), "a.0.0")?;
     let mut permissions = fs::metadata(&rt, path.as_str())?.permissions();
@@ -158,7 +167,7 @@ fn file_without_the_right_to_write(rt: HostRuntime) -> Result<(), Fail> {
 
 #[test]
 fn full_device_fails_its_writes(rt: HostRuntime) -> Result<(), Fail> {
-    let plan = planned(rt.alloc(), "/dev", "[full]\nfilename=full\nsize=512\n")?;
+    let plan = planned(rt.alloc(), "/dev", &[("full", 0, 1)])?;
     let mut engine = FileEngine::new(&rt, rt.alloc(), &plan)?;
     assert_eq!(rt; engine.write(0, 0, &[1]), Err(EngineFault::Device));
     let mut buf = [9; 2];
@@ -303,7 +312,7 @@ fn assert_side_by_side(
 fn engines_side_by_side(rt: HostRuntime) -> Result<(), Fail> {
     let alloc = rt.alloc();
     let folder = fresh_folder(&rt, process::id(rt.process()), "boxed")?;
-    let plan = planned(alloc, folder.as_str(), "[a]\nsize=1k\n")?;
+    let plan = planned(alloc, folder.as_str(), &[("a.0.0", 0, 2)])?;
     lay_out(&rt, &plan)?;
     let first = Box::new(alloc, FileEngine::new(&rt, alloc, &plan)?)?;
     let second = Box::new(alloc, FileEngine::new(&rt, alloc, &plan)?)?;

@@ -4,9 +4,11 @@ ghost use Rattle.jr_handover.specs.Passes.{IsPassOf};
 use crate::{Handoff, Parcel, Pass};
 use jr_engines::{Engine, MemoryEngine};
 use jr_header::{Served, serve};
-use jr_model::{Expected, Method, Outcome, Piece, SECTOR, Ticket, TicketKind, VerifyKind, WriteId};
-use jr_options::plan;
-use jr_text::sections;
+use jr_model::{
+    EngineKind, Expected, IoType, Method, Outcome, Piece, SECTOR, Ticket, TicketKind, VerifyKind,
+    WriteId,
+};
+use jr_plan::{Draft, Workload};
 use std::alloc::{AllocError, Global};
 use std::process::Abort;
 use std::sync::Wait;
@@ -15,8 +17,6 @@ use std::thread;
 use std::thread::{Promise, Threads};
 
 // A file of 200 blocks.
-const JOB: &str = "[j]\nioengine=memory\nrw=write\nbs=512\nsize=102400\n";
-
 // Of each thread.
 const PARCELS: u32 = 100;
 
@@ -253,8 +253,13 @@ fn comes_over<R: Threads + Wait + Abort + Sync>(
 ) -> Result<bool, Fail>
     requires { 0 < capacity }
 {
-    let sections = sections(alloc, JOB.as_bytes())?;
-    let plan = plan(alloc, sections.as_slice(), None)?;
+    let writes = Workload::plain(IoType::Write, SECTOR, 2 * PARCELS);
+    let mut draft = Draft::new(alloc);
+    draft.add(alloc, &writes, "j", String::from_str(alloc, "j.0.0")?, 0)?;
+    if draft.clones() == 0 {
+        return Err(Fail::from("no clones"));
+    }
+    let plan = draft.finish(EngineKind::Memory, 0);
     let mut engine = MemoryEngine::new(alloc, &plan)?;
     let first = parcels_from(rt, alloc, &mut engine, 0, has_stops)?;
     let second = parcels_from(rt, alloc, &mut engine, PARCELS, has_stops)?;
