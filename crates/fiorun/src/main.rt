@@ -1,16 +1,18 @@
 // Runs a fio job file, or prints its plan: the words of the command line say which.
 #![tactic(auto)]
 
+ghost use Rattle.std.specs.Prelude.{◌≡◌, ◌≤◌, ◌^◌, IfOk};
+
 use jr_cli::{
     Choice, CliFault, answer_words, choose, execute_serial, memory_or, print_check, print_plan,
     read_job, read_text, read_trace,
 };
 use jr_engines::{Engine, MemoryEngine, NullEngine};
+use jr_files::{FileEngine, FileFault, lay_out};
 use jr_model::EngineKind;
 use jr_plan::Plan;
-use std::alloc::Global;
 use std::env::Env;
-use std::fs::Files;
+use std::fs::{File, Files};
 use std::io::BufWriter;
 use std::process::ExitCode;
 use std::{env, fs, io};
@@ -26,7 +28,9 @@ fn main(rt: HostRuntime) -> ExitCode {
 }
 
 // Does what the words ask for, and gives the exit status.
-fn run<R: Env + Files + Input + Print + Eprint + AllocGlobal>(rt: &R) -> Result<u8, CliFault> {
+fn run<R: Env + Files<File = File> + Input + Print + Eprint + AllocGlobal>(
+    rt: &R,
+) -> Result<u8, CliFault> {
     let words = words_of(rt)?;
     match choose(rt.alloc(), words.as_slice()) {
         Ok(choice) => perform(rt, &choice),
@@ -41,7 +45,7 @@ fn words_of<R: Env + AllocGlobal>(rt: &R) -> Result<Vec<String>, CliFault> {
     }
 }
 
-fn perform<R: Files + Input + Print + AllocGlobal>(
+fn perform<R: Files<File = File> + Input + Print + AllocGlobal>(
     rt: &R,
     choice: &Choice<'_>,
 ) -> Result<u8, CliFault> {
@@ -59,16 +63,7 @@ fn perform<R: Files + Input + Print + AllocGlobal>(
         print_check(rt.alloc(), &plan, events.as_slice(), &mut out)?;
         return Ok(0);
     }
-    if plan.engine() == EngineKind::File {
-        return Err(CliFault::NotYet);
-    }
-    match choice.trace {
-        None => run_plan(rt.alloc(), plan, None::<&mut Vec<u8>>, &mut out),
-        Some(path) => {
-            let mut events = trace_file(rt, path)?;
-            run_plan(rt.alloc(), plan, Some(&mut events), &mut out)
-        }
-    }
+    run_plan(rt, choice.trace, plan, &mut out)
 }
 
 // The trace that is to be checked.
@@ -104,22 +99,64 @@ fn job_text<R: Files + Input + AllocGlobal>(
     }
 }
 
-// Runs the plan over its engine, and writes the report and then the trace.
-fn run_plan<E: io::Write, W: io::Write>(
-    alloc: Global,
+// Runs the plan over its kind of engine.
+fn run_plan<R: Files<File = File> + AllocGlobal, V: io::Write>(
+    rt: &R,
+    trace: Option<&str>,
     plan: Plan,
-    events: Option<&mut E>,
-    out: &mut W,
+    out: &mut V,
 ) -> Result<u8, CliFault> {
     match plan.engine() {
-        EngineKind::File => Err(CliFault::NotYet),
+        EngineKind::File => {
+            let mut engine = opened(rt, &plan)?;
+            run_over(rt, trace, plan, &mut engine, out)
+        }
         EngineKind::Memory => {
-            let mut engine = MemoryEngine::new(alloc, &plan)?;
-            execute_serial(alloc, plan, &mut engine, events, out)
+            let mut engine = MemoryEngine::new(rt.alloc(), &plan)?;
+            run_over(rt, trace, plan, &mut engine, out)
         }
         EngineKind::Null => {
             let mut engine = NullEngine::new();
-            execute_serial(alloc, plan, &mut engine, events, out)
+            run_over(rt, trace, plan, &mut engine, out)
+        }
+    }
+}
+
+// The plan's files, made where they are missing, long enough, and opened.
+fn opened<R: Files<File = File> + AllocGlobal>(rt: &R, plan: &Plan) -> Result<FileEngine, CliFault>
+    ensures { IfOk result (λ engine. engine.calls ≡ 0) }
+{
+    if let Err(fault) = lay_out(rt, plan) {
+        return Err(open_fault(fault));
+    }
+    match FileEngine::new(rt, rt.alloc(), plan) {
+        Ok(engine) => Ok(engine),
+        Err(fault) => Err(open_fault(fault)),
+    }
+}
+
+fn open_fault(fault: FileFault) -> CliFault {
+    match fault {
+        FileFault::File(_) => CliFault::Open,
+        FileFault::Memory => CliFault::Memory,
+    }
+}
+
+// Runs the plan over this engine, and writes the report and then the trace where one is asked for.
+fn run_over<R: Files + AllocGlobal, V: io::Write>(
+    rt: &R,
+    trace: Option<&str>,
+    plan: Plan,
+    engine: &mut dyn Engine,
+    out: &mut V,
+) -> Result<u8, CliFault>
+    requires { (state engine.old).calls ≤ 2 ^ 63 }
+{
+    match trace {
+        None => execute_serial(rt.alloc(), plan, engine, None::<&mut Vec<u8>>, out),
+        Some(path) => {
+            let mut events = trace_file(rt, path)?;
+            execute_serial(rt.alloc(), plan, engine, Some(&mut events), out)
         }
     }
 }
