@@ -1,4 +1,4 @@
-ghost use Rattle.std.specs.Prelude.{◌≡◌, ◌+◌, ◌-◌, ◌^◌, ◌<◌, ◌≤◌, ◌++◌, ◌∷◌, [], true, false, replicate, Some, IfOk, IfErr, IfSome, OnOk, OnErr, IsFalse};
+ghost use Rattle.std.specs.Prelude.{◌≡◌, ◌+◌, ◌-◌, ◌^◌, ◌<◌, ◌≤◌, ◌++◌, ◌∷◌, [], true, false, Some, IfOk, IfErr, IfSome, OnOk, OnErr, IsFalse};
 ghost use Rattle.std.specs.Bool.{MatchBool};
 ghost use Rattle.jr_model.specs.History.{outcome_of, is_judged};
 ghost use Rattle.jr_model.specs.Legal.{is_legal, is_complete};
@@ -11,8 +11,8 @@ ghost use Rattle.jr_crew.specs.Turns.{IsBetweenTurns, IsOpen, IsNext, IsCarriedO
 use crate::faults::RunFault;
 use jr_desk::{Desk, Take};
 use jr_engines::Engine;
-use jr_header::{Served, rule, serve};
-use jr_model::{Event, Memory, Ticket};
+use jr_header::{Served, room_for, rule, serve};
+use jr_model::{Event, Ticket};
 use jr_plan::Plan;
 use std::alloc::Global;
 
@@ -98,14 +98,6 @@ fn carry_out(
     let served = serve(engine, ticket, buffer);
     end(desk, &served)?;
     judge(desk, &served)
-}
-
-// Room for the ticket's piece.
-fn room_for(alloc: Global, ticket: &Ticket) -> Result<Vec<u8>, Memory>
-    ensures { IfOk result (λ buffer. buffer.items ≡ replicate ticket.now.piece.len 0) }
-{
-    let len = ticket.piece.len;
-    Ok(vec![in alloc; 0; len as usize]?)
 }
 
 // Takes in how a ticket ended.

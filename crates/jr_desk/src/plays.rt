@@ -9,10 +9,10 @@ ghost use Rattle.jr_desk.specs.Plays.{GoesOn, IsReady, desk_in, judge_reply, jud
 ghost use Rattle.jr_desk.specs.Refusals.{judge_fault};
 
 use crate::desk::Desk;
-use crate::scripted::{carried_out, copy_of, room_for};
+use crate::scripted::{carried_out, copy_of};
 use crate::takes::Take;
 use jr_engines::{MemoryEngine, ScriptedEngine};
-use jr_header::{Served, rule};
+use jr_header::{Served, room_for, rule};
 use jr_model::{DeskFault, IoId, Memory, Reply, Step, StepReply, Ticket, TicketKind};
 use jr_past::outcome_of;
 use jr_plan::Plan;

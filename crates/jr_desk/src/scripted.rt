@@ -1,4 +1,4 @@
-ghost use Rattle.std.specs.Prelude.{◌≡◌, ◌-◌, ◌^◌, ◌<◌, true, replicate, vec_len, IfOk};
+ghost use Rattle.std.specs.Prelude.{◌≡◌, ◌-◌, ◌^◌, ◌<◌, true, vec_len, IfOk};
 ghost use Rattle.jr_model.specs.Tickets.{ticket_fits};
 ghost use Rattle.jr_engines.specs.Answers.{Answers};
 ghost use Rattle.jr_engines.specs.States.{scripted_state};
@@ -17,14 +17,6 @@ pub fn carried_out(engine: &mut ScriptedEngine, ticket: Ticket, buffer: Vec<u8>)
     ensures { Answers (scripted_state engine.old) ticket (asked_with ticket.kind ticket buffer.items) result (scripted_state engine.new) }
 {
     serve(engine, ticket, buffer)
-}
-
-// Room for the ticket's piece.
-pub fn room_for(alloc: Global, ticket: &Ticket) -> Result<Vec<u8>, Memory>
-    ensures { IfOk result (λ buffer. buffer.items ≡ replicate ticket.now.piece.len 0) }
-{
-    let len = ticket.piece.len;
-    Ok(vec![in alloc; 0; len as usize]?)
 }
 
 // The reply once more.

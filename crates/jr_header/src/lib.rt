@@ -1,6 +1,7 @@
 //! What a write puts into its blocks, and what is wrong with the bytes that a check read.
 #![tactic(auto)]
 
+mod buffers;
 mod content;
 mod digests;
 mod filler;
@@ -8,6 +9,7 @@ mod judgement;
 mod ruling;
 mod served;
 
+pub use buffers::room_for;
 pub use content::fill;
 pub use ruling::{Ruling, rule};
 pub use served::{Served, serve};
