@@ -16,6 +16,7 @@ pub mod OnceLaws
 pub mod PlaceLemmas
 pub mod Plays
 pub mod QuietRuns
+pub mod QuietSerial
 pub mod RestLaws
 pub mod StartedLemmas
 pub mod Starts

@@ -11,7 +11,7 @@ mod idle;
 pub use checks::{
     checks_stay_intact, honest_is_good, keeps_last_writes, miscompares_exactly, quiet_play,
 };
-pub use clean::serial_is_clean;
+pub use clean::{serial_is_clean, serial_is_quiet};
 pub use counts::{appends_one, serial_ends, started_are_few, taken_is_all};
 pub use drawn::{no_block_twice, started_are_drawn, started_fit, started_once};
 pub use idle::{idle_is_complete, serial_is_complete};

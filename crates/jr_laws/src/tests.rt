@@ -1,8 +1,8 @@
 use crate::{
     appends_one, checks_stay_intact, honest_is_good, idle_is_complete, keeps_last_writes,
     miscompares_exactly, no_block_twice, quiet_play, serial_ends, serial_is_clean,
-    serial_is_complete, started_are_drawn, started_are_few, started_fit, started_once,
-    taken_is_all,
+    serial_is_complete, serial_is_quiet, started_are_drawn, started_are_few, started_fit,
+    started_once, taken_is_all,
 };
 
 #[test]
@@ -18,6 +18,7 @@ fn the_laws_can_be_called() {
     idle_is_complete();
     serial_is_complete();
     serial_is_clean();
+    serial_is_quiet();
     honest_is_good();
     miscompares_exactly();
     checks_stay_intact();
