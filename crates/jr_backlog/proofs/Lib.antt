@@ -1,2 +1,3 @@
+pub mod KeptFacts
 pub mod OrderedKeys
 pub mod RoundFacts

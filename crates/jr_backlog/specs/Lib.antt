@@ -1,1 +1,3 @@
+pub mod CurrentRound
+pub mod Kept
 pub mod Rounds

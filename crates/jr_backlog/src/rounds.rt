@@ -1,5 +1,6 @@
 ghost use Rattle.std.specs.Prelude.{◌≡◌, IsTrue, OnOk, OnErr};
-ghost use Rattle.jr_backlog.specs.Rounds.{comes_last, is_closed, is_due, is_to_check, IsInOrder, new_round, next_to_check, next_to_check_after, takes_writes, with_exhausted, with_passed, with_written};
+ghost use Rattle.jr_backlog.specs.Rounds.{comes_last, is_closed, is_due, is_to_check, IsInOrder, new_round, next_to_check};
+ghost use Rattle.jr_backlog.specs.Rounds.{next_to_check_after, takes_writes, with_exhausted, with_passed, with_written};
 
 use jr_model::{Memory, WriteId};
 use std::alloc::Global;
