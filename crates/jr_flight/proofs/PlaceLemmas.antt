@@ -1,22 +1,19 @@
 -- What overlaps a piece is found among the places from the longest piece before it up to its end.
-use Rattle.std.proofs.Common.{ℕ, ◌≡◌, ◌+◌, ◌-◌, ◌<◌, ◌≤◌, Bool, true, false, cond, List, [], ◌∷◌, length, Some, None, refl, sym, ◌∙◌, ap, subst, arith}
+use Rattle.std.proofs.Common.{ℕ, ◌≡◌, ◌-◌, ◌<◌, ◌≤◌, Bool, true, false, cond, List, [], ◌∷◌, Some, None, refl, sym, ◌∙◌, ap, subst, arith}
 use Rattle.std.specs.Prelude.{Option, IfSome, IsTrue, ◌↔◌, not, ◌&&◌, ◌||◌, ◌==◌, nat_lt, max, min, filter, Contains, Any}
-use Rattle.std.specs.List.{list_any, All}
-use Rattle.std.specs.Map.{lookup}
+use Rattle.std.specs.List.{list_any}
 use Rattle.std.specs.Cmp.{IsTotalOrder}
-use Rattle.std.specs.Ordering.{nat_cmp, ordering_then, is_le, eq_by_cmp}
+use Rattle.std.specs.Ordering.{nat_cmp, ordering_then, is_le}
 use Rattle.std.specs.declared.cmp.Ordering.TheVariants.{Less, Equal, Greater}
 use Rattle.std.specs.declared.cmp.Ordering.{Ordering}
-use Rattle.std.specs.declared.ops.Bound.{Bound}
 use Rattle.std.specs.declared.ops.Bound.TheVariants.{Included, Excluded}
 use Rattle.std.specs.BTreeMap.{BTreeMap, get, IsOrdered}
-use Rattle.std.specs.BTreeMap.Range.{entries_between, range_contains}
+use Rattle.std.specs.BTreeMap.Range.{range_contains}
 use Rattle.std.proofs.lemmas.Bool.{and_parts, and_from, eqb-true, ltb-true, not-true, both_ways, false_from_ne_true}
 use Rattle.std.proofs.lemmas.Cmp.{nat_cmp_total, then_total, on_total}
 use Rattle.std.proofs.lemmas.Bool.Decides.{nat_tests}
-use Rattle.std.proofs.lemmas.Grind.{common_steps}
 use Rattle.std.proofs.lemmas.List.Folds.{Any-from_list_any, list_any-from_Any}
-use Rattle.std.proofs.lemmas.Map.Lookups.{CmpEqualImpliesEq, exact_unsigned, exact_pairs}
+use Rattle.std.proofs.lemmas.Map.Lookups.{CmpEqualImpliesEq, exact_unsigned}
 use Rattle.std.proofs.lemmas.Map.Views.{All-found, Contains-from_lookup, tells_apart}
 use Rattle.jr_model.specs.declared.blocks.Dir.{Dir}
 use Rattle.jr_model.specs.declared.blocks.Piece.{Piece}
@@ -26,8 +23,11 @@ use Rattle.jr_flight.specs.Flights.{conflicts, writes}
 use Rattle.jr_flight.specs.Places.{Place, place_of, place_cmp, if_standing, IsMeasured, IsIndexed}
 
 pub place_cmp_total : IsTotalOrder place_cmp
-place_cmp_total = then_total (then_total (on_total (λ (t : Place). t.0) nat_cmp_total) (on_total (λ (t : Place). t.1) nat_cmp_total)) (on_total (λ (t : Place). t.2) nat_cmp_total)
+place_cmp_total =
+    then_total (then_total (on_total (λ (t : Place). t.0) nat_cmp_total) (on_total (λ (t : Place). t.1) nat_cmp_total))
+    (on_total (λ (t : Place). t.2) nat_cmp_total)
 
+-- two comparisons in turn are equal where both are
 equal_parts : (a b : Ordering) → ordering_then a b ≡ Equal → (a ≡ Equal) × (b ≡ Equal)
 equal_parts Less b e = (e, cc)
 equal_parts Equal b e = (refl, e)
@@ -41,7 +41,8 @@ pub place_cmp_exact : CmpEqualImpliesEq place_cmp
 place_cmp_exact x y same =
     let number = equal_parts (ordering_then (nat_cmp x.0 y.0) (nat_cmp x.1 y.1)) (nat_cmp x.2 y.2) same in
     let front = equal_parts (nat_cmp x.0 y.0) (nat_cmp x.1 y.1) number.0 in
-    one_place x.0 y.0 x.1 y.1 x.2 y.2 (exact_unsigned x.0 y.0 front.0) (exact_unsigned x.1 y.1 front.1) (exact_unsigned x.2 y.2 number.1)
+    one_place x.0 y.0 x.1 y.1 x.2 y.2
+    (exact_unsigned x.0 y.0 front.0) (exact_unsigned x.1 y.1 front.1) (exact_unsigned x.2 y.2 number.1)
 
 -- a place with this file, and an offset from s on, is not before (file, s, 0)
 pub from_start : (f s o i : ℕ) → s ≤ o → is_le (place_cmp (f, s, 0) (f, o, i)) ≡ true
@@ -59,7 +60,8 @@ pub record Finds {K X : Type 0} (at : K → Option X) (passes : K × X → Bool)
   pub pass : passes (key, value) ≡ true
 
 -- a test that passes an entry of a map finds it by its key
-pub finds_entry : {K X : Type 0} {R : K → K → Ordering} → IsTotalOrder R → (m : BTreeMap K X) → IsOrdered R m → (p : K × X → Bool) → list_any p m.entries ≡ true → Finds (get R m) p
+pub finds_entry : {K X : Type 0} {R : K → K → Ordering} → IsTotalOrder R → (m : BTreeMap K X) → IsOrdered R m
+    → (p : K × X → Bool) → list_any p m.entries ≡ true → Finds (get R m) p
 finds_entry {K} {X} {R} total m ordered p found =
     let any : Any (λ (e : K × X). p e ≡ true) m.entries = Any-from_list_any p m.entries found in
     record {
@@ -70,20 +72,23 @@ finds_entry {K} {X} {R} total m ordered p found =
     }
 
 -- and what it passes at a key is an entry
-pub entry_found : {K X : Type 0} {R : K → K → Ordering} → CmpEqualImpliesEq R → (m : BTreeMap K X) → (p : K × X → Bool) → Finds (get R m) p → list_any p m.entries ≡ true
+pub entry_found : {K X : Type 0} {R : K → K → Ordering} → CmpEqualImpliesEq R → (m : BTreeMap K X)
+    → (p : K × X → Bool) → Finds (get R m) p → list_any p m.entries ≡ true
 entry_found {K} {X} {R} exact m p f =
-    let here : Contains m.entries (f.key, f.value) = Contains-from_lookup (tells_apart exact) f.key f.value m.entries f.there in
+    let here = Contains-from_lookup (tells_apart exact) f.key f.value m.entries f.there in
     list_any-from_Any p m.entries (here.0, (f.key, f.value), here.1, here.2, f.pass)
 
 -- a test of what a filter keeps is a test of both
 pub list_any-filter : {X : Type 0} (p keep : X → Bool) (xs : List X) → list_any p (filter keep xs) ≡ list_any (λ x. keep x && p x) xs
 list_any-filter p keep [] = refl
 list_any-filter {X} p keep (x ∷ xs) =
-    elim (keep x) as (λ (k : Bool). list_any p (cond k (x ∷ filter keep xs) (filter keep xs)) ≡ ((k && p x) || list_any (λ y. keep y && p y) xs)) [
+    let rest = list_any (λ y. keep y && p y) xs in
+    elim (keep x) as (λ (k : Bool). list_any p (cond k (x ∷ filter keep xs) (filter keep xs)) ≡ ((k && p x) || rest)) [
       | true ↦ ap (λ (b : Bool). p x || b) (list_any-filter p keep xs)
       | false ↦ list_any-filter p keep xs
     ]
 
+-- two tests that are true together are one
 same_truth : (a b : Bool) → (a ≡ true → b ≡ true) → (b ≡ true → a ≡ true) → a ≡ b
 same_truth true b there back = sym (there refl)
 same_truth false true there back = back refl
@@ -98,28 +103,38 @@ stood at (Some x) io e = grind (arith, nat_tests)
 standing : (io : Io) → if_standing (place_of io) (Some io) ≡ Some io
 standing io = grind (arith, nat_tests)
 
--- the pieces that look-back and end leave out overlap nothing
-overlap_within : (piece other : Piece) (longest id : ℕ) → other.len ≤ longest → pieces_overlap other piece ≡ true → range_contains place_cmp (Included (piece.file, piece.offset - longest, 0)) (Excluded (piece.file, piece_end piece, 0)) (other.file, other.offset, id) ≡ true
-overlap_within piece other longest id short shared =
-    let parts = and_parts (other.file == piece.file) (nat_lt (max other.offset piece.offset) (min (piece_end other) (piece_end piece))) shared in
-    let same : other.file ≡ piece.file = eqb-true other.file piece.file parts.0 in
-    let common : max other.offset piece.offset < min (piece_end other) (piece_end piece) = ltb-true (max other.offset piece.offset) (min (piece_end other) (piece_end piece)) parts.1 in
-    subst (λ (f : ℕ). range_contains place_cmp (Included (piece.file, piece.offset - longest, 0)) (Excluded (piece.file, piece_end piece, 0)) (f, other.offset, id) ≡ true) (sym same)
-    (and_from _ _ (from_start piece.file (piece.offset - longest) other.offset id (omega arith))
-    (ap not (before_end piece.file (piece_end piece) other.offset id (omega arith))))
-
--- the entries of places from `longest` before the piece up to its end
-abbrev near : Piece → ℕ → List (Place × Io) → List (Place × Io)
-near piece longest entries =
-    entries_between place_cmp (Included (piece.file, piece.offset - longest, 0)) (Excluded (piece.file, piece_end piece, 0)) entries
-
--- whether such a place is among them
+-- the places from `longest` bytes before a piece up to its end
 abbrev is_near : Piece → ℕ → Place → Bool
 is_near piece longest at =
-    range_contains place_cmp (Included (piece.file, piece.offset - longest, 0)) (Excluded (piece.file, piece_end piece, 0)) at
+    range_contains place_cmp (Included (piece.file, piece.offset - longest, 0))
+    (Excluded (piece.file, piece_end piece, 0)) at
 
-module _ (dir : Dir) (piece : Piece) (ids : BTreeMap ℕ Io) (places : BTreeMap Place Io) (longest : ℕ) (kept : IsIndexed ids places longest) where
-  flies_there : Finds (get place_cmp places) (λ (e : Place × Io). is_near piece longest e.0 && conflicts dir piece e.1) → Finds (get nat_cmp ids) (λ (e : ℕ × Io). conflicts dir piece e.1)
+-- what overlaps the piece and is no longer than that stands there
+overlap_is_near : (piece other : Piece) (longest id : ℕ) → other.len ≤ longest → pieces_overlap other piece ≡ true
+    → is_near piece longest (other.file, other.offset, id) ≡ true
+overlap_is_near piece other longest id short shared =
+    let start = max other.offset piece.offset in
+    let end = min (piece_end other) (piece_end piece) in
+    let parts = and_parts (other.file == piece.file) (nat_lt start end) shared in
+    let same : other.file ≡ piece.file = eqb-true other.file piece.file parts.0 in
+    let common : start < end = ltb-true start end parts.1 in
+    let low = from_start piece.file (piece.offset - longest) other.offset id (omega arith) in
+    let high = before_end piece.file (piece_end piece) other.offset id (omega arith) in
+    subst (λ (f : ℕ). is_near piece longest (f, other.offset, id) ≡ true) (sym same) (and_from _ _ low (ap not high))
+
+module _ (dir : Dir) (piece : Piece) (longest : ℕ) (ids : BTreeMap ℕ Io) (places : BTreeMap Place Io)
+    (kept : IsIndexed ids places longest) where
+  -- an I/O that conflicts with the piece: by number, by place, and by a place near the piece
+  abbrev flying : ℕ × Io → Bool
+  flying e = conflicts dir piece e.1
+
+  abbrev standing_there : Place × Io → Bool
+  standing_there e = conflicts dir piece e.1
+
+  abbrev standing_near : Place × Io → Bool
+  standing_near e = is_near piece longest e.0 && standing_there e
+
+  flies_there : Finds (get place_cmp places) standing_near → Finds (get nat_cmp ids) flying
   flies_there f = record {
     key = f.key.2;
     value = f.value;
@@ -127,27 +142,30 @@ module _ (dir : Dir) (piece : Piece) (ids : BTreeMap ℕ Io) (places : BTreeMap 
     pass = (and_parts (is_near piece longest f.key) (conflicts dir piece f.value) f.pass).1;
   }
 
-  stands_near : Finds (get nat_cmp ids) (λ (e : ℕ × Io). conflicts dir piece e.1) → Finds (get place_cmp places) (λ (e : Place × Io). is_near piece longest e.0 && conflicts dir piece e.1)
+  stands_near : Finds (get nat_cmp ids) flying → Finds (get place_cmp places) standing_near
   stands_near f =
-      let measured : IsMeasured longest f.key f.value = subst (λ (o : Option Io). IfSome o (IsMeasured longest f.key)) f.there (kept.measured f.key) in
-      let flying : get nat_cmp ids f.value.id ≡ Some f.value = subst (λ (id : ℕ). get nat_cmp ids id ≡ Some f.value) (sym measured.own) f.there in
-      let overlap = (and_parts (writes dir || writes f.value.dir) (pieces_overlap f.value.piece piece) f.pass).1 in
+      let io = f.value in
+      let measured = subst (λ (o : Option Io). IfSome o (IsMeasured longest f.key)) f.there (kept.measured f.key) in
+      let flies = subst (λ (id : ℕ). get nat_cmp ids id ≡ Some io) (sym measured.own) f.there in
+      let overlap = (and_parts (writes dir || writes io.dir) (pieces_overlap io.piece piece) f.pass).1 in
+      let near = overlap_is_near piece io.piece longest io.id measured.short overlap in
       record {
-        key = place_of f.value;
-        value = f.value;
-        there = kept.placed (place_of f.value) ∙ ap (if_standing (place_of f.value)) flying ∙ standing f.value;
-        pass = and_from _ _ (overlap_within piece f.value.piece longest f.value.id measured.short overlap) f.pass;
+        key = place_of io;
+        value = io;
+        there = kept.placed (place_of io) ∙ ap (if_standing (place_of io)) flies ∙ standing io;
+        pass = and_from _ _ near f.pass;
       }
 
   -- what is found near the piece is what is found among all
-  pub any_near : IsOrdered place_cmp places → list_any (λ (e : Place × Io). conflicts dir piece e.1) (near piece longest places.entries) ≡ list_any (λ (e : ℕ × Io). conflicts dir piece e.1) ids.entries
+  pub any_near : IsOrdered place_cmp places
+      → list_any standing_there (filter (λ (e : Place × Io). is_near piece longest e.0) places.entries) ≡ list_any flying ids.entries
   any_near ordered =
-      list_any-filter (λ (e : Place × Io). conflicts dir piece e.1) (λ (e : Place × Io). is_near piece longest e.0) places.entries
-      ∙ same_truth _ _
-      (λ found. entry_found exact_unsigned ids (λ (e : ℕ × Io). conflicts dir piece e.1)
-      (flies_there (finds_entry place_cmp_total places ordered (λ (e : Place × Io). is_near piece longest e.0 && conflicts dir piece e.1) found)))
-      (λ found. entry_found place_cmp_exact places (λ (e : Place × Io). is_near piece longest e.0 && conflicts dir piece e.1)
-      (stands_near (finds_entry nat_cmp_total ids kept.ordered (λ (e : ℕ × Io). conflicts dir piece e.1) found)))
+      let there = λ (found : list_any standing_near places.entries ≡ true). flies_there (finds_entry place_cmp_total places ordered standing_near found) in
+      let back = λ (found : list_any flying ids.entries ≡ true). stands_near (finds_entry nat_cmp_total ids kept.ordered flying found) in
+      list_any-filter standing_there (λ (e : Place × Io). is_near piece longest e.0) places.entries
+      ∙ same_truth (list_any standing_near places.entries) (list_any flying ids.entries)
+      (λ found. entry_found exact_unsigned ids flying (there found))
+      (λ found. entry_found place_cmp_exact places standing_near (back found))
 
 -- a test that is false of what is there
 if_there : (p : Io → Bool) (o : Option Io) → ((io : Io) → o ≡ Some io → p io ≡ false) → IfSome o (λ io. p io ≡ false)
@@ -155,7 +173,8 @@ if_there p None below = tt
 if_there p (Some io) below = below io refl
 
 -- no entry passes exactly if nothing passes under any number
-pub none_passes : (p : Io → Bool) (ids : BTreeMap ℕ Io) → IsOrdered nat_cmp ids → IsTrue (not (list_any (λ (e : ℕ × Io). p e.1) ids.entries)) ↔ ((id : ℕ) → IfSome (get nat_cmp ids id) (λ io. p io ≡ false))
+pub none_passes : (p : Io → Bool) (ids : BTreeMap ℕ Io) → IsOrdered nat_cmp ids
+    → IsTrue (not (list_any (λ (e : ℕ × Io). p e.1) ids.entries)) ↔ ((id : ℕ) → IfSome (get nat_cmp ids id) (λ io. p io ≡ false))
 none_passes p ids ordered =
     let test : ℕ × Io → Bool = λ (e : ℕ × Io). p e.1 in (
       (λ none id. if_there p (get nat_cmp ids id) (λ io there.

@@ -1,4 +1,5 @@
-ghost use Rattle.std.specs.Prelude.{◌≡◌, ◌≤◌, ℕ, true, [], Some, None, is_some, if◌then◌else◌, ◌==◌, ◌↔◌, IsTrue, false, IfOk, OnOk, OnErr, IfSome};
+ghost use Rattle.std.specs.Prelude.{◌≡◌, ◌≤◌, ◌==◌, ◌↔◌, if◌then◌else◌, ℕ, [], false, Some, None};
+ghost use Rattle.std.specs.Prelude.{is_some, IsTrue, IfSome, IfOk, OnOk, OnErr};
 ghost use Rattle.std.specs.Option.{ok_or};
 ghost use Rattle.std.specs.BTreeMap.{insert_entry, is_at};
 ghost use Rattle.std.specs.Map.{remove_entry};
@@ -77,7 +78,7 @@ impl Flight {
         requires some { 1 ≤ io.piece.len }
         requires largest { io.piece.len ≤ LARGEST_BLOCK }
         requires within { piece_end io.piece ≤ LARGEST_END }
-        requires clear { is_clear io.dir io.piece self.old ≡ true }
+        requires clear { IsTrue (is_clear io.dir io.piece self.old) }
         requires new { flying_io io.id self.old ≡ None }
         ensures entries { OnOk result (self.new ≡ insert_entry nat_cmp self.old io.id io) }
         ensures at_each { OnOk result ((id : ℕ) → flying_io id self.new ≡ (if io.id == id then Some io else flying_io id self.old)) }

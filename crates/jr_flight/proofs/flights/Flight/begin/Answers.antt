@@ -7,5 +7,9 @@ pub invariant_of-self-in-Err : goal.invariant_of-self-in-Err
 invariant_of-self-in-Err c = record {
   ordered = rw c.in-Err.ensures.err c.self.invariant.ordered;
   measured = λ id. rw c.in-Err.ensures.err (c.self.invariant.measured id);
-  placed = λ at. grind (arith, common_steps, c.self.invariant.placed at, c.remove.ensures.updates.0 at, c.in_ok-insert.ensures.updates.0 at);
+  placed = λ at.
+      let was = c.self.invariant.placed at in
+      let put = c.in_ok-insert.ensures.updates.0 at in
+      let taken = c.remove.ensures.updates.0 at in
+      grind (arith, common_steps, was, put, taken);
 }
