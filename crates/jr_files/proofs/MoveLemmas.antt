@@ -1,5 +1,5 @@
 -- Lemmas on reads and writes that go on with parts.
-use Rattle.std.proofs.Common.{◌≡◌, ℕ, ◌+◌, ◌-◌, ◌<◌, ◌≤◌, List, ◌++◌, length, take, drop, map, slice_get, slice_set, slice_index_or, Some, Result, IsTrue, refl, sym, subst, ap, ◌∙◌, arith, length-append, length-drop, length-take, append_assoc}
+use Rattle.std.proofs.Common.{◌≡◌, ℕ, ◌+◌, ◌-◌, ◌<◌, ◌≤◌, List, ◌++◌, length, take, drop, map, slice_get, slice_set, slice_index_or, Some, Result, IsTrue, sym, subst, ap, ◌∙◌, arith, length-append, length-drop, append_assoc}
 use Rattle.std.specs.Option.{option_map}
 use Rattle.std.proofs.lemmas.Bool.Decides.{nat_tests}
 use Rattle.std.proofs.lemmas.List.{length-take-le, take-append-le, take_at, drop-drop, map-set}
@@ -8,7 +8,6 @@ use Rattle.std.proofs.Math.Seq.{take-add, take-append-add, drop-append-add}
 use Rattle.jr_model.specs.Replies.{placed}
 use Rattle.jr_engines.specs.declared.faults.EngineFault.{EngineFault}
 use Rattle.jr_files.specs.Engines.{ReadsFile, ReadsKnown, WritesFile, WritesKnown, has_place}
-use Rattle.jr_files.specs.Moves.{Stores}
 use Rattle.jr_files.specs.Parts.{FileView}
 
 -- a read so far, after so many calls: the file is as it was, and so many bytes of it stand first in the buffer

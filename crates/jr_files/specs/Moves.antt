@@ -1,5 +1,5 @@
 -- Believed: what a call on a file does that goes on until all bytes are moved, the file ends, or the system refuses.
-use Rattle.std.specs.Prelude.{ℕ, ◌+◌, ◌-◌, ◌≤◌, ◌≡◌, min, List, length, take, drop, Result, IfOk}
+use Rattle.std.specs.Prelude.{ℕ, ◌≤◌, ◌≡◌, min, List, length, take, drop, Result, IfOk}
 use Rattle.jr_model.specs.Replies.{placed}
 use Rattle.jr_engines.specs.declared.faults.EngineFault.{EngineFault}
 

@@ -1,5 +1,5 @@
 -- Believed: what a file whose bytes are known does at a call that may move a part of what was asked for.
-use Rattle.std.specs.Prelude.{ℕ, ◌+◌, ◌<◌, ◌≤◌, ◌≡◌, Bool, false, List, [], length, take, drop, unwrap_or, Result, IfOk}
+use Rattle.std.specs.Prelude.{ℕ, ◌<◌, ◌≤◌, ◌≡◌, Bool, false, List, [], length, take, drop, unwrap_or, Result, IfOk}
 use Rattle.std.specs.Result.{result_ok}
 use Rattle.jr_model.specs.Replies.{placed}
 

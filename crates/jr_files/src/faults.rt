@@ -1,4 +1,3 @@
-use jr_model::Memory;
 use std::alloc::AllocFailed;
 use thiserror::Error;
 
@@ -11,17 +10,6 @@ pub enum FileFault {
     /// A request for memory was refused.
     #[error("out of memory")]
     Memory,
-}
-
-impl From<Memory> for FileFault {
-    ghost use Rattle.std.specs.Prelude.{◌≡◌};
-    ghost use Rattle.jr_files.specs.declared.faults.FileFault.TheVariants as fault;
-
-    ghost from_gives = { λ error made. made ≡ fault.Memory };
-
-    fn from(_error: Memory) -> FileFault {
-        FileFault::Memory
-    }
 }
 
 impl<T: Drop> From<AllocFailed<T>> for FileFault {
