@@ -1,10 +1,9 @@
 -- How the numbers that the passes hold change with their views.
-use Rattle.std.proofs.Common.{◌≡◌, ℕ, zero, suc, ◌+◌, ◌*◌, ◌-◌, ◌<◌, ◌≤◌, List, [], ◌∷◌, ◌++◌, map, sum, sum_by, flat_map, set, refl, sym, ap, ◌∙◌, subst, arith, append-nil, mul_assoc, mul_comm, add-mul, suc-mul, one-mul}
+use Rattle.std.proofs.Common.{◌≡◌, ℕ, zero, suc, ◌+◌, ◌*◌, ◌<◌, ◌≤◌, List, [], ◌∷◌, ◌++◌, map, sum, flat_map, set, refl, sym, ap, ◌∙◌, subst, arith, append-nil, mul_assoc, add-mul, suc-mul}
 use native.Mathlib.Nat.{mul_right_comm, zero-mul}
 use Rattle.std.proofs.lemmas.List.Sums.{sum_by-cons, sum_by-append}
 use mathlib.Core.Option.{some, some-injective, some-ne-none}
 use lib.ListN.{get_elem?}
-use Rattle.jr_handover.specs.declared.parcel.Parcel.{Parcel}
 use Rattle.jr_handover.specs.declared.parcel.Hand.{Hand}
 use Rattle.jr_handover.specs.Shares.{IsShare, AreShares}
 

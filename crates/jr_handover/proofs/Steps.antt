@@ -1,7 +1,7 @@
 -- Each step of the hand-over keeps its rule.
-use Rattle.std.proofs.Common.{◌≡◌, ℕ, zero, suc, ◌+◌, ◌*◌, ◌-◌, ◌<◌, ◌≤◌, ◌≢◌, Bool, true, false, eqb, eqb-true, eq-eqb, ltb-true, lt-ltb, nat_lt, ◌==◌, if◌then◌else◌, length-append, List, [], ◌∷◌, ◌++◌, length, sum, sum_by, flat_map, set, refl, sym, ap, ◌∙◌, subst, arith, append-nil, append_assoc, mul_assoc, mul_comm, add-mul, suc-mul, one-mul, mul-pos, ⊎_elim, IsPermutation, lit<}
+use Rattle.std.proofs.Common.{◌≡◌, ℕ, zero, suc, ◌+◌, ◌*◌, ◌-◌, ◌<◌, Bool, true, false, eqb-true, eq-eqb, ltb-true, lt-ltb, nat_lt, ◌==◌, if◌then◌else◌, length-append, List, [], ◌∷◌, ◌++◌, length, sum_by, flat_map, set, refl, sym, ap, ◌∙◌, subst, arith, append-nil, mul_assoc, mul_comm, add-mul, suc-mul, one-mul, mul-pos, ⊎_elim, IsPermutation, lit<}
 use native.Mathlib.Nat.{mul_right_comm, zero-mul, eq_of_mul-eq-mul_right}
-use Rattle.std.proofs.lemmas.List.Sums.{sum_by-append, sum_by-cons}
+use Rattle.std.proofs.lemmas.List.Sums.{sum_by-append}
 use Rattle.std.proofs.lemmas.List.Sorted.{IsPermutation-refl, sum_by-IsPermutation, length_permutation}
 use Rattle.atomic_table.proofs.Lists.{at_set}
 use mathlib.Core.Option.{some}
@@ -10,11 +10,11 @@ use Rattle.crossbeam_channel.specs.Fifo.{Pushes, Pops, Forks, Merges, Learns}
 use Rattle.jr_handover.specs.contracts.parcel.Parcel as parcel
 use Rattle.jr_handover.specs.declared.parcel.Parcel.{Parcel}
 use Rattle.jr_handover.specs.declared.parcel.Hand.{Hand}
-use Rattle.jr_handover.specs.Hands.{hand, PARTS, first_hand, IsWhole, with_put, with_taken, cut_parts, cut_of, kept_of, given_of, joined_parts, joined_of_parts, joined_of, spent_hand}
-use Rattle.jr_handover.specs.Shares.{IsShare, AreShares, IsShared}
+use Rattle.jr_handover.specs.Hands.{PARTS, first_hand, IsWhole, with_put, with_taken, cut_parts, cut_of, kept_of, given_of, joined_parts, joined_of_parts, joined_of, spent_hand}
+use Rattle.jr_handover.specs.Shares.{IsShare, IsShared}
 use Rattle.jr_handover.specs.Balance.{all_put, all_taken, IsBalanced}
 use Rattle.jr_handover.proofs.Weights.{weigh_same, flat_map-set, flat_map-snoc}
-use Rattle.jr_handover.proofs.Portions.{Portion, portion, Alone, times, sum-times, sum-snoc, each-times, each-snoc}
+use Rattle.jr_handover.proofs.Portions.{portion, Alone, times, sum-times, sum-snoc, each-times, each-snoc}
 
 -- what all views put weighs what they took and what the channel holds
 abbrev WeighSame : (Parcel → ℕ) → List Parcel → List Hand → Type 0

@@ -23,7 +23,7 @@ pub struct Pass {
 }
 
 impl Handoff {
-    ghost use Rattle.std.specs.Prelude.{◌≡◌, ◌+◌, ◌++◌, ◌<◌, ◌≤◌, List, length, IfOk, IsOkAnd};
+    ghost use Rattle.std.specs.Prelude.{◌≡◌, ◌+◌, ◌++◌, ◌<◌, ◌≤◌, List, length, IfErr, IfNone, IfOk, IfSome, IsOkAnd, OnErr, OnOk};
     ghost use Rattle.std.specs.List.Sorted.{IsPermutation};
     ghost use Rattle.jr_handover.specs.Hands.{first_hand, kept_of, given_of, joined_of, with_put, with_taken, IsWhole};
     ghost use Rattle.jr_handover.specs.Passes.{IsPassOf, hand_of, room_of};
@@ -77,12 +77,26 @@ impl Handoff {
     {
         let mut parcel = parcel;
         for _ in rt.forever() {
-            match self.sender.send_as::<Puts, R>(rt, &mut pass.seat, parcel) {
+            match self.try_put(rt, pass, parcel) {
                 Ok(()) => return,
-                Err(refused) => parcel = refused.into_inner(),
+                Err(refused) => parcel = refused,
             }
         }
         unreachable!()
+    }
+
+    // One try, which a channel that seems to have no other end refuses.
+    fn try_put<R: Wait>(&self, rt: &R, pass: &mut Pass, parcel: Parcel) -> Result<(), Parcel>
+        requires { IsPassOf self.now pass.old }
+        ensures pass { IsPassOf self.now pass.new }
+        ensures put { OnOk result (hand_of pass.new ≡ with_put (hand_of pass.old) parcel) }
+        ensures same { OnErr result (hand_of pass.new ≡ hand_of pass.old) }
+        ensures refused { IfErr result (λ refused. refused ≡ parcel) }
+    {
+        match self.sender.send_as::<Puts, R>(rt, &mut pass.seat, parcel) {
+            Ok(()) => Ok(()),
+            Err(refused) => Err(refused.into_inner()),
+        }
     }
 
     /// Takes the parcel at the front, and waits while there is none.
@@ -92,11 +106,24 @@ impl Handoff {
         ensures taken { hand_of pass.new ≡ with_taken (hand_of pass.old) result }
     {
         for _ in rt.forever() {
-            if let Ok(parcel) = self.receiver.recv_as::<Takes, R>(rt, &mut pass.seat) {
+            if let Some(parcel) = self.try_take(rt, pass) {
                 return parcel;
             }
         }
         unreachable!()
+    }
+
+    // One try, which an empty channel that seems to have no other end refuses.
+    fn try_take<R: Wait>(&self, rt: &R, pass: &mut Pass) -> Option<Parcel>
+        requires { IsPassOf self.now pass.old }
+        ensures pass { IsPassOf self.now pass.new }
+        ensures taken { IfSome result (λ parcel. hand_of pass.new ≡ with_taken (hand_of pass.old) parcel) }
+        ensures same { IfNone result (hand_of pass.new ≡ hand_of pass.old) }
+    {
+        match self.receiver.recv_as::<Takes, R>(rt, &mut pass.seat) {
+            Ok(parcel) => Some(parcel),
+            Err(_) => None,
+        }
     }
 
     /// What holds once every pass was joined into this one.
