@@ -1,4 +1,4 @@
--- Why the check of a trace prints no totals (of this project).
+-- Believed: why the check of a trace prints no totals (of this project).
 use Rattle.std.specs.Prelude.{List, Result, IsOk}
 use Rattle.jr_model.specs.declared.totals.Totals.{Totals}
 use Rattle.jr_stats.specs.declared.faults.TraceFault.{TraceFault}

@@ -1,4 +1,4 @@
--- The command line: its arguments, as clap reads them, and what it holds for each.
+-- Believed: the command line: its arguments, as clap reads them, and what it holds for each.
 use Rattle.std.specs.Prelude.{◌≡◌, ℕ, false, List, Some, option_map, unwrap_or, codes, pos}
 use Rattle.std.specs.Option.{option_copied}
 use Rattle.std.specs.Str.{bytes_eq}

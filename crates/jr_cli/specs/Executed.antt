@@ -1,4 +1,4 @@
--- What a run of the program is, and how it ends (of this project).
+-- Believed: what a run of the program is, and how it ends (of this project).
 use Rattle.std.proofs.Common.{inl, inr}
 use Rattle.std.specs.Prelude.{◌≡◌, ◌⊎◌, ℕ, ◌+◌, true, List, Option, Some, None}
 use Rattle.std.specs.Borrow.{MutBor}

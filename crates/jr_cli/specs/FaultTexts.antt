@@ -1,4 +1,4 @@
--- What the program says, behind its name, where it ends without a report.
+-- Believed: what the program says, behind its name, where it ends without a report.
 use Rattle.std.specs.Prelude.{ℕ, List, codes}
 use Rattle.jr_text.specs.FaultTexts.{text_fault_text}
 use Rattle.jr_options.specs.FaultTexts.{job_fault_text}

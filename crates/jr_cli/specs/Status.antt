@@ -1,5 +1,5 @@
--- The exit status of the program: 0 where nothing went wrong, 1 where a run found a fault, 2 where what was
--- asked for is refused, 3 where memory, a file or a thread was wanting.
+-- Believed: the exit status of the program: 0 where nothing went wrong, 1 where a run found a fault, 2 where what was asked
+-- for is refused, 3 where memory, a file or a thread was wanting.
 use Rattle.std.specs.Prelude.{ℕ, nat_lt, Bool, ◌||◌, List, if◌then◌else◌}
 use Rattle.std.specs.List.{list_any}
 use Rattle.clap.specs.declared.error.kind.ErrorKind.{ErrorKind}

@@ -1,4 +1,4 @@
--- How many I/Os and checks of a history ended, and how many of them failed (of this project).
+-- Believed: how many I/Os and checks of a history ended, and how many of them failed (of this project).
 use Rattle.std.specs.Prelude.{ℕ, Bool, true, false, List, count_by}
 use Rattle.jr_model.specs.declared.events.Event.{Event}
 use Rattle.jr_model.specs.declared.events.Event.TheVariants.{Issue, Probe, Skip, End, Verdict}

@@ -1,4 +1,4 @@
--- What the faults print.
+-- Believed: what the faults print.
 use Rattle.std.specs.Prelude.{ℕ, List, codes}
 use Rattle.jr_crew.specs.declared.faults.RunFault.{RunFault}
 use Rattle.jr_crew.specs.declared.faults.RunFault.TheVariants.{Memory, NoEngine, Thread, Books}

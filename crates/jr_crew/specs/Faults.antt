@@ -1,4 +1,4 @@
--- Why a run gave no desk, where its desk refused a call (of this project).
+-- Believed: why a run gave no desk, where its desk refused a call (of this project).
 use Rattle.jr_model.specs.declared.steps.DeskFault.{DeskFault}
 use Rattle.jr_model.specs.declared.steps.DeskFault.TheVariants as desk
 use Rattle.jr_crew.specs.declared.faults.RunFault.{RunFault}

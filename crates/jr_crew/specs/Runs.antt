@@ -1,4 +1,4 @@
--- When the calls of an engine are what one worker completed (of this project).
+-- Believed: when the calls of an engine are what one worker completed (of this project).
 use Rattle.std.specs.Prelude.{◌≡◌, ℕ, true, List, [], IsTrue}
 use Rattle.jr_model.specs.declared.events.Event.{Event}
 use Rattle.jr_model.specs.Plan.{Plan}

@@ -1,4 +1,4 @@
--- What one turn of a worker does, from a take to the end of what it started (of this project).
+-- Internal: what one turn of a worker does, from a take to the end of what it started (of this project).
 use Rattle.std.specs.Prelude.{◌≡◌, ℕ, true, false, List, [], ◌∷◌, ◌++◌, length, replicate, slice_get, Option, Some, None, IsFalse, if◌then◌else◌}
 use Rattle.jr_model.specs.declared.events.Event.{Event}
 use Rattle.jr_model.specs.declared.events.Event.TheVariants.{End, Verdict}

@@ -1,4 +1,4 @@
--- What contracts see of a desk (of this project).
+-- Believed: what contracts see of a desk (of this project).
 use Rattle.std.specs.Prelude.{Bool, List}
 use Rattle.jr_model.specs.declared.events.Event.{Event}
 use Rattle.jr_model.specs.Plan.{Plan}

@@ -1,4 +1,4 @@
--- What a desk keeps beside its history (of this project).
+-- Internal: what a desk keeps beside its history (of this project).
 use Rattle.std.specs.Prelude.{◌≡◌, Bool, true, List, map, slice_get, Some}
 use Rattle.std.specs.List.{enumerate_from}
 use Rattle.jr_model.specs.declared.events.Event.{Event}

@@ -1,4 +1,4 @@
--- How a desk, an engine and what was read are the machine's state (of this project).
+-- Internal: how a desk, an engine and what was read are the machine's state (of this project).
 use Rattle.std.specs.Prelude.{◌≡◌, ◌≤◌, ◌+◌, ◌==◌, ℕ, Bool, true, List, ◌∷◌, ◌++◌, [], map, reverse, find, Option, Some, None}
 use Rattle.jr_model.specs.declared.events.Event.{Event}
 use Rattle.jr_model.specs.declared.events.Event.TheVariants.{Verdict}

@@ -1,4 +1,4 @@
--- Which calls on a ticket a desk refuses (of this project).
+-- Believed: which calls on a ticket a desk refuses (of this project).
 use Rattle.std.specs.Prelude.{ℕ, Bool, true, false, is_none, Option, Some, None, if◌then◌else◌}
 use Rattle.jr_model.specs.declared.steps.DeskFault.{DeskFault}
 use Rattle.jr_model.specs.declared.steps.DeskFault.TheVariants.{Stranger, Twice, WrongKind, Stopped}

@@ -1,4 +1,4 @@
--- What a take leaves and answers (of this project).
+-- Believed: what a take leaves and answers (of this project).
 use Rattle.std.specs.Prelude.{◌≡◌, ℕ, Bool, true, false, List, [], ◌∷◌, ◌++◌, length, Option, Some, None, if◌then◌else◌}
 use Rattle.jr_model.specs.declared.events.Event.{Event}
 use Rattle.jr_model.specs.declared.events.Started.{Started}

@@ -1,4 +1,4 @@
--- The tickets that a desk hands out (of this project).
+-- Believed: the tickets that a desk hands out (of this project).
 use Rattle.std.specs.Prelude.{◌≡◌, ◌<◌, ℕ, true, slice_get, Option, Some, None}
 use Rattle.jr_model.specs.declared.contents.Expected.{Expected}
 use Rattle.jr_model.specs.declared.contents.Expected.TheVariants as expected

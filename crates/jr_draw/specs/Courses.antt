@@ -1,4 +1,4 @@
--- A pass on its way, as its clone and how far it has come.
+-- Internal: a pass on its way, as its clone and how far it has come.
 use Rattle.std.specs.Prelude.{false, [], None}
 use Rattle.jr_model.specs.declared.contents.VerifyKind.TheVariants as verify
 use Rattle.jr_model.specs.Draws.{Progress}

@@ -1,4 +1,5 @@
--- What a clone and its pass keep, so that each draw is a piece of the clone's region (the limits are of this project).
+-- Internal: what a clone and its pass keep, so that each draw is a piece of the clone's region (the limits are of this
+-- project).
 use Rattle.std.specs.Prelude.{◌≡◌, ℕ, ◌+◌, ◌*◌, ◌%◌, ◌^◌, ◌≤◌, true, false, [], None, length}
 use Rattle.jr_model.specs.declared.contents.VerifyKind.TheVariants as verify
 use Rattle.jr_model.specs.CellSet.{free_run, free_count}

@@ -1,4 +1,4 @@
--- The draws that a drawer is still to give.
+-- Believed: the draws that a drawer is still to give.
 use Rattle.std.specs.Prelude.{ℕ, ◌*◌, List}
 use Rattle.jr_model.specs.declared.workloads.Draw.{Draw}
 use Rattle.jr_model.specs.Draws.{draws_from}

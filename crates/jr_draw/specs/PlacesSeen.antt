@@ -1,4 +1,4 @@
--- The program's `Places` as the definitions see them.
+-- Internal: the program's `Places` as the definitions see them.
 use Rattle.jr_model.specs.Draws.{Places as Seen, sequential, mapped, unmapped}
 use Rattle.jr_draw.specs.declared.places.Places.{Places}
 use Rattle.jr_draw.specs.declared.places.Places.TheVariants.{Sequential, Mapped, Unmapped}

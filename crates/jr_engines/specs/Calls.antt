@@ -1,4 +1,4 @@
--- What one call of an engine does, by what contracts see of the engine before and after it (of this project).
+-- Believed: what one call of an engine does, by what contracts see of the engine before and after it (of this project).
 use Rattle.std.specs.Prelude.{ℕ, ◌+◌, ◌≡◌, length, List, Option, Result, is_ok, IsTrue, if◌then◌else◌}
 use Rattle.std.specs.Option.{ok_or}
 use Rattle.jr_model.specs.declared.replies.Reply.{Reply}

@@ -1,4 +1,4 @@
--- Reads and writes of a memory of files (of this project).
+-- Believed: reads and writes of a memory of files (of this project).
 use Rattle.std.specs.Prelude.{ℕ, Bool, ◌-◌, min, nat_le, slice_get, List, Option, Some, None, Result, Ok, Err, OnOk, OnErr, ◌≡◌, length, if◌then◌else◌}
 use Rattle.jr_model.specs.Replies.{FileBytes, covers, stored, overlaid}
 use Rattle.jr_engines.specs.declared.faults.EngineFault.{EngineFault}

@@ -1,4 +1,4 @@
--- What contracts see of the engines of this crate (of this project).
+-- Believed: what contracts see of the engines of this crate (of this project).
 use Rattle.std.specs.Prelude.{ℕ, true, false, List, [], ◌++◌, Option, option_to_list}
 use Rattle.jr_model.specs.declared.replies.Reply.{Reply}
 use Rattle.jr_model.specs.Replies.{EngineState, FileBytes}

@@ -1,4 +1,4 @@
--- The count of an engine's calls (of this project).
+-- Internal: the count of an engine's calls (of this project).
 use Rattle.std.specs.Prelude.{ℕ, ◌+◌, ◌≡◌, Result, is_ok, if◌then◌else◌}
 use Rattle.jr_engines.specs.declared.faults.EngineFault.{EngineFault}
 

@@ -1,4 +1,4 @@
--- What a worker asks an engine for a ticket, and the verdict on what came back (of this project).
+-- Believed: what a worker asks an engine for a ticket, and the verdict on what came back (of this project).
 use Rattle.std.specs.Prelude.{◌≡◌, ℕ, List, length, Bool, true, false}
 use Rattle.jr_model.specs.declared.contents.Expected.{Expected}
 use Rattle.jr_model.specs.declared.events.Outcome.{Outcome}

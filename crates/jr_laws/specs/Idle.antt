@@ -1,4 +1,4 @@
--- When nothing may be started.
+-- Believed: when nothing may be started.
 use Rattle.std.specs.Prelude.{◌≡◌, ℕ, true, List, [], None}
 use Rattle.jr_model.specs.declared.events.Event.{Event}
 use Rattle.jr_model.specs.Choice.{choice}

@@ -1,4 +1,4 @@
--- A memory that keeps what was written last.
+-- Believed: a memory that keeps what was written last.
 use Rattle.std.specs.Prelude.{◌≡◌, ◌-◌, ◌*◌, ℕ, true, List, Some, slice_get}
 use Rattle.jr_model.specs.declared.limits.TheConstants.{SECTOR}
 use Rattle.jr_model.specs.declared.events.Event.{Event}

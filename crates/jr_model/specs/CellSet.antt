@@ -1,4 +1,4 @@
--- A set of cells, as a flag for each cell: true where it is taken (fio's manual, "norandommap": the random map).
+-- Believed: a set of cells, as a flag for each cell: true where it is taken (fio's manual, "norandommap": the random map).
 use Rattle.std.specs.Prelude.{ℕ, ◌+◌, min, Bool, true, false, not, List, ◌++◌, Option, take, drop, replicate, count_by, position}
 use Rattle.std.specs.List.{prefix_len}
 use Rattle.std.specs.Option.{option_map, option_or}

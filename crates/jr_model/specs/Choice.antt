@@ -1,4 +1,4 @@
--- What is started next (of this project): the least step that may happen, by clone, then pass, then number.
+-- Believed: what is started next (of this project): the least step that may happen, by clone, then pass, then number.
 use Rattle.std.specs.Prelude.{ℕ, List, Option}
 use Rattle.jr_model.specs.declared.events.Event.{Event}
 pub use Rattle.jr_model.specs.History.{first_given}

@@ -1,4 +1,4 @@
--- What a write puts into its blocks (fio's manual, "verify"; MD5 of RFC 1321, SHA-1 and SHA-256 of FIPS 180-4; the
+-- Believed: what a write puts into its blocks (fio's manual, "verify"; MD5 of RFC 1321, SHA-1 and SHA-256 of FIPS 180-4; the
 -- header's layout is of this project). Numbers in a header are little-endian.
 use Rattle.std.specs.Prelude.{ℕ, ◌-◌, ◌/◌, ◌%◌, List, [], ◌∷◌, ◌++◌, length, map, replicate, slice_index, Option, Some, None}
 use Rattle.std.specs.List.{range_with_len}

@@ -1,4 +1,4 @@
--- Which I/Os a pass of a clone is made of (fio's manual, "I/O type", "Block size", "norandommap"; the use of the
+-- Believed: which I/Os a pass of a clone is made of (fio's manual, "I/O type", "Block size", "norandommap"; the use of the
 -- generator's words is of this project). Each draw uses four words: direction, size, place, and the filler's seed.
 use Rattle.std.specs.Prelude.{ℕ, suc, ◌+◌, ◌-◌, ◌*◌, ◌/◌, ◌%◌, min, nat_lt, ◌==◌, Bool, true, false, List, [], ◌∷◌, Option, Some, None, unwrap_or, is_none, if◌then◌else◌}
 use Rattle.jr_model.specs.declared.blocks.Dir.{Dir}

@@ -1,4 +1,4 @@
--- What the faults print.
+-- Believed: what the faults print.
 use Rattle.std.specs.Prelude.{ℕ, List, codes}
 use Rattle.jr_model.specs.declared.memory.Memory.{Memory}
 use Rattle.jr_model.specs.declared.steps.DeskFault.{DeskFault}

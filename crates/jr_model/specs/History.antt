@@ -1,5 +1,5 @@
--- What happened in a run so far: a list of events, the oldest first (fio's manual, "iodepth"; the events are of this
--- project). An I/O's or check's number is its place among those that were started.
+-- Believed: what happened in a run so far: a list of events, the oldest first (fio's manual, "iodepth"; the events are of
+-- this project). An I/O's or check's number is its place among those that were started.
 use Rattle.std.specs.Prelude.{ℕ, ◌==◌, nat_lt, Bool, true, false, not, ◌&&◌, List, [], ◌∷◌, length, Option, Some, None, filter, filter_map, is_none, if◌then◌else◌}
 use Rattle.std.specs.Option.{option_or}
 use Rattle.std.specs.List.{list_any, enumerate_from}

@@ -1,4 +1,4 @@
--- When reads are honest, and when verdicts are those of the bytes read (of this project).
+-- Believed: when reads are honest, and when verdicts are those of the bytes read (of this project).
 use Rattle.std.specs.Prelude.{◌≡◌, ℕ, zero, suc, ◌-◌, ◌*◌, List, [], ◌∷◌, take, drop, slice_get, Option, Some, None, is_some, IsTrue, if◌then◌else◌}
 use Rattle.jr_model.specs.declared.limits.TheConstants.{SECTOR}
 use Rattle.jr_model.specs.declared.blocks.Piece.{Piece}

@@ -1,5 +1,5 @@
--- The verdict on the bytes of a check (fio's manual, "verify"; the order of the tests is of this project). The header
--- that is compared is the one that was written, never the one that was read.
+-- Believed: the verdict on the bytes of a check (fio's manual, "verify"; the order of the tests is of this project). The
+-- header that is compared is the one that was written, never the one that was read.
 use Rattle.std.specs.Prelude.{◌≡◌, ℕ, suc, ◌==◌, nat_eq, Bool, true, false, is_some, List, [], ◌∷◌, length, take, drop, slice_range, Option, Some, None, if◌then◌else◌}
 use Rattle.std.specs.Option.{option_map}
 use Rattle.std.specs.Cmp.Lexicographic.{pointwise}

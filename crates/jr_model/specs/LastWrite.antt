@@ -1,5 +1,5 @@
--- The last write of a 512-byte block of a file (of this project; fio's manual, "verify"). Blocks of a file are counted
--- from its start.
+-- Believed: the last write of a 512-byte block of a file (of this project; fio's manual, "verify"). Blocks of a file are
+-- counted from its start.
 use Rattle.std.specs.Prelude.{ℕ, ◌+◌, ◌*◌, ◌/◌, ◌==◌, nat_lt, nat_le, Bool, false, ◌&&◌, List, Option, Some, None, slice_get, fold, if◌then◌else◌}
 use Rattle.std.specs.List.{list_all, range_with_len}
 use Rattle.jr_model.specs.declared.limits.TheConstants.{SECTOR}

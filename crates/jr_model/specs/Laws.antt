@@ -1,4 +1,4 @@
--- Laws over the definitions alone: what holds of every plan, history and list of steps.
+-- Believed: laws over the definitions alone: what holds of every plan, history and list of steps.
 use Rattle.std.specs.Prelude.{◌≡◌, ◌≤◌, ℕ, true, List, [], ◌∷◌, ◌++◌, length, Some}
 use Rattle.jr_model.specs.declared.blocks.Piece.{Piece}
 use Rattle.jr_model.specs.declared.contents.Method.{Method}

@@ -1,5 +1,5 @@
--- Which event may happen after a history (fio's manual, "iodepth", "serialize_overlap", "stonewall", "verify_fatal"; the
--- halt after a fault and the serialising over all jobs are of this project).
+-- Believed: which event may happen after a history (fio's manual, "iodepth", "serialize_overlap", "stonewall",
+-- "verify_fatal"; the halt after a fault and the serialising over all jobs are of this project).
 use Rattle.std.specs.Prelude.{ℕ, ◌==◌, nat_lt, nat_le, Bool, true, false, not, ◌&&◌, ◌||◌, List, [], ◌∷◌, ◌++◌, length, slice_get, Option, Some, None, if◌then◌else◌}
 use Rattle.std.specs.List.{list_any, list_all}
 use Rattle.jr_model.specs.declared.blocks.Dir.{Dir}

@@ -1,5 +1,5 @@
--- The machine that the desk is: a history, and a memory that begins with zeros (of this project). Take, End, Judge and
--- Stop are its steps; a refused step changes nothing.
+-- Believed: the machine that the desk is: a history, and a memory that begins with zeros (of this project). Take, End, Judge
+-- and Stop are its steps; a refused step changes nothing.
 use Rattle.std.specs.Prelude.{◌≡◌, ℕ, zero, suc, ◌*◌, ◌==◌, nat_lt, Bool, true, false, ◌&&◌, List, [], ◌∷◌, ◌++◌, length, map, sum, replicate, slice_get, Option, Some, None, is_none, if◌then◌else◌}
 use Rattle.std.specs.Bool.{MatchBool}
 use Rattle.jr_model.specs.declared.blocks.Piece.{Piece}

@@ -1,4 +1,4 @@
--- How a pattern's 1 to 64 bytes lie in a fixed array (of this project).
+-- Internal: how a pattern's 1 to 64 bytes lie in a fixed array (of this project).
 use Rattle.std.specs.Prelude.{◌≡◌, ℕ, ◌≤◌, ◌-◌, List, ◌++◌, length, take, replicate, nat_eq, Bool, false, Option, Some, None}
 use Rattle.std.specs.Cmp.Lexicographic.{pointwise}
 use Rattle.std.proofs.Common.{arith, length-take}

@@ -1,4 +1,4 @@
--- Pieces of files (fio's manual, "Block size" and "I/O type": an I/O is a block at an offset of a file).
+-- Believed: pieces of files (fio's manual, "Block size" and "I/O type": an I/O is a block at an offset of a file).
 use Rattle.std.specs.Prelude.{ℕ, ◌+◌, min, max, nat_lt, ◌==◌, Bool, ◌&&◌}
 use Rattle.jr_model.specs.declared.blocks.Piece.{Piece}
 

@@ -1,4 +1,4 @@
--- What a job file asks for, as the other definitions read it (fio's manual, "Job file format" and "Parameters").
+-- Believed: what a job file asks for, as the other definitions read it (fio's manual, "Job file format" and "Parameters").
 -- Names are lists of bytes; offsets and sizes are in bytes.
 use Rattle.std.specs.Prelude.{◌≡◌, ℕ, Bool, true, false, List, Option, Some, slice_get}
 use Rattle.jr_model.specs.declared.contents.Method.{Method}

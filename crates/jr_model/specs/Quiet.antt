@@ -1,4 +1,4 @@
--- The report of a run in which nothing goes wrong, from the draws alone (of this project).
+-- Believed: the report of a run in which nothing goes wrong, from the draws alone (of this project).
 use Rattle.std.specs.Prelude.{ℕ, ◌+◌, ◌-◌, not, List, [], ◌∷◌, length, map, filter, flat_map, sum, if◌then◌else◌}
 use Rattle.std.specs.List.{list_any, range_with_len}
 use Rattle.jr_model.specs.declared.totals.Totals.{Totals}

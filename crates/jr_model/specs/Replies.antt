@@ -1,4 +1,4 @@
--- What an engine with a known memory does at a call, and what a scripted reply makes of it (of this project).
+-- Believed: what an engine with a known memory does at a call, and what a scripted reply makes of it (of this project).
 use Rattle.std.specs.Prelude.{ℕ, zero, suc, ◌+◌, ◌-◌, min, nat_le, nat_lt, ◌==◌, bit_xor, Bool, false, ◌&&◌, List, [], ◌∷◌, ◌++◌, length, map, replicate, take, drop, slice_index, slice_set, slice_get, Option, Some, None, if◌then◌else◌}
 use Rattle.jr_model.specs.Plan.{FileSpec}
 use Rattle.jr_model.specs.declared.blocks.Piece.{Piece}

@@ -1,4 +1,4 @@
--- The report of a run: a line for each clone, then a line for each bad verdict (the format is of this project).
+-- Believed: the report of a run: a line for each clone, then a line for each bad verdict (the format is of this project).
 use Rattle.std.specs.Prelude.{ℕ, List, [], ◌∷◌, ◌++◌, Option, Some, None, codes, map, flat_map, slice_get, filter_map, if◌then◌else◌}
 use Rattle.std.specs.Fmt.{decimal}
 use Rattle.std.specs.List.{range_with_len}

@@ -1,5 +1,5 @@
--- Passes, and the rounds in which their writes are checked (fio's manual, "loops", "do_verify", "verify_backlog"; when a
--- round opens and closes is of this project).
+-- Believed: passes, and the rounds in which their writes are checked (fio's manual, "loops", "do_verify", "verify_backlog";
+-- when a round opens and closes is of this project).
 use Rattle.std.specs.Prelude.{ℕ, ◌+◌, ◌-◌, ◌*◌, ◌/◌, ◌==◌, nat_lt, Bool, true, false, not, ◌&&◌, ◌||◌, List, length, take, drop, map, filter, count_by, slice_get, Option, Some, None, if◌then◌else◌}
 use Rattle.std.specs.List.{list_any, list_all, range_with_len}
 use Rattle.jr_model.specs.declared.blocks.Dir.{Dir}

@@ -1,4 +1,4 @@
--- The history of one worker over a memory that keeps what is written (of this project).
+-- Believed: the history of one worker over a memory that keeps what is written (of this project).
 use Rattle.std.specs.Prelude.{ℕ, zero, suc, ◌*◌, List, [], ◌∷◌, ◌++◌, length, Option, Some, None}
 use Rattle.jr_model.specs.declared.events.Event.{Event}
 use Rattle.jr_model.specs.declared.events.Event.TheVariants.{Issue, Probe, Skip, End, Verdict}

@@ -1,4 +1,4 @@
--- When a ticket can be carried out (of this project).
+-- Believed: when a ticket can be carried out (of this project).
 use Rattle.std.specs.Prelude.{ℕ, ◌+◌, ◌%◌, nat_lt, nat_le, ◌==◌, Bool, true, false, ◌&&◌, Option, is_some, List}
 use Rattle.jr_model.specs.declared.limits.TheConstants.{SECTOR, LARGEST_BLOCK, LARGEST_END, MOST_PASSES}
 use Rattle.jr_model.specs.declared.blocks.Piece.{Piece}

@@ -1,4 +1,4 @@
--- When the calls of an engine with a known memory are what a worker completed (of this project).
+-- Believed: when the calls of an engine with a known memory are what a worker completed (of this project).
 use Rattle.std.specs.Prelude.{◌≡◌, ℕ, suc, ◌==◌, Bool, List, [], ◌∷◌, slice_get, Some}
 use Rattle.std.specs.Bool.{MatchBool}
 use Rattle.jr_model.specs.declared.events.Event.{Event}

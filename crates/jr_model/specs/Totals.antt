@@ -1,4 +1,4 @@
--- What each clone did, counted over all of a history (of this project).
+-- Believed: what each clone did, counted over all of a history (of this project).
 use Rattle.std.specs.Prelude.{ℕ, Bool, true, false, ◌&&◌, List, Option, Some, None, length, map, sum, slice_get, filter_map, count_by, if◌then◌else◌}
 use Rattle.jr_model.specs.declared.events.Event.{Event}
 use Rattle.jr_model.specs.declared.events.Event.TheVariants.{Issue, Probe, Skip, End, Verdict}

@@ -1,4 +1,4 @@
--- The words that a job's draws use: Xoshiro256++ (Blackman and Vigna), seeded through SplitMix64.
+-- Believed: the words that a job's draws use: Xoshiro256++ (Blackman and Vigna), seeded through SplitMix64.
 use Rattle.std.specs.Prelude.{ℕ, zero, suc, ◌+◌, ◌*◌, ◌%◌, ◌^◌, List, [], ◌∷◌, slice_index, flat_map}
 use Rattle.std.specs.Int.{w64, to_le_bytes}
 use Rattle.rand_xoshiro.specs.SplitMix64.{splitmix_seed}

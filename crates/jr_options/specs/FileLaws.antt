@@ -1,4 +1,5 @@
--- How far the files of a plan reach: from the least start to the greatest end of the clones that use them (of this project).
+-- Believed: how far the files of a plan reach: from the least start to the greatest end of the clones that use them (of this
+-- project).
 use Rattle.std.specs.Prelude.{◌≡◌, ℕ, ◌+◌, ◌*◌, ◌≤◌, ◌==◌, List, map, filter, Option, Some, slice_get, All, Contains}
 use Rattle.jr_model.specs.Plan.{SubJob, FileSpec}
 use Rattle.jr_text.specs.Records.{SectionText}

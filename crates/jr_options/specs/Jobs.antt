@@ -1,4 +1,4 @@
--- Which clones the sections of a job file plan (fio's manual, "Job file format").
+-- Believed: which clones the sections of a job file plan (fio's manual, "Job file format").
 use Rattle.std.specs.Prelude.{ℕ, ◌+◌, List, [], ◌∷◌, ◌++◌, Result, Ok, Err, if◌then◌else◌}
 use Rattle.jr_text.specs.Records.{LineText, SectionText}
 use Rattle.jr_options.specs.declared.planned.PlannedJob.{PlannedJob}

@@ -1,4 +1,4 @@
--- What a ledger keeps beside its events.
+-- Internal: what a ledger keeps beside its events.
 use Rattle.std.specs.Prelude.{◌≡◌, List}
 use Rattle.jr_model.specs.declared.events.Event.{Event}
 use Rattle.jr_model.specs.declared.events.Started.{Started}

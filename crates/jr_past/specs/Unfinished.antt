@@ -1,4 +1,4 @@
--- What is kept of a history beside itself: what is still to end or to be judged.
+-- Internal: what is kept of a history beside itself: what is still to end or to be judged.
 use Rattle.std.specs.Prelude.{◌≡◌, ℕ, Bool, ◌||◌, List, is_some, filter}
 use Rattle.std.specs.List.{enumerate_from}
 use Rattle.jr_model.specs.declared.events.Event.{Event}

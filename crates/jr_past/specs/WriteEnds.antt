@@ -1,4 +1,4 @@
--- The ends of writes, and the last write of a block by them.
+-- Internal: the ends of writes, and the last write of a block by them.
 use Rattle.std.specs.Prelude.{ℕ, Bool, ◌&&◌, List, Option, Some, None, slice_get, if◌then◌else◌}
 use Rattle.jr_model.specs.declared.blocks.Piece.{Piece}
 use Rattle.jr_model.specs.declared.events.Event.{Event}

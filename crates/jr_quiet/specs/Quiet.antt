@@ -1,4 +1,4 @@
--- The report of a run in which nothing goes wrong.
+-- Believed: the report of a run in which nothing goes wrong.
 use Rattle.std.specs.Prelude.{◌≡◌, ℕ, nat_lt, Bool, true, false, not, ◌&&◌, List, Option, Some, None, slice_get, is_some, fold, if◌then◌else◌}
 use Rattle.std.specs.List.{list_any, list_all}
 use Rattle.jr_model.specs.declared.blocks.Dir.TheVariants as direction

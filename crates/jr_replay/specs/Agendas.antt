@@ -1,4 +1,4 @@
--- What is kept of a clone and of a plan beside themselves.
+-- Internal: what is kept of a clone and of a plan beside themselves.
 use Rattle.std.specs.Prelude.{◌≡◌, List}
 use Rattle.jr_model.specs.Plan.{Plan, SubJob}
 use Rattle.jr_model.specs.Rounds.{Pass, passes_of}

@@ -1,4 +1,4 @@
--- What a clone did, where the started I/Os are given beside the events.
+-- Internal: what a clone did, where the started I/Os are given beside the events.
 use Rattle.std.specs.Prelude.{ℕ, true, not, List, length, filter_map, count_by}
 use Rattle.jr_model.specs.declared.events.Event.{Event}
 use Rattle.jr_model.specs.declared.events.Started.{Started}

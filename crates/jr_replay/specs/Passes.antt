@@ -1,4 +1,4 @@
--- What is kept of a pass beside its draws.
+-- Internal: what is kept of a pass beside its draws.
 use Rattle.std.specs.Prelude.{◌≡◌, List, filter}
 use Rattle.jr_model.specs.declared.workloads.Draw.{Draw}
 use Rattle.jr_model.specs.Rounds.{is_write_draw}

@@ -1,4 +1,4 @@
--- When a group of writes is full, by how many draws of its pass were issued.
+-- Internal: when a group of writes is full, by how many draws of its pass were issued.
 use Rattle.std.specs.Prelude.{ℕ, ◌==◌, nat_lt, Bool, ◌&&◌, ◌||◌, length, count_by}
 use Rattle.jr_model.specs.declared.workloads.Draw.{Draw}
 use Rattle.jr_model.specs.Rounds.{Pass, group_of}

@@ -1,5 +1,5 @@
--- What the lines that count for a job say (fio's manual, "Job file format"), looked up by their keys: of the lines of a
--- key the last one counts. Aliases are one key, and so are `rwmixread` and `rwmixwrite`.
+-- Believed: what the lines that count for a job say (fio's manual, "Job file format"), looked up by their keys: of the lines
+-- of a key the last one counts. Aliases are one key, and so are `rwmixread` and `rwmixwrite`.
 use Rattle.std.specs.Prelude.{ℕ, Bool, List, [], ◌∷◌, reverse, Option, Some, None, Result, Ok, Err, if◌then◌else◌, codes}
 use Rattle.std.specs.List.{list_any, find}
 use Rattle.jr_text.specs.Records.{LineText}

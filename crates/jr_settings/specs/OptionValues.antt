@@ -1,4 +1,4 @@
--- The values of options, as texts (fio's manual, "Parameter types"; the rules for commas are of this project).
+-- Believed: the values of options, as texts (fio's manual, "Parameter types"; the rules for commas are of this project).
 use Rattle.std.specs.Prelude.{ℕ, ◌+◌, ◌*◌, ◌%◌, nat_le, nat_lt, ◌==◌, Bool, true, ◌&&◌, List, [], ◌∷◌, ◌++◌, length, drop, Option, Some, None, Result, Ok, Err, if◌then◌else◌}
 use Rattle.std.specs.List.{slice_split, list_all}
 use Rattle.std.specs.Char.{digit_value, is_ascii_digit}

@@ -1,4 +1,5 @@
--- The words of a job file and what they mean (fio's manual, "Parameters"; which of them are read is of this project).
+-- Believed: the words of a job file and what they mean (fio's manual, "Parameters"; which of them are read is of this
+-- project).
 use Rattle.std.specs.Prelude.{ℕ, Bool, true, false, List, [], ◌∷◌, Option, Some, None, if◌then◌else◌, codes}
 use Rattle.std.specs.Borrow.{Bor}
 use Rattle.jr_model.specs.declared.contents.VerifyKind.{VerifyKind}

@@ -1,4 +1,4 @@
--- What a job's option lines say together: of each option the last line counts (fio's manual, "Job file format").
+-- Believed: what a job's option lines say together: of each option the last line counts (fio's manual, "Job file format").
 use Rattle.std.specs.Prelude.{◌≤◌, true, false, List, [], ◌∷◌, Some, None, Result, Ok, Err}
 use Rattle.jr_model.specs.declared.contents.VerifyKind.TheVariants as verify
 use Rattle.jr_model.specs.declared.workloads.EngineKind.TheVariants as engine

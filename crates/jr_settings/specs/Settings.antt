@@ -1,4 +1,4 @@
--- What option lines say (fio's manual, "Parameters").
+-- Believed: what option lines say (fio's manual, "Parameters").
 use Rattle.std.specs.Prelude.{ℕ, ◌-◌, ◌≤◌, ◌==◌, nat_lt, Bool, not, List, length, Option, Some, None, is_some, Result, Ok, Err, ok_or, if◌then◌else◌}
 use Rattle.std.specs.List.{position_or_len}
 use Rattle.std.specs.Option.{option_map}

@@ -1,4 +1,4 @@
--- What the faults print.
+-- Believed: what the faults print.
 use Rattle.std.specs.Prelude.{ℕ, List, codes}
 use Rattle.jr_sizes.specs.declared.faults.SplitFault.{SplitFault}
 use Rattle.jr_sizes.specs.declared.faults.SplitFault.TheVariants.{TooMany, BadSize, BadPercent, Over, Under}

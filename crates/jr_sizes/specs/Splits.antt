@@ -1,5 +1,5 @@
--- What the text of a split says (fio's manual, "bssplit"; the order of the faults is of this project): entries with a
--- `:` between them, each `size/percent`, `size/` or `size`.
+-- Believed: what the text of a split says (fio's manual, "bssplit"; the order of the faults is of this project): entries
+-- with a `:` between them, each `size/percent`, `size/` or `size`.
 use Rattle.std.specs.Prelude.{ℕ, zero, suc, ◌+◌, ◌-◌, ◌/◌, ◌%◌, nat_lt, nat_le, ◌==◌, Bool, List, [], ◌∷◌, ◌++◌, length, sum_by, count_by, is_none, Option, Some, None, Result, Ok, Err, if◌then◌else◌, unwrap_or}
 use Rattle.std.specs.List.{slice_split, before_first, after_first}
 use Rattle.jr_text.specs.declared.faults.NumFault.{NumFault}

@@ -1,4 +1,4 @@
--- What the faults print.
+-- Believed: what the faults print.
 use Rattle.std.specs.Prelude.{ℕ, List, ◌++◌, codes, decimal}
 use Rattle.jr_stats.specs.declared.faults.TraceFault.{TraceFault}
 use Rattle.jr_stats.specs.declared.faults.TraceFault.TheVariants.{Line, Illegal, Unfinished, Memory}

@@ -1,4 +1,4 @@
--- The line of a bad verdict in two parts: which write it is, and where it is.
+-- Internal: the line of a bad verdict in two parts: which write it is, and where it is.
 use Rattle.std.specs.Prelude.{ℕ, List, ◌++◌, codes}
 use Rattle.jr_model.specs.declared.blocks.Piece.{Piece}
 use Rattle.jr_model.specs.declared.events.WriteId.{WriteId}

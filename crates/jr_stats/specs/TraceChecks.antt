@@ -1,4 +1,4 @@
--- What checking a trace finds: its first faulty line, or whether it is a whole legal run (of this project).
+-- Believed: what checking a trace finds: its first faulty line, or whether it is a whole legal run (of this project).
 use Rattle.std.specs.Prelude.{◌≡◌, ⊤, ℕ, ◌+◌, ◌^◌, ◌==◌, nat_lt, Bool, true, ◌&&◌, List, [], ◌∷◌, ◌++◌, length, slice_get, Option, Some, None, Result, Ok, Err, ok_or, if◌then◌else◌}
 use Rattle.std.specs.List.{slice_split}
 use Rattle.std.specs.Option.{option_map}

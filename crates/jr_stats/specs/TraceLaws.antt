@@ -1,4 +1,4 @@
--- Laws of traces: what is written of a whole legal run is accepted, with that run's totals, and nothing else is.
+-- Believed: laws of traces: what is written of a whole legal run is accepted, with that run's totals, and nothing else is.
 use Rattle.std.specs.Prelude.{◌≡◌, ℕ, Bool, true, ◌&&◌, List, [], ◌∷◌, ◌++◌, length, Ok}
 use Rattle.std.specs.List.{list_all}
 use Rattle.jr_model.specs.declared.events.Event.{Event}

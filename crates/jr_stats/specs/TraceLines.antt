@@ -1,4 +1,4 @@
--- What a line of a trace says (the format is of this project): its fields are divided by single spaces.
+-- Believed: what a line of a trace says (the format is of this project): its fields are divided by single spaces.
 use Rattle.std.specs.Prelude.{ℕ, ◌^◌, ◌==◌, nat_eq, nat_lt, Bool, not, ◌&&◌, ◌||◌, List, [], length, slice_get, slice_index, Option, Some, None, unwrap_or, codes, if◌then◌else◌}
 use Rattle.std.specs.Char.{is_ascii_digit}
 use Rattle.std.specs.Cmp.Lexicographic.{pointwise}

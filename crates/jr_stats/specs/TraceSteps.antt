@@ -1,4 +1,4 @@
--- How a line's event is found from the step that may happen with its draw.
+-- Internal: how a line's event is found from the step that may happen with its draw.
 use Rattle.std.specs.Prelude.{ℕ, ◌==◌, ◌&&◌, not, List, length, slice_get, Option, Some, None, if◌then◌else◌}
 use Rattle.jr_model.specs.declared.events.Event.{Event}
 use Rattle.jr_model.specs.declared.events.Event.TheVariants.{Issue, Probe, Skip, End, Verdict}

@@ -1,4 +1,4 @@
--- The trace of a run: a line for each event (the format is of this project).
+-- Believed: the trace of a run: a line for each event (the format is of this project).
 use Rattle.std.specs.Prelude.{ℕ, List, [], ◌∷◌, ◌++◌, length, codes}
 use Rattle.std.specs.Fmt.{decimal}
 use Rattle.jr_model.specs.declared.events.Event.{Event}
