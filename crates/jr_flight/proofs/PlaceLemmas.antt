@@ -1,6 +1,6 @@
 -- What overlaps a piece is found among the places from the longest piece before it up to its end.
 use Rattle.std.proofs.Common.{ℕ, ◌≡◌, ◌-◌, ◌<◌, ◌≤◌, Bool, true, false, cond, List, [], ◌∷◌, Some, None, refl, sym, ◌∙◌, ap, subst, arith}
-use Rattle.std.specs.Prelude.{Option, IfSome, IsTrue, ◌↔◌, not, ◌&&◌, ◌||◌, ◌==◌, nat_lt, max, min, filter, Contains, Any}
+use Rattle.std.specs.Prelude.{Option, IfSome, IsTrue, ◌↔◌, not, ◌&&◌, ◌||◌, ◌==◌, nat_lt, max, min, filter, Any}
 use Rattle.std.specs.List.{list_any}
 use Rattle.std.specs.Cmp.{IsTotalOrder}
 use Rattle.std.specs.Ordering.{nat_cmp, ordering_then, is_le}
@@ -160,10 +160,12 @@ module _ (dir : Dir) (piece : Piece) (longest : ℕ) (ids : BTreeMap ℕ Io) (pl
   pub any_near : IsOrdered place_cmp places
       → list_any standing_there (filter (λ (e : Place × Io). is_near piece longest e.0) places.entries) ≡ list_any flying ids.entries
   any_near ordered =
-      let there = λ (found : list_any standing_near places.entries ≡ true). flies_there (finds_entry place_cmp_total places ordered standing_near found) in
-      let back = λ (found : list_any flying ids.entries ≡ true). stands_near (finds_entry nat_cmp_total ids kept.ordered flying found) in
+      let near = list_any standing_near places.entries in
+      let all = list_any flying ids.entries in
+      let there = λ (found : near ≡ true). flies_there (finds_entry place_cmp_total places ordered standing_near found) in
+      let back = λ (found : all ≡ true). stands_near (finds_entry nat_cmp_total ids kept.ordered flying found) in
       list_any-filter standing_there (λ (e : Place × Io). is_near piece longest e.0) places.entries
-      ∙ same_truth (list_any standing_near places.entries) (list_any flying ids.entries)
+      ∙ same_truth near all
       (λ found. entry_found exact_unsigned ids flying (there found))
       (λ found. entry_found place_cmp_exact places standing_near (back found))
 
