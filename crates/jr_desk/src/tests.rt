@@ -135,7 +135,10 @@ fn a_stonewall_is_waited_for(rt: HostRuntime) -> Result<(), Fail> {
         (Step::Take(0), StepReply::Finished),
     ]?;
     let early = Workload::plain(IoType::Write, 4096, 1);
-    let late = Workload { phase: 1, ..early };
+    let late = Workload {
+        phase: 1,
+        ..Workload::plain(IoType::Write, 4096, 1)
+    };
     let (played, replies) = played(alloc, &[(early, "a", 0), (late, "b", 0)], table)?;
     assert_eq!(rt; played.replies.as_slice(), replies.as_slice());
     assert!(rt; played.desk.is_complete());

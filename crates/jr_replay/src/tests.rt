@@ -268,7 +268,10 @@ fn a_write_that_another_clone_overwrote_is_skipped(rt: HostRuntime) -> Result<()
 #[test]
 fn a_later_phase_waits(rt: HostRuntime) -> Result<(), Fail> {
     let early = Workload::plain(IoType::Write, 4096, 1);
-    let late = Workload { phase: 1, ..early };
+    let late = Workload {
+        phase: 1,
+        ..Workload::plain(IoType::Write, 4096, 1)
+    };
     let plan = plan_of(rt.alloc(), &[(early, "a", 0), (late, "b", 0)])?;
     let first = issue(0, write(0, 0), block(0));
     let next = issue(

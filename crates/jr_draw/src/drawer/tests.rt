@@ -112,15 +112,19 @@ fn goes_on_in_order(rt: HostRuntime) -> Result<(), Fail> {
     Ok(())
 }
 
-// Clone 1 draws its pass 3 from the seed 5 + 1000003 + 3.
-#[test]
-fn seeds_each_pass(rt: HostRuntime) -> Result<(), Fail> {
-    let seeded = Workload {
+// Four random passes from the seed 5.
+fn seeded() -> Workload {
+    Workload {
         seed: 5,
         passes: 4,
         ..Workload::plain(IoType::RandWrite, 4096, 16)
-    };
-    let plan = plan_of(rt.alloc(), &[(seeded, "f", 0), (seeded, "g", 0)])?;
+    }
+}
+
+// Clone 1 draws its pass 3 from the seed 5 + 1000003 + 3.
+#[test]
+fn seeds_each_pass(rt: HostRuntime) -> Result<(), Fail> {
+    let plan = plan_of(rt.alloc(), &[(seeded(), "f", 0), (seeded(), "g", 0)])?;
     assert_eq!(rt; plan.clones(), 2);
     let mut drawer = Drawer::of_pass(rt.alloc(), plan.clone_at(1), 3)?;
     let source = Words::new(1_000_011);
