@@ -1,8 +1,8 @@
 -- What follows from the definitions of a set of cells.
-use Rattle.std.proofs.Common.{◌≡◌, ℕ, zero, suc, ◌+◌, ◌-◌, ◌<◌, ◌≤◌, Bool, true, false, not, cond, List, [], ◌∷◌, ◌++◌, Some, length, take, drop, replicate, set, get_or, refl, ap, sym, ◌∙◌, arith, append_assoc, length-append, length-drop, drop-cons}
+use Rattle.std.proofs.Common.{◌≡◌, ℕ, zero, suc, ◌+◌, ◌-◌, ◌≤◌, Bool, true, false, not, cond, List, [], ◌∷◌, ◌++◌, Some, length, take, drop, replicate, get_or, refl, ap, sym, ◌∙◌, arith, length-append, length-drop}
 use Rattle.std.specs.List.{prefix_len, slice_get}
 use Rattle.std.proofs.lemmas.Bool.{not-true}
-use Rattle.std.proofs.lemmas.List.{length-take, length-replicate, set_at, take-append-drop, drop-drop}
+use Rattle.std.proofs.lemmas.List.{length-take, length-replicate, take-append-drop, drop-drop}
 use Rattle.std.proofs.lemmas.List.Sums.{prefix_len-le-length, sum_by-append}
 use Rattle.std.proofs.lemmas.List.Folds.{sum_by-replicate}
 use Rattle.std.proofs.lemmas.List.Quantifiers.{position-Some}
@@ -69,36 +69,3 @@ pub length-with_cells : (xs : List Bool) (x m : ℕ) → free_run xs x m ≡ m �
 length-with_cells xs x m h =
     let w = free_run-within xs x m h in
     omega (arith, length-append (take x xs ++ replicate m true) (drop (x + m) xs), length-append (take x xs) (replicate m true), length-take x xs, length-replicate m true, length-drop (x + m) xs)
-
--- a flag after k of them is one before them
-joined-front : (ys : List Bool) (k : ℕ) → replicate k true ++ (true ∷ ys) ≡ true ∷ (replicate k true ++ ys)
-joined-front ys zero = refl
-joined-front ys (suc k) = ap (λ (zs : List Bool). true ∷ zs) (joined-front ys k)
-
-joined : (xs ys : List Bool) (k : ℕ) → xs ++ replicate k true ++ (true ∷ ys) ≡ xs ++ replicate (suc k) true ++ ys
-joined xs ys k =
-    append_assoc xs (replicate k true) (true ∷ ys)
-    ∙ ap (λ (zs : List Bool). xs ++ zs) (joined-front ys k)
-    ∙ sym (append_assoc xs (replicate (suc k) true) ys)
-
--- one cell more
-with_cells-next : (xs : List Bool) (x k : ℕ) → x + k < length xs → set (with_cells xs x k) (x + k) true ≡ with_cells xs x (suc k)
-with_cells-next xs x k h =
-    let here : length (take x xs ++ replicate k true) ≡ x + k =
-    omega (arith, length-append (take x xs) (replicate k true), length-take x xs, length-replicate k true) in
-    let split : with_cells xs x k ≡ take x xs ++ replicate k true ++ (get_or xs (x + k) true ∷ drop (suc (x + k)) xs) =
-    ap (λ (ys : List Bool). take x xs ++ replicate k true ++ ys) (drop-cons xs (x + k) true h) in
-    let stored : set (with_cells xs x k) (x + k) true ≡ take x xs ++ replicate k true ++ (true ∷ drop (suc (x + k)) xs) =
-    ap (λ (ys : List Bool). set ys (x + k) true) split
-    ∙ set_at (take x xs ++ replicate k true) (get_or xs (x + k) true) (drop (suc (x + k)) xs) true (x + k) here in
-    let e : suc (x + k) ≡ x + suc k = omega arith in
-    stored ∙ joined (take x xs) (drop (suc (x + k)) xs) k ∙ ap (λ (n : ℕ). take x xs ++ replicate (suc k) true ++ drop n xs) e
-
-pub with_cells-more : (xs ys : List Bool) (start x : ℕ) → start ≤ x → x < length xs → ys ≡ with_cells xs start (x - start) → set ys x true ≡ with_cells xs start (x + 1 - start)
-with_cells-more xs ys start x h within same =
-    let e : start + (x - start) ≡ x = omega arith in
-    let f : suc (x - start) ≡ x + 1 - start = omega arith in
-    ap (λ (zs : List Bool). set zs x true) same
-    ∙ ap (λ (k : ℕ). set (with_cells xs start (x - start)) k true) (sym e)
-    ∙ with_cells-next xs start (x - start) (omega arith)
-    ∙ ap (with_cells xs start) f

@@ -202,21 +202,7 @@ full_words old new start end from to old_fits new_fits some adds first last =
 
 -- ---- a level and the one below
 
-pub Summarizes-adds : (lower upper below above : List ℕ) (start end : ℕ) → Summarizes lower upper → Adds is_full lower below start end → Adds is_set upper above start end → Summarizes below above
-Summarizes-adds lower upper below above start end summed full bits =
-    record {
-      each = λ i.
-          elim (cases_lt i start) [
-            | inl lt ↦ bits.below i lt ∙ summed.each i ∙ sym (full.below i lt)
-            | inr ge ↦
-                elim (cases_lt i end) [
-                  | inl lt ↦ bits.inside i ge lt ∙ sym (full.inside i ge lt)
-                  | inr past ↦ bits.above i past ∙ summed.each i ∙ sym (full.above i past)
-                ]
-          ];
-    }
-
--- of levels that are clear
+-- levels that are clear
 pub Summarizes-clear : (count : ℕ) (lower upper : List ℕ) → length lower ≡ words_for count → IsSetFrom count lower → IsSetFrom (length lower) upper → Summarizes lower upper
 Summarizes-clear count lower upper long low up =
     record {
