@@ -1,5 +1,5 @@
--- Believed: what one call of an engine for a ticket gave (of this project).
-use Rattle.std.specs.Prelude.{ℕ, ◌+◌, ◌<◌, ◌≤◌, ◌≡◌, length, List, Bool, true, false, IsTrue, if◌then◌else◌}
+-- What one call of an engine for a ticket gave (of this project).
+use Rattle.std.specs.Prelude.{ℕ, ◌+◌, ◌≤◌, ◌≡◌, length, List, Bool, true, false, IsTrue, if◌then◌else◌}
 use Rattle.jr_model.specs.declared.events.Outcome.{Outcome}
 use Rattle.jr_model.specs.declared.events.Outcome.TheVariants as outcome
 use Rattle.jr_model.specs.declared.tickets.Ticket.{Ticket}

@@ -8,7 +8,8 @@ pub record GetsAll (bytes : List ℕ) (offset : ℕ) (before : List ℕ) (answer
   pub count : IfOk answer (λ n. n ≡ min (length before) (length (drop offset bytes)))
   pub got : IfOk answer (λ n. take n after ≡ take n (drop offset bytes))
 
--- a write of a buffer over these bytes from offset on: as many as it answers stand there, or before an error some, and all other bytes are as they were
+-- a write of a buffer over these bytes from offset on: as many as it answers stand there, or before an error some, and all
+-- other bytes are as they were
 pub record Stores (bytes : List ℕ) (offset : ℕ) (buffer : List ℕ) (answer : Result ℕ EngineFault) (after : List ℕ) : Type 0 where
   pub count : ℕ
   pub most : count ≤ length buffer

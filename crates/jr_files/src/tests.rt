@@ -258,6 +258,33 @@ fn parts_are_gone_on_with(rt: HostRuntime) {
     assert_eq!(rt; file.bytes, [11, 12, 3, 4, 5, 6, 7, 8]);
 }
 
+// A file of bytes in memory, which are known; what is written behind them is let go.
+#[derive(Drop)]
+struct Kept {
+    bytes: Vec<u8>,
+}
+
+impl Positioned for Kept {
+    ghost use Rattle.std.specs.Prelude.{true};
+
+    ghost view = { λ a. record { is_sound = true; is_known = true; bytes = a.bytes.items } };
+
+    fn read_at(&mut self, buf: &mut [u8], offset: u64) -> io::Result<usize> {
+        let stored = self.bytes.as_slice();
+        let rest = &stored[stored.len().min(offset as usize)..];
+        let count = buf.len().min(rest.len());
+        buf[..count].copy_from_slice(&rest[..count]);
+        Ok(count)
+    }
+
+    fn write_at(&mut self, buf: &[u8], offset: u64) -> io::Result<usize> {
+        let start = self.bytes.len().min(offset as usize);
+        let count = buf.len().min(self.bytes.len() - start);
+        self.bytes[start..start + count].copy_from_slice(&buf[..count]);
+        Ok(buf.len())
+    }
+}
+
 #[test]
 fn files_of_another_kind(rt: HostRuntime) -> Result<(), Fail> {
     let mut files = Vec::new(rt.alloc());
@@ -276,6 +303,11 @@ fn files_of_another_kind(rt: HostRuntime) -> Result<(), Fail> {
     assert_eq!(rt; engine.write(1, 3, &[2, 3, 4]), Err(EngineFault::Device));
     assert_eq!(rt; engine.write(2, 3, &[2]), Err(EngineFault::Outside));
     assert_eq!(rt; (engine.calls(), engine.failures()), (4, 2));
+    let bytes = vec![in rt.alloc(); 0; 4]?;
+    let mut file = Kept { bytes };
+    assert_eq!(rt; write_whole(&mut file, 1, &[1, 2]), Ok(2));
+    assert_eq!(rt; read_whole(&mut file, 1, &mut buf), Ok(3));
+    assert_eq!(rt; buf, [1, 2, 0, 4]);
     Ok(())
 }
 
