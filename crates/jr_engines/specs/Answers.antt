@@ -1,4 +1,4 @@
--- What one call of an engine for a ticket gave (of this project).
+-- Believed: what one call of an engine for a ticket gave (of this project).
 use Rattle.std.specs.Prelude.{ℕ, ◌+◌, ◌≤◌, ◌≡◌, length, List, Bool, true, false, IsTrue, if◌then◌else◌}
 use Rattle.jr_model.specs.declared.events.Outcome.{Outcome}
 use Rattle.jr_model.specs.declared.events.Outcome.TheVariants as outcome
