@@ -12,7 +12,7 @@ mod takes;
 mod workings;
 
 pub use desk::Desk;
-pub use jr_model::{DeskFault, Step, StepReply, Totals};
+pub use jr_model::{DeskFault, Step, StepReply};
 pub use plays::{Played, play};
 pub use takes::Take;
 

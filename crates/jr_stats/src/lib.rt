@@ -15,7 +15,6 @@ mod traces;
 
 pub use checks::check_trace;
 pub use faults::TraceFault;
-pub use jr_model::Totals;
 pub use laws::{accepted_is_a_trace, numbers_fit, trace_is_accepted};
 pub use reports::report;
 pub use totals::totals_text;
