@@ -8,7 +8,6 @@ use Rattle.std.proofs.lemmas.Map.Views.{All-found}
 use Rattle.std.proofs.lemmas.Option.{none-some, same_Some}
 use Rattle.std.specs.BTreeMap.{BTreeMap, IsOrdered, insert_entry, is_at}
 use Rattle.std.specs.Cmp.{IsTotalOrder}
-use Rattle.std.specs.declared.cmp.Ordering.{Ordering}
 use Rattle.std.specs.declared.cmp.Ordering.TheVariants.{Equal}
 use Rattle.std.specs.List.{All, filter}
 use Rattle.std.specs.List.Sorted.{IsStrictlySortedBy}
@@ -21,7 +20,7 @@ use Rattle.jr_model.specs.History.{same_write}
 use Rattle.jr_model.specs.Pieces.{pieces_overlap}
 use Rattle.jr_writes.specs.declared.logs.Logged.{Logged}
 use Rattle.jr_writes.specs.declared.spots.Spot.{Spot}
-use Rattle.jr_writes.specs.Index.{AreDisjoint, IsIndexed, NoneOverlaps, StandsHere, is_kept, piece_at, place_of, place_order, spot_at, spot_of, stays}
+use Rattle.jr_writes.specs.Index.{IsIndexed, NoneOverlaps, StandsHere, is_kept, piece_at, place_of, place_order, spot_of, stays}
 use Rattle.jr_writes.specs.LoggedWrites.{lies_apart, logged, settled, write_order}
 use Rattle.jr_writes.proofs.EntryLemmas.{filter-insert_entry, filter-remove_entry}
 use Rattle.jr_writes.proofs.Overlaps.{overlap_back, same_place}

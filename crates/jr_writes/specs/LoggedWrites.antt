@@ -1,6 +1,6 @@
 -- Believed: the intact writes as a list of entries in the order of the writes, and what it becomes where a write of a
 -- piece is settled or a piece is unsettled (of this project).
-use Rattle.std.specs.Prelude.{ℕ, Bool, not, List, Option, Some, None, filter, if◌then◌else◌}
+use Rattle.std.specs.Prelude.{Bool, not, List, Option, Some, None, filter, if◌then◌else◌}
 use Rattle.std.specs.declared.cmp.Ordering.{Ordering}
 use Rattle.std.specs.Ordering.{nat_cmp, ordering_then}
 use Rattle.std.specs.Map.{lookup}

@@ -1,4 +1,4 @@
-use Rattle.std.proofs.Common.{None, ap, sym, ◌∙◌, filter}
+use Rattle.std.proofs.Common.{ap, sym, ◌∙◌, filter}
 use Rattle.jr_writes.proofs.EntryLemmas.{filter_all}
 use Rattle.jr_writes.proofs.IndexLemmas.{IsIndexed-removed, IsIndexed-whole, StandsHere-removed, all_stay, filter-removed}
 use Rattle.jr_writes.specs.Index.{spot_at, stays}

@@ -1,7 +1,6 @@
-use Rattle.std.proofs.Common.{ap, cond, ◌∙◌, rules, Some, sym}
-use Rattle.std.specs.List.{filter}
+use Rattle.std.proofs.Common.{ap, cond, ◌∙◌, Some}
 use Rattle.jr_model.specs.History.{same_write}
-use Rattle.jr_writes.specs.LoggedWrites.{if_apart, logged, settled, unsettled}
+use Rattle.jr_writes.specs.LoggedWrites.{if_apart, logged}
 use Rattle.jr_writes.proofs.LogLemmas.{logged-settled}
 use Rattle.jr_writes.proofs.logs.WriteLog.settle.Goals as goal
 

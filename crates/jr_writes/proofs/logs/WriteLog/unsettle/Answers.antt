@@ -1,5 +1,5 @@
-use Rattle.std.proofs.Common.{ap, ◌∙◌, rules}
-use Rattle.jr_writes.specs.LoggedWrites.{if_apart, logged, unsettled}
+use Rattle.std.proofs.Common.{ap, ◌∙◌}
+use Rattle.jr_writes.specs.LoggedWrites.{if_apart, logged}
 use Rattle.jr_writes.proofs.LogLemmas.{logged-unsettled}
 use Rattle.jr_writes.proofs.logs.WriteLog.unsettle.Goals as goal
 
