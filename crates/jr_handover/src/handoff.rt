@@ -39,7 +39,7 @@ impl Handoff {
         Ok((Handoff { sender, receiver }, Pass { seat }))
     }
 
-    /// A pass for another thread. It takes no memory, so it isn't refused.
+    /// A pass for another thread, with both lists empty. It takes no memory, so it isn't refused.
     pub fn split(&self, pass: &mut Pass) -> Result<Pass, Memory>
         requires { IsPassOf self.now pass.old }
         ensures pass { IsPassOf self.now pass.new }
@@ -54,7 +54,7 @@ impl Handoff {
         Ok(Pass { seat })
     }
 
-    /// Takes in the pass of a thread that has ended.
+    /// Takes in the pass of a thread that has ended: its lists come behind this one's.
     pub fn join(&self, pass: &mut Pass, other: Pass)
         requires pass { IsPassOf self.now pass.old }
         requires other { IsPassOf self.now other }
