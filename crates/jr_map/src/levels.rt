@@ -102,7 +102,7 @@ impl Levels {
         words::clear_run(&self.lowest, from, want)
     }
 
-    /// Sets the cells from `start` to `end`.
+    /// Sets the cells from `start` up to `end`.
     pub fn mark(&mut self, start: usize, end: usize)
         requires shape { HasShape self.old }
         requires within { start < end → end ≤ 64 * length self.old.lowest.items }

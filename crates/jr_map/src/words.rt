@@ -86,8 +86,8 @@ pub fn clear_run(words: &[u64], from: usize, want: usize) -> usize
     BITS * words.len() - from
 }
 
-/// Sets the bits from `start` to `end`, and gives the words that are full by it: from the first of
-/// them to before the second.
+/// Sets the bits from `start` up to `end`. The words from the first number given up to the second are
+/// full now; every other word is full where it was.
 pub fn mark(words: &mut [u64], start: usize, end: usize) -> (usize, usize)
     requires { start < end → end ≤ 64 * length words.old }
     ensures set { Adds is_set words.old words.new start end }
@@ -114,7 +114,7 @@ pub fn mark(words: &mut [u64], start: usize, end: usize) -> (usize, usize)
     (from, to)
 }
 
-// Sets the bits from `start` to `end`.
+// Sets the bits from `start` up to `end`.
 fn set_bits(words: &mut [u64], start: usize, end: usize)
     requires some { start < end }
     requires within { end ≤ 64 * length words.old }
@@ -127,7 +127,7 @@ fn set_bits(words: &mut [u64], start: usize, end: usize)
     }
 }
 
-// A word whose bits from `low` to `high` are set.
+// A word whose bits from `low` up to `high` are set, and no others.
 fn mask(low: usize, high: usize) -> u64
     requires low { low < 64 }
     requires some { 0 < high }
