@@ -46,7 +46,8 @@ stays kept piece e = is_kept kept e.0 || lies_apart piece e.1
 -- no piece is empty, and no two share a byte; the kept write's may share bytes with others
 pub record AreDisjoint (kept : Option WriteId) (spot_in : ℕ × ℕ → Option Spot) : Type 0 where
   pub sized : (place : ℕ × ℕ) (spot : Spot) → spot_in place ≡ Some spot → 1 ≤ spot.len
-  pub apart : (p q : ℕ × ℕ) (s t : Spot) → spot_in p ≡ Some s → spot_in q ≡ Some t → is_kept kept s.write ≡ false → is_kept kept t.write ≡ false
+  pub apart : (p q : ℕ × ℕ) (s t : Spot) → spot_in p ≡ Some s → spot_in q ≡ Some t
+      → is_kept kept s.write ≡ false → is_kept kept t.write ≡ false
       → pieces_overlap (piece_at p s) (piece_at q t) ≡ true → p ≡ q
 
 -- each logged piece stands at its place, what stands at a place leads back to its write, and the pieces are disjoint
