@@ -46,28 +46,36 @@ stays kept piece e = is_kept kept e.0 || lies_apart piece e.1
 -- no piece is empty, and no two share a byte; the kept write's may share bytes with others
 pub record AreDisjoint (kept : Option WriteId) (spot_in : ℕ × ℕ → Option Spot) : Type 0 where
   pub sized : (place : ℕ × ℕ) (spot : Spot) → spot_in place ≡ Some spot → 1 ≤ spot.len
-  pub apart : (p q : ℕ × ℕ) (s t : Spot) → spot_in p ≡ Some s → spot_in q ≡ Some t → is_kept kept s.write ≡ false → is_kept kept t.write ≡ false → pieces_overlap (piece_at p s) (piece_at q t) ≡ true → p ≡ q
+  pub apart : (p q : ℕ × ℕ) (s t : Spot) → spot_in p ≡ Some s → spot_in q ≡ Some t
+      → is_kept kept s.write ≡ false → is_kept kept t.write ≡ false
+      → pieces_overlap (piece_at p s) (piece_at q t) ≡ true → p ≡ q
 
 -- each logged piece stands at its place, what stands at a place leads back to its write, and the pieces are disjoint
 pub record IsIndexed (kept : Option WriteId) (entry_of : WriteId → Option Logged) (spot_in : ℕ × ℕ → Option Spot) : Type 0 where
-  pub stands : (write : WriteId) (entry : Logged) → entry_of write ≡ Some entry → spot_in (place_of entry.piece) ≡ Some (spot_of write entry.piece)
-  pub leads_back : (place : ℕ × ℕ) (spot : Spot) → spot_in place ≡ Some spot → option_map (λ e. e.piece) (entry_of spot.write) ≡ Some (piece_at place spot)
+  pub stands : (write : WriteId) (entry : Logged) → entry_of write ≡ Some entry
+      → spot_in (place_of entry.piece) ≡ Some (spot_of write entry.piece)
+  pub leads_back : (place : ℕ × ℕ) (spot : Spot) → spot_in place ≡ Some spot
+      → option_map (λ e. e.piece) (entry_of spot.write) ≡ Some (piece_at place spot)
   pub disjoint : AreDisjoint kept spot_in
 
 -- the kept write, where there is one, stands at no other piece
 abbrev pub StandsHere : Option WriteId → Piece → (ℕ × ℕ → Option Spot) → Type 0
-StandsHere kept piece spot_in = (place : ℕ × ℕ) (spot : Spot) → spot_in place ≡ Some spot → is_kept kept spot.write ≡ true → piece_at place spot ≡ piece
+StandsHere kept piece spot_in =
+    (place : ℕ × ℕ) (spot : Spot) → spot_in place ≡ Some spot → is_kept kept spot.write ≡ true → piece_at place spot ≡ piece
 
 -- no spot but the kept write's shares a byte with the piece
 abbrev pub NoneOverlaps : Option WriteId → Piece → (ℕ × ℕ → Option Spot) → Type 0
-NoneOverlaps kept piece spot_in = (place : ℕ × ℕ) (spot : Spot) → spot_in place ≡ Some spot → is_kept kept spot.write ≡ false → pieces_overlap piece (piece_at place spot) ≡ false
+NoneOverlaps kept piece spot_in =
+    (place : ℕ × ℕ) (spot : Spot) → spot_in place ≡ Some spot → is_kept kept spot.write ≡ false
+    → pieces_overlap piece (piece_at place spot) ≡ false
 
 -- the last place before the bound at which something stands, and what stands there
 abbrev pub IsLastBefore : (ℕ × ℕ → Option Spot) → ℕ × ℕ → Option ((ℕ × ℕ) × Spot) → Type 0
 IsLastBefore spot_in bound found =
     MatchOption found
     ((place : ℕ × ℕ) → place_order place bound ≡ Less → spot_in place ≡ None)
-    (λ f. (spot_in f.0 ≡ Some f.1) × (place_order f.0 bound ≡ Less) × ((place : ℕ × ℕ) → place_order place bound ≡ Less → IsSome (spot_in place) → is_lt (place_order f.0 place) ≡ false))
+    (λ f. (spot_in f.0 ≡ Some f.1) × (place_order f.0 bound ≡ Less)
+    × ((place : ℕ × ℕ) → place_order place bound ≡ Less → IsSome (spot_in place) → is_lt (place_order f.0 place) ≡ false))
 
 -- the last place before the piece's end at which a write other than the kept one stands, and what stands there; where
 -- there is none, no such write's piece shares a byte with the piece
@@ -75,8 +83,10 @@ abbrev pub IsLastOther : Option WriteId → Piece → (ℕ × ℕ → Option Spo
 IsLastOther kept piece spot_in found =
     MatchOption found
     (NoneOverlaps kept piece spot_in)
-    (λ f. (spot_in f.0 ≡ Some f.1) × (is_kept kept f.1.write ≡ false) × (place_order f.0 (piece.file, piece_end piece) ≡ Less)
-    × ((place : ℕ × ℕ) (spot : Spot) → spot_in place ≡ Some spot → is_kept kept spot.write ≡ false → pieces_overlap piece (piece_at place spot) ≡ true → is_lt (place_order f.0 place) ≡ false))
+    (λ f. (spot_in f.0 ≡ Some f.1) × (is_kept kept f.1.write ≡ false)
+    × (place_order f.0 (piece.file, piece_end piece) ≡ Less)
+    × ((place : ℕ × ℕ) (spot : Spot) → spot_in place ≡ Some spot → is_kept kept spot.write ≡ false
+    → pieces_overlap piece (piece_at place spot) ≡ true → is_lt (place_order f.0 place) ≡ false))
 
 -- a place at which a write other than the kept one stands whose piece shares a byte with the piece, and what stands
 -- there; nothing where there is none

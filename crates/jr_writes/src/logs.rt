@@ -63,7 +63,8 @@ impl WriteLog {
         requires fresh { logged self.old write ≡ None }
         ensures ok { OnOk result (self.new ≡ settled self.old write piece expected) }
         ensures look_up { OnOk result ((other : Name) → logged self.new other
-            ≡ (if same_write write other then Some (record { piece = piece; expected = expected }) else if_apart piece (logged self.old other))) }
+            ≡ (if same_write write other then Some (record { piece = piece; expected = expected })
+            else if_apart piece (logged self.old other))) }
         ensures err { OnErr result (self.new ≡ self.old) }
     {
         put(&mut self.writes, &mut self.spots, write, piece, expected)?;

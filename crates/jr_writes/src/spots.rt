@@ -27,7 +27,8 @@ pub fn put(
     requires filled { 1 ≤ piece.len }
     requires fresh { logged writes.old.entries write ≡ None }
     requires indexed { IsIndexed None (logged writes.old.entries) (spot_at spots.old.entries) }
-    ensures entries { OnOk result (filter (stays (Some write) piece) writes.new.entries ≡ settled writes.old.entries write piece expected) }
+    ensures entries { OnOk result (filter (stays (Some write) piece) writes.new.entries
+        ≡ settled writes.old.entries write piece expected) }
     ensures indexed { OnOk result (IsIndexed (Some write) (logged writes.new.entries) (spot_at spots.new.entries)) }
     ensures stands { OnOk result (StandsHere (Some write) piece (spot_at spots.new.entries)) }
     ensures err { OnErr result ((writes.new.entries ≡ writes.old.entries) × (spots.new.entries ≡ spots.old.entries)) }
