@@ -1,4 +1,5 @@
 pub mod Blocks
+pub mod ChoosingLaws
 pub mod CleanLaws
 pub mod Contents
 pub mod CountLaws

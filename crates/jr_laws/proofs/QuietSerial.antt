@@ -1,6 +1,5 @@
 -- In the history of one worker over a right memory nothing goes wrong, so its report is the one of the draws.
 use Rattle.std.proofs.Common.{◌≡◌, Bool, true, false, not, ◌&&◌, ◌||◌, List, [], ◌∷◌, refl}
-use Rattle.std.specs.List.{list_any, list_all}
 use Rattle.jr_model.specs.declared.events.Event.{Event}
 use Rattle.jr_model.specs.declared.events.Event.TheVariants.{Issue, Probe, Skip, End, Verdict}
 use Rattle.jr_model.specs.Legal.{is_fault, is_bad}

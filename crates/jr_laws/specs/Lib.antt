@@ -1,4 +1,5 @@
 pub mod Checks
+pub mod Choosing
 pub mod Clean
 pub mod Counts
 pub mod Drawn

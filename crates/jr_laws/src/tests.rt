@@ -1,8 +1,8 @@
 use crate::{
-    appends_one, checks_stay_intact, honest_is_good, idle_is_complete, keeps_last_writes,
-    miscompares_exactly, no_block_twice, quiet_play, serial_ends, serial_is_clean,
-    serial_is_complete, serial_is_quiet, started_are_drawn, started_are_few, started_fit,
-    started_once, taken_is_all,
+    appends_one, checks_stay_intact, choice_is_least, honest_is_good, idle_is_complete,
+    keeps_last_writes, miscompares_exactly, no_block_twice, nothing_without_choice, quiet_play,
+    serial_ends, serial_is_clean, serial_is_complete, serial_is_quiet, started_are_drawn,
+    started_are_few, started_fit, started_once, taken_is_all,
 };
 
 #[test]
@@ -19,6 +19,8 @@ fn the_laws_can_be_called() {
     serial_is_complete();
     serial_is_clean();
     serial_is_quiet();
+    choice_is_least();
+    nothing_without_choice();
     honest_is_good();
     miscompares_exactly();
     checks_stay_intact();
