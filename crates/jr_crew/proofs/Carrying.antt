@@ -23,7 +23,7 @@ use Rattle.jr_model.proofs.SerialLaws.{first_given-append, any-append}
 use Rattle.jr_plan.specs.PlanFacts.{IsPlanned}
 use Rattle.jr_engines.specs.Answers.{AnswerParts, Answers}
 use Rattle.jr_header.specs.Served.{asked_with, is_whole_check}
-use Rattle.jr_laws.proofs.StartedLemmas.{started-other, started-append}
+use Rattle.jr_steps.proofs.StartedLemmas.{started-other, started-append}
 use Rattle.jr_desk.specs.Kept.{IsOwn, tickets_of}
 use Rattle.jr_desk.specs.Takes.{IsChosen}
 use Rattle.jr_desk.specs.Tickets.{ticket_of}

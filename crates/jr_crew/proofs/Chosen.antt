@@ -17,7 +17,7 @@ use Rattle.jr_model.specs.Rounds.{pass_of}
 use Rattle.jr_model.proofs.LegalLaws.{choice_is_step, cases_step_of}
 use Rattle.jr_model.proofs.SerialLaws.{IsWell, well-more, first_given-append, any-append, none_from, false_from}
 use Rattle.jr_plan.specs.PlanFacts.{IsPlanned}
-use Rattle.jr_laws.proofs.CountLaws.{numbered_of, along_legal}
+use Rattle.jr_steps.proofs.CountLaws.{numbered_of, along_legal}
 use Rattle.jr_desk.specs.Kept.{IsOwn, tickets_of}
 use Rattle.jr_desk.specs.Takes.{IsChosen, last_started}
 use Rattle.jr_desk.specs.Tickets.{ticket_of}

@@ -7,7 +7,7 @@ use Rattle.jr_model.specs.Machine.{work_of}
 use Rattle.jr_model.specs.Plan.{Plan}
 use Rattle.jr_model.specs.Replies.{EngineState}
 use Rattle.jr_plan.specs.PlanFacts.{IsPlanned}
-use Rattle.jr_laws.proofs.CountLaws.{started_few}
+use Rattle.jr_steps.proofs.CountLaws.{started_few}
 use Rattle.jr_desk.specs.DeskState.{DeskState}
 use Rattle.jr_desk.proofs.Totals.{started_small}
 use Rattle.jr_crew.specs.Runs.{IsCovering}

@@ -26,7 +26,7 @@ use Rattle.jr_laws.specs.Memory.{CoversFiles}
 use Rattle.jr_laws.proofs.Starts.{draw_started, IsDrawOf}
 use Rattle.jr_laws.proofs.Contents.{lies_in_file, length-content_of_io}
 use Rattle.jr_laws.proofs.Memories.{covers_piece}
-use Rattle.jr_laws.proofs.CountLaws.{numbered_of}
+use Rattle.jr_steps.proofs.CountLaws.{numbered_of}
 use Rattle.jr_desk.specs.Takes.{IsChosen}
 use Rattle.jr_desk.proofs.Keeping.{chosen_legal, chosen_started, chosen_at}
 use Rattle.jr_desk.proofs.Serving.{content_is, verdict_is}

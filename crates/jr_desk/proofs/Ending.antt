@@ -25,7 +25,7 @@ use Rattle.jr_engines.proofs.MemoryLemmas.{covers_after_asked}
 use Rattle.jr_header.specs.Served.{asked_with}
 use Rattle.jr_laws.specs.Memory.{CoversFiles}
 use Rattle.jr_laws.proofs.Contents.{length-content_of_io, lies_in_file}
-use Rattle.jr_laws.proofs.DrawnLaws.{started_fit-law}
+use Rattle.jr_steps.proofs.DrawnLaws.{started_fit-law}
 use Rattle.jr_laws.proofs.Memories.{covers_piece}
 use Rattle.jr_laws.proofs.Starts.{draw_started}
 use Rattle.jr_desk.specs.declared.plays.Player.{Player}

@@ -31,10 +31,10 @@ use Rattle.jr_model.proofs.LegalLaws.{is_legal-more, choice_may_happen}
 use Rattle.jr_model.proofs.MachineLaws.{verdict_of_fits}
 use Rattle.jr_plan.specs.PlanFacts.{IsPlanned}
 use Rattle.jr_header.specs.Served.{is_whole_check}
-use Rattle.jr_laws.specs.Drawn.{FitsPlan}
-use Rattle.jr_laws.proofs.CountLaws.{numbered_of}
-use Rattle.jr_laws.proofs.DrawnLaws.{started_fit-law}
-use Rattle.jr_laws.proofs.StartedLemmas.{started-other, same_some, started_below}
+use Rattle.jr_steps.specs.Drawn.{FitsPlan}
+use Rattle.jr_steps.proofs.CountLaws.{numbered_of}
+use Rattle.jr_steps.proofs.DrawnLaws.{started_fit-law}
+use Rattle.jr_steps.proofs.StartedLemmas.{started-other, same_some, started_below}
 use Rattle.jr_desk.specs.DeskState.{DeskState}
 use Rattle.jr_desk.specs.Kept.{IsKept, IsOwn, tickets_of}
 use Rattle.jr_desk.specs.Refusals.{Owns, judge_fault}

@@ -24,10 +24,10 @@ use Rattle.jr_model.specs.Plan.{Plan}
 use Rattle.jr_model.specs.Tickets.{ticket_fits}
 use Rattle.jr_engines.specs.Answers.{AnswerParts}
 use Rattle.jr_header.specs.Served.{answer_verdict, is_to_judge, is_whole_check}
-use Rattle.jr_laws.proofs.CountLaws.{numbered_of, appends_same, taken_all}
-use Rattle.jr_laws.proofs.DrawnLaws.{started_fit-law}
-use Rattle.jr_laws.proofs.PlaceLemmas.{any_found, item_at}
-use Rattle.jr_laws.proofs.StartedLemmas.{started_below, same_some}
+use Rattle.jr_steps.proofs.CountLaws.{numbered_of, appends_same, taken_all}
+use Rattle.jr_steps.proofs.DrawnLaws.{started_fit-law}
+use Rattle.jr_steps.proofs.PlaceLemmas.{any_found, item_at}
+use Rattle.jr_steps.proofs.StartedLemmas.{started_below, same_some}
 use Rattle.jr_laws.proofs.Verdicts.{judged_check}
 use Rattle.jr_laws.specs.Memory.{CoversFiles}
 use Rattle.jr_desk.specs.declared.plays.Player.{Player}

@@ -20,7 +20,7 @@ use Rattle.jr_model.specs.Plan.{Plan}
 use Rattle.jr_model.proofs.SerialLaws.{first_given-append, whole_some}
 use Rattle.jr_engines.specs.Answers.{AnswerParts}
 use Rattle.jr_header.specs.Served.{is_to_judge, is_whole_check}
-use Rattle.jr_laws.proofs.StartedLemmas.{started-other, started-append, started_stays, got_within, same_some}
+use Rattle.jr_steps.proofs.StartedLemmas.{started-other, started-append, started_stays, got_within, same_some}
 use Rattle.jr_desk.specs.Kept.{IsOwn, tickets_of}
 use Rattle.jr_desk.specs.Plays.{KeepsReads, kept_by, last_read, is_for}
 use Rattle.jr_desk.specs.Tickets.{ticket_of}

@@ -11,7 +11,7 @@ use Rattle.jr_model.proofs.MachineLaws.{legal_run}
 use Rattle.jr_plan.specs.PlanFacts.{IsPlanned}
 use Rattle.jr_engines.specs.Answers.{AnswerParts}
 use Rattle.jr_laws.specs.Memory.{CoversFiles}
-use Rattle.jr_laws.proofs.CountLaws.{numbered_of}
+use Rattle.jr_steps.proofs.CountLaws.{numbered_of}
 use Rattle.jr_laws.proofs.Memories.{covers-fresh_memory}
 use Rattle.jr_desk.specs.declared.plays.Player.{Player}
 use Rattle.jr_desk.specs.Plays.{GoesOn, IsReady, KeepsReads, state_of}

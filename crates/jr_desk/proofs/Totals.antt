@@ -9,12 +9,12 @@ use Rattle.jr_model.specs.Plan.{Plan, SubJob}
 use Rattle.jr_model.specs.Totals.{moved, totals_of}
 use Rattle.jr_model.specs.Report.{all_totals}
 use Rattle.jr_model.specs.declared.totals.Totals.{Totals}
-use Rattle.jr_laws.proofs.StartedLemmas.{same_some}
+use Rattle.jr_steps.proofs.StartedLemmas.{same_some}
 use Rattle.std.proofs.lemmas.List.{map-append}
 use Rattle.jr_plan.specs.PlanFacts.{IsPlanned}
 use Rattle.jr_plan.specs.PlanFacts as facts
 use Rattle.jr_replay.proofs.LegalMoves.{moved_at_most_started}
-use Rattle.jr_laws.proofs.CountLaws.{started_few}
+use Rattle.jr_steps.proofs.CountLaws.{started_few}
 
 abbrev work_in : SubJob → ℕ
 work_in job = job.cells * job.passes

@@ -15,9 +15,9 @@ use Rattle.jr_quiet.proofs.Reports.{quiet_run}
 use Rattle.jr_laws.specs.Checks.{is_miscompare, has_miscompare}
 use Rattle.jr_laws.specs.Clean.{is_faulty_end, has_fault}
 use Rattle.jr_laws.proofs.CleanLaws.{serial_clean}
-use Rattle.jr_laws.proofs.CountLaws.{serial_stops_all}
-use Rattle.jr_laws.proofs.DoneLaws.{serial_complete}
-use Rattle.jr_laws.proofs.IdleLaws.{numbered_of}
+use Rattle.jr_steps.proofs.CountLaws.{serial_stops_all}
+use Rattle.jr_steps.proofs.DoneLaws.{serial_complete}
+use Rattle.jr_steps.proofs.IdleLaws.{numbered_of}
 
 -- neither of two tests holds
 neither : (a b : Bool) → (a || b) ≡ false → (a ≡ false) × (b ≡ false)

@@ -1,7 +1,7 @@
 use Rattle.std.proofs.Common.{◌≡◌, refl, sym, ◌∙◌, ap}
 use Rattle.std.specs.Prelude.{Some, None}
 use Rattle.jr_model.specs.declared.tickets.Ticket.{Ticket}
-use Rattle.jr_laws.proofs.StartedLemmas.{same_some}
+use Rattle.jr_steps.proofs.StartedLemmas.{same_some}
 use Rattle.jr_desk.specs.Kept.{IsOwn}
 use Rattle.jr_desk.proofs.desk.Desk.check_own.Goals as goal
 

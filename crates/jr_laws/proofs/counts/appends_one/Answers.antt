@@ -1,5 +1,0 @@
-use Rattle.jr_laws.proofs.CountLaws.{appends_same}
-use Rattle.jr_laws.proofs.counts.appends_one.Goals as goal
-
-pub returns : goal.returns
-returns c = appends_same

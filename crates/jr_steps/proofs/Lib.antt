@@ -1,0 +1,14 @@
+pub mod ChoosingLaws
+pub mod CountLaws
+pub mod CountLemmas
+pub mod CountSteps
+pub mod DoneLaws
+pub mod DrawnLaws
+pub mod GroupLaws
+pub mod IdleLaws
+pub mod IssueLaws
+pub mod OnceLaws
+pub mod PlaceLemmas
+pub mod RestLaws
+pub mod StartedLemmas
+pub mod StepLaws

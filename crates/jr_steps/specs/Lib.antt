@@ -1,0 +1,4 @@
+pub mod Choosing
+pub mod Counts
+pub mod Drawn
+pub mod Idle
