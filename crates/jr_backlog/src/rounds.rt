@@ -1,4 +1,4 @@
-ghost use Rattle.std.specs.Prelude.{◌≡◌, IsTrue, OnOk, OnErr};
+ghost use Rattle.std.specs.Prelude.{◌≡◌, length, IsTrue, OnOk, OnErr};
 ghost use Rattle.jr_backlog.specs.Rounds.{comes_last, is_closed, is_due, is_to_check, IsInOrder, new_round, next_to_check};
 ghost use Rattle.jr_backlog.specs.Rounds.{next_to_check_after, takes_writes, with_exhausted, with_passed, with_written};
 
@@ -77,6 +77,13 @@ impl Rounds {
         ensures { result ≡ is_due self.now }
     {
         (self.limit != 0 && self.count == self.limit) || self.exhausted
+    }
+
+    /// How many writes of the round are still to check.
+    pub fn left(&self) -> usize
+        ensures { result ≡ length self.now.to_check }
+    {
+        self.to_check.len()
     }
 
     /// The first write to check, once the round is due.

@@ -1,0 +1,2 @@
+pub mod DrawsAhead
+pub mod Deferred
