@@ -73,7 +73,12 @@ kind_fits direction.Read job = refl
 kind_fits direction.Write job = refl
 
 -- a draw of a pass of a planned clone has blocks
-blocks_of_draw : (plan : Plan) (write : WriteId) (job : SubJob) (draw : Draw) → IsPlanned plan → clone_of plan write.clone ≡ Some job → write.pass < job.passes → slice_get (draws_of_job job write.pass) write.number ≡ Some draw → HasBlocks draw.piece
+blocks_of_draw : (plan : Plan) (write : WriteId) (job : SubJob) (draw : Draw)
+    → IsPlanned plan
+    → clone_of plan write.clone ≡ Some job
+    → write.pass < job.passes
+    → slice_get (draws_of_job job write.pass) write.number ≡ Some draw
+    → HasBlocks draw.piece
 blocks_of_draw plan write job draw planned at pass drawn =
     let io : Started = record { worker = 0; kind = kind_for draw.dir; write = write; piece = draw.piece } in
     blocks_from_fits draw.piece
@@ -83,7 +88,11 @@ module _ (plan : Plan) (history : List Event) (checked_by : WriteId → Piece �
     (planned : IsPlanned plan) (legal : is_legal plan history ≡ true) (of_job : clone_of plan write.clone ≡ Some job)
     (drawn : slice_get (draws_of_job job write.pass) write.number ≡ Some draw) where
   -- what was started under its name is of its piece
-  was_drawn : (id : ℕ) (io : Started) → slice_get (started history) id ≡ Some io → is_write io.kind ≡ true → io.write ≡ write → WasStarted history write draw.piece
+  was_drawn : (id : ℕ) (io : Started)
+      → slice_get (started history) id ≡ Some io
+      → is_write io.kind ≡ true
+      → io.write ≡ write
+      → WasStarted history write draw.piece
   was_drawn id io at kind named =
       let found = started_are_drawn-law plan history id io planned legal at in
       let there = found.2 in

@@ -1,6 +1,6 @@
 -- What is in flight, by number: an event that starts an I/O puts it in, and its end takes it out.
 use Rattle.std.proofs.Common.{◌≡◌, ℕ, zero, suc, ◌+◌, ◌<◌, ◌≤◌, List, [], ◌∷◌, ◌++◌, length, Bool, true, false, cond, ◌&&◌, ◌||◌, not, refl, sym, ◌∙◌, ap, subst, arith, inl, inr, zero-add}
-use Rattle.std.specs.Prelude.{Option, Some, None, slice_get, nat_lt, ◌==◌, is_none, filter_map}
+use Rattle.std.specs.Prelude.{Option, Some, None, slice_get, nat_lt, ◌==◌, is_none, filter_map, is_some}
 use Rattle.std.specs.BTreeMap.{insert_entry, is_at}
 use Rattle.std.specs.declared.cmp.Ordering.{Ordering}
 use Rattle.std.specs.declared.cmp.Ordering.TheVariants.{Less, Equal, Greater}
@@ -8,7 +8,7 @@ use Rattle.std.specs.List.{list_any, cons_option, enumerate_from}
 use Rattle.std.specs.Map.{lookup, remove_entry}
 use Rattle.std.specs.Option.{option_map, option_or}
 use Rattle.std.specs.Ordering.{nat_cmp, is_eq, match_ordering}
-use Rattle.std.proofs.lemmas.Bool.{cases_eq, cases_lt, eq-eqb, ne_eqb, lt-ltb, le-ltb}
+use Rattle.std.proofs.lemmas.Bool.{cases_eq, cases_lt, eq-eqb, ne_eqb, lt-ltb, le-ltb, and_parts, ltb-true}
 use Rattle.std.proofs.lemmas.Option.{slice_get_past}
 use Rattle.jr_model.specs.declared.blocks.Dir.{Dir}
 use Rattle.jr_model.specs.declared.blocks.Piece.{Piece}
@@ -27,6 +27,7 @@ use Rattle.jr_model.specs.Plan.{Plan}
 use Rattle.jr_model.proofs.SerialLaws.{first_given-append, none_from}
 use Rattle.jr_flight.specs.declared.ios.Io.{Io}
 use Rattle.jr_flight.specs.Flights.{conflicts, flying_io, is_clear, writes}
+use Rattle.jr_steps.proofs.PlaceLemmas.{item_at}
 use Rattle.jr_steps.proofs.StartedLemmas.{started-starts, started-other}
 use Rattle.jr_log_laws.specs.Flying.{dir_of, io_of, if_flying_entry, flight_of}
 use Rattle.jr_log_laws.proofs.LogGrowth.{well}
@@ -59,18 +60,23 @@ module _ {X Y : Type 0} (keep : ℕ → Bool) (made : ℕ → X → Y) where
   nothing_below id n [] below = refl
   nothing_below id n (x ∷ xs) below = by (keep n) (nothing_below id (n + 1) xs (omega (arith, below)))
     where
-      by : (b : Bool) → lookup (is_at (nat_cmp id)) (entries_from (n + 1) xs) ≡ None → lookup (is_at (nat_cmp id)) (cons_option (cond b (Some (n, made n x)) None) (entries_from (n + 1) xs)) ≡ None
+      by : (b : Bool)
+          → lookup (is_at (nat_cmp id)) (entries_from (n + 1) xs) ≡ None
+          → lookup (is_at (nat_cmp id)) (cons_option (cond b (Some (n, made n x)) None) (entries_from (n + 1) xs)) ≡ None
       by true rest = ap (λ (c : Bool). cond c (Some (made n x)) (lookup (is_at (nat_cmp id)) (entries_from (n + 1) xs))) (other_number id n (λ same. omega (arith, same, below))) ∙ rest
       by false rest = rest
 
   -- under a number stands what was made of the item of that number, where it is kept
-  pub lookup_entries : (n k id : ℕ) (xs : List X) → n + k ≡ id → lookup (is_at (nat_cmp id)) (entries_from n xs) ≡ cond (keep id) (option_map (made id) (slice_get xs k)) None
+  pub lookup_entries : (n k id : ℕ) (xs : List X)
+      → n + k ≡ id
+      → lookup (is_at (nat_cmp id)) (entries_from n xs) ≡ cond (keep id) (option_map (made id) (slice_get xs k)) None
   lookup_entries n k id [] place = sym (both_none (keep id) (option_map (made id) (slice_get [] k)) refl)
   lookup_entries n zero id (x ∷ xs) place =
       let same : n ≡ id = omega (arith, place) in
       subst (λ (i : ℕ). lookup (is_at (nat_cmp i)) (entries_from n (x ∷ xs)) ≡ cond (keep i) (Some (made i x)) None) same (by (keep n))
     where
-      by : (b : Bool) → lookup (is_at (nat_cmp n)) (cons_option (cond b (Some (n, made n x)) None) (entries_from (n + 1) xs)) ≡ cond b (Some (made n x)) None
+      by : (b : Bool)
+          → lookup (is_at (nat_cmp n)) (cons_option (cond b (Some (n, made n x)) None) (entries_from (n + 1) xs)) ≡ cond b (Some (made n x)) None
       by true = ap (λ (c : Bool). cond c (Some (made n x)) (lookup (is_at (nat_cmp n)) (entries_from (n + 1) xs))) (same_number n n refl)
       by false = nothing_below n (n + 1) xs (omega arith)
   lookup_entries n (suc k) id (x ∷ xs) place = by (keep n) (lookup_entries (n + 1) k id xs (omega (arith, place)))
@@ -83,7 +89,10 @@ module _ {X Y : Type 0} (keep : ℕ → Bool) (made : ℕ → X → Y) where
       by false rest = rest
 
   -- one more item, whose number is kept, goes to the end
-  pub insert_last : (n m : ℕ) (xs : List X) (x : X) → n + length xs ≡ m → keep m ≡ true → insert_entry nat_cmp (entries_from n xs) m (made m x) ≡ entries_from n (xs ++ x ∷ [])
+  pub insert_last : (n m : ℕ) (xs : List X) (x : X)
+      → n + length xs ≡ m
+      → keep m ≡ true
+      → insert_entry nat_cmp (entries_from n xs) m (made m x) ≡ entries_from n (xs ++ x ∷ [])
   insert_last n m [] x place kept =
       let same : m ≡ n = omega (arith, place) in
       subst (λ (i : ℕ). (m, made m x) ∷ [] ≡ cons_option (kept_entry (i, x)) []) same
@@ -102,14 +111,19 @@ module _ {X Y : Type 0} (keep : ℕ → Bool) (made : ℕ → X → Y) where
       by false rest = rest
 
 -- two tests that keep the same numbers from n on
-same_entries : {X Y : Type 0} (keep other : ℕ → Bool) (made : ℕ → X → Y) (n : ℕ) (xs : List X) → ((k : ℕ) → n ≤ k → keep k ≡ other k) → entries_from keep made n xs ≡ entries_from other made n xs
+same_entries : {X Y : Type 0} (keep other : ℕ → Bool) (made : ℕ → X → Y) (n : ℕ) (xs : List X)
+    → ((k : ℕ) → n ≤ k → keep k ≡ other k)
+    → entries_from keep made n xs ≡ entries_from other made n xs
 same_entries keep other made n [] same = refl
 same_entries {X = X} {Y = Y} keep other made n (x ∷ xs) same =
     ap (λ (b : Bool). cons_option (cond b (Some (n, made n x)) None) (entries_from keep made (n + 1) xs)) (same n (omega arith))
     ∙ ap (λ (es : List (ℕ × Y)). cons_option (cond (other n) (Some (n, made n x)) None) es) (same_entries keep other made (n + 1) xs (λ k above. same k (omega (arith, above))))
 
 -- a number that is kept no more is taken out
-remove_one : {X Y : Type 0} (keep other : ℕ → Bool) (made : ℕ → X → Y) (id n : ℕ) (xs : List X) → other id ≡ false → ((k : ℕ) → (k ≡ id → ⊥) → other k ≡ keep k) → entries_from other made n xs ≡ remove_entry (is_at (nat_cmp id)) (entries_from keep made n xs)
+remove_one : {X Y : Type 0} (keep other : ℕ → Bool) (made : ℕ → X → Y) (id n : ℕ) (xs : List X)
+    → other id ≡ false
+    → ((k : ℕ) → (k ≡ id → ⊥) → other k ≡ keep k)
+    → entries_from other made n xs ≡ remove_entry (is_at (nat_cmp id)) (entries_from keep made n xs)
 remove_one keep other made id n [] gone same = refl
 remove_one {X = X} {Y = Y} keep other made id n (x ∷ xs) gone same =
     elim (cases_eq n id) [
@@ -132,7 +146,9 @@ remove_one {X = X} {Y = Y} keep other made id n (x ∷ xs) gone same =
         ∙ sym (ap (λ (c : Bool). cond c (entries_from keep made (n + 1) xs) ((n, made n x) ∷ remove_entry (is_at (nat_cmp id)) (entries_from keep made (n + 1) xs))) (same_number keep made id n (sym here)))
     first here false rest = rest
 
-    later : (n ≡ id → ⊥) → (b : Bool) → entries_from other made (n + 1) xs ≡ remove_entry (is_at (nat_cmp id)) (entries_from keep made (n + 1) xs)
+    later : (n ≡ id → ⊥)
+        → (b : Bool)
+        → entries_from other made (n + 1) xs ≡ remove_entry (is_at (nat_cmp id)) (entries_from keep made (n + 1) xs)
         → cons_option (cond b (Some (n, made n x)) None) (entries_from other made (n + 1) xs) ≡ remove_entry (is_at (nat_cmp id)) (cons_option (cond b (Some (n, made n x)) None) (entries_from keep made (n + 1) xs))
     later apart true rest =
         ap (λ (es : List (ℕ × Y)). (n, made n x) ∷ es) rest
@@ -161,7 +177,8 @@ starts_end_none (Judged worker id verdict) io k starts = cc
 abbrev unended : List Event → ℕ → Bool
 unended h k = is_none (outcome_of h k)
 
-pub flying_is_started : (history : List Event) (id : ℕ) → flying_io id (flight_of history) ≡ cond (flies history id) (option_map (io_of id) (slice_get (started history) id)) None
+pub flying_is_started : (history : List Event) (id : ℕ)
+    → flying_io id (flight_of history) ≡ cond (flies history id) (option_map (io_of id) (slice_get (started history) id)) None
 flying_is_started h id =
     let got = option_map (io_of id) (slice_get (started h) id) in
     let found : flying_io id (flight_of h) ≡ cond (unended h id) got None = lookup_entries (unended h) io_of 0 id id (started h) (zero-add id) in
@@ -172,6 +189,20 @@ flying_is_started h id =
           ∙ both_none (unended h id) got (ap (option_map (io_of id)) (slice_get_past (started h) id past))
           ∙ sym (ap (λ (b : Bool). cond (b && unended h id) got None) (le-ltb id (length (started h)) past))
     ]
+
+pub flies_is_flying : (history : List Event) (id : ℕ) → is_some (flying_io id (flight_of history)) ≡ flies history id
+flies_is_flying h id =
+    ap is_some (flying_is_started h id) ∙ by (flies h id) refl
+  where
+    some_made : (o : Option Started) (io : Started) → o ≡ Some io → is_some (option_map (io_of id) o) ≡ true
+    some_made o io at = ap (λ (x : Option Started). is_some (option_map (io_of id) x)) at
+
+    by : (b : Bool) → flies h id ≡ b → is_some (cond b (option_map (io_of id) (slice_get (started h) id)) None) ≡ b
+    by false is = refl
+    by true is =
+        let parts = and_parts (nat_lt id (length (started h))) (unended h id) is in
+        let found = item_at (started h) id (ltb-true id (length (started h)) parts.0) in
+        some_made (slice_get (started h) id) found.0 found.1
 
 pub next_is_free : (history : List Event) → flying_io (length (started history)) (flight_of history) ≡ None
 next_is_free h =
@@ -188,14 +219,16 @@ module _ (h : List Event) (dir : Dir) (piece : Piece) where
   abbrev entry_conflicts : ℕ × Io → Bool
   entry_conflicts entry = conflicts dir piece entry.1
 
-  any_conflicts : (n : ℕ) (xs : List Started) → list_any entry_conflicts (filter_map (if_flying_entry h) (enumerate_from n xs)) ≡ list_any (conflicts_with (writes dir) piece) (filter_map (if_flying h) (enumerate_from n xs))
+  any_conflicts : (n : ℕ) (xs : List Started)
+      → list_any entry_conflicts (filter_map (if_flying_entry h) (enumerate_from n xs)) ≡ list_any (conflicts_with (writes dir) piece) (filter_map (if_flying h) (enumerate_from n xs))
   any_conflicts n [] = refl
   any_conflicts n (x ∷ xs) = by (unended h n) (any_conflicts (n + 1) xs)
     where
       here : conflicts dir piece (io_of n x) ≡ conflicts_with (writes dir) piece x
       here = ap (λ (b : Bool). (writes dir || b) && pieces_overlap x.piece piece) (writes_as x.kind)
 
-      by : (b : Bool) → list_any entry_conflicts (filter_map (if_flying_entry h) (enumerate_from (n + 1) xs)) ≡ list_any (conflicts_with (writes dir) piece) (filter_map (if_flying h) (enumerate_from (n + 1) xs))
+      by : (b : Bool)
+          → list_any entry_conflicts (filter_map (if_flying_entry h) (enumerate_from (n + 1) xs)) ≡ list_any (conflicts_with (writes dir) piece) (filter_map (if_flying h) (enumerate_from (n + 1) xs))
           → list_any entry_conflicts (cons_option (cond b (Some (n, io_of n x)) None) (filter_map (if_flying_entry h) (enumerate_from (n + 1) xs)))
           ≡ list_any (conflicts_with (writes dir) piece) (cons_option (cond b (Some x) None) (filter_map (if_flying h) (enumerate_from (n + 1) xs)))
       by true rest =
@@ -203,7 +236,8 @@ module _ (h : List Event) (dir : Dir) (piece : Piece) where
           ∙ ap (λ (b : Bool). conflicts_with (writes dir) piece x || b) rest
       by false rest = rest
 
-pub clear_is_clear : (history : List Event) (dir : Dir) (piece : Piece) → is_clear dir piece (flight_of history) ≡ is_clear_after history (writes dir) piece
+pub clear_is_clear : (history : List Event) (dir : Dir) (piece : Piece)
+    → is_clear dir piece (flight_of history) ≡ is_clear_after history (writes dir) piece
 clear_is_clear h dir piece = ap not (any_conflicts h dir piece 0 (started h))
 
 pub next_flies : (plan : Plan) (history : List Event) (event : Event) (io : Started)
@@ -224,7 +258,8 @@ flies_on h e nothing ends =
     ap (λ (ios : List Started). entries_from (unended (h ++ e ∷ [])) io_of 0 ios) (started-other h e nothing)
     ∙ same_entries (unended (h ++ e ∷ [])) (unended h) io_of 0 (started h) (λ k above. ap is_none (outcome_same h e k (ends k)))
 
-pub others_fly_on : (history : List Event) (worker id : ℕ) (write : WriteId) (verdict : Verdict) → (flight_of (history ++ Skip worker write ∷ []) ≡ flight_of history) × (flight_of (history ++ Judged worker id verdict ∷ []) ≡ flight_of history)
+pub others_fly_on : (history : List Event) (worker id : ℕ) (write : WriteId) (verdict : Verdict)
+    → (flight_of (history ++ Skip worker write ∷ []) ≡ flight_of history) × (flight_of (history ++ Judged worker id verdict ∷ []) ≡ flight_of history)
 others_fly_on h worker id write verdict = (
   flies_on h (Skip worker write) refl (λ k. refl),
   flies_on h (Judged worker id verdict) refl (λ k. refl),
@@ -234,7 +269,8 @@ is_some_or : (o : Option Outcome) (x : Outcome) → is_none (option_or o (Some x
 is_some_or None x = refl
 is_some_or (Some y) x = refl
 
-pub ended_flies_no_more : (history : List Event) (worker id : ℕ) (outcome : Outcome) → flight_of (history ++ End worker id outcome ∷ []) ≡ remove_entry (is_at (nat_cmp id)) (flight_of history)
+pub ended_flies_no_more : (history : List Event) (worker id : ℕ) (outcome : Outcome)
+    → flight_of (history ++ End worker id outcome ∷ []) ≡ remove_entry (is_at (nat_cmp id)) (flight_of history)
 ended_flies_no_more h worker id outcome =
     let e = End worker id outcome in
     let gone : unended (h ++ e ∷ []) id ≡ false =

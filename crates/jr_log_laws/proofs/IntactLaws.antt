@@ -1,9 +1,9 @@
 -- The log of a legal history has its intact writes.
 use Rattle.std.proofs.Common.{◌≡◌, ℕ, ◌+◌, ◌/◌, ◌<◌, ◌≤◌, List, [], ◌∷◌, ◌++◌, length, Bool, true, false, cond, ◌&&◌, not, refl, sym, ◌∙◌, ap, subst, arith, inl, inr}
-use Rattle.std.specs.Prelude.{Option, Some, None, slice_get}
+use Rattle.std.specs.Prelude.{Option, Some, None, slice_get, is_some}
 use Rattle.std.specs.List.{cons_option}
 use Rattle.std.proofs.lemmas.Bool.{and_left, and_right, cases_Bool, cases_eq, cases_lt, both_ways, false_from_ne_true}
-use Rattle.std.proofs.lemmas.Option.{none-some}
+use Rattle.std.proofs.lemmas.Option.{none-some, cond_some}
 use Rattle.jr_model.specs.declared.limits.TheConstants.{SECTOR}
 use Rattle.jr_model.specs.declared.blocks.Piece.{Piece}
 use Rattle.jr_model.specs.declared.contents.Expected.{Expected}
@@ -30,7 +30,7 @@ use Rattle.jr_quiet.proofs.Latest.{common_block}
 use Rattle.jr_quiet.proofs.Steps.{started_push, got_within}
 use Rattle.jr_steps.proofs.StartedLemmas.{same_some, by_events, started_stays, started_below, started-other}
 use Rattle.jr_steps.proofs.StepLaws.{eq_write}
-use Rattle.jr_log_laws.specs.Intact.{log_after, WasStarted}
+use Rattle.jr_log_laws.specs.Intact.{log_after, WasStarted, IsOfIntact}
 use Rattle.jr_log_laws.proofs.LogGrowth.{log-same, log-whole, log-failed}
 use Rattle.jr_log_laws.proofs.LastBlocks.{last_law, last_write_push, flying_of, outcome_now, HasBlocks, intact_same, intact_all, intact_not, one_place, blocks_at, unlanded}
 use Rattle.jr_log_laws.proofs.OrderLemmas.{ordered_log}
@@ -197,7 +197,11 @@ module _ (plan : Plan) (planned : IsPlanned plan) (checked_by : WriteId → Piec
           ∙ ap (λ (b : Bool). cond b (Some (entry_of checked_by io0)) (if_apart io0.piece (logged (log_after checked_by h) io.write))) (and_right whole (same_write io0.write io.write) differs)
           ∙ ap (if_apart io0.piece) (kept.equal id io at kind)
 
-      overwritten : (w : Bool) (covers : Bool) → covers ≡ true → (last : Option WriteId) → cond covers (cond w (Some io0.write) None) last ≡ Some io.write → ⊥
+      overwritten : (w : Bool) (covers : Bool)
+          → covers ≡ true
+          → (last : Option WriteId)
+          → cond covers (cond w (Some io0.write) None) last ≡ Some io.write
+          → ⊥
       overwritten true true c last same = other_name (same_some io0.write io.write same)
       overwritten false true c last same = none-some io.write same
       overwritten w false c last same = both_ways false refl c
@@ -219,7 +223,10 @@ module _ (plan : Plan) (planned : IsPlanned plan) (checked_by : WriteId → Piec
           (λ b covers. last_by whole is io.piece.file b ∙ ap (λ (c : Bool). cond c (cond whole (Some io0.write) None) (last_write h io.piece.file b)) (uncovered b covers)) in
           looked_other ∙ left checked_by io0.piece io (is_intact h io.write io.piece) over ∙ ap (shown checked_by io) (sym same)
 
-    known_ended : (whole : Bool) (write : WriteId) (entry : Logged) (same : Bool) → same_write io0.write write ≡ same → cond (whole && same) (Some (entry_of checked_by io0)) (if_apart io0.piece (logged (log_after checked_by h) write)) ≡ Some entry → IsStarted h write
+    known_ended : (whole : Bool) (write : WriteId) (entry : Logged) (same : Bool)
+        → same_write io0.write write ≡ same
+        → cond (whole && same) (Some (entry_of checked_by io0)) (if_apart io0.piece (logged (log_after checked_by h) write)) ≡ Some entry
+        → IsStarted h write
     known_ended true write entry true same is = record { id = id0; io = io0; at = at0; kind = kind0; named = eq_write io0.write write same }
     known_ended true write entry false same is = kept.known write entry (some_apart io0.piece (logged (log_after checked_by h) write) entry is)
     known_ended false write entry true same is = kept.known write entry (some_apart io0.piece (logged (log_after checked_by h) write) entry is)
@@ -245,7 +252,9 @@ module _ (plan : Plan) (planned : IsPlanned plan) (checked_by : WriteId → Piec
     }
 
   -- the end of any I/O
-  kept_end : (worker id : ℕ) (outcome : Outcome) → may_happen plan h (End worker id outcome) ≡ true → IsKept checked_by (h ++ End worker id outcome ∷ [])
+  kept_end : (worker id : ℕ) (outcome : Outcome)
+      → may_happen plan h (End worker id outcome) ≡ true
+      → IsKept checked_by (h ++ End worker id outcome ∷ [])
   kept_end worker id outcome may =
       let flying = flying_of plan h worker id outcome may in
       elim (cases_Bool (is_write flying.io.kind)) [
@@ -264,11 +273,18 @@ module _ (plan : Plan) (planned : IsPlanned plan) (checked_by : WriteId → Piec
       keeps io other f b o = ap (λ (k : Bool). cond k (cond (ended_whole (Some outcome)) (Some io.write) None) o) (and_left (is_write io.kind) (covers_block io.piece f b) other)
 
 -- the log of each legal history
-pub kept_law : (plan : Plan) (checked_by : WriteId → Piece → Expected) (history : List Event) → IsPlanned plan → is_legal plan history ≡ true → IsKept checked_by history
+pub kept_law : (plan : Plan) (checked_by : WriteId → Piece → Expected) (history : List Event)
+    → IsPlanned plan
+    → is_legal plan history ≡ true
+    → IsKept checked_by history
 kept_law plan checked_by history planned legal =
     by_events plan (IsKept checked_by) (record { known = λ write entry is. absurd (none-some entry is); equal = λ id io at kind. absurd (none-some io at) }) step history legal
   where
-    step : (h : List Event) (e : Event) → is_legal plan h ≡ true → IsKept checked_by h → may_happen plan h e ≡ true → IsKept checked_by (h ++ e ∷ [])
+    step : (h : List Event) (e : Event)
+        → is_legal plan h ≡ true
+        → IsKept checked_by h
+        → may_happen plan h e ≡ true
+        → IsKept checked_by (h ++ e ∷ [])
     step h (Issue worker dir write piece) legal_h kept may = kept_same plan planned checked_by h legal_h kept (Issue worker dir write piece) may refl (λ f b o. refl)
     step h (Probe worker write piece) legal_h kept may = kept_same plan planned checked_by h legal_h kept (Probe worker write piece) may refl (λ f b o. refl)
     step h (Skip worker write) legal_h kept may = kept_same plan planned checked_by h legal_h kept (Skip worker write) may refl (λ f b o. refl)
@@ -296,3 +312,44 @@ pub unended_is_unlogged : (plan : Plan) (history : List Event) (checked_by : Wri
 unended_is_unlogged plan history checked_by id io planned legal at kind unended =
     (kept_law plan checked_by history planned legal).equal id io at kind
     ∙ ap (shown checked_by io) (unlanded plan history planned legal id io at kind (λ ended. both_ways (ended_whole (outcome_of history id)) unended (ap ended_whole ended)))
+
+pub logged_is_intact : (plan : Plan) (history : List Event) (checked_by : WriteId → Piece → Expected) (write : WriteId) (entry : Logged)
+    → IsPlanned plan
+    → is_legal plan history ≡ true
+    → logged (log_after checked_by history) write ≡ Some entry
+    → IsOfIntact checked_by history write entry
+logged_is_intact plan history checked_by write entry planned legal is =
+    let was = (kept_law plan checked_by history planned legal).known write entry is in
+    let piece = was.io.piece in
+    let begun : WasStarted history write piece =
+    record { place = was.id; io = was.io; at = was.at; kind = was.kind; named = was.named; there = refl } in
+    let made : Logged = record { piece = piece; expected = checked_by write piece } in
+    let both = cond_some (is_intact history write piece) made entry
+    (sym (log_is_intact plan history checked_by write piece planned legal begun) ∙ is) in
+    subst (IsOfIntact checked_by history write) both.1 (record { begun = begun; intact = both.0; expected = refl })
+
+-- where a write may end, the log has nothing of it yet
+pub fresh_at_end : (plan : Plan) (history : List Event) (checked_by : WriteId → Piece → Expected) (worker id : ℕ) (outcome : Outcome) (io : Started)
+    → IsPlanned plan
+    → is_legal plan history ≡ true
+    → may_happen plan history (End worker id outcome) ≡ true
+    → slice_get (started history) id ≡ Some io
+    → is_write io.kind ≡ true
+    → logged (log_after checked_by history) io.write ≡ None
+fresh_at_end plan history checked_by worker id outcome io planned legal may at kind =
+    unended_is_unlogged plan history checked_by id io planned legal at kind
+    (ap ended_whole (flying_of plan history worker id outcome may).unended)
+
+-- whether the log has a write says whether it is intact
+pub some-logged : (plan : Plan) (history : List Event) (checked_by : WriteId → Piece → Expected) (write : WriteId) (piece : Piece)
+    → IsPlanned plan
+    → is_legal plan history ≡ true
+    → WasStarted history write piece
+    → is_some (logged (log_after checked_by history) write) ≡ is_intact history write piece
+some-logged plan history checked_by write piece planned legal was =
+    ap is_some (log_is_intact plan history checked_by write piece planned legal was)
+    ∙ by (record { piece = piece; expected = checked_by write piece }) (is_intact history write piece)
+  where
+    by : (entry : Logged) (b : Bool) → is_some (cond b (Some entry) None) ≡ b
+    by entry true = refl
+    by entry false = refl

@@ -34,7 +34,10 @@ use Rattle.jr_steps.proofs.StepLaws.{eq_write}
 use Rattle.jr_log_laws.proofs.LogGrowth.{refers_now, all_refer}
 
 -- an event makes of a block's last write what it says
-pub last_write_push : (plan : Plan) (h : List Event) (e : Event) (f b : ℕ) → is_legal plan h ≡ true → may_happen plan h e ≡ true → last_write (h ++ e ∷ []) f b ≡ last_after (started h) f b (last_write h f b) e
+pub last_write_push : (plan : Plan) (h : List Event) (e : Event) (f b : ℕ)
+    → is_legal plan h ≡ true
+    → may_happen plan h e ≡ true
+    → last_write (h ++ e ∷ []) f b ≡ last_after (started h) f b (last_write h f b) e
 last_write_push plan h e f b legal may =
     let ios = started h in
     let more = cons_option (started_by e) [] in
@@ -49,7 +52,9 @@ pub record IsFlying (h : List Event) (id : ℕ) : Type 0 where
   pub at : slice_get (started h) id ≡ Some io
   pub unended : outcome_of h id ≡ None
 
-pub flying_of : (plan : Plan) (h : List Event) (worker id : ℕ) (outcome : Outcome) → may_happen plan h (End worker id outcome) ≡ true → IsFlying h id
+pub flying_of : (plan : Plan) (h : List Event) (worker id : ℕ) (outcome : Outcome)
+    → may_happen plan h (End worker id outcome) ≡ true
+    → IsFlying h id
 flying_of plan h worker id outcome may =
     let flying = and_parts (flies h id) (end_fits worker outcome (slice_get (started h) id)) may in
     let parts = and_parts (nat_lt id (length (started h))) (is_none (outcome_of h id)) flying.0 in
@@ -66,7 +71,9 @@ outcome_stays h e id o was =
     first_given-append (end_of id) h (e ∷ []) ∙ ap (λ (x : Option Outcome). option_or x (first_given (end_of id) (e ∷ []))) was
 
 -- and is what its end says
-pub outcome_now : (h : List Event) (worker id : ℕ) (o : Outcome) → outcome_of h id ≡ None → outcome_of (h ++ End worker id o ∷ []) id ≡ Some o
+pub outcome_now : (h : List Event) (worker id : ℕ) (o : Outcome)
+    → outcome_of h id ≡ None
+    → outcome_of (h ++ End worker id o ∷ []) id ≡ Some o
 outcome_now h worker id o was =
     first_given-append (end_of id) h (End worker id o ∷ [])
     ∙ ap (λ (x : Option Outcome). option_or x (first_given (end_of id) (End worker id o ∷ []))) was
@@ -98,18 +105,27 @@ module _ (plan : Plan) (h : List Event) (legal : is_legal plan h ≡ true) where
     ended = outcome_stays h e was.id Whole was.ended;
   }
 
-  last_other : (e : Event) → may_happen plan h e ≡ true → ((f b : ℕ) (o : Option WriteId) → last_after (started h) f b o e ≡ o) → LastLaw h → LastLaw (h ++ e ∷ [])
+  last_other : (e : Event)
+      → may_happen plan h e ≡ true
+      → ((f b : ℕ) (o : Option WriteId) → last_after (started h) f b o e ≡ o)
+      → LastLaw h
+      → LastLaw (h ++ e ∷ [])
   last_other e may keeps law f b write last =
       last_kept e f b write (law f b write (sym (last_write_push plan h e f b legal may ∙ keeps f b (last_write h f b)) ∙ last))
 
   -- what a whole write leaves is that write, and another end leaves none
-  end_gives : (outcome : Outcome) (io : Started) (hit : Bool) (last : Option WriteId) (write : WriteId) → cond hit (cond (ended_whole (Some outcome)) (Some io.write) None) last ≡ Some write → ((hit ≡ true) × (outcome ≡ Whole) × (io.write ≡ write)) ⊎ (last ≡ Some write)
+  end_gives : (outcome : Outcome) (io : Started) (hit : Bool) (last : Option WriteId) (write : WriteId)
+      → cond hit (cond (ended_whole (Some outcome)) (Some io.write) None) last ≡ Some write
+      → ((hit ≡ true) × (outcome ≡ Whole) × (io.write ≡ write)) ⊎ (last ≡ Some write)
   end_gives Whole io true last write is = inl (refl, refl, same_some io.write write is)
   end_gives Failed io true last write is = cc
   end_gives (Short n) io true last write is = cc
   end_gives outcome io false last write is = inr is
 
-  last_ended : (worker id : ℕ) (outcome : Outcome) → may_happen plan h (End worker id outcome) ≡ true → LastLaw h → LastLaw (h ++ End worker id outcome ∷ [])
+  last_ended : (worker id : ℕ) (outcome : Outcome)
+      → may_happen plan h (End worker id outcome) ≡ true
+      → LastLaw h
+      → LastLaw (h ++ End worker id outcome ∷ [])
   last_ended worker id outcome may law f b write last =
       let e = End worker id outcome in
       let flying = flying_of plan h worker id outcome may in
@@ -183,7 +199,9 @@ blocks_from_fits p fits =
       some = some_blocks p.len (ltb-true 0 p.len p1.0) whole;
     }
 
-pub all_same : {X : Type 0} (f g : X → Bool) (xs : List X) → ((k : ℕ) (x : X) → slice_get xs k ≡ Some x → f x ≡ g x) → list_all f xs ≡ list_all g xs
+pub all_same : {X : Type 0} (f g : X → Bool) (xs : List X)
+    → ((k : ℕ) (x : X) → slice_get xs k ≡ Some x → f x ≡ g x)
+    → list_all f xs ≡ list_all g xs
 all_same f g [] each = refl
 all_same f g (x ∷ xs) each =
     ap (λ (b : Bool). b && list_all f xs) (each 0 x refl)
@@ -197,25 +215,35 @@ module _ (write : WriteId) (p : Piece) (blocks : HasBlocks p) where
       subst (λ (x : ℕ). covers_block p p.file x ≡ true) (sym place.0) (covers_own p blocks.sectors k place.1)
 
   -- where the last writes of its blocks are the same, it is intact or not as before
-  pub intact_same : (h j : List Event) → ((b : ℕ) → covers_block p p.file b ≡ true → last_write j p.file b ≡ last_write h p.file b) → is_intact j write p ≡ is_intact h write p
+  pub intact_same : (h j : List Event)
+      → ((b : ℕ) → covers_block p p.file b ≡ true → last_write j p.file b ≡ last_write h p.file b)
+      → is_intact j write p ≡ is_intact h write p
   intact_same h j same =
       all_same (λ (b : ℕ). is_this_write write (last_write j p.file b)) (λ (b : ℕ). is_this_write write (last_write h p.file b)) (blocks_of p)
       (λ k b at. ap (is_this_write write) (same b (own_block k b at)))
 
-  pub intact_all : (h : List Event) → ((b : ℕ) → covers_block p p.file b ≡ true → last_write h p.file b ≡ Some write) → is_intact h write p ≡ true
+  pub intact_all : (h : List Event)
+      → ((b : ℕ) → covers_block p p.file b ≡ true → last_write h p.file b ≡ Some write)
+      → is_intact h write p ≡ true
   intact_all h each =
       all_from (λ (b : ℕ). is_this_write write (last_write h p.file b)) (blocks_of p)
       (λ k b at. is_this write (last_write h p.file b) (each b (own_block k b at)))
 
   -- a block whose last write is another
-  pub intact_not : (h : List Event) (k : ℕ) → k < p.len / SECTOR → (last_write h p.file (p.offset / SECTOR + k) ≡ Some write → ⊥) → is_intact h write p ≡ false
+  pub intact_not : (h : List Event) (k : ℕ)
+      → k < p.len / SECTOR
+      → (last_write h p.file (p.offset / SECTOR + k) ≡ Some write → ⊥)
+      → is_intact h write p ≡ false
   intact_not h k within apart =
       not_all (λ (b : ℕ). is_this_write write (last_write h p.file b)) (blocks_of p) k (p.offset / SECTOR + k)
       (ranged_at (p.offset / SECTOR) (p.len / SECTOR) k within)
       (not_this write (last_write h p.file (p.offset / SECTOR + k)) apart)
 
   -- an intact write is the last of each of its blocks
-  pub intact_at : (h : List Event) (k : ℕ) → k < p.len / SECTOR → is_intact h write p ≡ true → last_write h p.file (p.offset / SECTOR + k) ≡ Some write
+  pub intact_at : (h : List Event) (k : ℕ)
+      → k < p.len / SECTOR
+      → is_intact h write p ≡ true
+      → last_write h p.file (p.offset / SECTOR + k) ≡ Some write
   intact_at h k within whole =
       this_of write (last_write h p.file (p.offset / SECTOR + k))
       (true_from_ne_false (is_this_write write (last_write h p.file (p.offset / SECTOR + k)))
@@ -232,7 +260,13 @@ write_is_no_probe ticket.Probe h = cc
 
 module _ (plan : Plan) (h : List Event) (planned : IsPlanned plan) (legal : is_legal plan h ≡ true) where
   -- a write is started once
-  pub one_place : (i j : ℕ) (a b : Started) → slice_get (started h) i ≡ Some a → slice_get (started h) j ≡ Some b → is_write a.kind ≡ true → is_write b.kind ≡ true → a.write ≡ b.write → i ≡ j
+  pub one_place : (i j : ℕ) (a b : Started)
+      → slice_get (started h) i ≡ Some a
+      → slice_get (started h) j ≡ Some b
+      → is_write a.kind ≡ true
+      → is_write b.kind ≡ true
+      → a.write ≡ b.write
+      → i ≡ j
   one_place i j a b at_i at_j kind_a kind_b same =
       started_once-law plan h i j a b planned legal at_i at_j
       (subst (λ (w : WriteId). same_write a.write w ≡ true) same (same_write_refl a.write))
@@ -242,7 +276,11 @@ module _ (plan : Plan) (h : List Event) (planned : IsPlanned plan) (legal : is_l
   blocks_at id io at = blocks_from_fits io.piece (started_fit-law plan h id io planned legal at).1.fits
 
   -- a write that has not ended whole isn't intact
-  pub unlanded : (id : ℕ) (io : Started) → slice_get (started h) id ≡ Some io → is_write io.kind ≡ true → (outcome_of h id ≡ Some Whole → ⊥) → is_intact h io.write io.piece ≡ false
+  pub unlanded : (id : ℕ) (io : Started)
+      → slice_get (started h) id ≡ Some io
+      → is_write io.kind ≡ true
+      → (outcome_of h id ≡ Some Whole → ⊥)
+      → is_intact h io.write io.piece ≡ false
   unlanded id io at kind unended =
       let blocks = blocks_at id io at in
       intact_not io.write io.piece blocks h 0 blocks.some

@@ -37,7 +37,10 @@ well plan history legal =
     none_true io h = cc
 
 -- an event that may happen speaks of an I/O that was started
-pub refers_now : (plan : Plan) (h : List Event) (e : Event) → is_legal plan h ≡ true → may_happen plan h e ≡ true → refers (length (started h)) e ≡ true
+pub refers_now : (plan : Plan) (h : List Event) (e : Event)
+    → is_legal plan h ≡ true
+    → may_happen plan h e ≡ true
+    → refers (length (started h)) e ≡ true
 refers_now plan h (End worker io outcome) legal may =
     (and_parts (nat_lt io (length (started h))) (is_none (outcome_of h io)) (and_parts (flies h io) (end_fits worker outcome (slice_get (started h) io)) may).0).0
 refers_now plan h (Verdict worker io verdict) legal may =
@@ -49,10 +52,16 @@ refers_now plan h (Probe worker write piece) legal may = refl
 refers_now plan h (Skip worker write) legal may = refl
 
 -- and so does each event of a legal history
-pub all_refer : (plan : Plan) (history : List Event) → is_legal plan history ≡ true → list_all (refers (length (started history))) history ≡ true
+pub all_refer : (plan : Plan) (history : List Event)
+    → is_legal plan history ≡ true
+    → list_all (refers (length (started history))) history ≡ true
 all_refer plan history legal = by_events plan (λ (h : List Event). list_all (refers (length (started h))) h ≡ true) refl grows history legal
   where
-    grows : (h : List Event) (e : Event) → is_legal plan h ≡ true → list_all (refers (length (started h))) h ≡ true → may_happen plan h e ≡ true → list_all (refers (length (started (h ++ e ∷ [])))) (h ++ e ∷ []) ≡ true
+    grows : (h : List Event) (e : Event)
+        → is_legal plan h ≡ true
+        → list_all (refers (length (started h))) h ≡ true
+        → may_happen plan h e ≡ true
+        → list_all (refers (length (started (h ++ e ∷ [])))) (h ++ e ∷ []) ≡ true
     grows h e legal_h so_far may =
         let n = length (started h) in
         let m = length (started (h ++ e ∷ [])) in
@@ -62,7 +71,9 @@ all_refer plan history legal = by_events plan (λ (h : List Event). list_all (re
         (and_from (refers m e) true (refers_more n m e le (refers_now plan h e legal_h may)) refl)
 
 -- the step that an event is doesn't depend on what is started later
-step_agrees : (checked_by : WriteId → Piece → Expected) (ios more : List Started) (e : Event) → refers (length ios) e ≡ true → step_of checked_by (ios ++ more) e ≡ step_of checked_by ios e
+step_agrees : (checked_by : WriteId → Piece → Expected) (ios more : List Started) (e : Event)
+    → refers (length ios) e ≡ true
+    → step_of checked_by (ios ++ more) e ≡ step_of checked_by ios e
 step_agrees checked_by ios more (End worker io outcome) h =
     ap (λ (o : Option Started). step_at_end checked_by o outcome) (got_within ios more io (ltb-true io (length ios) h))
 step_agrees checked_by ios more (Issue worker dir write piece) h = refl
@@ -70,7 +81,9 @@ step_agrees checked_by ios more (Probe worker write piece) h = refl
 step_agrees checked_by ios more (Skip worker write) h = refl
 step_agrees checked_by ios more (Verdict worker io verdict) h = refl
 
-steps_agree : (checked_by : WriteId → Piece → Expected) (ios more : List Started) (events : List Event) → list_all (refers (length ios)) events ≡ true → filter_map (step_of checked_by (ios ++ more)) events ≡ filter_map (step_of checked_by ios) events
+steps_agree : (checked_by : WriteId → Piece → Expected) (ios more : List Started) (events : List Event)
+    → list_all (refers (length ios)) events ≡ true
+    → filter_map (step_of checked_by (ios ++ more)) events ≡ filter_map (step_of checked_by ios) events
 steps_agree checked_by ios more [] h = refl
 steps_agree checked_by ios more (e ∷ events) h =
     let parts = and_parts (refers (length ios) e) (list_all (refers (length ios)) events) h in
@@ -78,7 +91,10 @@ steps_agree checked_by ios more (e ∷ events) h =
     ∙ ap (cons_option (step_of checked_by ios e)) (steps_agree checked_by ios more events parts.1)
 
 -- one more event is one more step, or none
-steps_more : (plan : Plan) (h : List Event) (e : Event) (checked_by : WriteId → Piece → Expected) → is_legal plan h ≡ true → may_happen plan h e ≡ true → steps_of checked_by (h ++ e ∷ []) ≡ steps_of checked_by h ++ cons_option (step_of checked_by (started h) e) []
+steps_more : (plan : Plan) (h : List Event) (e : Event) (checked_by : WriteId → Piece → Expected)
+    → is_legal plan h ≡ true
+    → may_happen plan h e ≡ true
+    → steps_of checked_by (h ++ e ∷ []) ≡ steps_of checked_by h ++ cons_option (step_of checked_by (started h) e) []
 steps_more plan h e checked_by legal may =
     let ios = started h in
     let more = cons_option (started_by e) [] in
@@ -102,7 +118,10 @@ log_grows plan history event checked_by legal may =
 
 module _ (plan : Plan) (h : List Event) (checked_by : WriteId → Piece → Expected) (legal : is_legal plan h ≡ true) where
   -- an event that is no step
-  pub log-same : (e : Event) → may_happen plan h e ≡ true → step_of checked_by (started h) e ≡ None → log_after checked_by (h ++ e ∷ []) ≡ log_after checked_by h
+  pub log-same : (e : Event)
+      → may_happen plan h e ≡ true
+      → step_of checked_by (started h) e ≡ None
+      → log_after checked_by (h ++ e ∷ []) ≡ log_after checked_by h
   log-same e may none =
       log_grows plan h e checked_by legal may ∙ ap (λ (o : Option LogStep). after_if o (log_after checked_by h)) none
 
@@ -111,7 +130,10 @@ module _ (plan : Plan) (h : List Event) (checked_by : WriteId → Piece → Expe
     abbrev step_by : Bool → Bool → Option LogStep
     step_by write whole = cond write (Some (cond whole (settle io.write io.piece (checked_by io.write io.piece)) (unsettle io.piece))) None
 
-    log_end : (write whole : Bool) → is_write io.kind ≡ write → ended_whole (Some outcome) ≡ whole → log_after checked_by (h ++ End worker id outcome ∷ []) ≡ after_if (step_by write whole) (log_after checked_by h)
+    log_end : (write whole : Bool)
+        → is_write io.kind ≡ write
+        → ended_whole (Some outcome) ≡ whole
+        → log_after checked_by (h ++ End worker id outcome ∷ []) ≡ after_if (step_by write whole) (log_after checked_by h)
     log_end write whole kind ended =
         log_grows plan h (End worker id outcome) checked_by legal may
         ∙ ap (λ (o : Option Started). after_if (step_at_end checked_by o outcome) (log_after checked_by h)) at
@@ -123,9 +145,13 @@ module _ (plan : Plan) (h : List Event) (checked_by : WriteId → Piece → Expe
     log-read other = log_end false (ended_whole (Some outcome)) other refl
 
     -- the whole end of a write
-    pub log-whole : is_write io.kind ≡ true → ended_whole (Some outcome) ≡ true → log_after checked_by (h ++ End worker id outcome ∷ []) ≡ settled (log_after checked_by h) io.write io.piece (checked_by io.write io.piece)
+    pub log-whole : is_write io.kind ≡ true
+        → ended_whole (Some outcome) ≡ true
+        → log_after checked_by (h ++ End worker id outcome ∷ []) ≡ settled (log_after checked_by h) io.write io.piece (checked_by io.write io.piece)
     log-whole write whole = log_end true true write whole
 
     -- another end of a write
-    pub log-failed : is_write io.kind ≡ true → ended_whole (Some outcome) ≡ false → log_after checked_by (h ++ End worker id outcome ∷ []) ≡ unsettled (log_after checked_by h) io.piece
+    pub log-failed : is_write io.kind ≡ true
+        → ended_whole (Some outcome) ≡ false
+        → log_after checked_by (h ++ End worker id outcome ∷ []) ≡ unsettled (log_after checked_by h) io.piece
     log-failed write failed = log_end true false write failed

@@ -17,7 +17,9 @@ use Rattle.jr_writes.proofs.IndexLemmas.{write_order_total}
 
 module _ {K X : Type 0} where
   -- what holds of all keys holds of those that a filter keeps
-  filter_all : (P : K → Type 0) (p : K × X → Bool) (es : List (K × X)) → AllByRecursion P (keys_of es) → AllByRecursion P (keys_of (filter p es))
+  filter_all : (P : K → Type 0) (p : K × X → Bool) (es : List (K × X))
+      → AllByRecursion P (keys_of es)
+      → AllByRecursion P (keys_of (filter p es))
   filter_all P p [] all = tt
   filter_all P p (e ∷ es) all = by (p e) (filter_all P p es all.1)
     where
@@ -26,12 +28,16 @@ module _ {K X : Type 0} where
       by false rest = rest
 
   -- a filter keeps the order
-  pub sorted_filter : (cmp : K → K → Ordering) (p : K × X → Bool) (es : List (K × X)) → IsStrictlySortedBy cmp (keys_of es) → IsStrictlySortedBy cmp (keys_of (filter p es))
+  pub sorted_filter : (cmp : K → K → Ordering) (p : K × X → Bool) (es : List (K × X))
+      → IsStrictlySortedBy cmp (keys_of es)
+      → IsStrictlySortedBy cmp (keys_of (filter p es))
   unfolding IsStrictlySortedBy
   sorted_filter cmp p [] sorted = tt
   sorted_filter cmp p (e ∷ es) sorted = by (p e) (sorted_filter cmp p es sorted.1)
     where
-      by : (b : Bool) → IsStrictlySortedBy cmp (keys_of (filter p es)) → IsStrictlySortedBy cmp (keys_of (cond b (e ∷ filter p es) (filter p es)))
+      by : (b : Bool)
+          → IsStrictlySortedBy cmp (keys_of (filter p es))
+          → IsStrictlySortedBy cmp (keys_of (cond b (e ∷ filter p es) (filter p es)))
       by true rest = (filter_all (λ y. cmp e.0 y ≡ Less) p es sorted.0, rest)
       by false rest = rest
 
@@ -40,32 +46,47 @@ module _ {K X : Type 0} where
     turned x h = o.antisymm x k ∙ ap ordering_reverse h
 
     -- a key below the first is below all
-    below_all : (x : K) (es : List (K × X)) → cmp k x ≡ Less → AllByRecursion (λ y. cmp x y ≡ Less) (keys_of es) → AllByRecursion (λ y. cmp k y ≡ Less) (keys_of es)
+    below_all : (x : K) (es : List (K × X))
+        → cmp k x ≡ Less
+        → AllByRecursion (λ y. cmp x y ≡ Less) (keys_of es)
+        → AllByRecursion (λ y. cmp k y ≡ Less) (keys_of es)
     below_all x [] less all = tt
     below_all x (e ∷ es) less all = (o.trans k x e.0 less all.0, below_all x es less all.1)
 
-    put_all : (P : K → Type 0) (es : List (K × X)) → P k → AllByRecursion P (keys_of es) → AllByRecursion P (keys_of (insert_entry cmp es k v))
+    put_all : (P : K → Type 0) (es : List (K × X))
+        → P k
+        → AllByRecursion P (keys_of es)
+        → AllByRecursion P (keys_of (insert_entry cmp es k v))
     put_all P [] here all = (here, tt)
     put_all P (e ∷ es) here all = by (cmp k e.0) (put_all P es here all.1)
       where
-        by : (r : Ordering) → AllByRecursion P (keys_of (insert_entry cmp es k v)) → AllByRecursion P (keys_of (match_ordering r ((k, v) ∷ e ∷ es) ((e.0, v) ∷ es) (e ∷ insert_entry cmp es k v)))
+        by : (r : Ordering)
+            → AllByRecursion P (keys_of (insert_entry cmp es k v))
+            → AllByRecursion P (keys_of (match_ordering r ((k, v) ∷ e ∷ es) ((e.0, v) ∷ es) (e ∷ insert_entry cmp es k v)))
         by Less rest = (here, all)
         by Equal rest = all
         by Greater rest = (all.0, rest)
 
     -- an insertion keeps the order
-    pub sorted_insert : (es : List (K × X)) → IsStrictlySortedBy cmp (keys_of es) → IsStrictlySortedBy cmp (keys_of (insert_entry cmp es k v))
+    pub sorted_insert : (es : List (K × X))
+        → IsStrictlySortedBy cmp (keys_of es)
+        → IsStrictlySortedBy cmp (keys_of (insert_entry cmp es k v))
     unfolding IsStrictlySortedBy
     sorted_insert [] sorted = (tt, tt)
     sorted_insert (e ∷ es) sorted = by (sorted_insert es sorted.1) (cmp k e.0) refl
       where
-        by : IsStrictlySortedBy cmp (keys_of (insert_entry cmp es k v)) → (r : Ordering) → cmp k e.0 ≡ r → IsStrictlySortedBy cmp (keys_of (match_ordering r ((k, v) ∷ e ∷ es) ((e.0, v) ∷ es) (e ∷ insert_entry cmp es k v)))
+        by : IsStrictlySortedBy cmp (keys_of (insert_entry cmp es k v))
+            → (r : Ordering)
+            → cmp k e.0 ≡ r
+            → IsStrictlySortedBy cmp (keys_of (match_ordering r ((k, v) ∷ e ∷ es) ((e.0, v) ∷ es) (e ∷ insert_entry cmp es k v)))
         by rest Less h = ((h, below_all e.0 es h sorted.0), sorted)
         by rest Equal h = sorted
         by rest Greater h = (put_all (λ y. cmp e.0 y ≡ Less) es (turned e.0 h) sorted.0, rest)
 
 -- each step keeps the entries in order
-pub ordered_after : (steps : List LogStep) (es : List (WriteId × Logged)) → IsStrictlySortedBy write_order (keys_of es) → IsStrictlySortedBy write_order (keys_of (fold after_step es steps))
+pub ordered_after : (steps : List LogStep) (es : List (WriteId × Logged))
+    → IsStrictlySortedBy write_order (keys_of es)
+    → IsStrictlySortedBy write_order (keys_of (fold after_step es steps))
 ordered_after [] es sorted = sorted
 ordered_after (settle write piece expected ∷ steps) es sorted =
     ordered_after steps (settled es write piece expected)

@@ -1,5 +1,5 @@
 -- Believed: what is in flight after a history, by number, and what each event makes of it.
-use Rattle.std.specs.Prelude.{◌≡◌, ℕ, true, List, [], ◌∷◌, ◌++◌, length, Option, Some, None, slice_get, filter_map, is_none, if◌then◌else◌}
+use Rattle.std.specs.Prelude.{◌≡◌, ℕ, true, List, [], ◌∷◌, ◌++◌, length, Option, Some, None, slice_get, filter_map, is_none, is_some, if◌then◌else◌}
 use Rattle.std.specs.BTreeMap.{insert_entry, is_at}
 use Rattle.std.specs.List.{enumerate_from}
 use Rattle.std.specs.Map.{remove_entry}
@@ -47,13 +47,17 @@ FlyingIsStarted =
     (history : List Event) (id : ℕ)
     → flying_io id (flight_of history) ≡ (if flies history id then option_map (io_of id) (slice_get (started history) id) else None)
 
+-- so something flies under a number just where that flies after the history
+abbrev pub FliesIsFlying : Type 0
+FliesIsFlying = (history : List Event) (id : ℕ) → is_some (flying_io id (flight_of history)) ≡ flies history id
+
 -- a piece is clear of what is in flight just where it is after the history
 abbrev pub ClearIsClear : Type 0
 ClearIsClear =
     (history : List Event) (dir : Dir) (piece : Piece)
     → is_clear dir piece (flight_of history) ≡ is_clear_after history (writes dir) piece
 
--- what is started flies under the next number, under which nothing flew
+-- what is started flies under the next number
 abbrev pub NextFlies : Type 0
 NextFlies =
     (plan : Plan) (history : List Event) (event : Event) (io : Started)
@@ -62,6 +66,7 @@ NextFlies =
     → flight_of (history ++ event ∷ [])
     ≡ insert_entry nat_cmp (flight_of history) (length (started history)) (io_of (length (started history)) io)
 
+-- nothing flies under the next number
 abbrev pub NextIsFree : Type 0
 NextIsFree = (history : List Event) → flying_io (length (started history)) (flight_of history) ≡ None
 

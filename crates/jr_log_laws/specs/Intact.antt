@@ -53,6 +53,21 @@ LogIsIntactOfDraws =
     then Some (record { piece = draw.piece; expected = checked_by write draw.piece })
     else None)
 
+-- the entry is of an intact write that was started, with what its piece is checked by
+pub record IsOfIntact (checked_by : WriteId → Piece → Expected) (history : List Event) (write : WriteId) (entry : Logged) : Type 0 where
+  pub begun : WasStarted history write entry.piece
+  pub intact : is_intact history write entry.piece ≡ true
+  pub expected : entry.expected ≡ checked_by write entry.piece
+
+-- and it has nothing else
+abbrev pub LoggedIsIntact : Type 0
+LoggedIsIntact =
+    (plan : Plan) (history : List Event) (checked_by : WriteId → Piece → Expected) (write : WriteId) (entry : Logged)
+    → IsPlanned plan
+    → is_legal plan history ≡ true
+    → logged (log_after checked_by history) write ≡ Some entry
+    → IsOfIntact checked_by history write entry
+
 -- the entries after a step, where there is one
 abbrev pub after_if : Option LogStep → List (WriteId × Logged) → List (WriteId × Logged)
 after_if None entries = entries

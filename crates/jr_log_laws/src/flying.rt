@@ -1,8 +1,13 @@
-ghost use Rattle.jr_log_laws.specs.Flying.{ClearIsClear, EndedFliesNoMore, FlyingIsStarted, NextFlies, NextIsFree, OthersFlyOn};
+ghost use Rattle.jr_log_laws.specs.Flying.{ClearIsClear, EndedFliesNoMore, FliesIsFlying, FlyingIsStarted, NextFlies, NextIsFree, OthersFlyOn};
 
 /// Under a number flies the I/O that was started under it, where that has not ended, and else nothing.
 pub fn flying_is_started()
     ensures { FlyingIsStarted }
+{}
+
+/// Something flies under a number just where that flies after the history.
+pub fn flies_is_flying()
+    ensures { FliesIsFlying }
 {}
 
 /// A piece is clear of what is in flight just where it is after the history.

@@ -1,4 +1,4 @@
-ghost use Rattle.jr_log_laws.specs.Intact.{LogGrows, LogIsByStarted, LogIsIntact, LogIsIntactOfDraws, UnendedIsUnlogged};
+ghost use Rattle.jr_log_laws.specs.Intact.{LogGrows, LogIsByStarted, LogIsIntact, LogIsIntactOfDraws, LoggedIsIntact, UnendedIsUnlogged};
 
 /// The log has a write that was started just where it is intact.
 pub fn log_is_intact()
@@ -8,6 +8,11 @@ pub fn log_is_intact()
 /// So it has each draw of a planned clone's passes, whether it was issued or not.
 pub fn log_is_intact_of_draws()
     ensures { LogIsIntactOfDraws }
+{}
+
+/// And it has nothing else.
+pub fn logged_is_intact()
+    ensures { LoggedIsIntact }
 {}
 
 /// An event that may happen makes the one step of the log that it is, or none.
