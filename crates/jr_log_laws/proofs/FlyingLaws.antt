@@ -1,0 +1,283 @@
+-- What is in flight, by number: an event that starts an I/O puts it in, and its end takes it out.
+use Rattle.std.proofs.Common.{◌≡◌, ℕ, zero, suc, ◌+◌, ◌<◌, ◌≤◌, List, [], ◌∷◌, ◌++◌, length, Bool, true, false, cond, ◌&&◌, ◌||◌, not, refl, sym, ◌∙◌, ap, subst, arith, inl, inr, zero-add}
+use Rattle.std.specs.Prelude.{Option, Some, None, slice_get, nat_lt, ◌==◌, is_none, filter_map, is_some}
+use Rattle.std.specs.BTreeMap.{insert_entry, is_at}
+use Rattle.std.specs.declared.cmp.Ordering.{Ordering}
+use Rattle.std.specs.declared.cmp.Ordering.TheVariants.{Less, Equal, Greater}
+use Rattle.std.specs.List.{list_any, cons_option, enumerate_from}
+use Rattle.std.specs.Map.{lookup, remove_entry}
+use Rattle.std.specs.Option.{option_map, option_or}
+use Rattle.std.specs.Ordering.{nat_cmp, is_eq, match_ordering}
+use Rattle.std.proofs.lemmas.Bool.{cases_eq, cases_lt, eq-eqb, ne_eqb, lt-ltb, le-ltb, and_parts, ltb-true}
+use Rattle.std.proofs.lemmas.Option.{slice_get_past}
+use Rattle.jr_model.specs.declared.blocks.Dir.{Dir}
+use Rattle.jr_model.specs.declared.blocks.Piece.{Piece}
+use Rattle.jr_model.specs.declared.events.Event.{Event}
+use Rattle.jr_model.specs.declared.events.Event.TheVariants.{Issue, Probe, Skip, End, Verdict as Judged}
+use Rattle.jr_model.specs.declared.events.Outcome.{Outcome}
+use Rattle.jr_model.specs.declared.events.Started.{Started}
+use Rattle.jr_model.specs.declared.events.Verdict.{Verdict}
+use Rattle.jr_model.specs.declared.events.WriteId.{WriteId}
+use Rattle.jr_model.specs.declared.tickets.TicketKind.{TicketKind}
+use Rattle.jr_model.specs.declared.tickets.TicketKind.TheVariants as ticket
+use Rattle.jr_model.specs.History.{started, started_by, end_of, outcome_of, flies, if_flying, is_write}
+use Rattle.jr_model.specs.Legal.{is_legal, conflicts as conflicts_with, is_clear as is_clear_after}
+use Rattle.jr_model.specs.Pieces.{pieces_overlap}
+use Rattle.jr_model.specs.Plan.{Plan}
+use Rattle.jr_model.proofs.SerialLaws.{first_given-append, none_from}
+use Rattle.jr_flight.specs.declared.ios.Io.{Io}
+use Rattle.jr_flight.specs.Flights.{conflicts, flying_io, is_clear, writes}
+use Rattle.jr_steps.proofs.PlaceLemmas.{item_at}
+use Rattle.jr_steps.proofs.StartedLemmas.{started-starts, started-other}
+use Rattle.jr_log_laws.specs.Flying.{dir_of, io_of, if_flying_entry, flight_of}
+use Rattle.jr_log_laws.proofs.LogGrowth.{well}
+
+both_none : {X : Type 0} (b : Bool) (o : Option X) → o ≡ None → cond b o None ≡ None
+both_none true o none = none
+both_none false o none = refl
+
+-- entries of numbered items, of those that a test of the number keeps
+module _ {X Y : Type 0} (keep : ℕ → Bool) (made : ℕ → X → Y) where
+  abbrev pub kept_entry : ℕ × X → Option (ℕ × Y)
+  kept_entry numbered = cond (keep numbered.0) (Some (numbered.0, made numbered.0 numbered.1)) None
+
+  abbrev pub entries_from : ℕ → List X → List (ℕ × Y)
+  entries_from n xs = filter_map kept_entry (enumerate_from n xs)
+
+  same_number : (n k : ℕ) → n ≡ k → is_at (nat_cmp n) k ≡ true
+  same_number n k same = ap (λ (b : Bool). is_eq (cond b Less (cond (n == k) Equal Greater))) (le-ltb n k (omega arith))
+      ∙ ap (λ (b : Bool). is_eq (cond b Equal Greater)) (eq-eqb n k same)
+
+  other_number : (n k : ℕ) → (n ≡ k → ⊥) → is_at (nat_cmp n) k ≡ false
+  other_number n k apart = by (nat_lt n k)
+    where
+      by : (b : Bool) → is_eq (cond b Less (cond (n == k) Equal Greater)) ≡ false
+      by true = refl
+      by false = ap (λ (b : Bool). is_eq (cond b Equal Greater)) (ne_eqb n k apart)
+
+  -- nothing stands under a number below the first
+  nothing_below : (id n : ℕ) (xs : List X) → id < n → lookup (is_at (nat_cmp id)) (entries_from n xs) ≡ None
+  nothing_below id n [] below = refl
+  nothing_below id n (x ∷ xs) below = by (keep n) (nothing_below id (n + 1) xs (omega (arith, below)))
+    where
+      by : (b : Bool)
+          → lookup (is_at (nat_cmp id)) (entries_from (n + 1) xs) ≡ None
+          → lookup (is_at (nat_cmp id)) (cons_option (cond b (Some (n, made n x)) None) (entries_from (n + 1) xs)) ≡ None
+      by true rest = ap (λ (c : Bool). cond c (Some (made n x)) (lookup (is_at (nat_cmp id)) (entries_from (n + 1) xs))) (other_number id n (λ same. omega (arith, same, below))) ∙ rest
+      by false rest = rest
+
+  -- under a number stands what was made of the item of that number, where it is kept
+  pub lookup_entries : (n k id : ℕ) (xs : List X)
+      → n + k ≡ id
+      → lookup (is_at (nat_cmp id)) (entries_from n xs) ≡ cond (keep id) (option_map (made id) (slice_get xs k)) None
+  lookup_entries n k id [] place = sym (both_none (keep id) (option_map (made id) (slice_get [] k)) refl)
+  lookup_entries n zero id (x ∷ xs) place =
+      let same : n ≡ id = omega (arith, place) in
+      subst (λ (i : ℕ). lookup (is_at (nat_cmp i)) (entries_from n (x ∷ xs)) ≡ cond (keep i) (Some (made i x)) None) same (by (keep n))
+    where
+      by : (b : Bool)
+          → lookup (is_at (nat_cmp n)) (cons_option (cond b (Some (n, made n x)) None) (entries_from (n + 1) xs)) ≡ cond b (Some (made n x)) None
+      by true = ap (λ (c : Bool). cond c (Some (made n x)) (lookup (is_at (nat_cmp n)) (entries_from (n + 1) xs))) (same_number n n refl)
+      by false = nothing_below n (n + 1) xs (omega arith)
+  lookup_entries n (suc k) id (x ∷ xs) place = by (keep n) (lookup_entries (n + 1) k id xs (omega (arith, place)))
+    where
+      by : (b : Bool) → lookup (is_at (nat_cmp id)) (entries_from (n + 1) xs) ≡ cond (keep id) (option_map (made id) (slice_get xs k)) None
+          → lookup (is_at (nat_cmp id)) (cons_option (cond b (Some (n, made n x)) None) (entries_from (n + 1) xs)) ≡ cond (keep id) (option_map (made id) (slice_get xs k)) None
+      by true rest =
+          ap (λ (c : Bool). cond c (Some (made n x)) (lookup (is_at (nat_cmp id)) (entries_from (n + 1) xs))) (other_number id n (λ same. omega (arith, same, place)))
+          ∙ rest
+      by false rest = rest
+
+  -- one more item, whose number is kept, goes to the end
+  pub insert_last : (n m : ℕ) (xs : List X) (x : X)
+      → n + length xs ≡ m
+      → keep m ≡ true
+      → insert_entry nat_cmp (entries_from n xs) m (made m x) ≡ entries_from n (xs ++ x ∷ [])
+  insert_last n m [] x place kept =
+      let same : m ≡ n = omega (arith, place) in
+      subst (λ (i : ℕ). (m, made m x) ∷ [] ≡ cons_option (kept_entry (i, x)) []) same
+      (sym (ap (λ (b : Bool). cons_option (cond b (Some (m, made m x)) None) []) kept))
+  insert_last n m (y ∷ ys) x place kept = by (keep n) (insert_last (n + 1) m ys x (omega (arith, place)) kept)
+    where
+      past : nat_cmp m n ≡ Greater
+      past = ap (λ (b : Bool). cond b Less (cond (m == n) Equal Greater)) (le-ltb m n (omega (arith, place)))
+          ∙ ap (λ (b : Bool). cond b Equal Greater) (ne_eqb m n (λ same. omega (arith, same, place)))
+
+      by : (b : Bool) → insert_entry nat_cmp (entries_from (n + 1) ys) m (made m x) ≡ entries_from (n + 1) (ys ++ x ∷ [])
+          → insert_entry nat_cmp (cons_option (cond b (Some (n, made n y)) None) (entries_from (n + 1) ys)) m (made m x) ≡ cons_option (cond b (Some (n, made n y)) None) (entries_from (n + 1) (ys ++ x ∷ []))
+      by true rest =
+          ap (λ (r : Ordering). match_ordering r ((m, made m x) ∷ (n, made n y) ∷ entries_from (n + 1) ys) ((n, made m x) ∷ entries_from (n + 1) ys) ((n, made n y) ∷ insert_entry nat_cmp (entries_from (n + 1) ys) m (made m x))) past
+          ∙ ap (λ (es : List (ℕ × Y)). (n, made n y) ∷ es) rest
+      by false rest = rest
+
+-- two tests that keep the same numbers from n on
+same_entries : {X Y : Type 0} (keep other : ℕ → Bool) (made : ℕ → X → Y) (n : ℕ) (xs : List X)
+    → ((k : ℕ) → n ≤ k → keep k ≡ other k)
+    → entries_from keep made n xs ≡ entries_from other made n xs
+same_entries keep other made n [] same = refl
+same_entries {X = X} {Y = Y} keep other made n (x ∷ xs) same =
+    ap (λ (b : Bool). cons_option (cond b (Some (n, made n x)) None) (entries_from keep made (n + 1) xs)) (same n (omega arith))
+    ∙ ap (λ (es : List (ℕ × Y)). cons_option (cond (other n) (Some (n, made n x)) None) es) (same_entries keep other made (n + 1) xs (λ k above. same k (omega (arith, above))))
+
+-- a number that is kept no more is taken out
+remove_one : {X Y : Type 0} (keep other : ℕ → Bool) (made : ℕ → X → Y) (id n : ℕ) (xs : List X)
+    → other id ≡ false
+    → ((k : ℕ) → (k ≡ id → ⊥) → other k ≡ keep k)
+    → entries_from other made n xs ≡ remove_entry (is_at (nat_cmp id)) (entries_from keep made n xs)
+remove_one keep other made id n [] gone same = refl
+remove_one {X = X} {Y = Y} keep other made id n (x ∷ xs) gone same =
+    elim (cases_eq n id) [
+      | inl here ↦
+          let off : other n ≡ false = ap other here ∙ gone in
+          ap (λ (b : Bool). cons_option (cond b (Some (n, made n x)) None) (entries_from other made (n + 1) xs)) off
+          ∙ first here (keep n) (remove_one keep other made id (n + 1) xs gone same)
+      | inr apart ↦
+          ap (λ (b : Bool). cons_option (cond b (Some (n, made n x)) None) (entries_from other made (n + 1) xs)) (same n apart)
+          ∙ later apart (keep n) (remove_one keep other made id (n + 1) xs gone same)
+    ]
+  where
+    rest_same : n ≡ id → entries_from other made (n + 1) xs ≡ entries_from keep made (n + 1) xs
+    rest_same here = same_entries other keep made (n + 1) xs (λ k above. same k (λ is. omega (arith, is, here, above)))
+
+    first : n ≡ id → (b : Bool) → entries_from other made (n + 1) xs ≡ remove_entry (is_at (nat_cmp id)) (entries_from keep made (n + 1) xs)
+        → entries_from other made (n + 1) xs ≡ remove_entry (is_at (nat_cmp id)) (cons_option (cond b (Some (n, made n x)) None) (entries_from keep made (n + 1) xs))
+    first here true rest =
+        rest_same here
+        ∙ sym (ap (λ (c : Bool). cond c (entries_from keep made (n + 1) xs) ((n, made n x) ∷ remove_entry (is_at (nat_cmp id)) (entries_from keep made (n + 1) xs))) (same_number keep made id n (sym here)))
+    first here false rest = rest
+
+    later : (n ≡ id → ⊥)
+        → (b : Bool)
+        → entries_from other made (n + 1) xs ≡ remove_entry (is_at (nat_cmp id)) (entries_from keep made (n + 1) xs)
+        → cons_option (cond b (Some (n, made n x)) None) (entries_from other made (n + 1) xs) ≡ remove_entry (is_at (nat_cmp id)) (cons_option (cond b (Some (n, made n x)) None) (entries_from keep made (n + 1) xs))
+    later apart true rest =
+        ap (λ (es : List (ℕ × Y)). (n, made n x) ∷ es) rest
+        ∙ sym (ap (λ (c : Bool). cond c (entries_from keep made (n + 1) xs) ((n, made n x) ∷ remove_entry (is_at (nat_cmp id)) (entries_from keep made (n + 1) xs))) (other_number keep made id n (λ is. apart (sym is))))
+    later apart false rest = rest
+
+or_none : (o : Option Outcome) → option_or o None ≡ o
+or_none None = refl
+or_none (Some x) = refl
+
+-- how an I/O ended after an event that isn't its end
+outcome_same : (h : List Event) (e : Event) (k : ℕ) → end_of k e ≡ None → outcome_of (h ++ e ∷ []) k ≡ outcome_of h k
+outcome_same h e k none =
+    first_given-append (end_of k) h (e ∷ [])
+    ∙ ap (λ (o : Option Outcome). option_or (outcome_of h k) (option_or o None)) none
+    ∙ or_none (outcome_of h k)
+
+starts_end_none : (e : Event) (io : Started) (k : ℕ) → started_by e ≡ Some io → end_of k e ≡ None
+starts_end_none (Issue worker dir write piece) io k starts = refl
+starts_end_none (Probe worker write piece) io k starts = refl
+starts_end_none (Skip worker write) io k starts = cc
+starts_end_none (End worker id outcome) io k starts = cc
+starts_end_none (Judged worker id verdict) io k starts = cc
+
+-- it has not ended
+abbrev unended : List Event → ℕ → Bool
+unended h k = is_none (outcome_of h k)
+
+pub flying_is_started : (history : List Event) (id : ℕ)
+    → flying_io id (flight_of history) ≡ cond (flies history id) (option_map (io_of id) (slice_get (started history) id)) None
+flying_is_started h id =
+    let got = option_map (io_of id) (slice_get (started h) id) in
+    let found : flying_io id (flight_of h) ≡ cond (unended h id) got None = lookup_entries (unended h) io_of 0 id id (started h) (zero-add id) in
+    elim (cases_lt id (length (started h))) [
+      | inl below ↦ found ∙ sym (ap (λ (b : Bool). cond (b && unended h id) got None) (lt-ltb id (length (started h)) below))
+      | inr past ↦
+          found
+          ∙ both_none (unended h id) got (ap (option_map (io_of id)) (slice_get_past (started h) id past))
+          ∙ sym (ap (λ (b : Bool). cond (b && unended h id) got None) (le-ltb id (length (started h)) past))
+    ]
+
+pub flies_is_flying : (history : List Event) (id : ℕ) → is_some (flying_io id (flight_of history)) ≡ flies history id
+flies_is_flying h id =
+    ap is_some (flying_is_started h id) ∙ by (flies h id) refl
+  where
+    some_made : (o : Option Started) (io : Started) → o ≡ Some io → is_some (option_map (io_of id) o) ≡ true
+    some_made o io at = ap (λ (x : Option Started). is_some (option_map (io_of id) x)) at
+
+    by : (b : Bool) → flies h id ≡ b → is_some (cond b (option_map (io_of id) (slice_get (started h) id)) None) ≡ b
+    by false is = refl
+    by true is =
+        let parts = and_parts (nat_lt id (length (started h))) (unended h id) is in
+        let found = item_at (started h) id (ltb-true id (length (started h)) parts.0) in
+        some_made (slice_get (started h) id) found.0 found.1
+
+pub next_is_free : (history : List Event) → flying_io (length (started history)) (flight_of history) ≡ None
+next_is_free h =
+    let n = length (started h) in
+    lookup_entries (unended h) io_of 0 n n (started h) (zero-add n)
+    ∙ both_none (unended h n) (option_map (io_of n) (slice_get (started h) n)) (ap (option_map (io_of n)) (slice_get_past (started h) n (omega arith)))
+
+writes_as : (kind : TicketKind) → writes (dir_of kind) ≡ is_write kind
+writes_as ticket.Write = refl
+writes_as ticket.Read = refl
+writes_as ticket.Probe = refl
+
+module _ (h : List Event) (dir : Dir) (piece : Piece) where
+  abbrev entry_conflicts : ℕ × Io → Bool
+  entry_conflicts entry = conflicts dir piece entry.1
+
+  any_conflicts : (n : ℕ) (xs : List Started)
+      → list_any entry_conflicts (filter_map (if_flying_entry h) (enumerate_from n xs)) ≡ list_any (conflicts_with (writes dir) piece) (filter_map (if_flying h) (enumerate_from n xs))
+  any_conflicts n [] = refl
+  any_conflicts n (x ∷ xs) = by (unended h n) (any_conflicts (n + 1) xs)
+    where
+      here : conflicts dir piece (io_of n x) ≡ conflicts_with (writes dir) piece x
+      here = ap (λ (b : Bool). (writes dir || b) && pieces_overlap x.piece piece) (writes_as x.kind)
+
+      by : (b : Bool)
+          → list_any entry_conflicts (filter_map (if_flying_entry h) (enumerate_from (n + 1) xs)) ≡ list_any (conflicts_with (writes dir) piece) (filter_map (if_flying h) (enumerate_from (n + 1) xs))
+          → list_any entry_conflicts (cons_option (cond b (Some (n, io_of n x)) None) (filter_map (if_flying_entry h) (enumerate_from (n + 1) xs)))
+          ≡ list_any (conflicts_with (writes dir) piece) (cons_option (cond b (Some x) None) (filter_map (if_flying h) (enumerate_from (n + 1) xs)))
+      by true rest =
+          ap (λ (b : Bool). b || list_any entry_conflicts (filter_map (if_flying_entry h) (enumerate_from (n + 1) xs))) here
+          ∙ ap (λ (b : Bool). conflicts_with (writes dir) piece x || b) rest
+      by false rest = rest
+
+pub clear_is_clear : (history : List Event) (dir : Dir) (piece : Piece)
+    → is_clear dir piece (flight_of history) ≡ is_clear_after history (writes dir) piece
+clear_is_clear h dir piece = ap not (any_conflicts h dir piece 0 (started h))
+
+pub next_flies : (plan : Plan) (history : List Event) (event : Event) (io : Started)
+    → is_legal plan history ≡ true
+    → started_by event ≡ Some io
+    → flight_of (history ++ event ∷ []) ≡ insert_entry nat_cmp (flight_of history) (length (started history)) (io_of (length (started history)) io)
+next_flies plan h e io legal starts =
+    let n = length (started h) in
+    let free : outcome_of h n ≡ None =
+    none_from (outcome_of h n) (λ (o : Outcome) (is : outcome_of h n ≡ Some o). let below : n < n = (well plan h legal).ends n o is in omega (arith, below)) in
+    ap (λ (ios : List Started). entries_from (unended (h ++ e ∷ [])) io_of 0 ios) (started-starts h e io starts)
+    ∙ same_entries (unended (h ++ e ∷ [])) (unended h) io_of 0 (started h ++ io ∷ []) (λ k above. ap is_none (outcome_same h e k (starts_end_none e io k starts)))
+    ∙ sym (insert_last (unended h) io_of 0 n (started h) io (zero-add n) (ap is_none free))
+
+-- an event that starts nothing and ends nothing
+flies_on : (h : List Event) (e : Event) → started_by e ≡ None → ((k : ℕ) → end_of k e ≡ None) → flight_of (h ++ e ∷ []) ≡ flight_of h
+flies_on h e nothing ends =
+    ap (λ (ios : List Started). entries_from (unended (h ++ e ∷ [])) io_of 0 ios) (started-other h e nothing)
+    ∙ same_entries (unended (h ++ e ∷ [])) (unended h) io_of 0 (started h) (λ k above. ap is_none (outcome_same h e k (ends k)))
+
+pub others_fly_on : (history : List Event) (worker id : ℕ) (write : WriteId) (verdict : Verdict)
+    → (flight_of (history ++ Skip worker write ∷ []) ≡ flight_of history) × (flight_of (history ++ Judged worker id verdict ∷ []) ≡ flight_of history)
+others_fly_on h worker id write verdict = (
+  flies_on h (Skip worker write) refl (λ k. refl),
+  flies_on h (Judged worker id verdict) refl (λ k. refl),
+)
+
+is_some_or : (o : Option Outcome) (x : Outcome) → is_none (option_or o (Some x)) ≡ false
+is_some_or None x = refl
+is_some_or (Some y) x = refl
+
+pub ended_flies_no_more : (history : List Event) (worker id : ℕ) (outcome : Outcome)
+    → flight_of (history ++ End worker id outcome ∷ []) ≡ remove_entry (is_at (nat_cmp id)) (flight_of history)
+ended_flies_no_more h worker id outcome =
+    let e = End worker id outcome in
+    let gone : unended (h ++ e ∷ []) id ≡ false =
+    ap is_none (first_given-append (end_of id) h (e ∷ []))
+    ∙ ap (λ (b : Bool). is_none (option_or (outcome_of h id) (option_or (cond b (Some outcome) None) None))) (eq-eqb id id refl)
+    ∙ is_some_or (outcome_of h id) outcome in
+    let others : (k : ℕ) → (k ≡ id → ⊥) → unended (h ++ e ∷ []) k ≡ unended h k =
+    λ k apart. ap is_none (outcome_same h e k (ap (λ (b : Bool). cond b (Some outcome) None) (ne_eqb id k (λ same. apart (sym same))))) in
+    ap (λ (ios : List Started). entries_from (unended (h ++ e ∷ [])) io_of 0 ios) (started-other h e refl)
+    ∙ remove_one (unended h) (unended (h ++ e ∷ [])) io_of id 0 (started h) gone others
