@@ -1,0 +1,4 @@
+pub mod CurrentTurns
+pub mod CurrentLast
+pub mod CurrentRounds
+pub mod CurrentLaws

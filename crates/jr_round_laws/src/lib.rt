@@ -1,3 +1,7 @@
 // Laws over the definitions: what a clone's current round says of its groups, and what the clone may do next by where it
 // stands. Nothing here is run; each function's contract is a law, so that the check proves it.
 #![tactic(auto)]
+
+mod rounds;
+
+pub use rounds::{closed_at_end, left_are_unsettled, left_in_pass, waits_under_way};
