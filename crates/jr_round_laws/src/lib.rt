@@ -1,3 +1,7 @@
 // Laws over the definitions: what a clone's current round says of its groups, and what the clone may do next by where it
 // stands. Nothing here is run; each function's contract is a law, so that the check proves it.
 #![tactic(auto)]
+
+mod standing;
+
+pub use standing::{clone_finished_by_standing, finished_by_standing};
