@@ -1,3 +1,5 @@
+pub mod ChoiceLaws
+pub mod ChoiceRounds
 pub mod ChoiceSteps
 pub mod StandingDraws
 pub mod StandingFinished

@@ -4,4 +4,4 @@
 
 mod standing;
 
-pub use standing::{clone_finished_by_standing, finished_by_standing};
+pub use standing::{choice_by_standing, clone_finished_by_standing, finished_by_standing};

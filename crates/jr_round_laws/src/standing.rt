@@ -1,5 +1,10 @@
-ghost use Rattle.jr_round_laws.specs.Rounds.{ClosedAtEnd};
-ghost use Rattle.jr_round_laws.specs.Standing.{CloneFinishedByStanding, FinishedByStanding};
+ghost use Rattle.jr_round_laws.specs.Rounds.{ClosedAtEnd, LeftAreUnsettled, LeftInPass, WaitsUnderWay};
+ghost use Rattle.jr_round_laws.specs.Standing.{ChoiceByStanding, CloneFinishedByStanding, FinishedByStanding};
+
+/// The least step of a clone, by the pass that it is in and its current round.
+pub fn choice_by_standing()
+    ensures { WaitsUnderWay → LeftInPass → LeftAreUnsettled → ChoiceByStanding }
+{}
 
 /// The pass that a clone is in is finished where all its draws were issued, nothing of the clone flies, and the round is
 /// closed.
