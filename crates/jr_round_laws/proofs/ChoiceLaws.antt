@@ -1,19 +1,19 @@
 -- The least step of a clone, by the pass that it is in and its current round.
-use Rattle.std.proofs.Common.{◌≡◌, ℕ, zero, suc, ◌<◌, ◌≤◌, List, Bool, true, false, cond, ◌&&◌, ◌||◌, not, refl, sym, ◌∙◌, ap, subst, arith, inl, inr}
-use Rattle.std.specs.Prelude.{◌⊎◌, Option, Some, None, slice_get, nat_lt, ◌==◌}
+use Rattle.std.proofs.Common.{◌≡◌, ℕ, suc, ◌<◌, List, Bool, true, false, cond, ◌&&◌, ◌||◌, not, refl, sym, ◌∙◌, ap, subst, arith, inl, inr}
+use Rattle.std.specs.Prelude.{◌⊎◌, Some, None, slice_get, nat_lt, ◌==◌}
 use Rattle.std.specs.List.{list_any, list_all}
-use Rattle.std.proofs.lemmas.Bool.{and_parts, and_from, and_left, and_right, or_parts, lt-ltb, le-ltb, cases_Bool, cases_eq, cases_lt, cases_order, not-false, not_from_false, false_from_ne_true, both_ways, cond-true, cond-false}
+use Rattle.std.proofs.lemmas.Bool.{and_parts, and_from, and_left, and_right, or_parts, lt-ltb, le-ltb, cases_Bool, cases_lt, cases_order, not-false, not_from_false, false_from_ne_true, both_ways, cond-true, cond-false}
 use Rattle.jr_model.specs.declared.events.Event.{Event}
 use Rattle.jr_model.specs.declared.events.WriteId.{WriteId}
 use Rattle.jr_model.specs.declared.workloads.Draw.{Draw}
 use Rattle.jr_model.specs.Choice.{choice_of_clone, choice_of_pass}
 use Rattle.jr_model.specs.Draws.{draws_of_job}
 use Rattle.jr_model.specs.History.{first_given, same_write}
-use Rattle.jr_model.specs.Legal.{is_legal, is_halted, has_room, may_take_up, step_of}
+use Rattle.jr_model.specs.Legal.{is_halted, has_room, may_take_up}
 use Rattle.jr_model.specs.Plan.{Plan, SubJob, clone_of}
-use Rattle.jr_model.specs.Rounds.{Pass, pass_of, passes_of, write_id, issued_count, has_rounds, group_index, is_full, is_settled, is_open, no_issue_flies, waits_for_round, pass_finished, is_current}
+use Rattle.jr_model.specs.Rounds.{pass_of, write_id, issued_count, has_rounds, group_index, is_open, no_issue_flies, waits_for_round, pass_finished, is_current}
 use Rattle.jr_plan.specs.PlanFacts.{IsPlanned}
-use Rattle.jr_backlog.specs.Rounds.{Round, is_due, is_closed}
+use Rattle.jr_backlog.specs.Rounds.{is_due, is_closed}
 use Rattle.jr_backlog.specs.CurrentRound.{current_round, last_issued}
 use Rattle.jr_round_laws.specs.Standing.{IsInPass, is_under_way, take_up_write, issue_of, next_issue, ChoiceByStanding}
 use Rattle.jr_round_laws.specs.Rounds.{HasRound, WaitsUnderWay, LeftInPass, LeftAreUnsettled}
@@ -21,8 +21,8 @@ use Rattle.jr_round_laws.proofs.StandingDraws.{planned_draw}
 use Rattle.jr_round_laws.proofs.StandingFinished.{own_place}
 use Rattle.jr_round_laws.proofs.StandingPasses.{done_parts, none_taken, unbegun}
 use Rattle.jr_round_laws.proofs.StandingSteps.{finished_before, before_from}
-use Rattle.jr_round_laws.proofs.ChoiceSteps.{CanGoOn, can_take, no_step_of, blocked_step, not_issued, done_not_current, later_not_current, unbegun_not_taken, unbegun_free, waits_unfinished, free_not_taken, no_choice_of, chosen_of, none_chosen, next_draw}
-use Rattle.jr_round_laws.proofs.ChoiceRounds.{IsChecking, AreUnsettled, waits_no_issue, of_round}
+use Rattle.jr_round_laws.proofs.ChoiceSteps.{can_take, no_step_of, blocked_step, not_issued, done_not_current, later_not_current, unbegun_not_taken, unbegun_free, waits_unfinished, free_not_taken, no_choice_of, chosen_of, none_chosen, next_draw}
+use Rattle.jr_round_laws.proofs.ChoiceRounds.{AreUnsettled, waits_no_issue, of_round}
 
 -- a pass is current where it is one of the clone's that isn't finished, and those before it are
 now_current : (h : List Event) (job : SubJob) (q : ℕ) → q < job.passes → pass_finished h (pass_of job q) ≡ false → ((r : ℕ) → r < q → pass_finished h (pass_of job r) ≡ true) → is_current h (pass_of job q) ≡ true

@@ -1,8 +1,8 @@
 -- While a round is under way: the least draw of the pass that has a step is the first write of the round that may be taken up.
-use Rattle.std.proofs.Common.{◌≡◌, ℕ, zero, suc, ◌+◌, ◌*◌, ◌<◌, ◌≤◌, List, [], ◌∷◌, length, map, take, drop, Bool, true, false, cond, ◌&&◌, ◌||◌, not, refl, sym, ◌∙◌, ap, subst, arith, inl, inr}
+use Rattle.std.proofs.Common.{◌≡◌, ℕ, ◌+◌, ◌*◌, List, [], ◌∷◌, map, drop, true, false, cond, ◌&&◌, ◌||◌, not, sym, ◌∙◌, ap, subst, inl, inr}
 use Rattle.std.specs.Prelude.{◌⊎◌, Option, Some, None, slice_get, filter, ◌==◌}
 use Rattle.std.specs.List.{list_any, list_all}
-use Rattle.std.proofs.lemmas.Bool.{and_parts, and_from, and_right, or_parts, or_from, eqb-true, cases_Bool, cases_eq, not-true, not-false, not_from_true, not_from_false, false_from_ne_true, both_ways, cond-true, cond-false}
+use Rattle.std.proofs.lemmas.Bool.{and_parts, and_from, or_parts, or_from, eqb-true, cases_Bool, cases_eq, not-true, not-false, not_from_true, not_from_false, false_from_ne_true, both_ways, cond-true, cond-false}
 use Rattle.std.proofs.lemmas.Option.{same_Some}
 use Rattle.jr_model.specs.declared.events.Event.{Event}
 use Rattle.jr_model.specs.declared.events.Event.TheVariants.{Issue}
@@ -13,9 +13,8 @@ use Rattle.jr_model.specs.Draws.{draws_of_job}
 use Rattle.jr_model.specs.History.{first_given, same_write}
 use Rattle.jr_model.specs.Legal.{is_halted, has_room, is_clear, takes_up, may_take_up, may_issue, check_or_skip, step_of}
 use Rattle.jr_model.specs.Plan.{Plan, SubJob}
-use Rattle.jr_model.specs.Rounds.{Pass, pass_of, write_id, is_write_draw, writes_of, has_rounds, group_of, group_index, is_full, is_settled, is_closed, no_issue_flies, waits_for_round}
+use Rattle.jr_model.specs.Rounds.{pass_of, write_id, is_write_draw, writes_of, has_rounds, group_of, group_index, is_full, is_settled, is_closed, no_issue_flies, waits_for_round}
 use Rattle.jr_model.proofs.LegalLaws.{same_write_refl}
-use Rattle.jr_backlog.specs.Rounds.{Round, is_due}
 use Rattle.jr_backlog.specs.CurrentRound.{is_left, round_up_to}
 use Rattle.jr_steps.proofs.DrawnLaws.{takeable}
 use Rattle.jr_steps.proofs.IssueLaws.{numbered_draws}

@@ -1,26 +1,25 @@
 -- Which draws of a clone have no step, by the pass that it is in.
-use Rattle.std.proofs.Common.{◌≡◌, ℕ, zero, suc, ◌+◌, ◌<◌, ◌≤◌, List, [], ◌∷◌, length, take, Bool, true, false, cond, ◌&&◌, ◌||◌, not, refl, sym, ◌∙◌, ap, subst, arith, inl, inr}
-use Rattle.std.specs.Prelude.{◌⊎◌, Option, Some, None, slice_get, nat_lt, ◌==◌}
-use Rattle.std.specs.List.{list_any, list_all, range_with_len}
-use Rattle.std.proofs.lemmas.Bool.{and_parts, and_from, or_cases, or_left, or_right, eqb-true, eq-eqb, ne_eqb, lt-ltb, cases_Bool, cases_eq, cases_lt, not-true, not_from_true, not_from_false, false_from_ne_true, both_ways, cond-true, cond-false}
+use Rattle.std.proofs.Common.{◌≡◌, ℕ, ◌+◌, ◌<◌, List, Bool, true, false, cond, ◌&&◌, ◌||◌, not, refl, sym, ◌∙◌, ap, subst, arith, inl, inr}
+use Rattle.std.specs.Prelude.{Option, Some, None, slice_get, ◌==◌}
+use Rattle.std.specs.List.{list_any, range_with_len}
+use Rattle.std.proofs.lemmas.Bool.{and_parts, and_from, or_cases, eqb-true, eq-eqb, not-true, not_from_true, not_from_false, false_from_ne_true, both_ways, cond-false}
 use Rattle.jr_model.specs.declared.events.Event.{Event}
 use Rattle.jr_model.specs.declared.events.Event.TheVariants.{Issue}
 use Rattle.jr_model.specs.declared.workloads.Draw.{Draw}
 use Rattle.jr_model.specs.Choice.{choice_of_clone, choice_of_pass}
 use Rattle.jr_model.specs.Draws.{draws_of_job}
-use Rattle.jr_model.specs.Legal.{is_legal, is_halted, has_room, is_clear, phase_is_open, takes_up, may_take_up, may_issue, check_or_skip, step_of}
-use Rattle.jr_model.specs.Plan.{Plan, SubJob, clone_of}
-use Rattle.jr_model.specs.Rounds.{Pass, pass_of, passes_of, write_id, is_write_draw, issued_count, has_rounds, group_count, group_index, is_full, is_closed, is_open, no_issue_flies, waits_for_round, rounds_closed, pass_finished, is_current}
-use Rattle.jr_plan.specs.PlanFacts.{IsPlanned}
+use Rattle.jr_model.specs.Legal.{is_halted, has_room, is_clear, phase_is_open, takes_up, may_take_up, may_issue, check_or_skip, step_of}
+use Rattle.jr_model.specs.Plan.{Plan, SubJob}
+use Rattle.jr_model.specs.Rounds.{Pass, pass_of, passes_of, write_id, is_write_draw, issued_count, has_rounds, group_count, group_index, is_full, is_closed, is_open, waits_for_round, pass_finished, is_current}
 use Rattle.jr_steps.proofs.DrawnLaws.{takeable, full_needs_issue}
 use Rattle.jr_steps.proofs.PlaceLemmas.{any_found, any_at, got_made, got_ranged}
 use Rattle.jr_quiet.proofs.Groups.{number_is}
 use Rattle.jr_quiet.proofs.Issues.{got_pass, got_range}
 use Rattle.jr_quiet.proofs.Members.{in_own_group}
 use Rattle.jr_quiet.proofs.Turns.{open_parts}
-use Rattle.jr_round_laws.specs.Standing.{IsInPass, issue_of}
+use Rattle.jr_round_laws.specs.Standing.{issue_of}
 use Rattle.jr_round_laws.proofs.StandingLists.{same_test, nothing_given, only_at}
-use Rattle.jr_round_laws.proofs.StandingPasses.{done_parts, current_parts, group_closed, at_number, none_taken}
+use Rattle.jr_round_laws.proofs.StandingPasses.{done_parts, current_parts, group_closed, at_number}
 use Rattle.jr_round_laws.proofs.StandingSteps.{before_at}
 
 -- seven tests that all pass

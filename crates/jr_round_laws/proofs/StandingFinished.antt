@@ -1,14 +1,14 @@
 -- When the pass that a clone is in is finished, and when the clone is.
-use Rattle.std.proofs.Common.{◌≡◌, ℕ, zero, suc, ◌<◌, ◌≤◌, List, [], ◌∷◌, length, Bool, true, false, cond, ◌&&◌, ◌||◌, not, refl, sym, ◌∙◌, ap, subst, arith, inl, inr}
+use Rattle.std.proofs.Common.{◌≡◌, ℕ, suc, ◌<◌, List, Bool, true, false, ◌&&◌, ◌||◌, not, refl, sym, ◌∙◌, ap, subst, arith, inl, inr}
 use Rattle.std.specs.Prelude.{◌⊎◌, Some, slice_get, ◌==◌}
-use Rattle.std.specs.List.{list_any, list_all, range_with_len}
+use Rattle.std.specs.List.{list_any, range_with_len}
 use Rattle.std.proofs.lemmas.Bool.{eqb-true, eqb-false, eq-eqb, cases_Bool, cases_eq, cases_lt, cases_order, not-true, not_from_false, or_left, true_from_ne_false, false_from_ne_true, both_ways}
 use Rattle.jr_model.specs.declared.events.Event.{Event}
 use Rattle.jr_model.specs.declared.events.Started.{Started}
 use Rattle.jr_model.specs.History.{in_flight_of}
-use Rattle.jr_model.specs.Legal.{is_legal, is_halted}
+use Rattle.jr_model.specs.Legal.{is_legal}
 use Rattle.jr_model.specs.Plan.{Plan, SubJob, clone_of}
-use Rattle.jr_model.specs.Rounds.{Pass, pass_of, passes_of, issued_count, all_issued, has_rounds, rounds_closed, nothing_flies_of, nothing_flies_in, pass_finished, clone_finished}
+use Rattle.jr_model.specs.Rounds.{Pass, pass_of, passes_of, all_issued, has_rounds, rounds_closed, nothing_flies_of, nothing_flies_in, pass_finished, clone_finished}
 use Rattle.jr_plan.specs.PlanFacts.{IsPlanned}
 use Rattle.jr_backlog.specs.Rounds.{is_closed}
 use Rattle.jr_backlog.specs.CurrentRound.{current_round}

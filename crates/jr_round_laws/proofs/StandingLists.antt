@@ -1,9 +1,9 @@
 -- Lists searched in order: what a search gives where one place alone gives, or where a list of some of its items gives the
 -- same.
-use Rattle.std.proofs.Common.{◌≡◌, ℕ, zero, suc, ◌+◌, ◌<◌, ◌≤◌, List, [], ◌∷◌, length, map, Bool, true, false, cond, ◌&&◌, refl, sym, ◌∙◌, ap, subst, arith, inl, inr}
+use Rattle.std.proofs.Common.{◌≡◌, ℕ, zero, suc, ◌+◌, ◌<◌, ◌≤◌, List, [], ◌∷◌, length, map, Bool, true, false, cond, refl, sym, ◌∙◌, ap, subst, arith, inl, inr}
 use Rattle.std.specs.Prelude.{◌⊎◌, Option, Some, None, slice_get, filter, filter_map, nat_lt, ◌==◌}
 use Rattle.std.specs.Option.{option_or}
-use Rattle.std.specs.List.{list_any, list_all, cons_option, enumerate_from}
+use Rattle.std.specs.List.{list_any, cons_option, enumerate_from}
 use Rattle.std.proofs.lemmas.Bool.{cases_eq, lt-ltb, ltb-true}
 use Rattle.std.proofs.lemmas.Option.{same_Some}
 use Rattle.jr_model.specs.declared.workloads.Draw.{Draw}
@@ -144,9 +144,6 @@ pub got_kept : {X Y : Type 0} (f : ℕ × X → Option Y) (n : ℕ) (xs : List X
 got_kept f n [] k y at = cc
 got_kept {X = X} {Y = Y} f n (x ∷ xs) k y at = by_first (f (n, x)) refl k at (λ j there. got_kept f (n + 1) xs j y there)
   where
-    Found : Type 0
-    Found = (id : ℕ) × (z : X) × (slice_get (x ∷ xs) id ≡ Some z) × (f (n + id, z) ≡ Some y)
-
     here : (v : Y) → f (n, x) ≡ Some v → v ≡ y → (id : ℕ) × (z : X) × (slice_get (x ∷ xs) id ≡ Some z) × (f (n + id, z) ≡ Some y)
     here v gives is =
         let start : n ≡ n + 0 = omega arith in

@@ -1,6 +1,6 @@
 -- What a finished pass says, that it stays finished, and what was issued of a pass of which something was started.
-use Rattle.std.proofs.Common.{◌≡◌, ℕ, zero, suc, ◌+◌, ◌<◌, ◌≤◌, List, [], ◌∷◌, ◌++◌, length, take, Bool, true, false, cond, ◌&&◌, ◌||◌, not, refl, sym, ◌∙◌, ap, subst, arith, inl, inr, zero-add}
-use Rattle.std.specs.Prelude.{◌⊎◌, Option, Some, None, slice_get, nat_lt, ◌==◌}
+use Rattle.std.proofs.Common.{◌≡◌, ℕ, ◌<◌, ◌≤◌, List, [], ◌∷◌, ◌++◌, length, take, Bool, true, false, cond, ◌&&◌, not, sym, ◌∙◌, ap, subst, arith, inl, inr, zero-add}
+use Rattle.std.specs.Prelude.{◌⊎◌, Some, slice_get, nat_lt, ◌==◌}
 use Rattle.std.specs.List.{list_any, list_all, range_with_len}
 use Rattle.std.proofs.lemmas.Bool.{and_parts, and_from, or_cases, or_left, or_right, eqb-true, eq-eqb, ltb-true, cases_Bool, cases_lt, not-true, not_from_true, not_from_false, false_from_ne_true, both_ways}
 use Rattle.std.proofs.lemmas.List.Sums.{sum_by-append}
@@ -18,7 +18,7 @@ use Rattle.jr_model.specs.Draws.{draws_of_job}
 use Rattle.jr_model.specs.History.{started, started_by, in_flight_of, is_probe, kind_for}
 use Rattle.jr_model.specs.Legal.{is_legal, may_happen, may_issue, may_take_up}
 use Rattle.jr_model.specs.Plan.{Plan, SubJob, clone_of}
-use Rattle.jr_model.specs.Rounds.{Pass, pass_of, passes_of, write_id, is_write_draw, issues_of, issued_count, all_issued, issued_among, has_rounds, group_of, group_count, group_index, is_full, is_settled, is_closed, is_open, rounds_closed, nothing_flies_in, pass_finished, is_current}
+use Rattle.jr_model.specs.Rounds.{Pass, pass_of, passes_of, write_id, issues_of, issued_count, all_issued, issued_among, has_rounds, group_of, group_count, group_index, is_full, is_settled, is_closed, rounds_closed, nothing_flies_in, pass_finished, is_current}
 use Rattle.jr_model.proofs.LegalLaws.{is_legal-more}
 use Rattle.jr_plan.specs.PlanFacts.{IsPlanned}
 use Rattle.jr_steps.proofs.DrawnLaws.{issuable, takeable, full_needs_issue}
@@ -26,7 +26,7 @@ use Rattle.jr_steps.proofs.IdleLaws.{numbered_of}
 use Rattle.jr_steps.proofs.IssueLaws.{issued_at_most}
 use Rattle.jr_steps.proofs.OnceLaws.{is_counted}
 use Rattle.jr_steps.proofs.StartedLemmas.{is_started_legally}
-use Rattle.jr_steps.proofs.StepLaws.{MayIssue, MayTakeUp, may_issue_of, may_probe_of}
+use Rattle.jr_steps.proofs.StepLaws.{MayTakeUp, may_issue_of, may_probe_of}
 use Rattle.jr_quiet.proofs.Groups.{number_is}
 use Rattle.jr_quiet.proofs.Issues.{all_at, got_range, issued_push}
 use Rattle.jr_quiet.proofs.Members.{in_own_group}

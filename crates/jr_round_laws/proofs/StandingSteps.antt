@@ -1,5 +1,5 @@
 -- How the pass that a clone is in goes on: by one event more, and into the next pass.
-use Rattle.std.proofs.Common.{◌≡◌, ℕ, zero, suc, ◌<◌, ◌≤◌, List, [], ◌∷◌, ◌++◌, take, Bool, true, false, ◌&&◌, refl, sym, ◌∙◌, ap, subst, arith, inl, inr}
+use Rattle.std.proofs.Common.{◌≡◌, ℕ, suc, ◌<◌, List, [], ◌∷◌, ◌++◌, take, true, false, refl, sym, ◌∙◌, subst, arith, inl, inr}
 use Rattle.std.specs.Prelude.{◌⊎◌, Some, slice_get, ◌==◌}
 use Rattle.std.specs.List.{list_all, range_with_len}
 use Rattle.std.proofs.lemmas.Bool.{and_left, and_right, ne_eqb, cases_eq, cases_lt, cases_order, both_ways}
@@ -10,7 +10,7 @@ use Rattle.jr_model.specs.declared.events.Event.TheVariants.{Issue}
 use Rattle.jr_model.specs.declared.events.WriteId.{WriteId}
 use Rattle.jr_model.specs.Legal.{is_legal, may_happen}
 use Rattle.jr_model.specs.Plan.{Plan, SubJob, clone_of}
-use Rattle.jr_model.specs.Rounds.{Pass, pass_of, passes_of, issues_of, issued_count, pass_finished}
+use Rattle.jr_model.specs.Rounds.{Pass, pass_of, passes_of, issues_of, pass_finished}
 use Rattle.jr_plan.specs.PlanFacts.{IsPlanned}
 use Rattle.jr_steps.proofs.DrawnLaws.{issuable}
 use Rattle.jr_steps.proofs.PlaceLemmas.{all_from, got_taken, got_made, got_ranged}
