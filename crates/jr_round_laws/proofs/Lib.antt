@@ -2,3 +2,12 @@ pub mod CurrentTurns
 pub mod CurrentLast
 pub mod CurrentRounds
 pub mod CurrentLaws
+pub mod ChoiceLaws
+pub mod ChoiceRounds
+pub mod ChoiceSteps
+pub mod StandingDraws
+pub mod StandingFinished
+pub mod StandingFlights
+pub mod StandingLists
+pub mod StandingPasses
+pub mod StandingSteps

@@ -1,0 +1,5 @@
+use Rattle.jr_round_laws.proofs.StandingFinished.{finished_by_standing-law}
+use Rattle.jr_round_laws.proofs.standing.finished_by_standing.Goals as goal
+
+pub returns : goal.returns
+returns c = finished_by_standing-law
