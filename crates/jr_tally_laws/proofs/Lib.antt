@@ -1,0 +1,6 @@
+pub mod Bads
+pub mod Compared
+pub mod Counted
+pub mod Grown
+pub mod Moved
+pub mod Tallied

@@ -1,0 +1,26 @@
+ghost use Rattle.jr_tally_laws.specs.After.{TestsAreCompared, ClonesAreAll, OneEventMore, EndsAreCounted, VerdictsAreCounted};
+
+/// The tests of a clone are comparisons of its counts.
+pub fn tests_are_compared()
+    ensures { TestsAreCompared }
+{}
+
+/// Nothing is in flight where no clone of the plan has anything in flight, and no verdict is to come where none of a clone is.
+pub fn clones_are_all()
+    ensures { ClonesAreAll }
+{}
+
+/// What one event more makes of each count is told by the counts before, the event, and the I/O that it names.
+pub fn one_event_more()
+    ensures { OneEventMore }
+{}
+
+/// An End names an I/O that flies and was counted.
+pub fn ends_are_counted()
+    ensures { EndsAreCounted }
+{}
+
+/// A Verdict names a check that ended whole, has none, and was counted.
+pub fn verdicts_are_counted()
+    ensures { VerdictsAreCounted }
+{}
