@@ -85,10 +85,9 @@ impl DeferredRounds {
 
     /// The round is due, and each of its writes was passed.
     pub fn closed(&self) -> bool
-        requires { IsTrue self.now.is_settled }
         ensures { result ≡ is_closed self.now.round }
     {
-        self.rounds.closed()
+        self.written.is_none() && self.rounds.closed()
     }
 
     /// How many writes are still to check.
