@@ -2,6 +2,8 @@
 // stands. Nothing here is run; each function's contract is a law, so that the check proves it.
 #![tactic(auto)]
 
+mod rounds;
 mod standing;
 
+pub use rounds::{closed_at_end, left_are_unsettled, left_in_pass, waits_under_way};
 pub use standing::{choice_by_standing, clone_finished_by_standing, finished_by_standing};

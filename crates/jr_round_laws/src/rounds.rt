@@ -1,0 +1,21 @@
+ghost use Rattle.jr_round_laws.specs.Rounds.{ClosedAtEnd, LeftAreUnsettled, LeftInPass, WaitsUnderWay};
+
+/// A group of the pass that a clone is in waits for its checks exactly where the current round is under way.
+pub fn waits_under_way()
+    ensures { WaitsUnderWay }
+{}
+
+/// Where all draws of the pass were issued, its groups are closed exactly where the current round is.
+pub fn closed_at_end()
+    ensures { ClosedAtEnd }
+{}
+
+/// The writes that the current round still has to check are writes of the pass.
+pub fn left_in_pass()
+    ensures { LeftInPass }
+{}
+
+/// Where the round is due, they are exactly those of full groups that aren't settled.
+pub fn left_are_unsettled()
+    ensures { LeftAreUnsettled }
+{}
