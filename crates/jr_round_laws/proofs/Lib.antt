@@ -1,10 +1,10 @@
-pub mod CurrentTurns
-pub mod CurrentLast
-pub mod CurrentRounds
-pub mod CurrentLaws
 pub mod ChoiceLaws
 pub mod ChoiceRounds
 pub mod ChoiceSteps
+pub mod CurrentLast
+pub mod CurrentLaws
+pub mod CurrentRounds
+pub mod CurrentTurns
 pub mod StandingDraws
 pub mod StandingFinished
 pub mod StandingFlights

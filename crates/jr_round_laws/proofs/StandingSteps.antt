@@ -6,7 +6,7 @@ use Rattle.std.proofs.lemmas.Bool.{and_left, and_right, ne_eqb, cases_eq, cases_
 use Rattle.jr_model.specs.declared.blocks.Dir.{Dir}
 use Rattle.jr_model.specs.declared.blocks.Piece.{Piece}
 use Rattle.jr_model.specs.declared.events.Event.{Event}
-use Rattle.jr_model.specs.declared.events.Event.TheVariants.{Issue}
+use Rattle.jr_model.specs.declared.events.Event.TheVariants.{Issue, Probe, Skip, End, Verdict}
 use Rattle.jr_model.specs.declared.events.WriteId.{WriteId}
 use Rattle.jr_model.specs.Legal.{is_legal, may_happen}
 use Rattle.jr_model.specs.Plan.{Plan, SubJob, clone_of}
@@ -14,6 +14,7 @@ use Rattle.jr_model.specs.Rounds.{Pass, pass_of, passes_of, issues_of, pass_fini
 use Rattle.jr_plan.specs.PlanFacts.{IsPlanned}
 use Rattle.jr_steps.proofs.DrawnLaws.{issuable}
 use Rattle.jr_steps.proofs.PlaceLemmas.{all_from, got_taken, got_made, got_ranged}
+use Rattle.jr_steps.proofs.StartedLemmas.{by_events}
 use Rattle.jr_quiet.proofs.Groups.{got_take}
 use Rattle.jr_quiet.proofs.Issues.{all_at, got_pass, issued_same}
 use Rattle.jr_round_laws.specs.Standing.{IsInPass}
@@ -116,3 +117,25 @@ module _ (plan : Plan) (planned : IsPlanned plan) (job : SubJob) (there : clone_
                   ]
             ]
       ]
+
+  -- after each legal history the clone is in a pass
+  pub always_in_pass : (h : List Event) → is_legal plan h ≡ true → (p : ℕ) × IsInPass h job p
+  always_in_pass h legal =
+      by_events plan (λ (front : List Event). (p : ℕ) × IsInPass front job p) (0, starts_in_pass)
+      (λ front e front_legal now may. one front e front_legal may now.0 now.1)
+      h legal
+    where
+      one : (front : List Event) (e : Event) → is_legal plan front ≡ true → may_happen plan front e ≡ true → (p : ℕ) → IsInPass front job p → (q : ℕ) × IsInPass (front ++ e ∷ []) job q
+      one front (Probe worker write piece) front_legal may p now = (p, other_keeps_pass front (Probe worker write piece) p front_legal may now (λ q. refl))
+      one front (Skip worker write) front_legal may p now = (p, other_keeps_pass front (Skip worker write) p front_legal may now (λ q. refl))
+      one front (End worker io outcome) front_legal may p now = (p, other_keeps_pass front (End worker io outcome) p front_legal may now (λ q. refl))
+      one front (Verdict worker io verdict) front_legal may p now = (p, other_keeps_pass front (Verdict worker io verdict) p front_legal may now (λ q. refl))
+      one front (Issue worker dir write piece) front_legal may p now =
+          elim (cases_eq write.clone job.clone) [
+            | inl own ↦
+                elim (issue_of_pass front worker dir write piece p may now own) [
+                  | inl here ↦ (p, issue_keeps_pass front worker dir write piece p front_legal may now here)
+                  | inr next ↦ (suc p, issue_keeps_pass front worker dir write piece (suc p) front_legal may (next_in_pass front p now next.1 next.2) next.0)
+                ]
+            | inr foreign ↦ (p, foreign_keeps_pass front worker dir write piece p front_legal may now foreign)
+          ]
