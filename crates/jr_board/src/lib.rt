@@ -3,4 +3,3 @@
 
 pub mod boards;
 pub mod resting;
-pub mod choosing;
