@@ -23,7 +23,7 @@ use Rattle.jr_plan.specs.PlanFacts.{IsPlanned}
 use Rattle.jr_writes.specs.declared.logs.Logged.{Logged}
 use Rattle.jr_writes.specs.LoggedWrites.{logged}
 use Rattle.jr_writes.specs.LogSteps.{LogStep, settle, unsettle, log_of, step_of, step_at_end}
-use Rattle.jr_steps.specs.Drawn.{is_kind_of}
+use Rattle.jr_steps.specs.Drawn.{is_kind_of, IsDrawn}
 use Rattle.jr_steps.proofs.DrawnLaws.{started_are_drawn-law, drawn_fits}
 use Rattle.jr_steps.proofs.StartedLemmas.{same_some}
 use Rattle.jr_log_laws.specs.Intact.{log_after, WasStarted}
@@ -48,7 +48,9 @@ same_end one other (Some io) outcome same =
           ∙ sym (ap (λ (b : Bool). step_by io (other io.write io.piece) b (ended_whole (Some outcome))) kind)
     ]
 
-module _ (one other : WriteId → Piece → Expected) (ios : List Started) (same : (id : ℕ) (io : Started) → slice_get ios id ≡ Some io → is_write io.kind ≡ true → one io.write io.piece ≡ other io.write io.piece) where
+module _ (one other : WriteId → Piece → Expected) (ios : List Started)
+    (same : (id : ℕ) (io : Started) → slice_get ios id ≡ Some io → is_write io.kind ≡ true
+    → one io.write io.piece ≡ other io.write io.piece) where
   same_step : (e : Event) → step_of one ios e ≡ step_of other ios e
   same_step (End worker id outcome) = same_end one other (slice_get ios id) outcome (λ io at kind. same id io at kind)
   same_step (Issue worker dir write piece) = refl
@@ -64,7 +66,8 @@ module _ (one other : WriteId → Piece → Expected) (ios : List Started) (same
 
 -- what is said of a write that was not started makes no difference
 pub log_is_by_started : (history : List Event) (one other : WriteId → Piece → Expected)
-    → ((id : ℕ) (io : Started) → slice_get (started history) id ≡ Some io → is_write io.kind ≡ true → one io.write io.piece ≡ other io.write io.piece)
+    → ((id : ℕ) (io : Started) → slice_get (started history) id ≡ Some io → is_write io.kind ≡ true
+    → one io.write io.piece ≡ other io.write io.piece)
     → log_after one history ≡ log_after other history
 log_is_by_started history one other same = ap log_of (same_steps one other (started history) same history)
 
@@ -81,8 +84,9 @@ blocks_of_draw : (plan : Plan) (write : WriteId) (job : SubJob) (draw : Draw)
     → HasBlocks draw.piece
 blocks_of_draw plan write job draw planned at pass drawn =
     let io : Started = record { worker = 0; kind = kind_for draw.dir; write = write; piece = draw.piece } in
-    blocks_from_fits draw.piece
-    (drawn_fits plan io job draw planned (record { planned = at; pass = pass; drawn = drawn; piece = refl; kind = kind_fits draw.dir job })).fits
+    let made : IsDrawn plan io job draw =
+    record { planned = at; pass = pass; drawn = drawn; piece = refl; kind = kind_fits draw.dir job } in
+    blocks_from_fits draw.piece (drawn_fits plan io job draw planned made).fits
 
 module _ (plan : Plan) (history : List Event) (checked_by : WriteId → Piece → Expected) (write : WriteId) (job : SubJob) (draw : Draw)
     (planned : IsPlanned plan) (legal : is_legal plan history ≡ true) (of_job : clone_of plan write.clone ≡ Some job)
@@ -103,15 +107,18 @@ module _ (plan : Plan) (history : List Event) (checked_by : WriteId → Piece �
       let one : found.1 ≡ draw = same_some found.1 draw (sym here ∙ drawn) in
       record { place = id; io = io; at = at; kind = kind; named = named; there = there.piece ∙ ap (λ (d : Draw). d.piece) one }
 
+  abbrev shown_if : Bool → Option Logged
+  shown_if intact = cond intact (Some (record { piece = draw.piece; expected = checked_by write draw.piece })) None
+
   abbrev Shown : Type 0
-  Shown = logged (log_after checked_by history) write ≡ cond (is_intact history write draw.piece) (Some (record { piece = draw.piece; expected = checked_by write draw.piece })) None
+  Shown = logged (log_after checked_by history) write ≡ shown_if (is_intact history write draw.piece)
 
   -- where the log has nothing of it
   unlogged : (pass : write.pass < job.passes) → logged (log_after checked_by history) write ≡ None → Shown
   unlogged pass none =
       elim (cases_Bool (is_intact history write draw.piece)) [
         | inl whole ↦ log_is_intact plan history checked_by write draw.piece planned legal (found whole)
-        | inr broken ↦ none ∙ sym (ap (λ (b : Bool). cond b (Some (record { piece = draw.piece; expected = checked_by write draw.piece })) None) broken)
+        | inr broken ↦ none ∙ sym (ap shown_if broken)
       ]
     where
       found : is_intact history write draw.piece ≡ true → WasStarted history write draw.piece
@@ -128,12 +135,14 @@ module _ (plan : Plan) (history : List Event) (checked_by : WriteId → Piece �
       let was = (kept_law plan checked_by history planned legal).known write entry is in
       log_is_intact plan history checked_by write draw.piece planned legal (was_drawn was.id was.io was.at was.kind was.named)
 
-pub log_is_intact_of_draws : (plan : Plan) (history : List Event) (checked_by : WriteId → Piece → Expected) (write : WriteId) (job : SubJob) (draw : Draw)
+pub log_is_intact_of_draws : (plan : Plan) (history : List Event) (checked_by : WriteId → Piece → Expected)
+    (write : WriteId) (job : SubJob) (draw : Draw)
     → IsPlanned plan
     → is_legal plan history ≡ true
     → clone_of plan write.clone ≡ Some job
     → write.pass < job.passes
     → slice_get (draws_of_job job write.pass) write.number ≡ Some draw
-    → logged (log_after checked_by history) write ≡ cond (is_intact history write draw.piece) (Some (record { piece = draw.piece; expected = checked_by write draw.piece })) None
+    → logged (log_after checked_by history) write
+    ≡ cond (is_intact history write draw.piece) (Some (record { piece = draw.piece; expected = checked_by write draw.piece })) None
 log_is_intact_of_draws plan history checked_by write job draw planned legal of_job pass drawn =
     shown_by plan history checked_by write job draw planned legal of_job drawn pass (logged (log_after checked_by history) write) refl

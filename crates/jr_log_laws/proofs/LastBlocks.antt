@@ -219,7 +219,8 @@ module _ (write : WriteId) (p : Piece) (blocks : HasBlocks p) where
       → ((b : ℕ) → covers_block p p.file b ≡ true → last_write j p.file b ≡ last_write h p.file b)
       → is_intact j write p ≡ is_intact h write p
   intact_same h j same =
-      all_same (λ (b : ℕ). is_this_write write (last_write j p.file b)) (λ (b : ℕ). is_this_write write (last_write h p.file b)) (blocks_of p)
+      all_same (λ (b : ℕ). is_this_write write (last_write j p.file b)) (λ (b : ℕ). is_this_write write (last_write h p.file b))
+      (blocks_of p)
       (λ k b at. ap (is_this_write write) (same b (own_block k b at)))
 
   pub intact_all : (h : List Event)

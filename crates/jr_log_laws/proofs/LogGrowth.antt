@@ -1,5 +1,5 @@
 -- The log of a history with one more event, and what an event's I/O is in it.
-use Rattle.std.proofs.Common.{◌≡◌, ℕ, ◌<◌, ◌≤◌, List, [], ◌∷◌, ◌++◌, length, Bool, true, false, cond, ◌&&◌, not, refl, ◌∙◌, ap, arith, append-nil, length-append}
+use Rattle.std.proofs.Common.{◌≡◌, ℕ, ◌<◌, ◌≤◌, List, [], ◌∷◌, ◌++◌, length, Bool, true, false, cond, ◌&&◌, not, refl, sym, ◌∙◌, ap, arith, append-nil, append_assoc, length-append}
 use Rattle.std.specs.Prelude.{Option, Some, None, slice_get, nat_lt, is_none, filter_map}
 use Rattle.std.specs.List.{list_all, cons_option}
 use Rattle.std.proofs.lemmas.Bool.{and_parts, and_from, lt-ltb, ltb-true}
@@ -16,12 +16,13 @@ use Rattle.jr_model.specs.declared.events.Started.{Started}
 use Rattle.jr_model.specs.declared.events.WriteId.{WriteId}
 use Rattle.jr_model.specs.History.{started, started_by, outcome_of, flies, is_judged, ended_whole, is_write}
 use Rattle.jr_model.specs.Legal.{is_legal, may_happen, end_fits, verdict_fits}
+use Rattle.jr_model.specs.Machine.{is_skip}
 use Rattle.jr_model.specs.Plan.{Plan}
 use Rattle.jr_model.proofs.SerialLaws.{IsWell, well-more, whole_some}
 use Rattle.jr_writes.specs.LoggedWrites.{settled, unsettled}
 use Rattle.jr_writes.specs.LogSteps.{LogStep, settle, unsettle, after_step, log_of, step_of, step_at_end, steps_of}
 use Rattle.jr_quiet.proofs.Steps.{refers, refers_more, all_weaker, started_push, got_within}
-use Rattle.jr_steps.proofs.StartedLemmas.{by_events}
+use Rattle.jr_steps.proofs.StartedLemmas.{by_events, started-other}
 use Rattle.jr_log_laws.specs.Intact.{log_after, after_if}
 
 -- what ended or was judged in a legal history was started
@@ -42,9 +43,11 @@ pub refers_now : (plan : Plan) (h : List Event) (e : Event)
     → may_happen plan h e ≡ true
     → refers (length (started h)) e ≡ true
 refers_now plan h (End worker io outcome) legal may =
-    (and_parts (nat_lt io (length (started h))) (is_none (outcome_of h io)) (and_parts (flies h io) (end_fits worker outcome (slice_get (started h) io)) may).0).0
+    let flying = and_parts (flies h io) (end_fits worker outcome (slice_get (started h) io)) may in
+    (and_parts (nat_lt io (length (started h))) (is_none (outcome_of h io)) flying.0).0
 refers_now plan h (Verdict worker io verdict) legal may =
-    let parts = and_parts (ended_whole (outcome_of h io) && not (is_judged h io)) (verdict_fits plan verdict (slice_get (started h) io)) may in
+    let fits = verdict_fits plan verdict (slice_get (started h) io) in
+    let parts = and_parts (ended_whole (outcome_of h io) && not (is_judged h io)) fits may in
     let ended = and_parts (ended_whole (outcome_of h io)) (not (is_judged h io)) parts.0 in
     lt-ltb io (length (started h)) ((well plan h legal).ends io Whole (whole_some (outcome_of h io) ended.0))
 refers_now plan h (Issue worker dir write piece) legal may = refl
@@ -87,7 +90,8 @@ steps_agree : (checked_by : WriteId → Piece → Expected) (ios more : List Sta
 steps_agree checked_by ios more [] h = refl
 steps_agree checked_by ios more (e ∷ events) h =
     let parts = and_parts (refers (length ios) e) (list_all (refers (length ios)) events) h in
-    ap (λ (o : Option LogStep). cons_option o (filter_map (step_of checked_by (ios ++ more)) events)) (step_agrees checked_by ios more e parts.0)
+    ap (λ (o : Option LogStep). cons_option o (filter_map (step_of checked_by (ios ++ more)) events))
+    (step_agrees checked_by ios more e parts.0)
     ∙ ap (cons_option (step_of checked_by ios e)) (steps_agree checked_by ios more events parts.1)
 
 -- one more event is one more step, or none
@@ -100,8 +104,10 @@ steps_more plan h e checked_by legal may =
     let more = cons_option (started_by e) [] in
     ap (λ (all : List Started). filter_map (step_of checked_by all) (h ++ e ∷ [])) (started_push h e)
     ∙ filter_map-append (step_of checked_by (ios ++ more)) h (e ∷ [])
-    ∙ ap (λ (steps : List LogStep). steps ++ cons_option (step_of checked_by (ios ++ more) e) []) (steps_agree checked_by ios more h (all_refer plan h legal))
-    ∙ ap (λ (o : Option LogStep). steps_of checked_by h ++ cons_option o []) (step_agrees checked_by ios more e (refers_now plan h e legal may))
+    ∙ ap (λ (steps : List LogStep). steps ++ cons_option (step_of checked_by (ios ++ more) e) [])
+    (steps_agree checked_by ios more h (all_refer plan h legal))
+    ∙ ap (λ (o : Option LogStep). steps_of checked_by h ++ cons_option o [])
+    (step_agrees checked_by ios more e (refers_now plan h e legal may))
 
 log_append : (steps : List LogStep) (o : Option LogStep) → log_of (steps ++ cons_option o []) ≡ after_if o (log_of steps)
 log_append steps None = ap log_of (append-nil steps)
@@ -116,6 +122,29 @@ log_grows plan history event checked_by legal may =
     ap log_of (steps_more plan history event checked_by legal may)
     ∙ log_append (steps_of checked_by history) (step_of checked_by (started history) event)
 
+-- any number of skips makes none
+pub log-skips : (checked_by : WriteId → Piece → Expected) (history events : List Event)
+    → list_all is_skip events ≡ true
+    → log_after checked_by (history ++ events) ≡ log_after checked_by history
+log-skips checked_by h [] all = ap (log_after checked_by) (append-nil h)
+log-skips checked_by h (e ∷ events) all =
+    let parts = and_parts (is_skip e) (list_all is_skip events) all in
+    ap (log_after checked_by) (sym (append_assoc h (e ∷ []) events))
+    ∙ log-skips checked_by (h ++ e ∷ []) events parts.1
+    ∙ one e parts.0
+  where
+    one : (x : Event) → is_skip x ≡ true → log_after checked_by (h ++ x ∷ []) ≡ log_after checked_by h
+    one (Skip worker write) skip =
+        let e = Skip worker write in
+        ap log_of
+        (ap (λ (ios : List Started). filter_map (step_of checked_by ios) (h ++ e ∷ [])) (started-other h e refl)
+        ∙ filter_map-append (step_of checked_by (started h)) h (e ∷ [])
+        ∙ append-nil (steps_of checked_by h))
+    one (Issue worker dir write piece) skip = cc
+    one (Probe worker write piece) skip = cc
+    one (End worker id outcome) skip = cc
+    one (Verdict worker id verdict) skip = cc
+
 module _ (plan : Plan) (h : List Event) (checked_by : WriteId → Piece → Expected) (legal : is_legal plan h ≡ true) where
   -- an event that is no step
   pub log-same : (e : Event)
@@ -125,7 +154,8 @@ module _ (plan : Plan) (h : List Event) (checked_by : WriteId → Piece → Expe
   log-same e may none =
       log_grows plan h e checked_by legal may ∙ ap (λ (o : Option LogStep). after_if o (log_after checked_by h)) none
 
-  module _ (worker id : ℕ) (outcome : Outcome) (io : Started) (may : may_happen plan h (End worker id outcome) ≡ true) (at : slice_get (started h) id ≡ Some io) where
+  module _ (worker id : ℕ) (outcome : Outcome) (io : Started)
+      (may : may_happen plan h (End worker id outcome) ≡ true) (at : slice_get (started h) id ≡ Some io) where
     -- the step by whether the I/O is a write, and whether it ended whole
     abbrev step_by : Bool → Bool → Option LogStep
     step_by write whole = cond write (Some (cond whole (settle io.write io.piece (checked_by io.write io.piece)) (unsettle io.piece))) None
@@ -147,7 +177,8 @@ module _ (plan : Plan) (h : List Event) (checked_by : WriteId → Piece → Expe
     -- the whole end of a write
     pub log-whole : is_write io.kind ≡ true
         → ended_whole (Some outcome) ≡ true
-        → log_after checked_by (h ++ End worker id outcome ∷ []) ≡ settled (log_after checked_by h) io.write io.piece (checked_by io.write io.piece)
+        → log_after checked_by (h ++ End worker id outcome ∷ [])
+        ≡ settled (log_after checked_by h) io.write io.piece (checked_by io.write io.piece)
     log-whole write whole = log_end true true write whole
 
     -- another end of a write

@@ -73,7 +73,7 @@ abbrev pub after_if : Option LogStep → List (WriteId × Logged) → List (Writ
 after_if None entries = entries
 after_if (Some step) entries = after_step entries step
 
--- an event that may happen makes the one step of the log that it is, or none: the others stay what they were
+-- an event that may happen adds the one step to the log that it is, where it is one
 abbrev pub LogGrows : Type 0
 LogGrows =
     (plan : Plan) (history : List Event) (event : Event) (checked_by : WriteId → Piece → Expected)
@@ -93,7 +93,7 @@ UnendedIsUnlogged =
     → ended_whole (outcome_of history id) ≡ false
     → logged (log_after checked_by history) io.write ≡ None
 
--- what the log says of writes that were not started doesn't matter
+-- what a write that was not started would be checked by makes no difference
 abbrev pub LogIsByStarted : Type 0
 LogIsByStarted =
     (history : List Event) (one other : WriteId → Piece → Expected)

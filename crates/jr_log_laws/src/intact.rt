@@ -15,7 +15,7 @@ pub fn logged_is_intact()
     ensures { LoggedIsIntact }
 {}
 
-/// An event that may happen makes the one step of the log that it is, or none.
+/// An event that may happen adds the one step to the log that it is, where it is one.
 pub fn log_grows()
     ensures { LogGrows }
 {}
@@ -25,7 +25,7 @@ pub fn unended_is_unlogged()
     ensures { UnendedIsUnlogged }
 {}
 
-/// What writes are checked by that were not started makes no difference to the log.
+/// What a write that was not started would be checked by makes no difference to the log.
 pub fn log_is_by_started()
     ensures { LogIsByStarted }
 {}
