@@ -7,7 +7,7 @@ use Rattle.std.proofs.lemmas.List.Sums.{length-filter}
 use Rattle.jr_model.specs.declared.events.Event.{Event}
 use Rattle.jr_model.specs.declared.events.Started.{Started}
 use Rattle.jr_model.specs.History.{started, outcome_of, is_judged, in_flight, in_flight_of, awaiting, is_of_clone, is_probe, ended_whole}
-use Rattle.jr_model.specs.Legal.{is_legal, is_over, is_at_rest, has_room}
+use Rattle.jr_model.specs.Legal.{is_complete, is_legal, is_over, is_at_rest, has_room}
 use Rattle.jr_model.specs.Plan.{Plan, SubJob}
 use Rattle.jr_model.specs.Rounds.{no_issue_flies, nothing_flies_of}
 use Rattle.jr_model.proofs.LegalLaws.{started_planned}
@@ -135,8 +135,15 @@ awaits_none plan history planned legal =
     (λ none. each_is_judged plan history (none_by_length (awaiting history) none))
     (λ all. length_by_none (awaiting history) (none_awaits plan history planned legal all))
 
+-- a run is complete where no clone has anything in flight or a verdict to come, and each is over
+pub is_complete-counts : (plan : Plan) (history : List Event) → IsPlanned plan → is_legal plan history ≡ true → is_complete plan history ≡ (list_all (λ (job : SubJob). flying_issues history job.clone + flying_checks history job.clone == 0) plan.clones && list_all (λ (job : SubJob). awaited history job.clone == 0) plan.clones && list_all (is_over history) plan.clones)
+is_complete-counts plan history planned legal =
+    ap {B = Bool} (λ (b : Bool). b && (length (awaiting history) == 0) && list_all (is_over history) plan.clones) (flies_none plan history planned legal)
+    ∙ ap {B = Bool} (λ (b : Bool). list_all (rests history) plan.clones && b && list_all (is_over history) plan.clones) (awaits_none plan history planned legal)
+
 pub clones_all : (plan : Plan) (history : List Event) → IsPlanned plan → is_legal plan history ≡ true → AreAll plan history
 clones_all plan history planned legal = record {
   flying = flies_none plan history planned legal;
   verdicts = awaits_none plan history planned legal;
+  complete = is_complete-counts plan history planned legal;
 }

@@ -1,8 +1,8 @@
 -- What one event more makes of a clone's totals, of whether it is halted, and of the draws issued.
-use Rattle.std.proofs.Common.{◌≡◌, ℕ, zero, suc, ◌+◌, List, [], ◌∷◌, ◌++◌, length, map, set, Bool, true, false, cond, ◌&&◌, ◌||◌, not, refl, sym, ◌∙◌, ap, subst, arith, length-append, add-zero}
+use Rattle.std.proofs.Common.{◌≡◌, ℕ, zero, suc, ◌+◌, List, [], ◌∷◌, ◌++◌, length, map, set, Bool, true, false, cond, ◌&&◌, ◌||◌, not, refl, sym, ◌∙◌, ap, arith, length-append, add-zero}
 use Rattle.std.specs.Prelude.{Option, Some, None, slice_get, nat_lt, ◌==◌, count_by, sum_by}
 use Rattle.std.specs.List.{cons_option}
-use Rattle.std.proofs.lemmas.Bool.{ltb-true, eqb-true, ne_eqb}
+use Rattle.std.proofs.lemmas.Bool.{ltb-true, eqb-true, eq-eqb, ne_eqb}
 use Rattle.std.proofs.lemmas.List.Sums.{sum_by-cons, sum_by-append, sum_by_push, sum-map}
 use Rattle.jr_model.specs.declared.blocks.Dir.{Dir}
 use Rattle.jr_model.specs.declared.blocks.Piece.{Piece}
@@ -86,11 +86,11 @@ issued_count-stays history pass e none =
 
 -- the totals: what the event adds to each
 
-abbrev ones : Option Started → ℕ
+abbrev pub ones : Option Started → ℕ
 ones None = 0
 ones (Some io) = 1
 
-abbrev bytes : Option Started → ℕ
+abbrev pub bytes : Option Started → ℕ
 bytes None = 0
 bytes (Some io) = io.piece.len
 
@@ -110,7 +110,7 @@ wide_append xs ys =
     let len : Started → ℕ = λ (x : Started). x.piece.len in
     omega (arith, sum-map len (xs ++ ys), sum-map len xs, sum-map len ys, sum_by-append len xs ys)
 
-abbrev gain : List Started → ℕ → Event → Totals
+abbrev pub gain : List Started → ℕ → Event → Totals
 gain ios c e = record {
   reads = ones (moved_by ios is_read c e);
   rbytes = bytes (moved_by ios is_read c e);
@@ -125,7 +125,7 @@ gain ios c e = record {
 }
 
 -- these totals and a gain make those
-record AreAdded (t g u : Totals) : Type 0 where
+pub record AreAdded (t g u : Totals) : Type 0 where
   pub reads : u.reads ≡ t.reads + g.reads
   pub rbytes : u.rbytes ≡ t.rbytes + g.rbytes
   pub writes : u.writes ≡ t.writes + g.writes
@@ -157,7 +157,7 @@ module _ (plan : Plan) (history : List Event) (e : Event) (c : ℕ) (legal : is_
   verdicts-more : (test : GivenVerdict → Bool) → count_by (is_verdict_of (started (history ++ e ∷ [])) test c) (history ++ e ∷ []) ≡ count_by (is_verdict_of (started history) test c) history + cond (is_verdict_of (started history) test c e) 1 0
   verdicts-more test = counted-more plan history e legal may (λ (ios : List Started). is_verdict_of ios test c) (verdict_agrees test c)
 
-  totals_added : AreAdded (totals_of history c) (gain (started history) c e) (totals_of (history ++ e ∷ []) c)
+  pub totals_added : AreAdded (totals_of history c) (gain (started history) c e) (totals_of (history ++ e ∷ []) c)
   totals_added = record {
     reads = count-more is_read;
     rbytes = bytes-more is_read;
@@ -199,7 +199,7 @@ same_totals a b same =
     ∙ ap (λ (n : ℕ). make b.reads b.rbytes b.writes b.wbytes b.checks b.good b.bad b.skipped b.void n) same.faults
 
 -- a gain of nothing, of what was read or written, of a fault, of a verdict and of a skip
-abbrev none : Totals
+abbrev pub none : Totals
 none = record { reads = 0; rbytes = 0; writes = 0; wbytes = 0; checks = 0; good = 0; bad = 0; skipped = 0; void = 0; faults = 0 }
 
 add_none : (t u : Totals) → AreAdded t (none) u → u ≡ t
@@ -301,7 +301,7 @@ add_skip t u h = same_totals u (record t { skipped = t.skipped + 1 }) (record {
 })
 
 -- what an End adds, by the I/O's kind and whether it is the clone's
-abbrev end_gain : Bool → TicketKind → Outcome → Started → Totals
+abbrev pub end_gain : Bool → TicketKind → Outcome → Started → Totals
 end_gain own kind outcome io = record none {
   reads = ones (cond (ended_whole (Some outcome) && is_read kind && own) (Some io) None);
   rbytes = bytes (cond (ended_whole (Some outcome) && is_read kind && own) (Some io) None);
@@ -322,21 +322,19 @@ end_adds false ticket.Probe Whole io t u h = add_none t u h
 end_adds false kind Failed io t u h = add_none t u h
 end_adds false kind (Short n) io t u h = add_none t u h
 
-end_totals : (c : ℕ) (worker id : ℕ) (outcome : Outcome) (ios : List Started) (o : Option Started) (t u : Totals) → slice_get ios id ≡ o → AreAdded t (gain ios c (End worker id outcome)) u → u ≡ totals_after_end c o outcome t
-end_totals c worker id outcome ios o t u there h = by_io o (subst (λ (x : Option Started). AreAdded t (named_gain x) u) there h)
-  where
-    named_gain : Option Started → Totals
-    named_gain x = record none {
-      reads = ones (if_wanted is_read c (ended_whole (Some outcome)) x);
-      rbytes = bytes (if_wanted is_read c (ended_whole (Some outcome)) x);
-      writes = ones (if_wanted is_write c (ended_whole (Some outcome)) x);
-      wbytes = bytes (if_wanted is_write c (ended_whole (Some outcome)) x);
-      faults = cond (is_io_of c x && is_fault outcome) 1 0;
-    }
+-- the same by the I/O that it names
+abbrev pub named_gain : ℕ → Outcome → Option Started → Totals
+named_gain c outcome io = record none {
+  reads = ones (if_wanted is_read c (ended_whole (Some outcome)) io);
+  rbytes = bytes (if_wanted is_read c (ended_whole (Some outcome)) io);
+  writes = ones (if_wanted is_write c (ended_whole (Some outcome)) io);
+  wbytes = bytes (if_wanted is_write c (ended_whole (Some outcome)) io);
+  faults = cond (is_io_of c io && is_fault outcome) 1 0;
+}
 
-    by_io : (x : Option Started) → AreAdded t (named_gain x) u → u ≡ totals_after_end c x outcome t
-    by_io None g = add_none t u g
-    by_io (Some io) g = end_adds (is_of_clone c io) io.kind outcome io t u g
+end_totals : (c : ℕ) (outcome : Outcome) (io : Option Started) (t u : Totals) → AreAdded t (named_gain c outcome io) u → u ≡ totals_after_end c io outcome t
+end_totals c outcome None t u h = add_none t u h
+end_totals c outcome (Some io) t u h = end_adds (is_of_clone c io) io.kind outcome io t u h
 
 -- what a Verdict adds
 verdict_adds : (own : Bool) (verdict : GivenVerdict) (t u : Totals) → AreAdded t (record none { checks = cond (own && true) 1 0; good = cond (own && not (is_bad verdict)) 1 0; bad = cond (own && is_bad verdict) 1 0 }) u → u ≡ cond own (totals_judged verdict t) t
@@ -353,7 +351,7 @@ totals_by : (ios : List Started) (c : ℕ) (e : Event) (t u : Totals) → AreAdd
 totals_by ios c (Issue worker dir write piece) t u h = add_none t u h
 totals_by ios c (Probe worker write piece) t u h = add_none t u h
 totals_by ios c (Skip worker write) t u h = skip_adds (write.clone == c) t u h
-totals_by ios c (End worker id outcome) t u h = end_totals c worker id outcome ios (slice_get ios id) t u refl h
+totals_by ios c (End worker id outcome) t u h = end_totals c outcome (slice_get ios id) t u h
 totals_by ios c (Verdict worker id verdict) t u h = verdict_adds (is_io_of c (slice_get ios id)) verdict t u h
 
 -- the totals of a clone after any event that may happen
@@ -415,3 +413,25 @@ all_totals-more plan history e c job numbered legal may planned about =
     totals-other plan history e other.clone legal may (concerns_one c other.clone io e about (λ same. apart (sym (numbered k other at) ∙ same))))
     ∙ ap (λ (n : ℕ). set (all_totals plan history) c (totals_of (history ++ e ∷ []) n)) number
     ∙ ap (set (all_totals plan history) c) (totals-more plan history e c legal may)
+
+-- an event about the clone itself
+
+pub totals-skip_own : (plan : Plan) (history : List Event) (worker : ℕ) (write : WriteId) → is_legal plan history ≡ true → may_happen plan history (Skip worker write) ≡ true → totals_of (history ++ Skip worker write ∷ []) write.clone ≡ record (totals_of history write.clone) { skipped = (totals_of history write.clone).skipped + 1 }
+totals-skip_own plan history worker write legal may =
+    let t = totals_of history write.clone in
+    totals-more plan history (Skip worker write) write.clone legal may
+    ∙ ap (λ (b : Bool). cond b (record t { skipped = t.skipped + 1 }) t) (eq-eqb write.clone write.clone refl)
+
+pub totals-end_own : (plan : Plan) (history : List Event) (worker io : ℕ) (outcome : Outcome) (s : Started) → is_legal plan history ≡ true → may_happen plan history (End worker io outcome) ≡ true → slice_get (started history) io ≡ Some s → totals_of (history ++ End worker io outcome ∷ []) s.write.clone ≡ totals_ended s.kind s.piece.len outcome (totals_of history s.write.clone)
+totals-end_own plan history worker io outcome s legal may there =
+    let t = totals_of history s.write.clone in
+    totals-more plan history (End worker io outcome) s.write.clone legal may
+    ∙ ap (λ (o : Option Started). totals_after_end s.write.clone o outcome t) there
+    ∙ ap (λ (b : Bool). cond b (totals_ended s.kind s.piece.len outcome t) t) (eq-eqb s.write.clone s.write.clone refl)
+
+pub totals-verdict_own : (plan : Plan) (history : List Event) (worker io : ℕ) (verdict : GivenVerdict) (s : Started) → is_legal plan history ≡ true → may_happen plan history (Verdict worker io verdict) ≡ true → slice_get (started history) io ≡ Some s → totals_of (history ++ Verdict worker io verdict ∷ []) s.write.clone ≡ totals_judged verdict (totals_of history s.write.clone)
+totals-verdict_own plan history worker io verdict s legal may there =
+    let t = totals_of history s.write.clone in
+    totals-more plan history (Verdict worker io verdict) s.write.clone legal may
+    ∙ ap (λ (o : Option Started). cond (is_io_of s.write.clone o) (totals_judged verdict t) t) there
+    ∙ ap (λ (b : Bool). cond b (totals_judged verdict t) t) (eq-eqb s.write.clone s.write.clone refl)

@@ -1,5 +1,5 @@
 -- Believed: laws of the running counts: which tests are comparisons of them, and what they are after one event more.
-use Rattle.std.specs.Prelude.{◌≡◌, ℕ, suc, ◌+◌, ◌==◌, nat_lt, true, false, ◌&&◌, ◌||◌, List, [], ◌∷◌, ◌++◌, length, Some, None, slice_get}
+use Rattle.std.specs.Prelude.{◌≡◌, ◌≤◌, ◌*◌, set, ℕ, suc, ◌+◌, ◌==◌, nat_lt, true, false, ◌&&◌, ◌||◌, List, [], ◌∷◌, ◌++◌, length, Some, None, slice_get}
 use Rattle.std.specs.List.{list_all, cons_option}
 use Rattle.jr_model.specs.declared.events.Event.{Event}
 use Rattle.jr_model.specs.declared.events.Event.TheVariants.{End, Verdict}
@@ -8,13 +8,16 @@ use Rattle.jr_model.specs.declared.events.Outcome.TheVariants.{Whole}
 use Rattle.jr_model.specs.declared.events.Started.{Started}
 use Rattle.jr_model.specs.declared.events.Verdict.{Verdict as GivenVerdict}
 use Rattle.jr_model.specs.History.{started, in_flight, in_flight_of, awaiting, outcome_of, is_judged, is_probe}
-use Rattle.jr_model.specs.Legal.{is_legal, may_happen, is_halted, is_over, is_at_rest, has_room}
-use Rattle.jr_model.specs.Plan.{Plan, SubJob}
-use Rattle.jr_model.specs.Report.{miscompares}
+use Rattle.jr_model.specs.declared.limits.TheConstants.{LARGEST_BLOCK}
+use Rattle.jr_model.specs.declared.totals.Totals.{Totals}
+use Rattle.jr_model.specs.Machine.{work_of}
+use Rattle.jr_model.specs.Legal.{is_complete, is_legal, may_happen, is_halted, is_over, is_at_rest, has_room}
+use Rattle.jr_model.specs.Plan.{Plan, SubJob, clone_of}
+use Rattle.jr_model.specs.Report.{miscompares, all_totals}
 use Rattle.jr_model.specs.Rounds.{no_issue_flies, nothing_flies_of}
 use Rattle.jr_model.specs.Totals.{totals_of}
 use Rattle.jr_plan.specs.PlanFacts.{IsPlanned}
-use Rattle.jr_tally_laws.specs.Tallies.{flying_issues, flying_checks, awaited, tally_of, tally_after, totals_after, named_in, halted_by, miscompare_in}
+use Rattle.jr_tally_laws.specs.Tallies.{flying_issues, flying_checks, awaited, tally_of, tally_after, totals_after, named_in, halted_by, miscompare_in, concerns}
 
 -- the tests of a clone, as comparisons of its counts
 pub record AreCompared (history : List Event) (job : SubJob) : Type 0 where
@@ -31,6 +34,7 @@ TestsAreCompared = (history : List Event) (job : SubJob) → AreCompared history
 pub record AreAll (plan : Plan) (history : List Event) : Type 0 where
   pub flying : (length (in_flight history) == 0) ≡ list_all (λ (job : SubJob). flying_issues history job.clone + flying_checks history job.clone == 0) plan.clones
   pub verdicts : (length (awaiting history) == 0) ≡ list_all (λ (job : SubJob). awaited history job.clone == 0) plan.clones
+  pub complete : is_complete plan history ≡ (list_all (λ (job : SubJob). flying_issues history job.clone + flying_checks history job.clone == 0) plan.clones && list_all (λ (job : SubJob). awaited history job.clone == 0) plan.clones && list_all (is_over history) plan.clones)
 
 abbrev pub ClonesAreAll : Type 0
 ClonesAreAll = (plan : Plan) (history : List Event) → IsPlanned plan → is_legal plan history ≡ true → AreAll plan history
@@ -79,3 +83,31 @@ VerdictsAreCounted =
     → is_legal plan history ≡ true
     → may_happen plan history (Verdict worker io verdict) ≡ true
     → JudgesCounted history io (Verdict worker io verdict)
+
+-- how large the counts and totals are: each I/O flies or ended, and ended in one way; each check flies, awaits its verdict or
+-- has it, if it ended whole; a write is skipped once
+pub record AreFew (plan : Plan) (history : List Event) (c : ℕ) (t : Totals) : Type 0 where
+  pub ended : t.reads + t.writes + t.faults + (flying_issues history c + flying_checks history c) ≤ length (started history)
+  pub judged : t.checks + awaited history c + flying_checks history c ≤ length (started history)
+  pub found : t.good + t.bad ≡ t.checks
+  pub skipped : t.skipped ≤ work_of plan
+  pub rbytes : t.rbytes ≤ t.reads * LARGEST_BLOCK
+  pub wbytes : t.wbytes ≤ t.writes * LARGEST_BLOCK
+
+abbrev pub CountsAreFew : Type 0
+CountsAreFew =
+    (plan : Plan) (history : List Event) (c : ℕ)
+    → IsPlanned plan
+    → is_legal plan history ≡ true
+    → AreFew plan history c (totals_of history c)
+
+-- an event changes the totals of the clone alone that it is about
+abbrev pub OneCloneChanges : Type 0
+OneCloneChanges =
+    (plan : Plan) (history : List Event) (event : Event) (c : ℕ) (job : SubJob)
+    → IsPlanned plan
+    → is_legal plan history ≡ true
+    → may_happen plan history event ≡ true
+    → clone_of plan c ≡ Some job
+    → concerns c (named_in (started history) event) event ≡ true
+    → all_totals plan (history ++ event ∷ []) ≡ set (all_totals plan history) c (totals_after c (named_in (started history) event) event (totals_of history c))

@@ -5,7 +5,8 @@
 mod tallies;
 
 pub use tallies::{
-    clones_are_all, ends_are_counted, one_event_more, tests_are_compared, verdicts_are_counted,
+    clones_are_all, counts_are_few, ends_are_counted, one_clone_changes, one_event_more,
+    tests_are_compared, verdicts_are_counted,
 };
 
 #[cfg(test)]

@@ -1,4 +1,4 @@
-ghost use Rattle.jr_tally_laws.specs.After.{TestsAreCompared, ClonesAreAll, OneEventMore, EndsAreCounted, VerdictsAreCounted};
+ghost use Rattle.jr_tally_laws.specs.After.{TestsAreCompared, ClonesAreAll, OneEventMore, EndsAreCounted, VerdictsAreCounted, CountsAreFew, OneCloneChanges};
 
 /// The tests of a clone are comparisons of its counts.
 pub fn tests_are_compared()
@@ -23,4 +23,15 @@ pub fn ends_are_counted()
 /// A Verdict names a check that ended whole, has none, and was counted.
 pub fn verdicts_are_counted()
     ensures { VerdictsAreCounted }
+{}
+
+/// No more I/Os end than were started, no more verdicts are given than checks were made, and bytes are of blocks: so all counts
+/// of a legal history are small.
+pub fn counts_are_few()
+    ensures { CountsAreFew }
+{}
+
+/// An event changes the totals of that clone alone that it is about.
+pub fn one_clone_changes()
+    ensures { OneCloneChanges }
 {}
