@@ -1,3 +1,4 @@
 pub mod Boards
 pub mod Standings
 pub mod Moves
+pub mod Making

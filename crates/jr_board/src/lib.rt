@@ -3,3 +3,4 @@
 
 pub mod boards;
 pub mod resting;
+pub mod making;

@@ -1,12 +1,13 @@
-ghost use Rattle.std.specs.Prelude.{◌≡◌, ◌≤◌, ℕ, true, length, sum_by, IfOk, IfSome, OnOk, IsOk, Ok, Err};
-ghost use Rattle.jr_model.specs.Plan.{clone_of};
-ghost use Rattle.jr_board.specs.Boards.{HasRoom, IsBoard, left_of};
-ghost use Rattle.jr_board.specs.Standings.{IsReady, IsStanding};
-ghost use Rattle.jr_board.specs.Making.{IsSameBoard, IsSettled, NoTotals};
+ghost use Rattle.std.specs.Prelude.{◌≡◌, ℕ, true, [], length, slice_get, sum_by, IfOk, IfSome, IsTrue, OnOk, Some};
+ghost use Rattle.jr_model.specs.Plan.{SubJob as Job, clone_of};
+ghost use Rattle.jr_board.specs.declared.boards.Standing.{Standing as Stand};
+ghost use Rattle.jr_board.specs.Boards.{AreReady, HasRoom, IsBoard, left_of};
+ghost use Rattle.jr_board.specs.Making.{IsAlike, IsFirst, nothing_done};
+ghost use Rattle.jr_board.specs.Standings.{IsReady};
 
-use crate::boards::{Board, Launch, Progress, Standing};
+use crate::boards::{Board, Standing};
 use jr_flight::Flight;
-use jr_model::{Event, Memory, Ticket, Totals};
+use jr_model::{Memory, Totals};
 use jr_plan::{Plan, SubJob};
 use jr_standing::{DeferredRounds, DrawsLeft};
 use jr_writes::WriteLog;
@@ -72,18 +73,31 @@ fn no_totals() -> Totals
     }
 }
 
-// Asks for all the memory that the next take may want; what the board says stays.
-pub fn prepare(alloc: Global, plan: &Plan, board: &mut Board) -> Result<(), Memory>
-    requires board { IsBoard plan.now board.old }
-    ensures board { IsBoard plan.now board.new }
-    ensures history { board.new.history.items ≡ board.old.history.items }
-    ensures room { OnOk result (HasRoom plan.now board.new) }
+// Asks for the memory that the clone's next step may want.
+pub fn prepare_standing(alloc: Global, job: &SubJob, standing: &mut Standing) -> Result<(), Memory>
+    ensures alike { IsAlike job.now standing.old standing.new }
+    ensures ready { OnOk result (IsReady job.now standing.new) }
 {
-    begin(board)?;
-    prepare_standings(alloc, plan, &mut board.standings)?;
-    let left = left_in_all(board.standings.as_slice());
-    board.history.reserve(left?.checked_add(1)?)?;
-    board.tickets.reserve(1)?;
-    board.progress.reserve(1)?;
+    job.facts();
+    standing.rounds.settle()?;
+    if standing.spare.is_none()
+        && standing.draws.first().is_none()
+        && u64::from(standing.pass) + 1 < u64::from(job.passes())
+    {
+        standing.spare = Some(DrawsLeft::of_pass(alloc, job, standing.pass + 1)?);
+    }
+    standing.launches.reserve(1)?;
     Ok(())
+}
+
+// How many writes all clones still have to check; nothing where that is too many for any memory.
+pub fn left_in_all(standings: &[Standing]) -> Option<usize>
+    requires { (c : ℕ) (standing : Stand) → slice_get standings.now c ≡ Some standing → IsTrue standing.rounds.is_settled }
+    ensures { IfSome result (λ left. left ≡ sum_by left_of standings.now) }
+{
+    let mut left: usize = 0;
+    for standing in standings {
+        left = left.checked_add(standing.rounds.left())?;
+    }
+    Some(left)
 }
