@@ -2,3 +2,8 @@ pub mod CurrentTurns
 pub mod CurrentLast
 pub mod CurrentRounds
 pub mod CurrentLaws
+pub mod KeptFirst
+pub mod KeptSettled
+pub mod KeptLists
+pub mod KeptRounds
+pub mod KeptLaws

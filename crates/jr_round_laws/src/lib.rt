@@ -4,4 +4,6 @@
 
 mod rounds;
 
-pub use rounds::{closed_at_end, left_are_unsettled, left_in_pass, waits_under_way};
+pub use rounds::{
+    closed_at_end, kept_is_current, left_are_unsettled, left_in_pass, waits_under_way,
+};
