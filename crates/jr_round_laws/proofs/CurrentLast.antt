@@ -64,27 +64,19 @@ last_same job h e o same last =
     last_keeps job h e o (λ p k d drawn writes issued. let counts = same p in omega (arith, issued, counts)) last
 
 module _ (plan : Plan) (numbered : IsNumbered plan) (job : SubJob) (planned : clone_of plan job.clone ≡ Some job) where
-  -- the issue of a read leaves the writes
-  read_keeps : (h : List Event) (worker : ℕ) (write : WriteId) (piece : Piece) (o : Option WriteId) → IsIssued plan job h direction.Read write → write.clone ≡ job.clone → LastIs job h o → LastIs job (h ++ Issue worker direction.Read write piece ∷ []) o
-  read_keeps h worker write piece o its clone last =
-      last_keeps job h (Issue worker direction.Read write piece) o
-      (λ p k d drawn writes issued. by_pass p k d drawn writes issued (cases_eq p write.pass) (cases_lt k (issued_count h (pass_of job p)))) last
+  -- the issue of a read counts no write more
+  pub read_fewer : (h : List Event) (worker : ℕ) (write : WriteId) (piece : Piece) → IsIssued plan job h direction.Read write → write.clone ≡ job.clone → (p k : ℕ) (d : Draw) → slice_get (draws_of_job job p) k ≡ Some d → is_write_draw d ≡ true → k < issued_count (h ++ Issue worker direction.Read write piece ∷ []) (pass_of job p) → k < issued_count h (pass_of job p)
+  read_fewer h worker write piece its clone p k d drawn writes issued = by_pass (cases_eq p write.pass) (cases_lt k (issued_count h (pass_of job p)))
     where
       reads : is_write_draw its.draw ≡ false
       reads = way_writes its.draw direction.Read its.way
 
-      by_pass : (p k : ℕ) (d : Draw)
-          → slice_get (draws_of_job job p) k ≡ Some d
-          → is_write_draw d ≡ true
-          → k < issued_count (h ++ Issue worker direction.Read write piece ∷ []) (pass_of job p)
-          → (p ≡ write.pass) ⊎ (p ≡ write.pass → ⊥)
-          → (k < issued_count h (pass_of job p)) ⊎ (issued_count h (pass_of job p) ≤ k)
-          → k < issued_count h (pass_of job p)
-      by_pass p k d drawn writes issued same (inl below) = below
-      by_pass p k d drawn writes issued (inr apart) (inr above) =
+      by_pass : (p ≡ write.pass) ⊎ (p ≡ write.pass → ⊥) → (k < issued_count h (pass_of job p)) ⊎ (issued_count h (pass_of job p) ≤ k) → k < issued_count h (pass_of job p)
+      by_pass same (inl below) = below
+      by_pass (inr apart) (inr above) =
           let counts = issued_elsewhere job h worker direction.Read write piece p apart in
           omega (arith, issued, counts)
-      by_pass p k d drawn writes issued (inl same) (inr above) =
+      by_pass (inl same) (inr above) =
           let grown : issued_count (h ++ Issue worker direction.Read write piece ∷ []) (pass_of job p) ≡ suc (issued_count h (pass_of job write.pass)) =
           ap (λ (q : ℕ). issued_count (h ++ Issue worker direction.Read write piece ∷ []) (pass_of job q)) same ∙ issued_here job h worker direction.Read write piece clone in
           let counts : issued_count h (pass_of job p) ≡ issued_count h (pass_of job write.pass) = ap (λ (q : ℕ). issued_count h (pass_of job q)) same in
@@ -92,6 +84,12 @@ module _ (plan : Plan) (numbered : IsNumbered plan) (job : SubJob) (planned : cl
           let there : Some d ≡ Some its.draw = sym drawn ∙ ap (slice_get (draws_of_job job p)) place ∙ ap (λ (q : ℕ). slice_get (draws_of_job job q) write.number) same ∙ its.drawn in
           let one : d ≡ its.draw = same_some d its.draw there in
           absurd (both_ways (is_write_draw its.draw) reads (ap is_write_draw (sym one) ∙ writes))
+
+  -- so it leaves the last one
+  read_keeps : (h : List Event) (worker : ℕ) (write : WriteId) (piece : Piece) (o : Option WriteId) → IsIssued plan job h direction.Read write → write.clone ≡ job.clone → LastIs job h o → LastIs job (h ++ Issue worker direction.Read write piece ∷ []) o
+  read_keeps h worker write piece o its clone last =
+      last_keeps job h (Issue worker direction.Read write piece) o
+      (λ p k d drawn writes issued. read_fewer h worker write piece its clone p k d drawn writes issued) last
 
   -- a write that is issued is the furthest
   becomes_last : (h : List Event) (worker : ℕ) (write : WriteId) (piece : Piece) → BegunInTurn job h → IsIssued plan job h direction.Write write → write.clone ≡ job.clone → IsLast job (h ++ Issue worker direction.Write write piece ∷ []) write

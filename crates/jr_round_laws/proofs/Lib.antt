@@ -5,6 +5,11 @@ pub mod CurrentLast
 pub mod CurrentLaws
 pub mod CurrentRounds
 pub mod CurrentTurns
+pub mod KeptFirst
+pub mod KeptLaws
+pub mod KeptLists
+pub mod KeptRounds
+pub mod KeptSettled
 pub mod StandingDraws
 pub mod StandingFinished
 pub mod StandingFlights

@@ -52,8 +52,10 @@ LeftAreUnsettled =
     → HasRound plan history job pass
     → slice_get (pass_of job pass).draws k ≡ Some draw
     → is_write_draw draw ≡ true
-    → (is_due (current_round job history) && list_any (same_write (write_id (pass_of job pass) draw)) (current_round job history).to_check)
-    ≡ (is_full history (pass_of job pass) (group_index (pass_of job pass) draw.number) && not (is_settled history (write_id (pass_of job pass) draw)))
+    → (is_due (current_round job history)
+    && list_any (same_write (write_id (pass_of job pass) draw)) (current_round job history).to_check)
+    ≡ (is_full history (pass_of job pass) (group_index (pass_of job pass) draw.number)
+    && not (is_settled history (write_id (pass_of job pass) draw)))
 
 -- the round that is left by the calls that a desk makes at a clone's events is the current round
 abbrev pub KeptIsCurrent : Type 0

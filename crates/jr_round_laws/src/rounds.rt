@@ -1,4 +1,4 @@
-ghost use Rattle.jr_round_laws.specs.Rounds.{ClosedAtEnd, LeftAreUnsettled, LeftInPass, WaitsUnderWay};
+ghost use Rattle.jr_round_laws.specs.Rounds.{ClosedAtEnd, KeptIsCurrent, LeftAreUnsettled, LeftInPass, WaitsUnderWay};
 
 /// A group of the pass that a clone is in waits for its checks exactly where the current round is under way.
 pub fn waits_under_way()
@@ -18,4 +18,9 @@ pub fn left_in_pass()
 /// Where the round is due, they are exactly those of full groups that aren't settled.
 pub fn left_are_unsettled()
     ensures { LeftAreUnsettled }
+{}
+
+/// The round that is left by the calls that a desk makes at a clone's events is the current round.
+pub fn kept_is_current()
+    ensures { KeptIsCurrent }
 {}
