@@ -1,9 +1,9 @@
 -- Internal: a clone's standing at the start, and one that memory was asked for.
-use Rattle.std.specs.Prelude.{◌≡◌, ℕ, suc, true, false, List, [], Option, Some, None, IfSome}
+use Rattle.std.specs.Prelude.{◌≡◌, ℕ, suc, true, false, List, [], length, slice_get, Option, Some, None, IfSome}
 use Rattle.jr_model.specs.declared.totals.Totals.{Totals}
 use Rattle.jr_model.specs.declared.workloads.Draw.{Draw}
 use Rattle.jr_model.specs.Draws.{draws_of_job}
-use Rattle.jr_model.specs.Plan.{SubJob}
+use Rattle.jr_model.specs.Plan.{Plan, SubJob, clone_of}
 use Rattle.jr_backlog.specs.Rounds.{new_round}
 use Rattle.jr_board.specs.declared.boards.Standing.{Standing}
 
@@ -45,3 +45,9 @@ pub record IsAlike (job : SubJob) (old new : Standing) : Type 0 where
   pub verdicts : new.verdicts ≡ old.verdicts
   pub halted : new.is_halted ≡ old.is_halted
   pub round : new.rounds.round ≡ old.rounds.round
+
+-- each clone's standing is alike
+pub record AreAlike (plan : Plan) (old new : List Standing) : Type 0 where
+  pub count : length new ≡ length old
+  pub alike : (c : ℕ) (job : SubJob) (standing : Standing) → clone_of plan c ≡ Some job → slice_get old c ≡ Some standing
+      → (after : Standing) × (slice_get new c ≡ Some after) × IsAlike job standing after
