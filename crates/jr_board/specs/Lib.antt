@@ -1,4 +1,0 @@
-pub mod Boards
-pub mod Standings
-pub mod Moves
-pub mod Making
