@@ -17,6 +17,9 @@ use std::io::BufWriter;
 use std::process::ExitCode;
 use std::{env, fs, io};
 
+#[cfg(test)]
+mod tests;
+
 fn main(rt: HostRuntime) -> ExitCode {
     match run(&rt) {
         Ok(status) => ExitCode::from(status),

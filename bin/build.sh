@@ -1,0 +1,98 @@
+# shellcheck shell=bash disable=SC2154
+# Read by bin/fiorun and bin/install, which set `top`, the top of the repository: is the program built, and its build.
+out=$top/crates/fiorun/out
+program=$out/fiorun
+# Made as a build begins, and renamed when it has ended well: so an interrupted build is seen, and an edit during one.
+begun=$out/build.begun
+ended=$out/build.ended
+
+# Is the program there, and no source newer than the start of its build (or than itself, where the gate made it)?
+is_built() {
+  local since=$program
+  [ -x "$program" ] && [ ! -e "$begun" ] || return 1
+  [ ! -e "$ended" ] || since=$ended
+  [ -z "$(find "$top/crates.txt" "$top"/crates/*/{src,specs,proofs} -newer "$since" -print -quit 2>/dev/null)" ]
+}
+
+say() { printf 'fiorun: %s\n' "$*" >&2; }
+
+# Builds the program where it isn't built, one build at a time: a second one waits, and then finds it built.
+build() {
+  if ! command -v rt >/dev/null; then
+    say "cannot build: the kit's rt is not on the path"
+    return 3
+  fi
+  # (a folder of its own to lock: rt locks those of the crates)
+  exec 9<"$top/bin"
+  if ! flock -n 9; then
+    say "waiting for a build that another start has begun"
+    flock 9
+  fi
+  local status=0
+  is_built || build_crates || status=3
+  exec 9<&-
+  return $status
+}
+
+build_crates() {
+  local what="build" name count=0
+  [ -e "$program" ] || what="first build"
+  mkdir -p "$out"
+  [ -e "$begun" ] || : >"$begun"
+  touch "$begun"
+  SECONDS=0
+  order=()
+  read_crates
+  visit fiorun
+  changed=" "
+  for name in "${order[@]}"; do
+    count=$((count + 1))
+    if [ "$name" = fiorun ] || needs_proof "$name"; then
+      changed+="$name "
+      say "$what: proving $name ($count of ${#order[@]}), $((SECONDS / 60)) min"
+      prove "$name" || return
+    fi
+  done
+  mv "$begun" "$ended"
+}
+
+# Proves and builds a crate with the kit, over what earlier runs have kept; where it fails, says what was said.
+prove() {
+  local log=$out/build.log words=(lib)
+  [ "$1" != fiorun ] || words=(run -- --help)
+  if ! (cd "$top/crates/$1" && rt "${words[@]}") </dev/null >"$log" 2>&1; then
+    say "$1 was not built; the end of $log:"
+    tail -n 30 "$log" >&2
+    return 1
+  fi
+}
+
+# The crates of crates.txt, each with what it stands on.
+declare -A below
+read_crates() {
+  local left right
+  while IFS=: read -r left right; do
+    left=${left%%#*}
+    [ -z "${left// /}" ] || below[${left%% *}]=$right
+  done <"$top/crates.txt"
+}
+
+# Puts a crate of the repository behind those that it stands on.
+visit() {
+  local dep
+  [ -n "${below[$1]+here}" ] || return 0
+  case " ${order[*]} " in *" $1 "*) return 0 ;; esac
+  for dep in ${below[$1]}; do visit "$dep"; done
+  order+=("$1")
+}
+
+# Has a library to be proved, by the times of its files and by what it stands on? (What it says counts for the lines that
+# are printed; rt itself decides by what the files hold.)
+needs_proof() {
+  local dep stamp=$top/crates/$1/out/rlib/stamp
+  [ -e "$stamp" ] || return 0
+  for dep in ${below[$1]}; do
+    case "$changed" in *" $dep "*) return 0 ;; esac
+  done
+  [ -n "$(find "$top/crates/$1"/{src,specs,proofs} -newer "$stamp" -print -quit 2>/dev/null)" ]
+}
