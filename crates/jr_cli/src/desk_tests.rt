@@ -2,8 +2,10 @@ use crate::read_job;
 use jr_desk::{Desk, Take};
 use jr_engines::{Engine, MemoryEngine};
 use jr_header::{Served, rule, serve};
-use jr_model::{DeskFault, Ticket};
+use jr_model::{DeskFault, Event, Ticket, Totals};
+use jr_options::plan_text;
 use std::alloc::Global;
+use std::process::Abort;
 use std::test::Fail;
 
 const FIRST: &str =
@@ -34,6 +36,40 @@ fn carried_out(alloc: Global, engine: &mut dyn Engine, ticket: Ticket) -> Result
     Ok(serve(engine, ticket, buffer))
 }
 
+// What a desk says of itself.
+#[derive(Drop)]
+struct Shown {
+    plan: Vec<u8>,
+    history: Vec<Event>,
+    totals: Vec<Totals>,
+}
+
+fn shown_by(alloc: Global, desk: &Desk) -> Result<Shown, Fail> {
+    let plan = plan_text(alloc, desk.plan())?;
+    let mut history = Vec::new(alloc);
+    history.extend_from_slice(desk.history())?;
+    let mut totals = Vec::new(alloc);
+    totals.extend_from_slice(desk.totals())?;
+    Ok(Shown {
+        plan,
+        history,
+        totals,
+    })
+}
+
+// Is a refused call's desk in all that it says as it was?
+fn assert_unchanged(
+    rt: &(impl AllocGlobal + Abort),
+    desk: &Desk,
+    before: &Shown,
+) -> Result<(), Fail> {
+    let after = shown_by(rt.alloc(), desk)?;
+    assert!(rt; after.plan.as_slice() == before.plan.as_slice());
+    assert!(rt; after.history.as_slice() == before.history.as_slice());
+    assert!(rt; after.totals.as_slice() == before.totals.as_slice());
+    Ok(())
+}
+
 #[test]
 fn ends_are_refused_by_name(rt: HostRuntime) -> Result<(), Fail> {
     let (mut desk, mut engine) = desk_and_engine(rt.alloc())?;
@@ -44,12 +80,16 @@ fn ends_are_refused_by_name(rt: HostRuntime) -> Result<(), Fail> {
     other_seed.seed = ticket.seed.wrapping_add(1);
     for stranger in [unknown, other_seed] {
         let served = carried_out(rt.alloc(), &mut engine, stranger)?;
+        let before = shown_by(rt.alloc(), &desk)?;
         assert_eq!(rt; desk.end(&served), Err(DeskFault::Stranger));
+        assert_unchanged(&rt, &desk, &before)?;
         assert_eq!(rt; desk.history().len(), 1);
     }
     let served = carried_out(rt.alloc(), &mut engine, ticket)?;
     assert_eq!(rt; desk.end(&served), Ok(()));
+    let before = shown_by(rt.alloc(), &desk)?;
     assert_eq!(rt; desk.end(&served), Err(DeskFault::Twice));
+    assert_unchanged(&rt, &desk, &before)?;
     assert_eq!(rt; desk.history().len(), 2);
     Ok(())
 }
@@ -66,11 +106,15 @@ fn verdicts_are_refused_by_name(rt: HostRuntime) -> Result<(), Fail> {
         return Err(Fail::from("a check to judge"));
     }
     let ruling = rule(&read);
+    let before = shown_by(rt.alloc(), &desk)?;
     assert_eq!(rt; desk.judge(1, &ruling), Err(DeskFault::WrongKind));
+    assert_unchanged(&rt, &desk, &before)?;
     assert_eq!(rt; desk.end(&read), Ok(()));
     assert!(rt; !desk.is_complete());
     assert_eq!(rt; desk.judge(1, &ruling), Ok(()));
+    let before = shown_by(rt.alloc(), &desk)?;
     assert_eq!(rt; desk.judge(1, &ruling), Err(DeskFault::Twice));
+    assert_unchanged(&rt, &desk, &before)?;
     assert!(rt; desk.is_complete());
     assert_eq!(rt; desk.take(0), Ok(Take::Finished));
     assert_eq!(rt; desk.totals().len(), 1);
@@ -86,8 +130,31 @@ fn a_stopped_desk_takes_nothing_in(rt: HostRuntime) -> Result<(), Fail> {
     assert_eq!(rt; desk.take(1), Ok(Take::Wait));
     let served = carried_out(rt.alloc(), &mut engine, ticket)?;
     desk.stop();
+    let before = shown_by(rt.alloc(), &desk)?;
     assert_eq!(rt; desk.take(0), Ok(Take::Finished));
     assert_eq!(rt; desk.end(&served), Err(DeskFault::Stopped));
+    assert_unchanged(&rt, &desk, &before)?;
     assert_eq!(rt; desk.history().len(), 1);
+    Ok(())
+}
+
+#[test]
+fn a_stopped_desk_takes_no_verdict_in(rt: HostRuntime) -> Result<(), Fail> {
+    let (mut desk, mut engine) = desk_and_engine(rt.alloc())?;
+    let write = next_ticket(&mut desk)?;
+    let written = carried_out(rt.alloc(), &mut engine, write)?;
+    assert_eq!(rt; desk.end(&written), Ok(()));
+    let probe = next_ticket(&mut desk)?;
+    let read = carried_out(rt.alloc(), &mut engine, probe)?;
+    assert_eq!(rt; desk.end(&read), Ok(()));
+    if !read.to_judge() {
+        return Err(Fail::from("a check to judge"));
+    }
+    let ruling = rule(&read);
+    desk.stop();
+    let before = shown_by(rt.alloc(), &desk)?;
+    assert_eq!(rt; desk.judge(1, &ruling), Err(DeskFault::Stopped));
+    assert_unchanged(&rt, &desk, &before)?;
+    assert!(rt; !desk.is_complete());
     Ok(())
 }

@@ -1,8 +1,10 @@
 use crate::{
     CliFault, answer_words, choose, execute_serial, print_check, print_plan, read_job, read_text,
+    read_trace,
 };
 use jr_engines::MemoryEngine;
 use jr_stats::TraceFault;
+use std::alloc::Global;
 use std::io;
 use std::io::{ErrorKind, Read, Write};
 use std::test::Fail;
@@ -94,10 +96,26 @@ fn a_text_is_read_up_to_its_limit(rt: HostRuntime) -> Result<(), Fail> {
     let long = vec![in rt.alloc(); b'#'; 1_048_578]?;
     let text = read_text(rt.alloc(), long.as_slice())?;
     assert_eq!(rt; text.len(), 1_048_577);
-    let broken = BrokenReader { is_begun: false };
-    match read_text(rt.alloc(), broken) {
-        Ok(_) => assert!(rt; false, "a text of half a file"),
-        Err(fault) => assert_eq!(rt; fault, CliFault::Read),
+    Ok(())
+}
+
+#[test]
+fn what_fails_to_be_read_ends_with_3(rt: HostRuntime) -> Result<(), Fail> {
+    for is_begun in [false, true] {
+        let job = read_text(rt.alloc(), BrokenReader { is_begun });
+        let events = read_trace(rt.alloc(), BrokenReader { is_begun });
+        for (read, text) in [
+            (job, "cannot read the job file"),
+            (events, "cannot read the trace"),
+        ] {
+            match read {
+                Ok(_) => assert!(rt; false, "a text of half a file"),
+                Err(fault) => {
+                    let said = format!(in rt.alloc(); "{fault}")?;
+                    assert_eq!(rt; (said.as_str(), fault.status()), (text, 3));
+                }
+            }
+        }
     }
     Ok(())
 }
@@ -140,6 +158,67 @@ fn a_trace_is_written_and_checked(rt: HostRuntime) -> Result<(), Fail> {
     let mut engine = MemoryEngine::new(rt.alloc(), &plan)?;
     let cut = execute_serial(rt.alloc(), plan, &mut engine, Some(&mut full()), &mut out);
     assert_eq!(rt; cut, Err(CliFault::Write));
+    Ok(())
+}
+
+// The events of a run of CHECKED with its first two lines exchanged.
+const EXCHANGED: &str =
+    "E 0 0 whole\nI 0 0 0 0 0\nI 0 1 0 0 1\nE 0 1 whole\nP 0 2 0 0 0\nE 0 2 whole\nV 0 2 good\nP 0 3 0 0 1\nE 0 3 whole\nV 0 3 good\n";
+
+// The same with `Q` for its third line.
+const UNKNOWN: &str =
+    "I 0 0 0 0 0\nE 0 0 whole\nQ\nE 0 1 whole\nP 0 2 0 0 0\nE 0 2 whole\nV 0 2 good\nP 0 3 0 0 1\nE 0 3 whole\nV 0 3 good\n";
+
+// And without its last line.
+const UNENDED: &str =
+    "I 0 0 0 0 0\nE 0 0 whole\nI 0 1 0 0 1\nE 0 1 whole\nP 0 2 0 0 0\nE 0 2 whole\nV 0 2 good\nP 0 3 0 0 1\nE 0 3 whole\n";
+
+#[test]
+fn refused_traces_have_their_text_and_status(rt: HostRuntime) -> Result<(), Fail> {
+    let plan = read_job(rt.alloc(), CHECKED.as_bytes(), None)?;
+    for (events, text) in [
+        (EXCHANGED, "trace: line 1: not legal here"),
+        (UNKNOWN, "trace: line 3: not a trace line"),
+        (UNENDED, "trace: not complete"),
+        ("", "trace: not complete"),
+    ] {
+        let mut out = Vec::new(rt.alloc());
+        match print_check(rt.alloc(), &plan, events.as_bytes(), &mut out) {
+            Ok(()) => assert!(rt; false, "accepted: {events}"),
+            Err(fault) => {
+                let said = format!(in rt.alloc(); "{fault}")?;
+                assert_eq!(rt; (said.as_str(), fault.status()), (text, 2));
+            }
+        }
+        assert_eq!(rt; out.len(), 0);
+    }
+    Ok(())
+}
+
+// What is started in a trace, in order: a letter for each line of an I/O, a check or a skip.
+fn starts_of(alloc: Global, events: &[u8]) -> Result<String, Fail> {
+    let mut starts = String::new(alloc);
+    let mut begins_line = true;
+    for byte in events {
+        if begins_line && matches!(byte, b'I' | b'P' | b'S') {
+            starts.push(*byte as char)?;
+        }
+        begins_line = *byte == b'\n';
+    }
+    Ok(starts)
+}
+
+#[test]
+fn a_round_of_checks_follows_each_third_write(rt: HostRuntime) -> Result<(), Fail> {
+    let text = "[w]\nioengine=memory\nrw=write\nsize=28k\nverify_backlog=3\nverify=md5\n";
+    let plan = read_job(rt.alloc(), text.as_bytes(), None)?;
+    let mut engine = MemoryEngine::new(rt.alloc(), &plan)?;
+    let mut events = Vec::new(rt.alloc());
+    let mut out = Vec::new(rt.alloc());
+    let status = execute_serial(rt.alloc(), plan, &mut engine, Some(&mut events), &mut out)?;
+    assert_eq!(rt; status, 0);
+    let starts = starts_of(rt.alloc(), events.as_slice())?;
+    assert_eq!(rt; starts.as_str(), "IIIPPPIIIPPPIP");
     Ok(())
 }
 

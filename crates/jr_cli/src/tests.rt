@@ -63,10 +63,6 @@ fn runs_of_right_engines_are_clean(rt: HostRuntime) -> Result<(), Fail> {
             "w: clone=0 reads=0 rbytes=0 writes=2 wbytes=8192 checks=0 good=0 bad=0 skipped=0 void=0 faults=0\n",
         ),
         (
-            "[r]\nioengine=memory\nrw=randwrite\nsize=40k\nverify=pattern\nverify_pattern=7\n",
-            "r: clone=0 reads=0 rbytes=0 writes=10 wbytes=40960 checks=10 good=10 bad=0 skipped=0 void=0 faults=0\n",
-        ),
-        (
             "[w]\nioengine=memory\nrw=write\nsize=28k\nverify_backlog=3\nverify=md5\n",
             "w: clone=0 reads=0 rbytes=0 writes=7 wbytes=28672 checks=7 good=7 bad=0 skipped=0 void=0 faults=0\n",
         ),
@@ -83,14 +79,28 @@ fn runs_of_right_engines_are_clean(rt: HostRuntime) -> Result<(), Fail> {
 }
 
 #[test]
-fn each_clone_of_one_file_is_checked(rt: HostRuntime) -> Result<(), Fail> {
+fn each_of_a_hundred_random_writes_is_checked(rt: HostRuntime) -> Result<(), Fail> {
     let (report, status) = run_of(
         rt.alloc(),
-        "[w]\nioengine=memory\nrw=write\nsize=16k\nnumjobs=2\nfilename=f\niodepth=4\nverify=sha256\n",
+        "[r]\nioengine=memory\nrw=randwrite\nsize=400k\nverify=pattern\nverify_pattern=7\n",
     )?;
     assert_eq!(rt;
         report.as_str(),
-        "w: clone=0 reads=0 rbytes=0 writes=4 wbytes=16384 checks=4 good=4 bad=0 skipped=0 void=0 faults=0\nw: clone=1 reads=0 rbytes=0 writes=4 wbytes=16384 checks=4 good=4 bad=0 skipped=0 void=0 faults=0\n"
+        "r: clone=0 reads=0 rbytes=0 writes=100 wbytes=409600 checks=100 good=100 bad=0 skipped=0 void=0 faults=0\n"
+    );
+    assert_eq!(rt; status, 0);
+    Ok(())
+}
+
+#[test]
+fn each_clone_of_one_file_is_checked(rt: HostRuntime) -> Result<(), Fail> {
+    let (report, status) = run_of(
+        rt.alloc(),
+        "[w]\nioengine=memory\nrw=write\nsize=64k\nnumjobs=2\nfilename=f\niodepth=4\nverify=sha256\n",
+    )?;
+    assert_eq!(rt;
+        report.as_str(),
+        "w: clone=0 reads=0 rbytes=0 writes=16 wbytes=65536 checks=16 good=16 bad=0 skipped=0 void=0 faults=0\nw: clone=1 reads=0 rbytes=0 writes=16 wbytes=65536 checks=16 good=16 bad=0 skipped=0 void=0 faults=0\n"
     );
     assert_eq!(rt; status, 0);
     Ok(())
@@ -130,10 +140,9 @@ fn flipped_bytes_are_told_by_their_place(rt: HostRuntime) -> Result<(), Fail> {
 fn a_bad_verdict_may_be_fatal(rt: HostRuntime) -> Result<(), Fail> {
     let text = "[w]\nioengine=memory\nrw=write\nsize=16k\nverify=md5\nverify_fatal=1\n";
     let (report, status) = scripted_run(rt.alloc(), text, 6, Reply::Flip(100))?;
-    assert!(rt;
-        report.as_str().starts_with(
-            "w: clone=0 reads=0 rbytes=0 writes=4 wbytes=16384 checks=3 good=2 bad=1 skipped=0 void=0 faults=0\n"
-        )
+    assert_eq!(rt;
+        report.as_str(),
+        "w: clone=0 reads=0 rbytes=0 writes=4 wbytes=16384 checks=3 good=2 bad=1 skipped=0 void=0 faults=0\nmiscompare: clone=0 pass=0 number=2 file=w.0.0 offset=8192 length=4096 what=data\n"
     );
     assert_eq!(rt; status, 1);
     let unchecked = "[w]\nioengine=memory\nrw=write\nsize=16k\nverify=md5\ndo_verify=0\n";
@@ -197,6 +206,14 @@ fn refused_job_files_have_their_text_and_status(rt: HostRuntime) -> Result<(), F
         ),
         ("[w]\nruntime=60\n", "job file: line 2: option out of scope"),
         ("[w]\niodepth=0\nsize=4k\n", "job file: line 2: bad value"),
+        (
+            "[w]\nsize=16k\nbssplit=4k/60:8k/50\n",
+            "job file: line 3: bad split",
+        ),
+        (
+            "[w]\nsize=16k\nbssplit=4k/60\n",
+            "job file: line 3: bad split",
+        ),
     ] {
         match planned(rt.alloc(), text) {
             Ok(_) => assert!(rt; false, "a plan of {text}"),
