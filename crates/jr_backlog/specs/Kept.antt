@@ -1,5 +1,5 @@
--- Internal: the round that is left by the calls that a desk makes at a clone's events, one after another. It is to be the
--- current round of each legal history in which the clone isn't halted.
+-- Internal: the round that is left by the calls that a desk makes at a clone's events, one after another. It is the current
+-- round of each legal history in which the clone isn't halted.
 use Rattle.std.specs.Prelude.{◌==◌, ◌&&◌, List, [], ◌∷◌, ◌++◌, slice_get, Option, Some, None, if◌then◌else◌}
 use Rattle.jr_model.specs.declared.blocks.Dir.{Dir}
 use Rattle.jr_model.specs.declared.blocks.Dir.TheVariants as direction

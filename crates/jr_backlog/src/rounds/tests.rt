@@ -44,10 +44,12 @@ fn seven_writes_in_rounds_of_three(rt: HostRuntime) -> Result<(), Fail> {
         add(&rt, &mut rounds, write(number))?;
     }
     assert!(rt; rounds.due());
+    assert_eq!(rt; rounds.left(), 3);
     assert_eq!(rt; rounds.next_check(), Some(write(0)));
     pass(&rt, &mut rounds, write(1));
     assert_eq!(rt; rounds.next_after(&write(0)), Some(write(2)));
     pass(&rt, &mut rounds, write(0));
+    assert_eq!(rt; rounds.left(), 1);
     assert_eq!(rt; rounds.next_check(), Some(write(2)));
     assert!(rt; !rounds.closed());
     pass(&rt, &mut rounds, write(2));
@@ -143,6 +145,7 @@ impl Plain {
 fn assert_agree(rt: &impl Abort, rounds: &Rounds, plain: &Plain, write: &WriteId) {
     assert_eq!(rt; rounds.due(), plain.due());
     assert_eq!(rt; rounds.closed(), plain.closed());
+    assert_eq!(rt; rounds.left(), plain.to_check.len());
     let first = if plain.due() {
         plain.to_check.first().copied()
     } else {
