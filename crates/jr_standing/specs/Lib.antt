@@ -1,2 +1,0 @@
-pub mod DrawsAhead
-pub mod Deferred
