@@ -19,8 +19,8 @@ use Rattle.jr_crew.proofs.Chosen.{IsStep, appends_by}
 pub count-append : (p : Event → Bool) (xs ys : List Event) → count_by p (xs ++ ys) ≡ count_by p xs + count_by p ys
 count-append p xs ys = sum_by-append (λ (x : Event). cond (p x) 1 0) xs ys
 
-count-cons : (p : Event → Bool) (e : Event) (events : List Event) → count_by p (e ∷ events) ≡ cond (p e) 1 0 + count_by p events
-count-cons p e events = sum_by-cons (λ (x : Event). cond (p x) 1 0) e events
+pub count-cons : {X : Type 0} (p : X → Bool) (e : X) (events : List X) → count_by p (e ∷ events) ≡ cond (p e) 1 0 + count_by p events
+count-cons {X} p e events = sum_by-cons (λ (x : X). cond (p x) 1 0) e events
 
 no_end : (worker : ℕ) (e : Event) → IsStep worker e → is_end e ≡ false
 no_end worker (Issue w dir write piece) step = refl

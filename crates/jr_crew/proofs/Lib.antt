@@ -2,10 +2,14 @@ pub mod Calling
 pub mod Carrying
 pub mod Chosen
 pub mod Counting
+pub mod Crewing
 pub mod Going
 pub mod Handing
+pub mod Matching
 pub mod Running
 pub mod Serially
 pub mod Settling
+pub mod Tables
 pub mod Turning
 pub mod Tying
+pub mod Worked

@@ -1,5 +1,9 @@
+pub mod Accounts
+pub mod Books
+pub mod Crews
 pub mod Ends
 pub mod FaultTexts
 pub mod Faults
 pub mod Runs
 pub mod Turns
+pub mod Working

@@ -1,4 +1,5 @@
 use jr_model::{DeskFault, Memory};
+use std::alloc::AllocError;
 use std::error::Error;
 use std::fmt;
 
@@ -55,5 +56,16 @@ impl From<DeskFault> for RunFault {
             DeskFault::Memory => RunFault::Memory,
             _ => RunFault::Books,
         }
+    }
+}
+
+impl From<AllocError> for RunFault {
+    ghost use Rattle.std.specs.Prelude.{◌≡◌};
+    ghost use Rattle.jr_crew.specs.declared.faults.RunFault.TheVariants as fault;
+
+    ghost from_gives = { λ error made. made ≡ fault.Memory };
+
+    fn from(_error: AllocError) -> RunFault {
+        RunFault::Memory
     }
 }

@@ -1,11 +1,20 @@
-// Who carries out a run: here one worker, which judges its own checks.
+// Who carries out a run: one worker that waits for nobody, or many at once. Each judges its own checks.
 #![tactic(auto)]
 
+mod accounts;
+mod books;
+mod crew;
 mod faults;
+mod held;
 mod serial;
+mod work;
 
+pub use books::Done;
+pub use crew::{Ran, run};
 pub use faults::RunFault;
 pub use serial::run_serial;
 
+#[cfg(test)]
+mod run_tests;
 #[cfg(test)]
 mod tests;

@@ -198,8 +198,8 @@ impl Desk {
         }
     }
 
-    // The ticket that was handed out under this number, if any was.
-    pub(crate) fn ticket_at(&self, id: u32) -> Option<Ticket>
+    /// The ticket that was handed out under this number, if any was.
+    pub fn ticket_at(&self, id: u32) -> Option<Ticket>
         ensures { result ≡ slice_get (tickets_of self.now.plan self.now.history) id }
     {
         self.tickets.get(place_of(id)).copied()

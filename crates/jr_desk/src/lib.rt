@@ -14,6 +14,7 @@ mod workings;
 pub use desk::Desk;
 pub use jr_model::{DeskFault, Step, StepReply};
 pub use plays::{Played, play};
+pub use sameness::is_same;
 pub use takes::Take;
 
 #[cfg(test)]

@@ -2,7 +2,7 @@ ghost use Rattle.std.specs.Prelude.{◌≡◌, IsTrue, IsFalse};
 
 use jr_model::{Expected, Method, Pattern, Piece, Ticket, TicketKind, VerifyKind, WriteId};
 
-// Whether a ticket differs from another in nothing.
+/// Whether a ticket differs from another in nothing.
 pub fn is_same(a: &Ticket, b: &Ticket) -> bool
     ensures yes { IsTrue result → a.now ≡ b.now }
     ensures no { IsFalse result → ¬ a.now ≡ b.now }

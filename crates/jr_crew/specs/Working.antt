@@ -1,0 +1,20 @@
+-- Internal: what a worker's own book says of the calls of its engine (of this project).
+use Rattle.std.specs.Prelude.{◌≡◌, Bool, ◌&&◌, List, [], ◌∷◌, replicate, Some, None, if◌then◌else◌}
+use Rattle.jr_model.specs.Replies.{EngineState}
+use Rattle.jr_engines.specs.Answers.{AnswerParts, Answers}
+use Rattle.jr_header.specs.Served.{asked_with, is_to_judge, answer_verdict}
+use Rattle.jr_crew.specs.declared.books.Done.{Done}
+
+-- the engine was called once for what was done, with a buffer of zeros or the write's bytes; the outcome is the answer's, and
+-- so is the verdict where the worker judges
+pub record IsCalledFor (inline : Bool) (before : EngineState) (done : Done) (after : EngineState) : Type 0 where
+  pub answer : AnswerParts
+  pub asked : Answers before done.ticket (asked_with done.ticket.kind done.ticket (replicate done.ticket.piece.len 0)) answer after
+  pub outcome : done.outcome ≡ answer.outcome
+  pub verdict : done.verdict ≡ (if inline && is_to_judge answer then Some (answer_verdict answer) else None)
+
+-- the engine was called for each item of the book, one after another
+abbrev pub AreCallsFor : Bool → EngineState → List Done → EngineState → Type 0
+AreCallsFor inline before [] after = after ≡ before
+AreCallsFor inline before (done ∷ book) after =
+    (middle : EngineState) × IsCalledFor inline before done middle × AreCallsFor inline middle book after

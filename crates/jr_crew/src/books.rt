@@ -1,0 +1,9 @@
+use jr_model::{Outcome, Ticket, Verdict};
+
+/// What a worker completed: how it ended, and what the worker said of it where it judges its own checks.
+#[derive(Clone, Copy, Debug, PartialEq, Eq)]
+pub struct Done {
+    pub ticket: Ticket,
+    pub outcome: Outcome,
+    pub verdict: Option<Verdict>,
+}

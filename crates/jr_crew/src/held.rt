@@ -1,0 +1,128 @@
+ghost use Rattle.std.specs.Prelude.{◌≡◌, true, IfOk, IfSome};
+ghost use Rattle.jr_model.specs.Tickets.{ticket_fits};
+ghost use Rattle.jr_desk.specs.Takes.{is_fitting};
+
+use crate::faults::RunFault;
+use jr_desk::{Desk, DeskFault, Take};
+use jr_header::{Ruling, Served};
+use jr_model::Ticket;
+use std::marker::{Brand, PhantomData};
+use std::sync::{Condvar, Mutex, Wait};
+
+// The plan of a run. Each run picks its own.
+pub trait Naming {
+    ghost use Rattle.jr_model.specs.Plan.{Plan};
+
+    ghost plan: { Plan };
+}
+
+impl Naming for Brand {
+    ghost use Rattle.std.specs.Prelude.{[]};
+    ghost use Rattle.jr_model.specs.declared.workloads.EngineKind.TheVariants as kind;
+
+    ghost plan = { record { clones = []; files = []; engine = kind.Null; verifiers = 0 } };
+}
+
+// What lies under the lock: the desk of that plan.
+#[derive(Drop)]
+pub struct Held<P: Naming> {
+    desk: Desk,
+    of: PhantomData<P>,
+    ghost plan_is: { desk.plan ≡ P.plan },
+}
+
+impl<P: Naming> Held<P> {
+    fn take(&mut self, worker: u32) -> Result<Take, DeskFault>
+        ensures { IfOk result (λ answer. is_fitting answer ≡ true) }
+    {
+        self.desk.take(worker)
+    }
+
+    fn end(&mut self, served: &Served) -> Result<(), DeskFault> {
+        self.desk.end(served)
+    }
+
+    fn judge(&mut self, by: u32, ruling: &Ruling<'_>) -> Result<(), DeskFault> {
+        self.desk.judge(by, ruling)
+    }
+
+    fn stop(&mut self) {
+        self.desk.stop();
+    }
+
+    // The desk, once no thread shares it any more.
+    fn into_desk(self) -> Desk
+        ensures { result.plan ≡ P.plan }
+    {
+        let Held { desk, of: _ } = self;
+        desk
+    }
+}
+
+// The desk under its lock, and what those wait on that can't go on.
+#[derive(Drop)]
+pub struct Shared<P: Naming> {
+    held: Mutex<Held<P>>,
+    changed: Condvar,
+}
+
+impl<P: Naming> Shared<P> {
+    pub fn new(desk: Desk) -> Shared<P>
+        requires { desk.plan ≡ P.plan }
+    {
+        let held = Held {
+            desk,
+            of: PhantomData,
+        };
+        Shared {
+            held: Mutex::new(held),
+            changed: Condvar::new(),
+        }
+    }
+
+    // The desk, once all threads have ended.
+    pub fn into_desk(self) -> Desk
+        ensures { result.plan ≡ P.plan }
+    {
+        let Shared { held, changed: _ } = self;
+        held.into_inner().into_desk()
+    }
+
+    // The ticket of what this worker is to carry out next; none where the run has ended. It waits while nothing may be
+    // started: nothing but an end, a verdict or a stop lets anything start again.
+    pub fn next<R: Wait>(&self, rt: &R, worker: u32) -> Result<Option<Ticket>, RunFault>
+        ensures { IfOk result (λ ticket. IfSome ticket (λ t. ticket_fits t ≡ true)) }
+    {
+        let mut held = self.held.lock(rt);
+        for _ in rt.forever() {
+            match held.take(worker) {
+                Ok(Take::Io(ticket)) => return Ok(Some(ticket)),
+                Ok(Take::Probe(ticket)) => return Ok(Some(ticket)),
+                Ok(Take::Finished) => return Ok(None),
+                Ok(Take::Wait) => held = self.changed.wait(rt, held),
+                Err(fault) => return Err(RunFault::from(fault)),
+            }
+        }
+        unreachable!()
+    }
+
+    // Takes in how a ticket ended.
+    pub fn end<R: Wait>(&self, rt: &R, served: &Served) -> Result<(), RunFault> {
+        self.held.lock(rt).end(served)?;
+        self.changed.notify_all();
+        Ok(())
+    }
+
+    // Takes in a verdict.
+    pub fn judge<R: Wait>(&self, rt: &R, by: u32, ruling: &Ruling<'_>) -> Result<(), RunFault> {
+        self.held.lock(rt).judge(by, ruling)?;
+        self.changed.notify_all();
+        Ok(())
+    }
+
+    // Ends the run for all threads.
+    pub fn stop<R: Wait>(&self, rt: &R) {
+        self.held.lock(rt).stop();
+        self.changed.notify_all();
+    }
+}
