@@ -10,9 +10,10 @@ pub enum RunFault {
     Memory,
     /// There is no engine to run with.
     NoEngine,
-    /// A thread couldn't be started.
+    /// A thread couldn't be started. Not answered yet: workers that can't be started are carried out one after another.
     Thread,
-    /// What the workers did isn't what the desk holds. No right run meets it.
+    /// What the workers did isn't what the desk holds. No right run meets it, unless an engine's count of calls or the
+    /// numbers of workers (below 2^32) are at their end.
     Books,
 }
 
