@@ -1,5 +1,5 @@
 use crate::read_job;
-use jr_desk::{Desk, Take};
+use jr_board::{Desk, Take};
 use jr_engines::{Engine, MemoryEngine};
 use jr_header::{Served, rule, serve};
 use jr_model::{DeskFault, Event, Ticket, Totals};

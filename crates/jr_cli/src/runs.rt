@@ -14,8 +14,8 @@ ghost use Rattle.jr_cli.specs.JobRefusals.{job_refusal, IsRefusedBy, IsWantOfMem
 ghost use Rattle.jr_cli.specs.Status.{status_of, is_unclean};
 
 use crate::faults::CliFault;
+use jr_board::Desk;
 use jr_crew::run_serial;
-use jr_desk::Desk;
 use jr_engines::Engine;
 use jr_model::Totals;
 use jr_options::{Plan, plan, plan_text};

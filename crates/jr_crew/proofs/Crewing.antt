@@ -11,7 +11,7 @@ use Rattle.jr_model.specs.Plan.{Plan}
 use Rattle.jr_model.specs.Replies.{EngineState}
 use Rattle.jr_plan.specs.PlanFacts.{IsPlanned}
 use Rattle.jr_steps.proofs.StartedLemmas.{same_some}
-use Rattle.jr_desk.specs.Kept.{tickets_of}
+use Rattle.jr_board.specs.Kept.{tickets_of}
 use Rattle.jr_crew.specs.declared.books.Done.{Done}
 use Rattle.jr_crew.specs.Accounts.{is_own_verdict}
 use Rattle.jr_crew.specs.Books.{dones_of}

@@ -24,8 +24,8 @@ use Rattle.jr_steps.proofs.CountLaws.{numbered_of, serial_stops_all}
 use Rattle.jr_laws.proofs.Memories.{holds_on}
 use Rattle.jr_laws.proofs.QuietRuns.{harmless_choice}
 use Rattle.jr_steps.proofs.StartedLemmas.{length-started-other}
-use Rattle.jr_desk.specs.Takes.{last_started}
-use Rattle.jr_desk.proofs.Keeping.{by_is_skip, last-skip}
+use Rattle.jr_board.specs.Takes.{last_started}
+use Rattle.jr_board.proofs.Keeping.{by_is_skip, last-skip}
 use Rattle.jr_crew.proofs.Chosen.{IsStep, choice_steps}
 
 -- the serial history goes on from here

@@ -31,9 +31,9 @@ use Rattle.jr_laws.proofs.Starts.{draw_started, IsDrawOf}
 use Rattle.jr_laws.proofs.Contents.{lies_in_file, length-content_of_io}
 use Rattle.jr_laws.proofs.Memories.{has_range, covers_piece, covers-fresh_memory, holds_write, holds_read, holds_on, holds_none, stored_check}
 use Rattle.jr_laws.proofs.Verdicts.{good_on_own}
-use Rattle.jr_desk.specs.Takes.{IsChosen}
-use Rattle.jr_desk.proofs.Keeping.{chosen_at, judged_probe}
-use Rattle.jr_desk.proofs.Serving.{content_is, verdict_is}
+use Rattle.jr_board.specs.Takes.{IsChosen}
+use Rattle.jr_board.proofs.Keeping.{chosen_at, judged_probe}
+use Rattle.jr_board.proofs.Serving.{content_is, verdict_is}
 use Rattle.jr_crew.specs.Runs.{IsFresh}
 use Rattle.jr_crew.specs.Turns.{IsTurn, IsLastTurn}
 use Rattle.jr_crew.proofs.Chosen.{chosen_worker, chosen_unended}

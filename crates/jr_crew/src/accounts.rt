@@ -2,13 +2,13 @@ ghost use Rattle.std.specs.Prelude.{◌≡◌, ℕ, ◌++◌, [], IsTrue, IfOk, 
 ghost use Rattle.std.specs.Option.{option_or};
 ghost use Rattle.std.specs.List.{list_all, cons_option};
 ghost use Rattle.jr_model.specs.declared.events.Verdict.{Verdict as GivenVerdict};
-ghost use Rattle.jr_desk.specs.Kept.{tickets_of};
+ghost use Rattle.jr_board.specs.Kept.{tickets_of};
 ghost use Rattle.jr_crew.specs.Accounts.{IsTableOf, is_own_verdict};
 ghost use Rattle.jr_crew.specs.Books.{verdict_by, verdict_in, done_by, done_with, dones_of};
 
 use crate::books::Done;
 use crate::faults::RunFault;
-use jr_desk::{Desk, is_same};
+use jr_board::{Desk, is_same};
 use jr_model::{Event, Memory, Outcome, Verdict};
 use std::alloc::Global;
 

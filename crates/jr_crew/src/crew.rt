@@ -1,7 +1,7 @@
 ghost use Rattle.std.specs.Prelude.{◌≡◌, ℕ, ◌<◌, ◌++◌, ◌∷◌, true, [], Some, Ok, Err, IfOk, OnOk, map, length, slice_get, slice_index_or};
 ghost use Rattle.std.specs.List.{list_all};
 ghost use Rattle.jr_model.specs.Legal.{is_legal, is_complete};
-ghost use Rattle.jr_desk.specs.Kept.{tickets_of};
+ghost use Rattle.jr_board.specs.Kept.{tickets_of};
 ghost use Rattle.jr_crew.specs.Accounts.{IsTableOf, is_own_verdict};
 ghost use Rattle.jr_crew.specs.Books.{dones_of};
 ghost use Rattle.jr_crew.specs.Crews.{IsWorkers};
@@ -12,7 +12,7 @@ use crate::books::Done;
 use crate::faults::RunFault;
 use crate::held::{Naming, Shared};
 use crate::work::work;
-use jr_desk::Desk;
+use jr_board::Desk;
 use jr_engines::Engine;
 use jr_model::Verdict;
 use jr_plan::Plan;

@@ -1,9 +1,9 @@
 ghost use Rattle.std.specs.Prelude.{◌≡◌, true, IfOk, IfSome};
 ghost use Rattle.jr_model.specs.Tickets.{ticket_fits};
-ghost use Rattle.jr_desk.specs.Takes.{is_fitting};
+ghost use Rattle.jr_board.specs.Takes.{is_fitting};
 
 use crate::faults::RunFault;
-use jr_desk::{Desk, DeskFault, Take};
+use jr_board::{Desk, DeskFault, Take};
 use jr_header::{Ruling, Served};
 use jr_model::Ticket;
 use std::marker::{Brand, PhantomData};

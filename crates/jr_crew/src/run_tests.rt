@@ -36,7 +36,7 @@ fn is_clean(totals: &Totals) -> bool {
 
 #[test]
 fn four_workers_over_one_memory(rt: HostRuntime) -> Result<(), Fail> {
-    for _ in 0..10 {
+    for _ in 0..200 {
         let plan = clones_of_one_file(rt.alloc(), 2, 16)?;
         let shared = SharedMemory::new(rt.clone()?, rt.alloc(), &plan)?;
         let mut engines: Vec<Box<dyn Engine + Send>> = Vec::new(rt.alloc());
@@ -68,7 +68,7 @@ fn a_run_wants_an_engine(rt: HostRuntime) -> Result<(), Fail> {
 #[test]
 fn faults_are_what_the_engines_failed(rt: HostRuntime) -> Result<(), Fail> {
     for n in 0..8 {
-        let plan = clones_of_one_file(rt.alloc(), 4, 2)?;
+        let plan = clones_of_one_file(rt.alloc(), 4, 16)?;
         let mut engines: Vec<Box<dyn Engine + Send>> = Vec::new(rt.alloc());
         let script = Vec::from_array(rt.alloc(), [(n, Reply::Fail)])?;
         let memory = MemoryEngine::new(rt.alloc(), &plan)?;

@@ -3,13 +3,13 @@ ghost use Rattle.std.specs.Bool.{MatchBool};
 ghost use Rattle.jr_model.specs.History.{outcome_of, is_judged};
 ghost use Rattle.jr_model.specs.Legal.{is_legal, is_complete};
 ghost use Rattle.jr_model.specs.Serial.{serial_history};
-ghost use Rattle.jr_desk.specs.Kept.{IsOwn};
+ghost use Rattle.jr_board.specs.Kept.{IsOwn};
 ghost use Rattle.jr_crew.specs.Ends.{ends_of, failed_ends_of};
 ghost use Rattle.jr_crew.specs.Runs.{IsCovering, IsFresh, IsTiedRun};
 ghost use Rattle.jr_crew.specs.Turns.{IsBetweenTurns, IsOpen, IsNext, IsCarriedOut, IsTurn, IsLastTurn, judged_by};
 
 use crate::faults::RunFault;
-use jr_desk::{Desk, Take};
+use jr_board::{Desk, Take};
 use jr_engines::Engine;
 use jr_header::{Served, room_for, rule, serve};
 use jr_model::{Event, Ticket};

@@ -1,9 +1,5 @@
-pub mod Answering
-pub mod Choosing
 pub mod Ending
-pub mod Keeping
+mod Few
 pub mod Playing
 pub mod Reading
 pub mod Running
-pub mod Serving
-pub mod Totals

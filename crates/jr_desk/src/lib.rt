@@ -1,21 +1,15 @@
-// The desk: the one shared state of a run. It hands out I/O and takes in results, and its history is
-// the run.
+// Lists of steps played over a desk and a memory of their own: what a desk promises of every list of issues, completions,
+// checks and verdicts is said of such a play.
 #![tactic(auto)]
 
-mod choices;
-mod counts;
-mod desk;
 mod plays;
-mod sameness;
 mod scripted;
-mod takes;
-mod workings;
 
-pub use desk::Desk;
-pub use jr_model::{DeskFault, Step, StepReply};
+pub use jr_board::{Bad, Desk, Take, is_same};
+pub use jr_model::{DeskFault, Step, StepReply, Totals};
 pub use plays::{Played, play};
-pub use sameness::is_same;
-pub use takes::Take;
 
+#[cfg(test)]
+mod random_tests;
 #[cfg(test)]
 mod tests;

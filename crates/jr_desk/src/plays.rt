@@ -4,17 +4,15 @@ ghost use Rattle.jr_model.specs.declared.events.Started.{Started};
 ghost use Rattle.jr_model.specs.Honest.{IsWholeCheck};
 ghost use Rattle.jr_model.specs.Machine.{end_refusal, first_state, judge_refusal, machine_end, machine_judge, machine_run, machine_step, machine_take};
 ghost use Rattle.jr_header.specs.Served.{is_to_judge};
-ghost use Rattle.jr_desk.specs.Kept.{IsOwn, tickets_of};
+ghost use Rattle.jr_board.specs.Kept.{IsOwn, tickets_of};
 ghost use Rattle.jr_desk.specs.Plays.{GoesOn, IsReady, desk_in, judge_reply, judged_desk, kept_by, last_read, reply_for, state_of};
-ghost use Rattle.jr_desk.specs.Refusals.{judge_fault};
+ghost use Rattle.jr_board.specs.Refusals.{judge_fault};
 
-use crate::desk::Desk;
 use crate::scripted::{carried_out, copy_of};
-use crate::takes::Take;
+use jr_board::{Desk, Take};
 use jr_engines::{MemoryEngine, ScriptedEngine};
 use jr_header::{Served, room_for, rule};
 use jr_model::{DeskFault, IoId, Memory, Reply, Step, StepReply, Ticket, TicketKind};
-use jr_past::outcome_of;
 use jr_plan::Plan;
 use std::alloc::Global;
 
@@ -151,7 +149,7 @@ impl Player {
         let Some(ticket) = self.desk.ticket_at(io) else {
             return Err(DeskFault::Stranger);
         };
-        if outcome_of(self.desk.history(), io as usize).is_some() {
+        if self.desk.has_ended(io) {
             return Err(DeskFault::Twice);
         }
         Ok(ticket)

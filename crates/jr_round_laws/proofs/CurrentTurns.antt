@@ -177,7 +177,7 @@ module _ (plan : Plan) (numbered : IsNumbered plan) (job : SubJob) (planned : cl
       omega (arith, most, count_longer h e (pass_of job p), all)
 
   -- a full group stays full
-  full_longer : (h : List Event) (e : Event) (p g : ℕ) → is_legal plan h ≡ true → may_happen plan h e ≡ true → is_full h (pass_of job p) g ≡ true → is_full (h ++ e ∷ []) (pass_of job p) g ≡ true
+  pub full_longer : (h : List Event) (e : Event) (p g : ℕ) → is_legal plan h ≡ true → may_happen plan h e ≡ true → is_full h (pass_of job p) g ≡ true → is_full (h ++ e ∷ []) (pass_of job p) g ≡ true
   full_longer h e p g legal happens full =
       by_reason (or_cases (all_issued h (pass_of job p)) (nat_lt 0 job.backlog && (issued_among h (pass_of job p) (group_of (pass_of job p) g) == job.backlog)) full)
     where

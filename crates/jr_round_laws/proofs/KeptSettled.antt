@@ -165,7 +165,7 @@ module _ (plan : Plan) (numbered : IsNumbered plan) (job : SubJob) (planned : cl
   taken_now h (Verdict worker io verdict) w happens clone takes = absurd (false≢true takes)
 
   -- what was checked or skipped was issued
-  taken_issued : (history : List Event) → is_legal plan history ≡ true → (w : WriteId) → w.clone ≡ job.clone → list_any (takes_up w) history ≡ true → w.number < issued_count history (pass_of job w.pass)
+  pub taken_issued : (history : List Event) → is_legal plan history ≡ true → (w : WriteId) → w.clone ≡ job.clone → list_any (takes_up w) history ≡ true → w.number < issued_count history (pass_of job w.pass)
   taken_issued history legal =
       by_events plan (λ (h : List Event). (w : WriteId) → w.clone ≡ job.clone → list_any (takes_up w) h ≡ true → w.number < issued_count h (pass_of job w.pass))
       (λ w clone none. absurd (false≢true none))

@@ -11,3 +11,4 @@ pub mod ReadingLemmas
 pub mod RoundTrip
 pub mod TraceLemmas
 pub mod ReportLemmas
+pub mod SortedBads

@@ -1,9 +1,14 @@
--- Internal: the line of a bad verdict in two parts: which write it is, and where it is.
+-- Internal: the line of a bad verdict that a desk keeps, and two parts of it: which write it is, and where it is.
 use Rattle.std.specs.Prelude.{ℕ, List, ◌++◌, codes}
 use Rattle.jr_model.specs.declared.blocks.Piece.{Piece}
 use Rattle.jr_model.specs.declared.events.WriteId.{WriteId}
 use Rattle.jr_model.specs.Plan.{Plan}
-use Rattle.jr_model.specs.Report.{field, file_name}
+use Rattle.jr_model.specs.Report.{field, file_name, miscompare_line}
+use Rattle.jr_board.specs.declared.tallies.Bad.{Bad}
+use Rattle.jr_board.specs.Tallying.{miscompare_of}
+
+abbrev pub bad_line : Plan → Bad → List ℕ
+bad_line plan bad = miscompare_line plan (miscompare_of bad)
 
 abbrev pub named_fields : WriteId → List ℕ
 named_fields write =

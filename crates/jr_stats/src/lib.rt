@@ -5,7 +5,6 @@ mod checks;
 mod entries;
 mod faults;
 mod fields;
-mod findings;
 mod laws;
 mod legal;
 mod reports;

@@ -1,118 +1,57 @@
-ghost use Rattle.std.specs.Prelude.{◌≡◌, ◌++◌, IfOk, OnOk, filter_map, flat_map};
-ghost use Rattle.jr_model.specs.Report.{all_totals, file_name, in_order, miscompare_line, miscompares, of_clone, of_pass, on_write, report_of, totals_lines, what_text};
-ghost use Rattle.jr_stats.specs.Miscompares.{named_fields, place_fields};
+ghost use Rattle.std.specs.Prelude.{◌≡◌, ◌++◌, IfOk, OnOk, flat_map, map};
+ghost use Rattle.jr_model.specs.Report.{file_name, in_order, miscompare_line, miscompares, report_of, what_text};
+ghost use Rattle.jr_board.specs.Tallying.{miscompare_of};
+ghost use Rattle.jr_stats.specs.Miscompares.{bad_line, named_fields, place_fields};
 
-use crate::findings::{Miscompare, miscompares};
 use crate::texts::{push_field, push_number, push_text};
 use crate::totals::totals_text;
-use jr_desk::Desk;
-use jr_model::{Event, Memory, Piece, Totals, What, WriteId};
-use jr_past::same_write;
-use jr_plan::{Plan, SubJob};
-use jr_replay::Pass;
+use jr_board::{Bad, Desk};
+use jr_model::{Memory, Piece, What, WriteId};
+use jr_plan::Plan;
 use std::alloc::Global;
 
 /// The report of a run: a line for each clone, then one for each bad verdict, by clone, pass and number.
 pub fn report(alloc: Global, desk: &Desk) -> Result<Vec<u8>, Memory>
     ensures { IfOk result (λ text. text.items ≡ report_of desk.now.plan desk.now.history) }
 {
-    report_text(alloc, desk.plan(), desk.totals(), desk.history())
-}
-
-// The report of a history, where these are its totals.
-fn report_text(
-    alloc: Global,
-    plan: &Plan,
-    totals: &[Totals],
-    history: &[Event],
-) -> Result<Vec<u8>, Memory>
-    requires { totals.now ≡ all_totals plan.now history.now }
-    ensures { IfOk result (λ text. text.items ≡ report_of plan.now history.now) }
-{
-    let mut text = totals_text(alloc, plan, totals)?;
-    let found = miscompares(alloc, history)?;
-    push_found(alloc, &mut text, plan, found.as_slice())?;
+    let plan = desk.plan();
+    let mut text = totals_text(alloc, plan, desk.totals())?;
+    let bads = sorted_bads(alloc, desk)?;
+    push_bads(&mut text, plan, bads.as_slice())?;
     Ok(text)
 }
 
-// The lines of bad verdicts, by clone, pass and number.
-fn push_found(
-    alloc: Global,
-    text: &mut Vec<u8>,
-    plan: &Plan,
-    found: &[Miscompare],
-) -> Result<(), Memory>
-    ensures { OnOk result (text.new.items
-        ≡ text.old.items ++ flat_map (miscompare_line plan.now) (in_order plan.now found.now)) }
+// The bad verdicts of a run by clone, pass and number.
+fn sorted_bads(alloc: Global, desk: &Desk) -> Result<Vec<Bad>, Memory>
+    ensures { IfOk result (λ bads. map miscompare_of bads.items ≡ in_order desk.now.plan (miscompares desk.now.history)) }
 {
-    if found.is_empty() {
-        return Ok(());
-    }
-    for i in 0..plan.clones() {
-        push_clone(alloc, text, plan, found, plan.clone_at(i))?;
-    }
-    Ok(())
+    // Their contracts say what holds of every plan, and that the history is legal.
+    desk.plan().facts();
+    let _ = desk.history();
+    let mut bads = Vec::from_slice(alloc, desk.bads())?;
+    bads.sort_unstable_by_key(|bad| bad.write);
+    Ok(bads)
 }
 
-fn push_clone(
-    alloc: Global,
-    text: &mut Vec<u8>,
-    plan: &Plan,
-    found: &[Miscompare],
-    job: &SubJob,
-) -> Result<(), Memory>
-    ensures { OnOk result (text.new.items
-        ≡ text.old.items ++ flat_map (miscompare_line plan.now) (of_clone found.now job.now)) }
+// The lines of bad verdicts, one after another.
+fn push_bads(text: &mut Vec<u8>, plan: &Plan, bads: &[Bad]) -> Result<(), Memory>
+    ensures { OnOk result (text.new.items ≡ text.old.items ++ flat_map (bad_line plan.now) bads.now) }
 {
-    for number in 0..job.passes() {
-        let pass = Pass::new(alloc, job, number)?;
-        push_pass(text, plan, found, &pass)?;
-    }
-    Ok(())
-}
-
-fn push_pass(
-    text: &mut Vec<u8>,
-    plan: &Plan,
-    found: &[Miscompare],
-    pass: &Pass<'_>,
-) -> Result<(), Memory>
-    ensures { OnOk result (text.new.items
-        ≡ text.old.items ++ flat_map (miscompare_line plan.now) (of_pass found.now pass.now)) }
-{
-    for draw in pass.draws() {
-        push_write(text, plan, found, &pass.write_id(draw))?;
-    }
-    Ok(())
-}
-
-// The lines of those of the bad verdicts that are on this write.
-fn push_write(
-    text: &mut Vec<u8>,
-    plan: &Plan,
-    found: &[Miscompare],
-    write: &WriteId,
-) -> Result<(), Memory>
-    ensures { OnOk result (text.new.items ≡ text.old.items
-        ++ flat_map (miscompare_line plan.now) (filter_map (on_write write.now) found.now)) }
-{
-    for miscompare in found {
-        if same_write(&miscompare.write, write) {
-            push_miscompare(text, plan, miscompare)?;
-        }
+    for bad in bads {
+        push_bad(text, plan, bad)?;
     }
     Ok(())
 }
 
 // The line of a bad verdict.
-fn push_miscompare(text: &mut Vec<u8>, plan: &Plan, found: &Miscompare) -> Result<(), Memory>
-    ensures { OnOk result (text.new.items ≡ text.old.items ++ miscompare_line plan.now found.now) }
+fn push_bad(text: &mut Vec<u8>, plan: &Plan, bad: &Bad) -> Result<(), Memory>
+    ensures { OnOk result (text.new.items ≡ text.old.items ++ bad_line plan.now bad.now) }
 {
     push_text(text, "miscompare:")?;
-    push_named(text, &found.write)?;
-    push_place(text, plan, &found.piece)?;
+    push_named(text, &bad.write)?;
+    push_place(text, plan, &bad.piece)?;
     push_text(text, " what=")?;
-    push_what(text, found.what)?;
+    push_what(text, bad.what)?;
     push_text(text, "\n")?;
     Ok(())
 }

@@ -8,7 +8,7 @@ ghost use Rattle.jr_stats.specs.Traces.{draw_fields, event_text, outcome_fields,
 
 use crate::faults::TraceFault;
 use crate::texts::{push_number, push_text};
-use jr_desk::Desk;
+use jr_board::Desk;
 use jr_model::{Event, Memory, Outcome, Verdict, What, WriteId};
 use jr_past::started_by;
 use std::alloc::Global;

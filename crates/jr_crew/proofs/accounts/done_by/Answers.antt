@@ -1,7 +1,7 @@
 use Rattle.std.proofs.Common.{◌≡◌, Bool, true, cond, sym, subst}
 use Rattle.std.specs.Prelude.{IfOk, None, slice_get, ◌==◌}
 use Rattle.std.proofs.lemmas.Bool.{eq-eqb}
-use Rattle.jr_desk.specs.Kept.{tickets_of}
+use Rattle.jr_board.specs.Kept.{tickets_of}
 use Rattle.jr_model.specs.declared.events.Event.{Event}
 use Rattle.jr_crew.specs.Books.{verdict_in, done_by, done_with}
 use Rattle.jr_crew.proofs.accounts.done_by.Goals as goal

@@ -3,7 +3,7 @@ use Rattle.std.specs.Prelude.{slice_get}
 use Rattle.std.specs.List.{list_all}
 use Rattle.jr_model.specs.Plan.{Plan}
 use Rattle.jr_model.specs.Legal.{is_legal}
-use Rattle.jr_desk.specs.Kept.{tickets_of}
+use Rattle.jr_board.specs.Kept.{tickets_of}
 use Rattle.jr_crew.specs.Accounts.{is_own_verdict}
 use Rattle.jr_crew.specs.Books.{dones_of}
 use Rattle.jr_crew.proofs.Crewing.{each_part, engines_size, books_size}

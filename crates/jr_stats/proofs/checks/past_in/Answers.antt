@@ -1,7 +1,7 @@
-use Rattle.std.proofs.Common.{◌≡◌, ◌+◌, List, length, Ok, ap, sym, ◌∙◌, arith}
+use Rattle.std.proofs.Common.{◌≡◌, ◌+◌, List, length, Ok, ap, ◌∙◌}
 use Rattle.std.proofs.lemmas.Result.{err_from_is_err_and}
 use Rattle.jr_model.specs.declared.events.Event.{Event}
-use Rattle.jr_stats.specs.TraceChecks.{IsRefusal, history_in, line_event}
+use Rattle.jr_stats.specs.TraceChecks.{history_in, line_event}
 use Rattle.jr_stats.proofs.ReadingLemmas.{legal_more, line_is_read, read_more, read_refused}
 use Rattle.jr_stats.proofs.checks.past_in.Goals as goal
 

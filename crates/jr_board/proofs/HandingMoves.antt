@@ -1,0 +1,232 @@
+-- What one event more makes of the tickets of a history, and of how far each of them has come.
+use Rattle.std.proofs.Common.{◌≡◌, ℕ, ◌+◌, ◌<◌, ◌≤◌, List, [], ◌∷◌, ◌++◌, length, map, Bool, true, false, cond, refl, sym, ◌∙◌, ap, arith}
+use Rattle.std.proofs.Math.ListN.{set}
+use Rattle.std.specs.Prelude.{Option, Some, None, slice_get}
+use Rattle.std.specs.List.{enumerate_from, range_with_len}
+use Rattle.std.proofs.lemmas.List.{map-append}
+use Rattle.std.proofs.lemmas.List.FromFn.{map-range_with_len_more, length-map-range_with_len}
+use Rattle.jr_model.specs.declared.events.Event.{Event}
+use Rattle.jr_model.specs.declared.events.Event.TheVariants.{Issue, Probe, Skip, End, Verdict}
+use Rattle.jr_model.specs.declared.events.Outcome.{Outcome}
+use Rattle.jr_model.specs.declared.events.Started.{Started}
+use Rattle.jr_model.specs.declared.events.Verdict.{Verdict as GivenVerdict}
+use Rattle.jr_model.specs.declared.events.WriteId.{WriteId}
+use Rattle.jr_model.specs.declared.tickets.Ticket.{Ticket}
+use Rattle.jr_model.specs.History.{started, started_by, end_of, outcome_of, is_verdict_on, is_judged}
+use Rattle.jr_model.specs.Legal.{is_legal, may_happen}
+use Rattle.jr_model.specs.Plan.{Plan}
+use Rattle.jr_steps.proofs.StartedLemmas.{started-starts, started-other, length-started-starts, length-started-other, started_below}
+use Rattle.jr_tally_laws.proofs.Counted.{flying_unjudged}
+use Rattle.jr_tally_laws.proofs.Grown.{outcome_of-stays, outcome_of-other, outcome_of-end, is_judged-stays, is_judged-other, is_judged-verdict, not_ended_yet, not_judged_yet, end_names, verdict_names}
+use Rattle.jr_board.specs.declared.handed.Handed.{Handed}
+use Rattle.jr_board.specs.declared.handed.Progress.{Progress}
+use Rattle.jr_board.specs.declared.handed.Progress.TheVariants as progress
+use Rattle.jr_board.specs.Handing.{IsHanded, all_progress, by_outcome, progress_of}
+use Rattle.jr_board.specs.Kept.{IsOwn, tickets_of}
+use Rattle.jr_board.specs.Nexts.{IsNext, grown}
+use Rattle.jr_board.specs.Tickets.{ticket_of}
+use Rattle.jr_board.proofs.HandingLists.{enumerated, length_numbered, got_numbered, numbered_at, map_same, map_moved}
+
+-- the tickets
+
+pub tickets_starts : (plan : Plan) (history : List Event) (event : Event) (io : Started) → started_by event ≡ Some io
+    → tickets_of plan (grown history event) ≡ tickets_of plan history ++ ticket_of plan (length (started history), io) ∷ []
+tickets_starts plan history event io starts =
+    let same : 0 + length (started history) ≡ length (started history) = omega arith in
+    ap (λ (ios : List Started). map (ticket_of plan) (enumerate_from 0 ios)) (started-starts history event io starts)
+    ∙ ap (map (ticket_of plan)) (enumerated 0 (started history) io)
+    ∙ map-append (ticket_of plan) (enumerate_from 0 (started history)) ((0 + length (started history), io) ∷ [])
+    ∙ ap (λ (k : ℕ). tickets_of plan history ++ ticket_of plan (k, io) ∷ []) same
+
+pub tickets_stay : (plan : Plan) (history : List Event) (event : Event) → started_by event ≡ None
+    → tickets_of plan (grown history event) ≡ tickets_of plan history
+tickets_stay plan history event nothing =
+    ap (λ (ios : List Started). map (ticket_of plan) (enumerate_from 0 ios)) (started-other history event nothing)
+
+pub tickets_count : (plan : Plan) (history : List Event) → length (tickets_of plan history) ≡ length (started history)
+tickets_count plan history = length_numbered (ticket_of plan) 0 (started history)
+
+-- a ticket of the board's own is that of an I/O that was started
+pub own_started : (plan : Plan) (history : List Event) (ticket : Ticket) → IsOwn plan history ticket
+    → (io : Started) × (slice_get (started history) ticket.id ≡ Some io) × (ticket ≡ ticket_of plan (ticket.id, io))
+own_started plan history ticket own =
+    let got = got_numbered (ticket_of plan) 0 (started history) ticket.id ticket own in
+    let same : 0 + ticket.id ≡ ticket.id = omega arith in
+    (got.0, got.1, sym got.2 ∙ ap (λ (i : ℕ). ticket_of plan (i, got.0)) same)
+
+-- an I/O that was started has its ticket
+pub ticket_started : (plan : Plan) (history : List Event) (id : ℕ) (io : Started) → slice_get (started history) id ≡ Some io
+    → slice_get (tickets_of plan history) id ≡ Some (ticket_of plan (id, io))
+ticket_started plan history id io at =
+    let same : 0 + id ≡ id = omega arith in
+    numbered_at (ticket_of plan) 0 (started history) id io at ∙ ap {B = Option Ticket} (λ (i : ℕ). Some (ticket_of plan (i, io))) same
+
+-- how far they have come
+
+progress_same : (after before : List Event) (id : ℕ) → is_judged after id ≡ is_judged before id
+    → outcome_of after id ≡ outcome_of before id → progress_of after id ≡ progress_of before id
+progress_same after before id judged ended =
+    ap (λ (b : Bool). cond b progress.Judged (by_outcome (outcome_of after id))) judged
+    ∙ ap (λ (o : Option Outcome). cond (is_judged before id) progress.Judged (by_outcome o)) ended
+
+progress_by : (history : List Event) (id : ℕ) (o : Option Outcome) → is_judged history id ≡ false → outcome_of history id ≡ o
+    → progress_of history id ≡ by_outcome o
+progress_by history id o unjudged ended =
+    ap (λ (b : Bool). cond b progress.Judged (by_outcome (outcome_of history id))) unjudged ∙ ap by_outcome ended
+
+pub progress_count : (history : List Event) → length (all_progress history) ≡ length (started history)
+progress_count history = length-map-range_with_len (progress_of history) 0 (length (started history))
+
+-- an event that starts an I/O ends none and judges none
+no_end : (event : Event) (io : Started) → started_by event ≡ Some io → (id : ℕ) → end_of id event ≡ None
+no_end (Issue worker dir write piece) io starts id = refl
+no_end (Probe worker write piece) io starts id = refl
+no_end (Skip worker write) io starts id = cc
+no_end (End worker ended outcome) io starts id = cc
+no_end (Verdict worker judged verdict) io starts id = cc
+
+no_verdict : (event : Event) (io : Started) → started_by event ≡ Some io → (id : ℕ) → is_verdict_on id event ≡ false
+no_verdict (Issue worker dir write piece) io starts id = refl
+no_verdict (Probe worker write piece) io starts id = refl
+no_verdict (Skip worker write) io starts id = cc
+no_verdict (End worker ended outcome) io starts id = cc
+no_verdict (Verdict worker judged verdict) io starts id = cc
+
+-- an event that starts one
+pub progress_starts : (plan : Plan) (history : List Event) (event : Event) (io : Started) → is_legal plan history ≡ true
+    → started_by event ≡ Some io → all_progress (grown history event) ≡ all_progress history ++ progress.InFlight ∷ []
+progress_starts plan history event io legal starts =
+    ap (λ (m : ℕ). map (progress_of after) (range_with_len 0 m)) count
+    ∙ map-range_with_len_more (progress_of after) 0 n n (omega arith)
+    ∙ ap (λ (ps : List Progress). ps ++ progress_of after n ∷ []) (map_same (progress_of after) (progress_of history) 0 n same)
+    ∙ ap (λ (p : Progress). all_progress history ++ p ∷ []) (same n ∙ new)
+  where
+    n : ℕ
+    n = length (started history)
+
+    after : List Event
+    after = grown history event
+
+    count : length (started (grown history event)) ≡ n + 1
+    count = omega (arith, length-started-starts history event io starts)
+
+    same : (i : ℕ) → progress_of after i ≡ progress_of history i
+    same i =
+        progress_same after history i (is_judged-stays history event i (no_verdict event io starts i))
+        (outcome_of-stays history event i (no_end event io starts i))
+
+    new : progress_of history n ≡ progress.InFlight
+    new =
+        let past : n ≤ n = omega arith in
+        progress_by history n None (not_judged_yet plan history n legal past) (not_ended_yet plan history n legal past)
+
+-- an event that changes how far one has come
+progress_moves : (history : List Event) (event : Event) (id : ℕ) → started_by event ≡ None → id < length (started history)
+    → ((i : ℕ) → (i ≡ id → ⊥) → progress_of (grown history event) i ≡ progress_of history i)
+    → all_progress (grown history event) ≡ set (all_progress history) id (progress_of (grown history event) id)
+progress_moves history event id nothing below others =
+    let n = length (started history) in
+    let after = grown history event in
+    let same : 0 + id ≡ id = omega arith in
+    ap (λ (m : ℕ). map (progress_of after) (range_with_len 0 m)) (length-started-other history event nothing)
+    ∙ map_moved (progress_of after) (progress_of history) 0 n id below
+    (λ (i : ℕ) (apart : i ≡ 0 + id → ⊥). others i (λ (e : i ≡ id). apart (e ∙ sym same)))
+    ∙ ap (λ (i : ℕ). set (all_progress history) id (progress_of after i)) same
+
+pub progress_end : (plan : Plan) (history : List Event) (worker id : ℕ) (outcome : Outcome) → is_legal plan history ≡ true
+    → may_happen plan history (End worker id outcome) ≡ true
+    → all_progress (grown history (End worker id outcome)) ≡ set (all_progress history) id (by_outcome (Some outcome))
+progress_end plan history worker id outcome legal may =
+    let event = End worker id outcome in
+    let after = grown history event in
+    let names = end_names plan history worker id outcome may in
+    progress_moves history event id refl (started_below history id names.ended names.there)
+    (λ (i : ℕ) (apart : i ≡ id → ⊥).
+    progress_same after history i (is_judged-stays history event i refl)
+    (outcome_of-other history worker id outcome i (λ (e : id ≡ i). apart (sym e))))
+    ∙ ap (set (all_progress history) id)
+    (progress_by after id (Some outcome) (is_judged-stays history event id refl ∙ flying_unjudged plan history id legal names.flies)
+    (outcome_of-end history worker id outcome names.flies))
+
+pub progress_verdict : (plan : Plan) (history : List Event) (worker id : ℕ) (verdict : GivenVerdict)
+    → may_happen plan history (Verdict worker id verdict) ≡ true
+    → all_progress (grown history (Verdict worker id verdict)) ≡ set (all_progress history) id progress.Judged
+progress_verdict plan history worker id verdict may =
+    let event = Verdict worker id verdict in
+    let after = grown history event in
+    let names = verdict_names plan history worker id verdict may in
+    progress_moves history event id refl (started_below history id names.judged names.there)
+    (λ (i : ℕ) (apart : i ≡ id → ⊥).
+    progress_same after history i (is_judged-other history worker id verdict i (λ (e : id ≡ i). apart (sym e)))
+    (outcome_of-stays history event i refl))
+    ∙ ap (λ (b : Bool). set (all_progress history) id (cond b progress.Judged (by_outcome (outcome_of after id))))
+    (is_judged-verdict history worker id verdict)
+
+pub progress_skip : (history : List Event) (worker : ℕ) (write : WriteId)
+    → all_progress (grown history (Skip worker write)) ≡ all_progress history
+progress_skip history worker write =
+    let event = Skip worker write in
+    let after = grown history event in
+    ap (λ (m : ℕ). map (progress_of after) (range_with_len 0 m)) (length-started-other history event refl)
+    ∙ map_same (progress_of after) (progress_of history) 0 (length (started history))
+    (λ (i : ℕ). progress_same after history i (is_judged-stays history event i refl) (outcome_of-stays history event i refl))
+
+-- the index goes on agreeing with the history
+
+pub handed_starts : (plan : Plan) (history : List Event) (event : Event) (io : Started) (before after : Handed) (ticket : Ticket)
+    → IsNext plan history event → started_by event ≡ Some io → ticket ≡ ticket_of plan (length (started history), io)
+    → after.tickets.items ≡ before.tickets.items ++ ticket ∷ []
+    → after.progress.items ≡ before.progress.items ++ progress.InFlight ∷ [] → IsHanded plan history before
+    → IsHanded plan (grown history event) after
+handed_starts plan history event io before after ticket next starts is tickets come handed = record {
+  tickets =
+      tickets
+      ∙ ap (λ (ts : List Ticket). ts ++ ticket ∷ []) handed.tickets
+      ∙ ap (λ (t : Ticket). tickets_of plan history ++ t ∷ []) is
+      ∙ sym (tickets_starts plan history event io starts);
+  progress =
+      come
+      ∙ ap (λ (ps : List Progress). ps ++ progress.InFlight ∷ []) handed.progress
+      ∙ sym (progress_starts plan history event io next.legal starts);
+}
+
+pub handed_end : (plan : Plan) (history : List Event) (worker id : ℕ) (outcome : Outcome) (before after : Handed)
+    → IsNext plan history (End worker id outcome) → after.tickets.items ≡ before.tickets.items
+    → after.progress.items ≡ set before.progress.items id (by_outcome (Some outcome)) → IsHanded plan history before
+    → IsHanded plan (grown history (End worker id outcome)) after
+handed_end plan history worker id outcome before after next tickets come handed = record {
+  tickets = tickets ∙ handed.tickets ∙ sym (tickets_stay plan history (End worker id outcome) refl);
+  progress =
+      come
+      ∙ ap (λ (ps : List Progress). set ps id (by_outcome (Some outcome))) handed.progress
+      ∙ sym (progress_end plan history worker id outcome next.legal next.may);
+}
+
+pub handed_verdict : (plan : Plan) (history : List Event) (worker id : ℕ) (verdict : GivenVerdict) (before after : Handed)
+    → IsNext plan history (Verdict worker id verdict) → after.tickets.items ≡ before.tickets.items
+    → after.progress.items ≡ set before.progress.items id progress.Judged → IsHanded plan history before
+    → IsHanded plan (grown history (Verdict worker id verdict)) after
+handed_verdict plan history worker id verdict before after next tickets come handed = record {
+  tickets = tickets ∙ handed.tickets ∙ sym (tickets_stay plan history (Verdict worker id verdict) refl);
+  progress =
+      come
+      ∙ ap (λ (ps : List Progress). set ps id progress.Judged) handed.progress
+      ∙ sym (progress_verdict plan history worker id verdict next.may);
+}
+
+pub handed_skip : (plan : Plan) (history : List Event) (worker : ℕ) (write : WriteId) (handed : Handed)
+    → IsNext plan history (Skip worker write) → IsHanded plan history handed → IsHanded plan (grown history (Skip worker write)) handed
+handed_skip plan history worker write handed next is = record {
+  tickets = is.tickets ∙ sym (tickets_stay plan history (Skip worker write) refl);
+  progress = is.progress ∙ sym (progress_skip history worker write);
+}
+
+-- there are as many as were started
+
+pub handed_length : (plan : Plan) (history : List Event) (handed : Handed) → IsHanded plan history handed
+    → length handed.progress.items ≡ length (started history)
+handed_length plan history handed is = ap length is.progress ∙ progress_count history
+
+pub tickets_length : (plan : Plan) (history : List Event) (handed : Handed) → IsHanded plan history handed
+    → length handed.tickets.items ≡ length (started history)
+tickets_length plan history handed is = ap length is.tickets ∙ tickets_count plan history

@@ -1,0 +1,259 @@
+-- What a desk keeps beside its history goes on agreeing with it.
+use Rattle.std.proofs.Common.{◌≡◌, ℕ, zero, suc, ◌+◌, ◌≤◌, List, [], ◌∷◌, ◌++◌, length, map, Bool, true, false, ◌&&◌, not, cond, refl, sym, ◌∙◌, ap, subst, arith, append_assoc, append-nil}
+use Rattle.std.specs.Prelude.{Option, Some, None, slice_get, is_none, is_some, nat_lt, ◌==◌, IfSome}
+use Rattle.std.specs.Bool.{MatchBool}
+use Rattle.std.specs.List.{enumerate_from, cons_option}
+use Rattle.std.proofs.lemmas.Bool.{and_from, eq-eqb, lt-ltb}
+use Rattle.std.proofs.lemmas.List.{map-append}
+use Rattle.jr_model.specs.declared.events.Event.{Event}
+use Rattle.jr_model.specs.declared.events.Event.TheVariants.{Issue, Probe, Skip, End, Verdict}
+use Rattle.jr_model.specs.declared.events.Outcome.{Outcome}
+use Rattle.jr_model.specs.declared.events.Started.{Started}
+use Rattle.jr_model.specs.declared.steps.DeskFault.{DeskFault}
+use Rattle.jr_model.specs.declared.steps.DeskFault.TheVariants.{Stranger, Twice, WrongKind, Stopped}
+use Rattle.jr_model.specs.declared.tickets.Ticket.{Ticket}
+use Rattle.jr_model.specs.declared.tickets.TicketKind.{TicketKind}
+use Rattle.jr_model.specs.declared.tickets.TicketKind.TheVariants as ticket
+use Rattle.jr_model.specs.declared.totals.Totals.{Totals}
+use Rattle.jr_model.specs.Content.{expected_of}
+use Rattle.jr_model.specs.History.{started, started_by, flies, outcome_of, is_judged, is_probe, ended_whole}
+use Rattle.jr_model.specs.Judgement.{verdict_of}
+use Rattle.jr_model.specs.Legal.{is_legal, is_complete, may_happen, outcome_fits, end_fits, verdict_fits, job_says, kind_says}
+use Rattle.jr_model.specs.Machine.{Appends, is_skip}
+use Rattle.jr_model.specs.Tickets.{has_pattern}
+use Rattle.jr_model.specs.declared.contents.Expected.{Expected}
+use Rattle.jr_model.specs.declared.contents.Method.{Method}
+use Rattle.jr_model.specs.declared.events.Verdict.{Verdict as GivenVerdict}
+use Rattle.std.proofs.lemmas.List.Elements.{filter_map-append}
+use Rattle.jr_model.specs.Plan.{Plan, SubJob, IsNumbered, clone_of}
+use Rattle.jr_model.specs.Report.{all_totals}
+use Rattle.jr_model.proofs.LegalLaws.{is_legal-more, choice_may_happen}
+use Rattle.jr_model.proofs.MachineLaws.{verdict_of_fits}
+use Rattle.jr_plan.specs.PlanFacts.{IsPlanned}
+use Rattle.jr_header.specs.Served.{is_whole_check}
+use Rattle.jr_steps.specs.Drawn.{FitsPlan}
+use Rattle.jr_steps.proofs.CountLaws.{numbered_of}
+use Rattle.jr_steps.proofs.DrawnLaws.{started_fit-law}
+use Rattle.jr_steps.proofs.StartedLemmas.{started-other, same_some, started_below}
+use Rattle.jr_board.specs.DeskState.{DeskState}
+use Rattle.jr_board.specs.Kept.{IsOwn, tickets_of}
+use Rattle.jr_board.specs.Refusals.{Owns, judge_fault}
+use Rattle.jr_board.specs.Takes.{IsChosen, last_started, ticket_for}
+use Rattle.jr_board.specs.Tickets.{CanBeServed, method_of, seed_of, expected_by, ticket_of}
+
+-- tickets
+
+enumerated : {X : Type 0} (n : ℕ) (xs : List X) (x : X) → enumerate_from n (xs ++ x ∷ []) ≡ enumerate_from n xs ++ (n + length xs, x) ∷ []
+enumerated {X = X} n [] x =
+    let same : n ≡ n + 0 = omega arith in
+    ap (λ (k : ℕ). (k, x) ∷ []) same
+enumerated {X = X} n (y ∷ xs) x =
+    let same : n + 1 + length xs ≡ n + suc (length xs) = omega arith in
+    ap (λ (zs : List (ℕ × X)). (n, y) ∷ zs) (enumerated (n + 1) xs x)
+    ∙ ap (λ (k : ℕ). (n, y) ∷ (enumerate_from (n + 1) xs ++ (k, x) ∷ [])) same
+
+-- where one more is started, one more ticket is handed out
+pub tickets_more : (plan : Plan) (before after : List Event) (io : Option Started) → started after ≡ started before ++ cons_option io [] → tickets_of plan after ≡ tickets_of plan before ++ cons_option (ticket_for plan (length (started before)) io) []
+tickets_more plan before after None more =
+    ap (λ (ios : List Started). map (ticket_of plan) (enumerate_from 0 ios)) (more ∙ append-nil (started before))
+    ∙ sym (append-nil (tickets_of plan before))
+tickets_more plan before after (Some io) more =
+    let same : 0 + length (started before) ≡ length (started before) = omega arith in
+    ap (λ (ios : List Started). map (ticket_of plan) (enumerate_from 0 ios)) more
+    ∙ ap (map (ticket_of plan)) (enumerated 0 (started before) io)
+    ∙ map-append (ticket_of plan) (enumerate_from 0 (started before)) ((0 + length (started before), io) ∷ [])
+    ∙ ap (λ (k : ℕ). tickets_of plan before ++ ticket_of plan (k, io) ∷ []) same
+
+pub got_ticket : (plan : Plan) (n : ℕ) (ios : List Started) (k : ℕ) (t : Ticket) → slice_get (map (ticket_of plan) (enumerate_from n ios)) k ≡ Some t → (io : Started) × (slice_get ios k ≡ Some io) × (ticket_of plan (n + k, io) ≡ t)
+got_ticket plan n [] k t at = cc
+got_ticket plan n (io ∷ ios) zero t at =
+    let same : n + 0 ≡ n = omega arith in
+    (io, refl, ap (λ (i : ℕ). ticket_of plan (i, io)) same ∙ same_some (ticket_of plan (n, io)) t at)
+got_ticket plan n (io ∷ ios) (suc k) t at =
+    let rest = got_ticket plan (n + 1) ios k t at in
+    let same : n + suc k ≡ n + 1 + k = omega arith in
+    (rest.0, rest.1, ap (λ (i : ℕ). ticket_of plan (i, rest.0)) same ∙ rest.2)
+
+-- a ticket of the desk's own is that of an I/O that was started
+pub own_started : (plan : Plan) (history : List Event) (t : Ticket) → IsOwn plan history t → (io : Started) × (slice_get (started history) t.id ≡ Some io) × (ticket_of plan (t.id, io) ≡ t)
+own_started plan history t own =
+    let got = got_ticket plan 0 (started history) t.id t own in
+    let same : t.id ≡ 0 + t.id = omega arith in
+    (got.0, got.1, ap (λ (i : ℕ). ticket_of plan (i, got.0)) same ∙ got.2)
+
+length_tickets : (plan : Plan) (n : ℕ) (ios : List Started) → length (map (ticket_of plan) (enumerate_from n ios)) ≡ length ios
+length_tickets plan n [] = refl
+length_tickets plan n (io ∷ ios) = ap suc (length_tickets plan (n + 1) ios)
+
+pub tickets_count : (plan : Plan) (history : List Event) → length (tickets_of plan history) ≡ length (started history)
+tickets_count plan history = length_tickets plan 0 (started history)
+
+-- what is chosen
+
+by_skip : (b : Bool) (A B C : Type 0) → MatchBool b A B → (A → C) → (B → C) → C
+by_skip true A B C m f g = f m
+by_skip false A B C m f g = g m
+
+legal_appends : (plan : Plan) (worker : ℕ) (before events : List Event) → IsNumbered plan → is_legal plan before ≡ true → Appends plan worker before events → is_legal plan (before ++ events) ≡ true
+legal_appends plan worker before [] numbered legal appends = subst (λ (h : List Event). is_legal plan h ≡ true) (sym (append-nil before)) legal
+legal_appends plan worker before (e ∷ events) numbered legal appends =
+    let next = is_legal-more plan before e legal (choice_may_happen plan before worker e numbered appends.0) in
+    by_skip (is_skip e) (Appends plan worker (before ++ e ∷ []) events) (events ≡ []) (is_legal plan (before ++ e ∷ events) ≡ true) appends.1
+    (λ (more : Appends plan worker (before ++ e ∷ []) events).
+    subst (λ (h : List Event). is_legal plan h ≡ true) (append_assoc before (e ∷ []) events)
+    (legal_appends plan worker (before ++ e ∷ []) events numbered next more))
+    (λ (last : events ≡ []). subst (λ (rest : List Event). is_legal plan (before ++ e ∷ rest) ≡ true) (sym last) next)
+
+skip-starts : (e : Event) → is_skip e ≡ true → started_by e ≡ None
+skip-starts (Skip worker write) h = refl
+skip-starts (Issue worker dir write piece) h = cc
+skip-starts (Probe worker write piece) h = cc
+skip-starts (End worker io outcome) h = cc
+skip-starts (Verdict worker io verdict) h = cc
+
+pub by_is_skip : (e : Event) (A B C : Type 0) → MatchBool (is_skip e) A B → (is_skip e ≡ true → A → C) → (is_skip e ≡ false → B → C) → C
+by_is_skip (Skip worker write) A B C m f g = f refl m
+by_is_skip (Issue worker dir write piece) A B C m f g = g refl m
+by_is_skip (Probe worker write piece) A B C m f g = g refl m
+by_is_skip (End worker io outcome) A B C m f g = g refl m
+by_is_skip (Verdict worker io verdict) A B C m f g = g refl m
+
+pub last-skip : (e : Event) (rest : List Event) → is_skip e ≡ true → last_started (e ∷ rest) ≡ last_started rest
+last-skip e [] skip = skip-starts e skip
+last-skip e (next ∷ rest) skip = refl
+
+started_appends : (plan : Plan) (worker : ℕ) (before events : List Event) → Appends plan worker before events → started events ≡ cons_option (last_started events) []
+started_appends plan worker before [] appends = refl
+started_appends plan worker before (e ∷ events) appends =
+    by_is_skip e (Appends plan worker (before ++ e ∷ []) events) (events ≡ []) (started (e ∷ events) ≡ cons_option (last_started (e ∷ events)) []) appends.1
+    (λ (skip : is_skip e ≡ true) (more : Appends plan worker (before ++ e ∷ []) events).
+    ap (λ (io : Option Started). cons_option io (started events)) (skip-starts e skip)
+    ∙ started_appends plan worker (before ++ e ∷ []) events more
+    ∙ ap (λ (io : Option Started). cons_option io []) (sym (last-skip e events skip)))
+    (λ (other : is_skip e ≡ false) (last : events ≡ []). subst (λ (rest : List Event). started (e ∷ rest) ≡ cons_option (last_started (e ∷ rest)) []) (sym last) refl)
+
+pub chosen_legal : (plan : Plan) (worker : ℕ) (before history : List Event) (io : Option Started) → IsPlanned plan → is_legal plan before ≡ true → IsChosen plan worker before history io → is_legal plan history ≡ true
+chosen_legal plan worker before history io planned legal chosen =
+    subst (λ (h : List Event). is_legal plan h ≡ true) (sym chosen.1)
+    (legal_appends plan worker before chosen.0 (numbered_of plan planned) legal chosen.2)
+
+-- it starts at most one
+pub chosen_started : (plan : Plan) (worker : ℕ) (before history : List Event) (io : Option Started) → IsChosen plan worker before history io → started history ≡ started before ++ cons_option io []
+chosen_started plan worker before history io chosen =
+    ap started chosen.1 ∙ filter_map-append started_by before chosen.0
+    ∙ ap (λ (ios : List Started). started before ++ ios) (started_appends plan worker before chosen.0 chosen.2)
+    ∙ ap (λ (o : Option Started). started before ++ cons_option o []) (sym chosen.3)
+
+got_added : (ios : List Started) (io : Started) → slice_get (ios ++ io ∷ []) (length ios) ≡ Some io
+got_added [] io = refl
+got_added (first ∷ ios) io = got_added ios io
+
+-- what a take starts lies at the end of all that is started
+pub chosen_at : (plan : Plan) (worker : ℕ) (before history : List Event) (io : Started) → IsChosen plan worker before history (Some io) → slice_get (started history) (length (started before)) ≡ Some io
+chosen_at plan worker before history io chosen =
+    ap (λ (ios : List Started). slice_get ios (length (started before))) (chosen_started plan worker before history (Some io) chosen)
+    ∙ got_added (started before) io
+
+-- it can be carried out
+
+can_be : (plan : Plan) (io : Started) (job : SubJob) → FitsPlan plan io job → CanBeServed plan io
+can_be plan io job fits = record {
+  piece = fits.fits;
+  pass = fits.pass;
+  pattern =
+      subst (λ (o : Option SubJob). has_pattern (method_of o).kind (method_of o).pattern ≡ true) (sym fits.planned) fits.pattern;
+}
+
+pub chosen_served : (plan : Plan) (worker : ℕ) (before history : List Event) (io : Option Started) → IsPlanned plan → is_legal plan before ≡ true → IsChosen plan worker before history io → IfSome io (CanBeServed plan)
+chosen_served plan worker before history None planned legal chosen = tt
+chosen_served plan worker before history (Some io) planned legal chosen =
+    let fits = started_fit-law plan history (length (started before)) io planned
+    (chosen_legal plan worker before history (Some io) planned legal chosen) (chosen_at plan worker before history io chosen) in
+    can_be plan io fits.0 fits.1
+
+-- an end and a verdict
+
+pub may_end : (plan : Plan) (history : List Event) (t : Ticket) (outcome : Outcome) → IsOwn plan history t → is_none (outcome_of history t.id) ≡ true → outcome_fits outcome t.piece.len ≡ true → may_happen plan history (End t.worker t.id outcome) ≡ true
+may_end plan history t outcome own unended fits =
+    let io = own_started plan history t own in
+    let worker : io.0.worker ≡ t.worker = ap (λ (x : Ticket). x.worker) io.2 in
+    let len : io.0.piece.len ≡ t.piece.len = ap (λ (x : Ticket). x.piece.len) io.2 in
+    and_from (flies history t.id) (end_fits t.worker outcome (slice_get (started history) t.id))
+    (and_from (nat_lt t.id (length (started history))) (is_none (outcome_of history t.id))
+    (lt-ltb t.id (length (started history)) (started_below history t.id io.0 io.1)) unended)
+    (subst (λ (o : Option Started). end_fits t.worker outcome o ≡ true) (sym io.1)
+    (and_from (io.0.worker == t.worker) (outcome_fits outcome io.0.piece.len) (eq-eqb io.0.worker t.worker worker)
+    (subst (λ (n : ℕ). outcome_fits outcome n ≡ true) (sym len) fits)))
+
+expected-probe : (kind : TicketKind) (job : SubJob) (io : Started) (seed : ℕ) → is_probe kind ≡ true → expected_by kind job.method io seed ≡ expected_of job.method.kind job.method io.write io.piece seed
+expected-probe ticket.Probe job io seed h = refl
+expected-probe ticket.Read job io seed h = cc
+expected-probe ticket.Write job io seed h = cc
+
+pub may_judge : (plan : Plan) (history : List Event) (t : Ticket) (by : ℕ) (bytes : List ℕ) → IsPlanned plan → is_legal plan history ≡ true → IsOwn plan history t → is_judged history t.id ≡ false → ended_whole (outcome_of history t.id) ≡ true → is_probe t.kind ≡ true → length bytes ≤ t.piece.len → may_happen plan history (Verdict by t.id (verdict_of t.method.kind t.expected bytes)) ≡ true
+may_judge plan history t by bytes planned legal own unjudged whole probe short =
+    let io = own_started plan history t own in
+    let fits = started_fit-law plan history t.id io.0 planned legal io.1 in
+    let job = fits.0 in
+    let s = io.0 in
+    let seed = seed_of plan s in
+    let is_check : is_probe s.kind ≡ true = ap is_probe (ap (λ (x : Ticket). x.kind) io.2) ∙ probe in
+    let method : job.method ≡ t.method = ap method_of (sym fits.1.planned) ∙ ap (λ (x : Ticket). x.method) io.2 in
+    let len : s.piece.len ≡ t.piece.len = ap (λ (x : Ticket). x.piece.len) io.2 in
+    let expects : expected_of job.method.kind job.method s.write s.piece seed ≡ t.expected =
+    sym (expected-probe s.kind job s seed is_check)
+    ∙ ap (λ (o : Option SubJob). expected_by s.kind (method_of o) s seed) (sym fits.1.planned)
+    ∙ ap (λ (x : Ticket). x.expected) io.2 in
+    let said = verdict_of t.method.kind t.expected bytes in
+    let says : kind_says job.method.kind s.piece.len said ≡ true =
+    subst (λ (v : GivenVerdict). kind_says job.method.kind s.piece.len v ≡ true)
+    (ap (λ (x : Expected). verdict_of job.method.kind x bytes) expects ∙ ap (λ (m : Method). verdict_of m.kind t.expected bytes) method)
+    (verdict_of_fits job.method.kind job.method s.write s.piece seed bytes (omega (arith, short, len))) in
+    and_from (ended_whole (outcome_of history t.id) && not (is_judged history t.id)) (verdict_fits plan said (slice_get (started history) t.id))
+    (and_from (ended_whole (outcome_of history t.id)) (not (is_judged history t.id)) whole (ap not unjudged))
+    (subst (λ (o : Option Started). verdict_fits plan said o ≡ true) (sym io.1)
+    (and_from (is_probe s.kind) (job_says (clone_of plan s.write.clone) s.piece.len said) is_check
+    (subst (λ (o : Option SubJob). job_says o s.piece.len said ≡ true) (sym fits.1.planned) says)))
+
+-- refusals
+
+pub end_refused : (stopped : Bool) (o : Option Outcome) → is_some o ≡ true → cond stopped (Some Stopped) (cond true (cond (is_none o) None (Some Twice)) (Some Stranger)) ≡ None → ⊥
+end_refused true o some h = cc
+end_refused false None some h = cc
+end_refused false (Some x) some h = cc
+
+pub none_from : (o : Option Outcome) → is_some o ≡ false → is_none o ≡ true
+none_from None h = refl
+none_from (Some x) h = cc
+
+pub judge_refused_twice : (stopped judged whole : Bool) → judged ≡ true → cond stopped (Some Stopped) (cond true (cond judged (Some Twice) (cond whole None (Some WrongKind))) (Some Stranger)) ≡ None → ⊥
+judge_refused_twice true true whole j h = cc
+judge_refused_twice false true whole j h = cc
+judge_refused_twice stopped false whole j h = cc
+
+pub judge_refused_kind : (stopped judged whole : Bool) → whole ≡ false → cond stopped (Some Stopped) (cond true (cond judged (Some Twice) (cond whole None (Some WrongKind))) (Some Stranger)) ≡ None → ⊥
+judge_refused_kind true judged false w h = cc
+judge_refused_kind false true false w h = cc
+judge_refused_kind false false false w h = cc
+judge_refused_kind stopped judged true w h = cc
+
+pub judged_probe : (kind : TicketKind) (how : Outcome) → is_whole_check kind how ≡ true → is_probe kind ≡ true
+judged_probe ticket.Probe how h = refl
+judged_probe ticket.Read how h = cc
+judged_probe ticket.Write how h = cc
+
+pub judge_free : (stopped judged whole : Bool) → stopped ≡ false → judged ≡ false → whole ≡ true → cond stopped (Some Stopped) (cond true (cond judged (Some Twice) (cond whole None (Some WrongKind))) (Some Stranger)) ≡ None
+judge_free false false true s j w = refl
+judge_free true judged whole s j w = cc
+judge_free false true whole s j w = cc
+judge_free false false false s j w = cc
+
+-- a verdict that is taken in is not refused
+pub judge_accepts : (desk : DeskState) (t : Ticket) (P : DeskFault → Type 0) → IsOwn desk.plan desk.history t → desk.is_stopped ≡ false → is_judged desk.history t.id ≡ false → ended_whole (outcome_of desk.history t.id) ≡ true → (own : Bool) → Owns desk t own → IfSome (judge_fault desk t.id own) P
+judge_accepts desk t P is going unjudged whole true owns =
+    subst (λ (o : Option DeskFault). IfSome o P) (sym (judge_free desk.is_stopped (is_judged desk.history t.id) (ended_whole (outcome_of desk.history t.id)) going unjudged whole)) tt
+judge_accepts desk t P is going unjudged whole false owns = absurd (owns is)
+
+pub not_stopped : (stopped : Bool) → (stopped ≡ true → ⊥) → stopped ≡ false
+not_stopped false f = refl
+not_stopped true f = absurd (f refl)

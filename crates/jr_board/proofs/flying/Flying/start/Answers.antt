@@ -1,0 +1,7 @@
+-- What is started stands beside what flies.
+use Rattle.jr_board.proofs.flying.Flying.start.Goals as goal
+use Rattle.jr_board.proofs.FlyingMoves.{flying_start}
+
+pub returns : goal.returns
+returns c plan history event begun next starts is was =
+    flying_start plan history event begun c.args.io c.args.self.now next starts is c.requires was

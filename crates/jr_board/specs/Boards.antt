@@ -1,0 +1,34 @@
+-- Internal: what is kept of a run beside its history, and when the next step can want no more memory.
+use Rattle.std.specs.Prelude.{◌≡◌, ◌+◌, ◌<◌, ℕ, true, List, length, sum_by, None, vec_len, vec_capacity}
+use Rattle.jr_model.specs.Legal.{is_legal}
+use Rattle.jr_model.specs.Plan.{Plan}
+use Rattle.jr_plan.specs.PlanFacts.{IsPlanned}
+use Rattle.jr_board.specs.declared.board.Board.{Board}
+use Rattle.jr_board.specs.declared.standings.Standing.{Standing}
+use Rattle.jr_board.specs.Flyings.{IsFlying}
+use Rattle.jr_board.specs.Handing.{IsHanded}
+use Rattle.jr_board.specs.Standings.{ArePrepared, AreStanding}
+use Rattle.jr_board.specs.Tallying.{IsTallied}
+use Rattle.jr_board.specs.WriteLogs.{log_of_run}
+
+-- the history is legal, and each index is that of the history
+pub record IsBoard (plan : Plan) (board : Board) : Type 0 where
+  pub planned : IsPlanned plan
+  pub legal : is_legal plan board.history.items ≡ true
+  pub handed : IsHanded plan board.history.items board.handed
+  pub flying : IsFlying board.history.items board.flying
+  pub log : board.log ≡ log_of_run plan board.history.items
+  pub tallies : IsTallied plan board.history.items board.tallies
+  pub standings : AreStanding plan board.history.items board.standings.items
+
+-- the writes that are still to check, of all clones: no more of them can be skipped
+abbrev pub left_of : List Standing → ℕ
+left_of standings = sum_by (λ (standing : Standing). length standing.rounds.round.to_check) standings
+
+-- a skip of each write that is still to check, and one more step, take no memory
+pub record IsReady (plan : Plan) (board : Board) : Type 0 where
+  pub history : vec_len board.history + left_of board.standings.items < vec_capacity board.history
+  pub tickets : vec_len board.handed.tickets < vec_capacity board.handed.tickets
+  pub progress : vec_len board.handed.progress < vec_capacity board.handed.progress
+  pub flying : board.flying.begun ≡ None
+  pub standings : ArePrepared plan board.standings.items

@@ -1,0 +1,26 @@
+-- Internal: what is in flight after a history, where the I/O that began last may stand beside the others.
+use Rattle.std.specs.Prelude.{◌≡◌, true, List, Option, Some, None, IfSome, ℕ}
+use Rattle.std.specs.BTreeMap.{insert_entry}
+use Rattle.std.specs.Ordering.{nat_cmp}
+use Rattle.jr_model.specs.declared.events.Event.{Event}
+use Rattle.jr_model.specs.Tickets.{piece_fits}
+use Rattle.jr_flight.specs.declared.ios.Io.{Io}
+use Rattle.jr_flight.specs.Flights.{flying_io, is_clear}
+use Rattle.jr_log_laws.specs.Flying.{flight_of}
+use Rattle.jr_board.specs.declared.flying.Flying.{Flying}
+
+-- with this I/O, if there is one
+abbrev pub with_begun : Option Io → List (ℕ × Io) → List (ℕ × Io)
+with_begun None entries = entries
+with_begun (Some io) entries = insert_entry nat_cmp entries io.id io
+
+-- the I/O can be put to what is in flight: its number is new, nothing bars it, and it is a piece of whole blocks
+pub record CanBegin (entries : List (ℕ × Io)) (io : Io) : Type 0 where
+  pub new : flying_io io.id entries ≡ None
+  pub clear : is_clear io.dir io.piece entries ≡ true
+  pub fits : piece_fits io.piece ≡ true
+
+-- these are in flight after the history
+pub record IsFlying (history : List Event) (flying : Flying) : Type 0 where
+  pub all : flight_of history ≡ with_begun flying.begun flying.flight
+  pub begins : IfSome flying.begun (CanBegin flying.flight)

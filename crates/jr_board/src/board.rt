@@ -1,0 +1,18 @@
+use crate::flying::Flying;
+use crate::handed::Handed;
+use crate::standings::Standing;
+use crate::tallies::Tallies;
+use jr_model::Event;
+use jr_writes::WriteLog;
+
+// What happened in a run, and what is kept of it, so that no call looks at the whole history.
+#[derive(Debug, Drop)]
+pub struct Board {
+    // All events, the oldest first. It is appended to alone.
+    pub history: Vec<Event>,
+    pub handed: Handed,
+    pub flying: Flying,
+    pub log: WriteLog,
+    pub tallies: Tallies,
+    pub standings: Vec<Standing>,
+}

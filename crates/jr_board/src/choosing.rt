@@ -1,0 +1,197 @@
+ghost use Rattle.std.specs.Prelude.{◌≡◌, ◌<◌, ℕ, true, false, length, nat_le, slice_get, Some, IfSome};
+ghost use Rattle.std.specs.List.{list_any};
+ghost use Rattle.std.specs.Option.{option_map};
+ghost use Rattle.jr_model.specs.Choice.{choice, choice_of_clone};
+ghost use Rattle.jr_model.specs.History.{first_given, same_write};
+ghost use Rattle.jr_model.specs.Legal.{is_halted, phase_is_open};
+ghost use Rattle.jr_model.specs.Plan.{SubJob as Clone, clone_of};
+ghost use Rattle.jr_model.specs.Rounds.{has_rounds, pass_of};
+ghost use Rattle.jr_model.specs.Tickets.{piece_fits};
+ghost use Rattle.jr_backlog.specs.CurrentRound.{current_round};
+ghost use Rattle.jr_standing.specs.Deferred.{is_settled};
+ghost use Rattle.jr_round_laws.specs.Standing.{is_under_way, issue_of, next_issue, take_up_write};
+ghost use Rattle.jr_board.specs.Boards.{IsBoard, IsReady};
+ghost use Rattle.jr_board.specs.declared.standings.Standing.{Standing as Stood};
+
+use crate::board::Board;
+use crate::handed::Handed;
+use crate::resting::{open_phase, pass_is_finished};
+use crate::standings::{Standing, has_rounds};
+use jr_model::{Dir, Draw, Event, IoId, Piece, WriteId};
+use jr_plan::Plan;
+
+// What a take by this worker appends next, if it may append anything: the least step of all clones.
+pub fn choose(plan: &Plan, board: &Board, worker: u32) -> Option<Event>
+    requires board { IsBoard plan.now board.now }
+    requires ready { IsReady plan.now board.now }
+    ensures { result ≡ choice plan.now board.now.history.items worker }
+{
+    let phase = open_phase(plan, board);
+    for clone in 0..plan.clones() {
+        let step = step_of_clone(plan, board, phase, clone, worker);
+        if step.is_some() {
+            return step;
+        }
+    }
+    None
+}
+
+// The least step of a clone, where draws of clones up to this phase may be issued.
+fn step_of_clone(plan: &Plan, board: &Board, phase: u32, clone: usize, worker: u32) -> Option<Event>
+    requires board { IsBoard plan.now board.now }
+    requires ready { IsReady plan.now board.now }
+    requires there { clone < length plan.now.clones }
+    requires phase { (job : Clone) → clone_of plan.now clone ≡ Some job
+        → phase_is_open plan.now board.now.history.items job ≡ nat_le job.phase phase }
+    ensures { (job : Clone) → clone_of plan.now clone ≡ Some job
+        → result ≡ choice_of_clone plan.now board.now.history.items worker job }
+{
+    let job = plan.clone_at(clone);
+    let standing = &board.standings[clone];
+    let counts = &board.tallies.counts[clone];
+    if counts.is_halted || counts.issues + counts.checks >= job.depth() {
+        return None;
+    }
+    if has_rounds(job) && standing.rounds.is_under_way() {
+        if counts.issues > 0 {
+            return None;
+        }
+        return round_step(plan, board, standing, worker);
+    }
+    if job.phase() > phase {
+        return None;
+    }
+    next_issue(plan, board, clone, worker)
+}
+
+// The check or skip of the first write of a clone's round that nothing bars and that wasn't taken up.
+fn round_step(plan: &Plan, board: &Board, standing: &Standing, worker: u32) -> Option<Event>
+    requires board { IsBoard plan.now board.now }
+    requires ready { IsReady plan.now board.now }
+    requires settled { is_settled standing.now.rounds ≡ true }
+    ensures { (clone : ℕ) (job : Clone) → clone_of plan.now clone ≡ Some job
+        → slice_get board.now.standings.items clone ≡ Some standing.now
+        → has_rounds job ≡ true → is_halted board.now.history.items job ≡ false
+        → is_under_way (current_round job board.now.history.items) ≡ true
+        → result ≡ first_given (take_up_write board.now.history.items worker job) (current_round job board.now.history.items).to_check }
+{
+    let mut next = standing.rounds.next_check();
+    while let Some(write) = next {
+        let step = take_up(plan, board, standing, worker, write);
+        if step.is_some() {
+            return step;
+        }
+        next = standing.rounds.next_after(&write);
+    }
+    None
+}
+
+// The check or skip of a write of a clone's round, unless it was taken up or something in flight bars it.
+fn take_up(
+    plan: &Plan,
+    board: &Board,
+    standing: &Standing,
+    worker: u32,
+    write: WriteId,
+) -> Option<Event>
+    requires board { IsBoard plan.now board.now }
+    requires ready { IsReady plan.now board.now }
+    ensures { (clone : ℕ) (job : Clone) → clone_of plan.now clone ≡ Some job
+        → slice_get board.now.standings.items clone ≡ Some standing.now
+        → has_rounds job ≡ true → is_halted board.now.history.items job ≡ false
+        → list_any (same_write write) (current_round job board.now.history.items).to_check ≡ true
+        → result ≡ take_up_write board.now.history.items worker job write }
+{
+    let issued = *standing.issued.get(write.number as usize)?;
+    if issued.is_taken_up {
+        return None;
+    }
+    let piece = piece_of(&board.handed, issued.id)?;
+    if !board.flying.is_clear(&piece, Dir::Read) {
+        return None;
+    }
+    if board.log.intact(&write) {
+        Some(Event::Probe {
+            worker,
+            write,
+            piece,
+        })
+    } else {
+        Some(Event::Skip { worker, write })
+    }
+}
+
+// The piece of the ticket of this number, if it was handed out.
+fn piece_of(handed: &Handed, id: IoId) -> Option<Piece>
+    ensures { result ≡ option_map (λ ticket. ticket.piece) (slice_get handed.now.tickets.items id) }
+{
+    match handed.tickets.get(id as usize) {
+        None => None,
+        Some(ticket) => Some(ticket.piece),
+    }
+}
+
+// The issue of a clone's next draw, where its phase is open: of the pass that it is in, or of the next one where that is
+// finished.
+fn next_issue(plan: &Plan, board: &Board, clone: usize, worker: u32) -> Option<Event>
+    requires board { IsBoard plan.now board.now }
+    requires ready { IsReady plan.now board.now }
+    requires there { clone < length plan.now.clones }
+    requires runs { (job : Clone) → clone_of plan.now clone ≡ Some job → is_halted board.now.history.items job ≡ false }
+    requires opened { (job : Clone) → clone_of plan.now clone ≡ Some job
+        → phase_is_open plan.now board.now.history.items job ≡ true }
+    ensures { (job : Clone) (standing : Stood) → clone_of plan.now clone ≡ Some job
+        → slice_get board.now.standings.items clone ≡ Some standing
+        → result ≡ next_issue plan.now board.now.history.items worker job standing.pass }
+{
+    let standing = &board.standings[clone];
+    if !pass_is_finished(plan, board, clone) {
+        return issue_of(
+            plan,
+            board,
+            clone as u32,
+            standing.pass,
+            standing.draws.next(),
+            worker,
+        );
+    }
+    let next = standing.pass + 1;
+    if next >= plan.clone_at(clone).passes() {
+        return None;
+    }
+    match &standing.later {
+        Some(draws) => issue_of(plan, board, clone as u32, next, draws.next(), worker),
+        None => None,
+    }
+}
+
+// The issue of a draw of a clone's pass, unless something in flight bars it.
+fn issue_of(
+    plan: &Plan,
+    board: &Board,
+    clone: u32,
+    pass: u32,
+    draw: Option<Draw>,
+    worker: u32,
+) -> Option<Event>
+    requires board { IsBoard plan.now board.now }
+    requires ready { IsReady plan.now board.now }
+    requires fits { IfSome draw (λ draw. piece_fits draw.piece ≡ true) }
+    ensures { (job : Clone) → clone_of plan.now clone ≡ Some job → phase_is_open plan.now board.now.history.items job ≡ true
+        → result ≡ issue_of plan.now board.now.history.items worker (pass_of job pass) draw }
+{
+    let draw = draw?;
+    if !board.flying.is_clear(&draw.piece, draw.dir) {
+        return None;
+    }
+    Some(Event::Issue {
+        worker,
+        dir: draw.dir,
+        write: WriteId {
+            clone,
+            pass,
+            number: draw.number,
+        },
+        piece: draw.piece,
+    })
+}

@@ -1,0 +1,7 @@
+pub mod FlatMaps
+pub mod Found
+pub mod Named
+pub mod Ordered
+pub mod Reported
+pub mod Unique
+pub mod Writes

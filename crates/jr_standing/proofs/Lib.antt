@@ -1,0 +1,2 @@
+pub mod ComingFacts
+pub mod WalkedFacts

@@ -1,0 +1,2 @@
+pub mod ComingDraws
+pub mod Deferred

@@ -1,0 +1,11 @@
+// Where a clone stands: the draws that are still to come, and its round of writes to check. What a step of a run changes in
+// them takes no memory: that was asked for before.
+#![tactic(auto)]
+
+mod deferred;
+mod draws;
+#[cfg(test)]
+mod tests;
+
+pub use deferred::DeferredRounds;
+pub use draws::DrawsLeft;
