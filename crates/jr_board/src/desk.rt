@@ -23,7 +23,8 @@ use std::marker::Model;
 
 /// The shared state of a run. Every I/O is handed out by it and ends in it.
 ///
-/// A refused call leaves it unchanged. A call costs no more than a logarithm of what happened, and a look at each clone.
+/// A refused call leaves it unchanged. A call costs a logarithm of what happened; a take also looks at each clone, goes past
+/// the writes of a round whose checks fly or are barred, and does so again for each write that it skips.
 #[derive(Debug, Drop)]
 pub struct Desk {
     alloc: Global,
