@@ -47,10 +47,11 @@ impl<R: Wait + Clone> SharedMemory<R> {
     pub fn share(&self) -> Result<SharedMemory<R>, Memory>
         ensures { IfOk result (λ share. share ≡ record { calls = 0; failures = 0 }) }
     {
+        let tally = Tally::new();
         Ok(SharedMemory {
             rt: self.rt.clone()?,
             files: Arc::try_clone(&self.files)?,
-            tally: Tally::new(),
+            tally,
         })
     }
 }

@@ -1,10 +1,11 @@
 ghost use Rattle.std.specs.Prelude.{◌≡◌, IfOk};
 
-use crate::{Engine, EngineFault, MemoryEngine, NullEngine, ScriptedEngine, ask};
+use crate::{Engine, EngineFault, MemoryEngine, NullEngine, ScriptedEngine, SharedMemory, ask};
 use jr_model::{
-    Expected, Memory, Method, Outcome, Piece, Reply, ReplyBytes, Ticket, TicketKind, VerifyKind,
-    WriteId,
+    EngineKind, Expected, IoType, Memory, Method, Outcome, Piece, Reply, ReplyBytes, SECTOR,
+    Ticket, TicketKind, VerifyKind, WriteId,
 };
+use jr_plan::{Draft, Plan, Workload};
 use std::alloc::Global;
 use std::process::Abort;
 use std::test::Fail;
@@ -130,6 +131,42 @@ fn memory_has_edges(rt: HostRuntime) -> Result<(), Fail> {
     assert_eq!(rt; engine.read(2, 4, &mut buf), outside);
     assert_eq!(rt; buf, [2, 3, 9]);
     assert_eq!(rt; (engine.calls(), engine.failures()), (10, 5));
+    Ok(())
+}
+
+// The plan of a job that writes 1,024 bytes of a file from 512 on.
+fn planned(alloc: Global) -> Result<Plan, Fail> {
+    let mut draft = Draft::new(alloc);
+    let writes = Workload::plain(IoType::Write, SECTOR, 2);
+    draft.add(alloc, &writes, "w", String::new(alloc), 512)?;
+    if draft.clones() == 0 {
+        return Err(Fail::from("no clones"));
+    }
+    Ok(draft.finish(EngineKind::Memory, 0))
+}
+
+#[test]
+fn shares_have_one_memory_and_counts_of_their_own(rt: HostRuntime) -> Result<(), Fail> {
+    let outside = Err(EngineFault::Outside);
+    let plan = planned(rt.alloc())?;
+    let mut first = SharedMemory::new(rt.clone()?, rt.alloc(), &plan)?;
+    assert_eq!(rt; first.write(0, 600, &[1, 2, 3]), Ok(3));
+    assert_eq!(rt; first.write(0, 511, &[4]), outside);
+    let mut second = first.share()?;
+    assert_eq!(rt; (second.calls(), second.failures()), (0, 0));
+    let mut buf = [9; 4];
+    assert_eq!(rt; second.read(0, 599, &mut buf), Ok(4));
+    assert_eq!(rt; buf, [0, 1, 2, 3]);
+    assert_eq!(rt; second.write(0, 1534, &[5, 6]), Ok(2));
+    assert_eq!(rt; second.write(0, 1535, &[7, 8]), outside);
+    assert_eq!(rt; second.write(1, 600, &[7]), outside);
+    assert_eq!(rt; first.read(0, 1533, &mut buf), Ok(3));
+    assert_eq!(rt; buf, [0, 5, 6, 3]);
+    assert_eq!(rt; (first.calls(), first.failures()), (3, 1));
+    assert_eq!(rt; (second.calls(), second.failures()), (4, 2));
+    let mut other = SharedMemory::new(rt.clone()?, rt.alloc(), &plan)?;
+    assert_eq!(rt; other.read(0, 599, &mut buf), Ok(4));
+    assert_eq!(rt; buf, [0, 0, 0, 0]);
     Ok(())
 }
 

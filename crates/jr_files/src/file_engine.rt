@@ -42,6 +42,13 @@ impl<F: Positioned> FileEngine<F> {
             tally: Tally::new(),
         }
     }
+
+    // Its files, in their order.
+    pub(crate) fn files(&self) -> &[F]
+        ensures { map F.view result.now ≡ self.now.files }
+    {
+        self.files.as_slice()
+    }
 }
 
 impl FileEngine<File> {
@@ -112,7 +119,7 @@ impl<F: Positioned> Engine for FileEngine<F> {
 }
 
 // Opens a file that is there for reading and writing.
-fn open<R: Files<File = File>>(rt: &R, name: &str) -> io::Result<File> {
+pub fn open<R: Files<File = File>>(rt: &R, name: &str) -> io::Result<File> {
     OpenOptions::new().read(true).write(true).open(rt, name)
 }
 

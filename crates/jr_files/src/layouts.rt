@@ -1,4 +1,5 @@
-ghost use Rattle.std.specs.Prelude.{length, IfErr};
+ghost use Rattle.std.specs.Prelude.{◌≤◌, length, IfErr, IfSome, IsSome};
+ghost use Rattle.std.specs.Io.KnownBytes.{Keeps};
 ghost use Rattle.jr_files.specs.Engines.{NamesFile};
 
 use crate::faults::FileFault;
@@ -30,6 +31,14 @@ fn extend<R: Files>(rt: &R, name: &str, high: u64) -> io::Result<()> {
         .write(true)
         .create(true)
         .open(rt, name)?;
+    lengthen(&mut file, high)
+}
+
+// Writes a zero byte as the last of so many bytes, where the file is shorter. Any other isn't written to.
+fn lengthen<F: Write + Seek>(file: &mut F, high: u64) -> io::Result<()>
+    ensures { IsSome (F.stream_position file.old) → IfSome (F.stream_bytes file.old)
+        (λ bytes. high ≤ length bytes → Keeps (F.stream_bytes file.old) (F.stream_bytes file.new)) }
+{
     if file.seek(SeekFrom::End(0))? < high {
         file.seek(SeekFrom::Start(high - 1))?;
         file.write_all(&[0])?;

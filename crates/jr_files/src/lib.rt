@@ -6,12 +6,14 @@ mod file_engine;
 mod layouts;
 mod moving;
 mod positioned;
+mod shares;
 
 pub use faults::FileFault;
 pub use file_engine::FileEngine;
 pub use layouts::lay_out;
 pub use moving::{LARGEST_OFFSET, read_whole, write_whole};
 pub use positioned::Positioned;
+pub use shares::SharedFile;
 
 #[cfg(test)]
 mod tests;

@@ -4,9 +4,9 @@ use crate::{FileEngine, FileFault, Positioned, lay_out, read_whole, write_whole}
 use jr_engines::{Engine, EngineFault, SharedMemory};
 use jr_model::{EngineKind, IoType, SECTOR};
 use jr_plan::{Draft, Plan, Workload};
-use std::alloc::{AllocError, Global};
-use std::fs::{File, OpenOptions};
-use std::io::ErrorKind;
+use std::alloc::{AllocError, Allocator, Global};
+use std::fs::{File, Metadata, OpenFile, OpenOptions};
+use std::io::{ErrorKind, Read, Seek, SeekFrom, Write};
 use std::os::unix::fs::symlink;
 use std::process::Abort;
 use std::rt::{Env, Files};
@@ -175,6 +175,117 @@ fn full_device_fails_its_writes(rt: HostRuntime) -> Result<(), Fail> {
     assert_eq!(rt; engine.read(1, 0, &mut buf), Err(EngineFault::Outside));
     assert_eq!(rt; engine.write(0, u64::MAX, &[1]), Err(EngineFault::Outside));
     assert_eq!(rt; (engine.calls(), engine.failures()), (4, 3));
+    Ok(())
+}
+
+// A block device of so many bytes, which isn't to be written to. Its metadata says 0.
+#[derive(Drop)]
+struct Device {
+    len: u64,
+}
+
+impl Seek for Device {
+    fn seek(&mut self, to: SeekFrom) -> io::Result<u64> {
+        match to {
+            SeekFrom::End(0) => Ok(self.len),
+            SeekFrom::Start(place) => Ok(place),
+            _ => Err(io::Error::from(ErrorKind::InvalidInput)),
+        }
+    }
+}
+
+impl Read for Device {
+    fn read(&mut self, _buf: &mut [u8]) -> io::Result<usize> {
+        Err(io::Error::from(ErrorKind::Unsupported))
+    }
+}
+
+impl Write for Device {
+    fn write(&mut self, _buf: &[u8]) -> io::Result<usize> {
+        Err(io::Error::from(ErrorKind::StorageFull))
+    }
+
+    fn flush(&mut self) -> io::Result<()> {
+        Ok(())
+    }
+}
+
+impl OpenFile for Device {
+    fn metadata(&self) -> io::Result<Metadata> {
+        Ok(Metadata::of_file(0))
+    }
+
+    fn set_len(&self, _size: u64) -> io::Result<()> {
+        Err(io::Error::from(ErrorKind::InvalidInput))
+    }
+
+    fn sync_all(&self) -> io::Result<()> {
+        Ok(())
+    }
+
+    fn sync_data(&self) -> io::Result<()> {
+        Ok(())
+    }
+}
+
+// A system each of whose files is such a device.
+struct Devices {
+    len: u64,
+}
+
+impl Files for Devices {
+    type File = Device;
+
+    type Dir = Device;
+
+    fn open_file(&self, how: &OpenOptions, _path: &str) -> io::Result<Device> {
+        how.check()?;
+        Ok(Device { len: self.len })
+    }
+
+    fn open_dir(&self, _path: &str) -> io::Result<Device> {
+        Err(io::Error::from(ErrorKind::Unsupported))
+    }
+
+    fn metadata(&self, _path: &str) -> io::Result<Metadata> {
+        Ok(Metadata::of_file(0))
+    }
+
+    fn symlink_metadata(&self, _path: &str) -> io::Result<Metadata> {
+        Ok(Metadata::of_file(0))
+    }
+
+    fn copy(&self, _from: &str, _to: &str) -> io::Result<u64> {
+        Err(io::Error::from(ErrorKind::Unsupported))
+    }
+
+    fn rename(&self, _from: &str, _to: &str) -> io::Result<()> {
+        Err(io::Error::from(ErrorKind::Unsupported))
+    }
+
+    fn remove_file(&self, _path: &str) -> io::Result<()> {
+        Err(io::Error::from(ErrorKind::Unsupported))
+    }
+
+    fn create_dir(&self, _path: &str) -> io::Result<()> {
+        Err(io::Error::from(ErrorKind::Unsupported))
+    }
+
+    fn remove_dir(&self, _path: &str) -> io::Result<()> {
+        Err(io::Error::from(ErrorKind::Unsupported))
+    }
+
+    fn remove_dir_all<B: Allocator>(&self, _alloc: B, _path: &str) -> io::Result<()> {
+        Err(io::Error::from(ErrorKind::Unsupported))
+    }
+}
+
+#[test]
+fn block_device_is_as_long_as_a_seek_says(rt: HostRuntime) -> Result<(), Fail> {
+    let plan = planned(rt.alloc(), "/dev", &[("sda", 1024, 2)])?;
+    assert_eq!(rt; lay_out(&Devices { len: 2048 }, &plan), Ok(()));
+    let shorter = lay_out(&Devices { len: 2047 }, &plan);
+    assert_eq!(rt; shorter, Err(FileFault::File(0)));
     Ok(())
 }
 
