@@ -1,6 +1,7 @@
 pub mod BuildLemmas
 pub mod CloneLemmas
 pub mod FileEnds
+pub mod FileNaming
 pub mod LimitLemmas
 pub mod RefusalLemmas
 pub mod Rows

@@ -1,4 +1,5 @@
 pub mod FileLaws
+pub mod FileNames
 pub mod Jobs
 pub mod PlanOf
 pub mod Planned

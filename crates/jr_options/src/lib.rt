@@ -9,5 +9,5 @@ mod tests;
 
 pub use jr_plan::{Bound, EngineKind, FileSpec, Plan, SubJob, plan_text};
 pub use jr_settings::JobFault;
-pub use laws::{high_is_greatest, low_is_least};
+pub use laws::{files_are_asked, high_is_greatest, low_is_least};
 pub use reading::plan;

@@ -1,4 +1,4 @@
-use crate::laws::{high_is_greatest, low_is_least};
+use crate::laws::{files_are_asked, high_is_greatest, low_is_least};
 use crate::reading::plan;
 use jr_model::EngineKind;
 use jr_plan::{Bound, Plan, plan_text};
@@ -86,6 +86,10 @@ fn faults(rt: HostRuntime) {
         Some(JobFault::BadValue(3))
     );
     assert_eq!(rt;
+        fault(alloc, "[a]\nsize=16k\nbssplit=4k/60:8k/50\n"),
+        Some(JobFault::BadSplit(3))
+    );
+    assert_eq!(rt;
         fault(alloc, "[a]\nsize=4k\n[b]\nrw=write\n"),
         Some(JobFault::MissingSize(3))
     );
@@ -123,8 +127,10 @@ fn limits(rt: HostRuntime) -> Result<(), Fail> {
     Ok(())
 }
 
+// A law does nothing when it is called: that each can be called is all that there is to see.
 #[test]
 fn the_laws_can_be_called() {
+    files_are_asked();
     low_is_least();
     high_is_greatest();
 }

@@ -10,6 +10,7 @@ pub mod KeptLaws
 pub mod KeptLists
 pub mod KeptRounds
 pub mod KeptSettled
+pub mod OpenLatest
 pub mod StandingDraws
 pub mod StandingFinished
 pub mod StandingFlights

@@ -1,6 +1,7 @@
 use crate::{
     choice_by_standing, clone_finished_by_standing, closed_at_end, finished_by_standing,
-    kept_is_current, left_are_unsettled, left_in_pass, waits_under_way,
+    kept_is_current, left_are_unsettled, left_in_pass, open_is_latest, taken_up_is_latest,
+    waits_under_way,
 };
 
 // A law does nothing when it is called: that each can be called is all that there is to see.
@@ -14,4 +15,6 @@ fn the_laws_can_be_called() {
     choice_by_standing();
     finished_by_standing();
     clone_finished_by_standing();
+    open_is_latest();
+    taken_up_is_latest();
 }
