@@ -1,4 +1,5 @@
 pub mod KeyLemmas
 pub mod MarkLemmas
+pub mod PartLemmas
 pub mod UnfinishedLemmas
 pub mod WriteEndLemmas

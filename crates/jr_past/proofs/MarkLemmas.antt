@@ -1,11 +1,11 @@
 -- The marks of events, one event and one I/O after another.
 use Rattle.std.proofs.Common.{◌≡◌, ℕ, suc, zero, ◌+◌, ◌<◌, ◌≤◌, List, [], ◌∷◌, ◌++◌, length, Bool, true, false, cond, eqb, refl, sym, ap, ◌∙◌, arith, eq-eqb, append-nil, subst}
-use Rattle.std.specs.Prelude.{Option, Some, None, is_some, nat_eq, ◌||◌, ◌&&◌, slice_get, filter_map, count_by, if◌then◌else◌}
+use Rattle.std.specs.Prelude.{Option, Some, None, is_some, nat_eq, ◌||◌, ◌&&◌, slice_get, filter, filter_map, count_by, if◌then◌else◌}
 use Rattle.std.specs.HashMap.{get}
 use Rattle.std.specs.HashSet.{contains}
 use Rattle.std.specs.List.{list_any, cons_option}
 use Rattle.std.specs.Option.{option_or}
-use Rattle.std.proofs.lemmas.List.Elements.{filter_map-append}
+use Rattle.std.proofs.lemmas.List.Elements.{filter-append, filter_map-append}
 use Rattle.std.proofs.lemmas.List.Sums.{sum_by-cons, sum_by-append, count_by-le-length}
 use Rattle.jr_model.proofs.SerialLaws.{any-append, first_given-append}
 use Rattle.jr_model.specs.declared.events.Event.{Event}
@@ -20,6 +20,7 @@ use Rattle.jr_model.specs.Totals.{is_fault_of, is_verdict_of}
 use Rattle.jr_past.specs.declared.marks.Marks.{Marks}
 use Rattle.jr_past.specs.Marks.{IsMarked, IsMarkedBy, counted, is_issue_in, is_named, same_name}
 use Rattle.jr_past.specs.Ledgers.{IsLedger}
+use Rattle.jr_past.specs.Parts.{is_over_part}
 use Rattle.jr_past.specs.WriteEnds.{if_write, write_end}
 
 or_nothing : (b : Bool) → (b || false) ≡ b
@@ -59,6 +60,11 @@ marked_more ios events e old new was by = record {
   faulty = λ clone. found_more (is_fault_of ios clone) events e (contains nat_eq new.faulty clone) (contains nat_eq old.faulty clone) (by.faulty clone) (was.faulty clone);
   condemned = λ clone. found_more (is_verdict_of ios is_bad clone) events e (contains nat_eq new.condemned clone) (contains nat_eq old.condemned clone) (by.condemned clone) (was.condemned clone);
   written = by.written ∙ ap (λ xs. xs ++ cons_option (write_end ios e) []) was.written ∙ sym (filter_map-append (write_end ios) events (e ∷ []));
+  parts = λ file part.
+      by.parts file part
+      ∙ ap (λ xs. xs ++ filter (is_over_part file part) (cons_option (write_end ios e) [])) (was.parts file part)
+      ∙ sym (filter-append (is_over_part file part) (filter_map (write_end ios) events) (cons_option (write_end ios e) []))
+      ∙ ap (filter (is_over_part file part)) (sym (filter_map-append (write_end ios) events (e ∷ [])));
 }
 
 -- no more draws of a pass are issued than there are events
@@ -164,6 +170,8 @@ marked_started ios s events marks was unnamed =
     let ended : is_some (outcome_of events n) ≡ false = ap (λ (o : Option Outcome). is_some o) (sym (was.outcomes n)) ∙ parts.0 in
     let judged : is_judged events n ≡ false = sym (was.judged n) ∙ parts.1 in
     let more : List Started = ios ++ s ∷ [] in
+    let same_ends : filter_map (write_end more) events ≡ filter_map (write_end ios) events =
+    unnamed_given (write_end ios) (write_end more) n (same_write_end ios s) events ended judged in
     record {
       outcomes = was.outcomes;
       judged = was.judged;
@@ -172,7 +180,8 @@ marked_started ios s events marks was unnamed =
       settled = λ write. was.settled write ∙ sym (unnamed_any (settles ios write) (settles more write) n (same_settles ios s write) events ended judged);
       faulty = λ clone. was.faulty clone ∙ sym (unnamed_any (is_fault_of ios clone) (is_fault_of more clone) n (same_fault ios s clone) events ended judged);
       condemned = λ clone. was.condemned clone ∙ sym (unnamed_any (is_verdict_of ios is_bad clone) (is_verdict_of more is_bad clone) n (same_verdict ios s clone) events ended judged);
-      written = was.written ∙ sym (unnamed_given (write_end ios) (write_end more) n (same_write_end ios s) events ended judged);
+      written = was.written ∙ sym same_ends;
+      parts = λ file part. was.parts file part ∙ ap (filter (is_over_part file part)) (sym same_ends);
     }
 
 -- ---- the ledger of one more event

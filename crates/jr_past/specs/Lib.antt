@@ -1,4 +1,5 @@
 pub mod Ledgers
 pub mod Marks
+pub mod Parts
 pub mod Unfinished
 pub mod WriteEnds

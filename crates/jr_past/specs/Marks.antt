@@ -1,5 +1,5 @@
 -- Internal: what is kept of events beside themselves: what they say of I/Os, writes and clones, to be looked up.
-use Rattle.std.specs.Prelude.{◌≡◌, ℕ, ◌+◌, nat_eq, Bool, false, ◌&&◌, ◌||◌, List, [], ◌∷◌, ◌++◌, Option, Some, None, is_some, filter_map, count_by, unwrap_or, if◌then◌else◌}
+use Rattle.std.specs.Prelude.{◌≡◌, ℕ, ◌+◌, nat_eq, Bool, false, ◌&&◌, ◌||◌, List, [], ◌∷◌, ◌++◌, Option, Some, None, is_some, filter, filter_map, count_by, unwrap_or, if◌then◌else◌}
 use Rattle.std.specs.HashMap.{HashMap, get}
 use Rattle.std.specs.HashSet.{contains}
 use Rattle.std.specs.List.{list_any, cons_option}
@@ -13,6 +13,7 @@ use Rattle.jr_model.specs.Legal.{is_bad, takes_up}
 use Rattle.jr_model.specs.Rounds.{settles}
 use Rattle.jr_model.specs.Totals.{is_fault_of, is_verdict_of}
 use Rattle.jr_past.specs.declared.marks.Marks.{Marks}
+use Rattle.jr_past.specs.Parts.{ends_at, is_over_part}
 use Rattle.jr_past.specs.WriteEnds.{write_end}
 
 -- one pass of one clone
@@ -54,6 +55,7 @@ pub record IsMarked (ios : List Started) (events : List Event) (marks : Marks) :
   pub faulty : (clone : ℕ) → contains nat_eq marks.faulty clone ≡ list_any (is_fault_of ios clone) events
   pub condemned : (clone : ℕ) → contains nat_eq marks.condemned clone ≡ list_any (is_verdict_of ios is_bad clone) events
   pub written : marks.written.items ≡ filter_map (write_end ios) events
+  pub parts : (file part : ℕ) → ends_at marks.parts (file, part) ≡ filter (is_over_part file part) (filter_map (write_end ios) events)
 
 -- the new marks are the old ones and what one event says
 pub record IsMarkedBy (ios : List Started) (event : Event) (old new : Marks) : Type 0 where
@@ -65,3 +67,4 @@ pub record IsMarkedBy (ios : List Started) (event : Event) (old new : Marks) : T
   pub faulty : (clone : ℕ) → contains nat_eq new.faulty clone ≡ (contains nat_eq old.faulty clone || is_fault_of ios clone event)
   pub condemned : (clone : ℕ) → contains nat_eq new.condemned clone ≡ (contains nat_eq old.condemned clone || is_verdict_of ios is_bad clone event)
   pub written : new.written.items ≡ old.written.items ++ cons_option (write_end ios event) []
+  pub parts : (file part : ℕ) → ends_at new.parts (file, part) ≡ ends_at old.parts (file, part) ++ filter (is_over_part file part) (cons_option (write_end ios event) [])

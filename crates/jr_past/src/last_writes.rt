@@ -5,6 +5,7 @@ ghost use Rattle.jr_past.specs.WriteEnds.{if_whole, is_over_block, last_by};
 use crate::events::same_write;
 use crate::histories::Past;
 use crate::marks::WriteEnd;
+use crate::parts::part_of;
 use jr_model::{Piece, SECTOR, WriteId};
 
 // Whether the block of this file lies in the piece.
@@ -48,7 +49,8 @@ fn last_by(ends: &[WriteEnd], file: u32, block: u64) -> Option<WriteId>
 pub fn last_write(past: &Past, file: u32, block: u64) -> Option<WriteId>
     ensures { result ≡ last_write past.now file block }
 {
-    last_by(past.ledger().written(), file, block)
+    let ends = past.ledger().ends_over(file, part_of(block));
+    last_by(ends, file, block)
 }
 
 // Whether the last write is this one.

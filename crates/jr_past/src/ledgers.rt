@@ -1,10 +1,11 @@
-ghost use Rattle.std.specs.Prelude.{◌≡◌, ◌∷◌, [], ◌++◌, ◌<◌, ◌^◌, ℕ, IfOk, filter_map, length};
+ghost use Rattle.std.specs.Prelude.{◌≡◌, ◌∷◌, [], ◌++◌, ◌<◌, ◌^◌, ℕ, IfOk, filter, filter_map, length};
 ghost use Rattle.std.specs.List.{list_any};
 ghost use Rattle.jr_model.specs.History.{started, outcome_of, is_judged};
 ghost use Rattle.jr_model.specs.Legal.{is_bad, takes_up};
 ghost use Rattle.jr_model.specs.Rounds.{Pass as PassRecord, is_settled, issued_count};
 ghost use Rattle.jr_model.specs.Totals.{is_fault_of, is_verdict_of};
 ghost use Rattle.jr_past.specs.Marks.{IsMarked, is_named};
+ghost use Rattle.jr_past.specs.Parts.{is_over_part};
 ghost use Rattle.jr_past.specs.WriteEnds.{write_end};
 
 use crate::events::{started, started_by};
@@ -63,7 +64,7 @@ impl Ledger {
                 ios.push(io)?;
             }
         }
-        mark(&mut marks, ios.as_slice(), &event)?;
+        mark(alloc, &mut marks, ios.as_slice(), &event)?;
         Ok(Ledger { events, ios, marks })
     }
 
@@ -149,6 +150,14 @@ impl Ledger {
     {
         self.marks.written.as_slice()
     }
+
+    /// Of these the ends over a part of a file.
+    pub fn ends_over(&self, file: u32, part: u64) -> &[WriteEnd]
+        ensures { result.now
+            ≡ filter (is_over_part file part) (filter_map (write_end (started self.now)) self.now) }
+    {
+        self.marks.parts.ends_over(file, part)
+    }
 }
 
 // Whether the end or the verdict of an I/O of this number is marked already.
@@ -164,7 +173,7 @@ fn marks_of(alloc: Global, ios: &[Started], events: &[Event]) -> Result<Marks, M
 {
     let mut marks = Marks::new(alloc);
     for event in events {
-        mark(&mut marks, ios, event)?;
+        mark(alloc, &mut marks, ios, event)?;
     }
     Ok(marks)
 }

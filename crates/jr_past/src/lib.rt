@@ -8,6 +8,7 @@ mod last_writes;
 mod ledgers;
 mod marking;
 mod marks;
+mod parts;
 
 pub use events::{
     end_of, ended_whole, is_judged, is_probe, is_verdict_on, is_write, outcome_of, same_piece,
@@ -17,6 +18,7 @@ pub use histories::Past;
 pub use last_writes::{is_intact, last_write};
 pub use ledgers::Ledger;
 pub use marks::WriteEnd;
+pub use parts::{PART, part_of};
 
 #[cfg(test)]
 mod tests;

@@ -1,4 +1,4 @@
-ghost use Rattle.std.specs.Prelude.{◌≡◌, ◌<◌, ◌+◌, ◌^◌, ℕ, nat_eq, ◌||◌, OnOk, [], ◌++◌, if◌then◌else◌};
+ghost use Rattle.std.specs.Prelude.{◌≡◌, ◌<◌, ◌+◌, ◌^◌, ℕ, nat_eq, ◌||◌, OnOk, [], ◌++◌, filter, if◌then◌else◌};
 ghost use Rattle.std.specs.HashMap.{get};
 ghost use Rattle.std.specs.HashSet.{contains};
 ghost use Rattle.std.specs.List.{cons_option};
@@ -9,15 +9,18 @@ ghost use Rattle.jr_model.specs.Legal.{is_bad, takes_up};
 ghost use Rattle.jr_model.specs.Rounds.{is_probe_of, settles};
 ghost use Rattle.jr_model.specs.Totals.{is_fault_of, is_verdict_of};
 ghost use Rattle.jr_past.specs.Marks.{IsMarkedBy, counted, is_given, is_issue_in, same_name};
+ghost use Rattle.jr_past.specs.Parts.{ends_at, is_over_part};
 ghost use Rattle.jr_past.specs.WriteEnds.{if_write, write_end};
 
 use crate::events::{ended_whole, is_probe, is_write};
 use crate::marks::{Marks, WriteEnd};
+use crate::parts::{Parts, put};
 use jr_model::{Event, Memory, Outcome, Started, Verdict, WriteId};
+use std::alloc::Global;
 use std::collections::{HashMap, HashSet};
 
 // Marks what an event says, where these I/Os are started.
-pub fn mark(marks: &mut Marks, ios: &[Started], event: &Event) -> Result<(), Memory>
+pub fn mark(alloc: Global, marks: &mut Marks, ios: &[Started], event: &Event) -> Result<(), Memory>
     requires { (key : ℕ × ℕ) → counted marks.old.issued key + 1 < 2 ^ 64 }
     ensures { OnOk result (IsMarkedBy ios.now event.now marks.old marks.new) }
 {
@@ -29,6 +32,7 @@ pub fn mark(marks: &mut Marks, ios: &[Started], event: &Event) -> Result<(), Mem
     mark_faulty(&mut marks.faulty, ios, event)?;
     mark_condemned(&mut marks.condemned, ios, event)?;
     mark_written(&mut marks.written, ios, event)?;
+    mark_parts(alloc, &mut marks.parts, ios, event)?;
     Ok(())
 }
 
@@ -207,6 +211,22 @@ fn mark_written(written: &mut Vec<WriteEnd>, ios: &[Started], event: &Event) -> 
 {
     if let Some(end) = write_end(ios, event) {
         written.push(end)?;
+    }
+    Ok(())
+}
+
+fn mark_parts(
+    alloc: Global,
+    parts: &mut Parts,
+    ios: &[Started],
+    event: &Event,
+) -> Result<(), Memory>
+    ensures { OnOk result ((file part : ℕ) → ends_at parts.new (file, part)
+        ≡ ends_at parts.old (file, part)
+        ++ filter (is_over_part file part) (cons_option (write_end ios.now event.now) [])) }
+{
+    if let Some(end) = write_end(ios, event) {
+        put(alloc, parts, &end)?;
     }
     Ok(())
 }

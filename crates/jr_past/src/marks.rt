@@ -1,6 +1,7 @@
 ghost use Rattle.std.specs.Prelude.{List, []};
 ghost use Rattle.jr_model.specs.declared.events.Started.{Started};
 
+use crate::parts::Parts;
 use jr_model::{Outcome, Piece, WriteId};
 use std::alloc::Global;
 use std::collections::{HashMap, HashSet};
@@ -33,6 +34,8 @@ pub struct Marks {
     pub condemned: HashSet<u32>,
     // The ends of writes, the oldest first.
     pub written: Vec<WriteEnd>,
+    // The same by the parts of files that they lie over.
+    pub parts: Parts,
 }
 
 impl Marks {
@@ -51,6 +54,7 @@ impl Marks {
             faulty: HashSet::new(alloc),
             condemned: HashSet::new(alloc),
             written: Vec::new(alloc),
+            parts: Parts::new(alloc),
         }
     }
 }

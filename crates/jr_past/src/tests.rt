@@ -1,4 +1,4 @@
-use crate::{Past, is_intact, last_write};
+use crate::{PART, Past, is_intact, last_write, part_of};
 use jr_model::{Dir, Event, Outcome, Piece, Verdict, What, WriteId};
 use std::alloc::Global;
 use std::test::Fail;
@@ -187,5 +187,77 @@ fn the_last_write_of_a_block_is_the_one_that_ended_last(rt: HostRuntime) -> Resu
     assert_eq!(rt; last_write(&past, 1, 1), None);
     assert!(rt; is_intact(&past, &write(0), &block(0)));
     assert!(rt; !is_intact(&past, &write(1), &block(0)));
+    Ok(())
+}
+
+// So many bytes of the first file, from an offset on.
+fn bytes(offset: u64, len: u32) -> Piece {
+    Piece {
+        file: 0,
+        offset,
+        len,
+    }
+}
+
+// The first write lies over the border between the first two parts, the second behind it.
+#[test]
+fn a_piece_over_a_border_lies_over_both_parts(rt: HostRuntime) -> Result<(), Fail> {
+    let over = bytes(64_512, 2048);
+    let behind = bytes(65_536, 1024);
+    let events = [
+        issue(0, over),
+        end(0, Outcome::Whole),
+        issue(1, behind),
+        end(1, Outcome::Whole),
+    ];
+    assert_eq!(rt; PART, 65_536);
+    assert_eq!(rt; part_of(127), 0);
+    assert_eq!(rt; part_of(128), 1);
+    let past = past_of(rt.alloc(), &events[..2])?;
+    assert!(rt; is_intact(&past, &write(0), &over));
+    let past = past_of(rt.alloc(), &events)?;
+    assert_eq!(rt; past.ledger().ends_over(0, 0).len(), 1);
+    assert_eq!(rt; past.ledger().ends_over(0, 1).len(), 2);
+    assert_eq!(rt; past.ledger().ends_over(0, 2).len(), 0);
+    assert_eq!(rt; past.ledger().ends_over(1, 0).len(), 0);
+    let last = [
+        None,
+        Some(write(0)),
+        Some(write(0)),
+        Some(write(1)),
+        Some(write(1)),
+        None,
+    ];
+    for (block, wanted) in (125..131).zip(last) {
+        assert_eq!(rt; last_write(&past, 0, block), wanted, "at {block}");
+    }
+    assert!(rt; !is_intact(&past, &write(0), &over));
+    assert!(rt; is_intact(&past, &write(1), &behind));
+    Ok(())
+}
+
+// A piece of four parts, of which a later write covers the third.
+#[test]
+fn a_large_piece_lies_over_each_of_its_parts(rt: HostRuntime) -> Result<(), Fail> {
+    let large = bytes(0, 262_144);
+    let third = bytes(131_072, 65_536);
+    let events = [
+        issue(0, large),
+        end(0, Outcome::Whole),
+        issue(1, third),
+        end(1, Outcome::Whole),
+    ];
+    let past = past_of(rt.alloc(), &events)?;
+    let last = [
+        (0, write(0)),
+        (128, write(0)),
+        (256, write(1)),
+        (384, write(0)),
+    ];
+    for (block, wanted) in last {
+        assert_eq!(rt; last_write(&past, 0, block), Some(wanted), "at {block}");
+    }
+    assert_eq!(rt; last_write(&past, 0, 512), None);
+    assert!(rt; !is_intact(&past, &write(0), &large));
     Ok(())
 }

@@ -3,3 +3,4 @@ pub mod Counts
 pub mod Laws
 pub mod Passes
 pub mod Rounds
+pub mod Turns

@@ -33,7 +33,7 @@ fn step_of_draw(
 }
 
 // What may happen with the draw of this name of a clone now, if anything.
-fn step_of_clone(
+pub(crate) fn step_of_clone(
     alloc: Global,
     work: &Agenda<'_>,
     past: &Past,

@@ -77,7 +77,7 @@ pub fn is_over(past: &Past, clone: &PlannedClone<'_>) -> bool
 }
 
 // Whether a verdict of the clone is still to come.
-fn awaits_verdict(past: &Past, clone: u32) -> bool
+pub(crate) fn awaits_verdict(past: &Past, clone: u32) -> bool
     ensures { result ≡ list_any (is_of_clone clone) (awaiting past.now) }
 {
     past.awaiting().iter().any(|io| is_of_clone(clone, io))
@@ -192,7 +192,7 @@ pub fn may_take_up(past: &Past, pass: &Pass<'_>, draw: &Draw) -> bool
 }
 
 // The check of a write where it is intact, else its skip.
-fn check_or_skip(past: &Past, worker: u32, pass: &Pass<'_>, draw: &Draw) -> Event
+pub(crate) fn check_or_skip(past: &Past, worker: u32, pass: &Pass<'_>, draw: &Draw) -> Event
     ensures { result ≡ check_or_skip past.now worker pass.now draw.now }
 {
     let write = pass.write_id(draw);

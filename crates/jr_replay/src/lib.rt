@@ -11,6 +11,7 @@ mod laws;
 mod legal;
 mod passes;
 mod rounds;
+mod turns;
 
 pub use agendas::{Agenda, PlannedClone};
 pub use answers::{allowed, complete, complete_among, may_end, may_judge, step_at};
@@ -18,6 +19,7 @@ pub use choices::{choice, choice_among};
 pub use counts::{totals, totals_among};
 pub use laws::moved_are_started;
 pub use passes::Pass;
+pub use turns::legal_step_at;
 
 #[cfg(test)]
 mod tests;

@@ -1,4 +1,5 @@
-ghost use Rattle.std.specs.Prelude.{◌≡◌, IfOk, filter, count_by, nat_lt, slice_get};
+ghost use Rattle.std.specs.Prelude.{◌≡◌, ◌==◌, ◌&&◌, IfOk, MatchOption, filter, count_by, nat_lt, slice_get};
+ghost use Rattle.jr_replay.specs.Passes.{IsLastBelow, NoneBelow, is_below};
 ghost use Rattle.jr_model.specs.Plan.{is_verified};
 ghost use Rattle.jr_model.specs.declared.workloads.Draw.{Draw};
 ghost use Rattle.jr_model.specs.Rounds.{pass_of, passes_of, write_id, is_write_draw, writes_of, has_rounds, group_of, group_count, group_index};
@@ -20,13 +21,13 @@ pub struct Pass<'a> {
 
 impl<'a> Model for Pass<'a> {
     ghost use Rattle.jr_model.specs.Rounds.{Pass as PassRecord};
-    ghost use Rattle.jr_replay.specs.Passes.{AreWrites};
+    ghost use Rattle.jr_replay.specs.Passes.{ArePassDraws};
 
     ghost Value = { PassRecord };
 
     ghost view = { λ p. record { job = p.job.now; number = p.number; draws = p.draws.items } };
 
-    ghost invariant = { λ p. AreWrites p.draws.items p.writes.items };
+    ghost invariant = { λ p. ArePassDraws p.job.now p.number p.draws.items p.writes.items };
 }
 
 impl<'a> Pass<'a> {
@@ -42,6 +43,13 @@ impl<'a> Pass<'a> {
             draws,
             writes,
         })
+    }
+
+    /// Nothing: its contract says that its draws are those of the clone's pass.
+    pub fn facts(&self)
+        ensures { self.now ≡ pass_of self.now.job self.now.number }
+    {
+        let _ = &self.number;
     }
 
     /// The clone.
@@ -123,16 +131,71 @@ impl<'a> Pass<'a> {
         if backlog == 0 {
             0
         } else {
-            writes_below(&self.writes, number) / backlog
+            self.writes_below(number as usize) / backlog
         }
+    }
+
+    // How many of its writes have a lower number: they are numbered in order.
+    fn writes_below(&self, number: usize) -> usize
+        ensures { result ≡ count_by (λ (draw : Draw). nat_lt draw.number number) (writes_of self.now) }
+    {
+        self.facts();
+        let mut low = 0;
+        let mut high = self.writes().len();
+        while low < high {
+            let middle = low + (high - low) / 2;
+            if is_below(at_place(self.writes(), middle), number) {
+                low = middle + 1;
+            } else {
+                high = middle;
+            }
+        }
+        low
+    }
+
+    /// The last of its writes with a lower number, if there is one.
+    pub fn last_below(&self, number: usize) -> Option<Draw>
+        ensures { MatchOption result (NoneBelow (writes_of self.now) number)
+            (λ draw. IsLastBelow (writes_of self.now) number draw) }
+    {
+        self.facts();
+        let count = self.writes_below(number);
+        if count == 0 {
+            return None;
+        }
+        at_place(self.writes(), count - 1)
+    }
+
+    /// Whether a group has as many writes with lower numbers as the backlog, the most that it can have.
+    pub fn is_reached(&self, g: usize, number: usize) -> bool
+        ensures { result ≡ (nat_lt 0 self.now.job.backlog
+            && (count_by (λ (draw : Draw). nat_lt draw.number number) (group_of self.now g)
+            == self.now.job.backlog)) }
+    {
+        self.facts();
+        let backlog = self.job().backlog() as usize;
+        if backlog == 0 {
+            return false;
+        }
+        is_below(at_place(self.group(g), backlog - 1), number)
     }
 }
 
-// How many of the draws have a lower number.
-fn writes_below(draws: &[Draw], number: u32) -> usize
-    ensures { result ≡ count_by (λ (draw : Draw). nat_lt draw.number number) draws.now }
+// The draw at a place of some draws.
+fn at_place(draws: &[Draw], place: usize) -> Option<Draw>
+    ensures { result ≡ slice_get draws.now place }
 {
-    draws.iter().filter(|draw| draw.number < number).count()
+    draws.get(place).copied()
+}
+
+// Whether there is a draw, with a lower number.
+fn is_below(draw: Option<Draw>, number: usize) -> bool
+    ensures { result ≡ is_below draw number }
+{
+    match draw {
+        None => false,
+        Some(draw) => (draw.number as usize) < number,
+    }
 }
 
 /// Whether a draw is a write.

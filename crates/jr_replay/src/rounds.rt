@@ -1,9 +1,8 @@
-ghost use Rattle.std.specs.Prelude.{◌≡◌, ◌==◌, ◌&&◌, not, nat_lt, length, count_by, reverse};
+ghost use Rattle.std.specs.Prelude.{◌≡◌, ◌==◌, ◌&&◌, not, length, reverse};
 ghost use Rattle.std.specs.List.{list_any, list_all, range_with_len};
 ghost use Rattle.jr_model.specs.declared.events.Started.{Started};
-ghost use Rattle.jr_model.specs.declared.workloads.Draw.{Draw};
 ghost use Rattle.jr_model.specs.History.{in_flight_of, is_of_clone};
-ghost use Rattle.jr_model.specs.Rounds.{write_id, group_of, group_count, issued_count, all_issued, issued_among, is_full, is_settled, is_closed, no_issue_flies, is_open, waits_for_round, rounds_closed, nothing_flies_of, nothing_flies_in, pass_finished};
+ghost use Rattle.jr_model.specs.Rounds.{write_id, group_of, group_count, issued_count, all_issued, is_full, is_settled, is_closed, no_issue_flies, is_open, waits_for_round, rounds_closed, nothing_flies_of, nothing_flies_in, pass_finished};
 ghost use Rattle.jr_replay.specs.Rounds.{is_full_at};
 
 use crate::passes::{Pass, has_rounds};
@@ -42,30 +41,12 @@ pub fn all_issued(past: &Past, pass: &Pass<'_>) -> bool
     issued_count(past, pass) == pass.draws().len()
 }
 
-// How many of these draws have a lower number.
-fn numbers_below(draws: &[Draw], count: usize) -> usize
-    ensures { result ≡ count_by (λ (draw : Draw). nat_lt draw.number count) draws.now }
-{
-    draws
-        .iter()
-        .filter(|draw| (draw.number as usize) < count)
-        .count()
-}
-
-/// How many of these draws of a pass were issued.
-pub fn issued_among(past: &Past, pass: &Pass<'_>, draws: &[Draw]) -> usize
-    ensures { result ≡ issued_among past.now pass.now draws.now }
-{
-    numbers_below(draws, issued_count(past, pass))
-}
-
 // Whether a group has as many issued writes as it can have, where so many draws of its pass were
 // issued.
 fn is_full_at(issued: usize, pass: &Pass<'_>, g: usize) -> bool
     ensures { result ≡ is_full_at issued pass.now g }
 {
-    let backlog = pass.job().backlog() as usize;
-    issued == pass.draws().len() || (0 < backlog && numbers_below(pass.group(g), issued) == backlog)
+    issued == pass.draws().len() || pass.is_reached(g, issued)
 }
 
 /// Whether a group has as many issued writes as it can have: all, or as many as the backlog.
@@ -128,7 +109,7 @@ pub fn is_open(past: &Past, pass: &Pass<'_>, g: usize) -> bool
 }
 
 // Whether a group is full and not closed, where so many draws of its pass were issued.
-fn is_pending(past: &Past, pass: &Pass<'_>, issued: usize, g: usize) -> bool
+pub(crate) fn is_pending(past: &Past, pass: &Pass<'_>, issued: usize, g: usize) -> bool
     requires { issued ≡ issued_count past.now pass.now }
     ensures { result ≡ (is_full past.now pass.now g && not (is_closed past.now pass.now g)) }
 {

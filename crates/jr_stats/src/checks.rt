@@ -85,7 +85,7 @@ fn line_len(text: &[u8]) -> usize
     text.iter().take_while(|byte| **byte != b'\n').count()
 }
 
-// The event of a line after a history.
+// The event of a line after a legal history.
 fn line_event(
     alloc: Global,
     work: &Agenda<'_>,
@@ -93,6 +93,7 @@ fn line_event(
     number: u64,
     line: &[u8],
 ) -> Result<Event, TraceFault>
+    requires { is_legal work.now past.now ≡ true }
     ensures ok { IfOk result (λ event. line_event work.now past.now number line.now ≡ Ok event) }
     ensures err { IfErr result (λ fault. IsRefusal fault (line_event work.now past.now number line.now)) }
 {

@@ -1,4 +1,5 @@
-ghost use Rattle.std.specs.Prelude.{◌≡◌, IfOk, Some, None, if◌then◌else◌};
+ghost use Rattle.std.specs.Prelude.{◌≡◌, IfOk, Some, None, true, if◌then◌else◌};
+ghost use Rattle.jr_model.specs.Legal.{is_legal};
 ghost use Rattle.jr_stats.specs.TraceChecks.{is_small, name_fits, ending_fits, finding_fits, write_of, outcome_of, verdict_of, legal_event};
 ghost use Rattle.jr_stats.specs.TraceSteps.{begun, ended, judged, issue_in, probe_in, skip_in};
 
@@ -6,16 +7,17 @@ use crate::entries::{Ending, Entry, Finding, Name, Start};
 use jr_model::{Event, Memory, Outcome, Verdict, What, WriteId};
 use jr_past::{Past, same_write};
 use jr_plan::Plan;
-use jr_replay::{Agenda, may_end, may_judge, step_at};
+use jr_replay::{Agenda, legal_step_at, may_end, may_judge};
 use std::alloc::Global;
 
-// The event that a line speaks of, where it may happen after the history.
+// The event that a line speaks of, where it may happen after the legal history.
 pub fn legal_event(
     alloc: Global,
     work: &Agenda<'_>,
     past: &Past,
     entry: &Entry,
 ) -> Result<Option<Event>, Memory>
+    requires { is_legal work.now past.now ≡ true }
     ensures { IfOk result (λ event. event ≡ legal_event work.now past.now entry.now) }
 {
     match entry {
@@ -33,12 +35,13 @@ fn legal_issue(
     past: &Past,
     start: &Start,
 ) -> Result<Option<Event>, Memory>
+    requires { is_legal work.now past.now ≡ true }
     ensures { IfOk result (λ event. event ≡ legal_event work.now past.now (Entry.Issue start.now)) }
 {
     let Some((worker, write)) = begun(past, start) else {
         return Ok(None);
     };
-    let step = step_at(alloc, work, past, worker, &write)?;
+    let step = legal_step_at(alloc, work, past, worker, &write)?;
     Ok(issue_in(worker, &write, &step))
 }
 
@@ -48,12 +51,13 @@ fn legal_probe(
     past: &Past,
     start: &Start,
 ) -> Result<Option<Event>, Memory>
+    requires { is_legal work.now past.now ≡ true }
     ensures { IfOk result (λ event. event ≡ legal_event work.now past.now (Entry.Probe start.now)) }
 {
     let Some((worker, write)) = begun(past, start) else {
         return Ok(None);
     };
-    let step = step_at(alloc, work, past, worker, &write)?;
+    let step = legal_step_at(alloc, work, past, worker, &write)?;
     Ok(probe_in(worker, &write, &step))
 }
 
@@ -64,13 +68,14 @@ fn legal_skip(
     worker: u64,
     write: &Name,
 ) -> Result<Option<Event>, Memory>
+    requires { is_legal work.now past.now ≡ true }
     ensures { IfOk result
         (λ event. event ≡ legal_event work.now past.now (Entry.Skip worker write.now)) }
 {
     let (Some(worker), Some(write)) = (small(worker), write_of(write)) else {
         return Ok(None);
     };
-    let step = step_at(alloc, work, past, worker, &write)?;
+    let step = legal_step_at(alloc, work, past, worker, &write)?;
     Ok(skip_in(worker, &write, &step))
 }
 

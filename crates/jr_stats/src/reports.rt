@@ -25,9 +25,8 @@ pub fn report(alloc: Global, desk: &Desk) -> Result<Vec<u8>, Memory>
 fn sorted_bads(alloc: Global, desk: &Desk) -> Result<Vec<Bad>, Memory>
     ensures { IfOk result (λ bads. map miscompare_of bads.items ≡ in_order desk.now.plan (miscompares desk.now.history)) }
 {
-    // Their contracts say what holds of every plan, and that the history is legal.
+    // Its contract says what holds of every plan.
     desk.plan().facts();
-    let _ = desk.history();
     let mut bads = Vec::from_slice(alloc, desk.bads())?;
     bads.sort_unstable_by_key(|bad| bad.write);
     Ok(bads)

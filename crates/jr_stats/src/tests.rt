@@ -1,6 +1,10 @@
 use crate::checks::past_in;
 use crate::traces::trace_text;
-use crate::{TraceFault, accepted_is_a_trace, check_trace, numbers_fit, trace_is_accepted};
+use crate::{
+    TraceFault, accepted_is_a_trace, check_trace, numbers_fit, report, totals_text, trace,
+    trace_is_accepted,
+};
+use jr_board::Desk;
 use jr_model::{EngineKind, IoType, Method, Pattern, Totals, VerifyKind};
 use jr_plan::{Draft, Plan, Workload};
 use jr_replay::Agenda;
@@ -225,6 +229,30 @@ fn accepts_a_run_that_a_fault_halts(rt: HostRuntime) -> Result<(), Fail> {
     Ok(())
 }
 
+const NOTHING: &[u8] =
+    b"w: clone=0 reads=0 rbytes=0 writes=0 wbytes=0 checks=0 good=0 bad=0 skipped=0 void=0 faults=0\n";
+
+const ONE_BAD: &[u8] =
+    b"w: clone=0 reads=0 rbytes=0 writes=2 wbytes=8192 checks=2 good=1 bad=1 skipped=0 void=0 faults=0\n";
+
+#[test]
+fn prints_what_a_desk_has_started(rt: HostRuntime) -> Result<(), Fail> {
+    let alloc = rt.alloc();
+    let plan = planned(alloc)?;
+    let lines = totals_text(alloc, &plan, &[done(1, 1)])?;
+    assert!(rt; lines.as_slice() == ONE_BAD);
+    let mut desk = Desk::new(alloc, plan)?;
+    assert!(rt; trace(alloc, &desk)?.is_empty());
+    let is_taken = desk.take(3).is_ok();
+    assert!(rt; is_taken);
+    let events = trace(alloc, &desk)?;
+    assert!(rt; events.as_slice() == b"I 3 0 0 0 0\n".as_slice());
+    // Nothing has ended.
+    let lines = report(alloc, &desk)?;
+    assert!(rt; lines.as_slice() == NOTHING);
+    Ok(())
+}
+
 #[test]
 fn says_what_is_wrong(rt: HostRuntime) -> Result<(), Fail> {
     let faults = [
@@ -240,6 +268,7 @@ fn says_what_is_wrong(rt: HostRuntime) -> Result<(), Fail> {
     Ok(())
 }
 
+// A law does nothing when it is called: that each can be called is all that there is to see.
 #[test]
 fn the_laws_can_be_called() {
     accepted_is_a_trace();

@@ -1,4 +1,4 @@
-use Rattle.std.proofs.Common.{◌≡◌, ◌+◌, List, length, Ok, ap, ◌∙◌}
+use Rattle.std.proofs.Common.{◌≡◌, ◌+◌, ◌≤◌, List, [], length, Ok, refl, ap, ◌∙◌, arith}
 use Rattle.std.proofs.lemmas.Result.{err_from_is_err_and}
 use Rattle.jr_model.specs.declared.events.Event.{Event}
 use Rattle.jr_stats.specs.TraceChecks.{history_in, line_event}
@@ -13,6 +13,12 @@ returns-in_err-event-clause-err c =
     let fault = err_from_is_err_and c.from_residual-in_err-event.result c.from_residual-in_err-event.ensures.1 in
     let whole = read_refused c.args.work.now history (c.len.result + 1) c.in-Some.line.now c.loop-rest.rest.now c.in-Some.after.now (history_in c.args.work.now c.args.text.now) place c.in-Some.ensures.0 c.loop-rest.invariant.0 c.in_err-event.field-0.0 c.in_err-event.ensures.err in
     rw (fault.1, fault.2) whole
+
+pub loop-rest-init : goal.loop-rest-init
+loop-rest-init c =
+    let none : c.in_ok-past.past ≡ [] = c.in_ok-past.ensures in
+    let few : 0 ≤ 4294967296 = omega arith in
+    rw none (refl, refl, few)
 
 pub loop-rest-preserved : goal.loop-rest-preserved
 loop-rest-preserved c =

@@ -15,4 +15,5 @@ returns c = λ ios. record {
   faulty = λ clone. ap (λ keys. list_any (nat_eq clone) keys) c.new-6.ensures.empty;
   condemned = λ clone. ap (λ keys. list_any (nat_eq clone) keys) c.new-7.ensures.empty;
   written = c.new-8.ensures.items;
+  parts = λ file part. c.new-9.ensures (file, part);
 }
