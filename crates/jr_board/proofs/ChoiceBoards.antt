@@ -55,13 +55,12 @@ mapped f (Some x) y h = (x, refl, same_some (f x) y h)
 
 -- the piece of a ticket that was handed out can be looked for in flight
 pub handed_fits : (plan : Plan) (board : Board) (id : ℕ) (piece : Piece) → IsBoard plan board
-    → option_map (λ (ticket : Ticket). ticket.piece) (slice_get board.handed.tickets.items id) ≡ Some piece → piece_fits piece ≡ true
+    → option_map (λ (ticket : Ticket). ticket.piece) (slice_get (tickets_of plan board.history.items) id) ≡ Some piece
+    → piece_fits piece ≡ true
 handed_fits plan board id piece is at =
     let history = board.history.items in
-    let found = mapped (λ (ticket : Ticket). ticket.piece) (slice_get board.handed.tickets.items id) piece at in
-    let there : slice_get (tickets_of plan history) id
-    ≡ Some found.0 = ap (λ (all : List Ticket). slice_get all id) (sym is.handed.tickets) ∙ found.1 in
-    let made = got_made (ticket_of plan) (enumerate_from 0 (started history)) id found.0 there in
+    let found = mapped (λ (ticket : Ticket). ticket.piece) (slice_get (tickets_of plan history) id) piece at in
+    let made = got_made (ticket_of plan) (enumerate_from 0 (started history)) id found.0 found.1 in
     let begun = got_numbered 0 (started history) id made.0 made.1 in
     let fits = started_fit-law plan history id made.0.1 is.planned is.legal begun in
     subst (λ (p : Piece). piece_fits p ≡ true) (ap (λ (ticket : Ticket). ticket.piece) made.2 ∙ found.2) fits.1.fits
@@ -140,12 +139,11 @@ module _ (plan : Plan) (board : Board) (is : IsBoard plan board) (c : ℕ) (job 
             }
 
         pub piece_there : (issued : Issued) (its : IsEntry history job write issued)
-            → option_map (λ (ticket : Ticket). ticket.piece) (slice_get board.handed.tickets.items issued.id) ≡ Some its.draw.piece
+            → option_map (λ (ticket : Ticket). ticket.piece) (slice_get (tickets_of plan history) issued.id) ≡ Some its.draw.piece
         piece_there issued its =
             let ticket_at = made_at (ticket_of plan) (enumerate_from 0 (started history)) issued.id (0 + issued.id, its.io)
             (numbered_at 0 (started history) issued.id its.io its.at) in
-            ap (λ (all : List Ticket). option_map (λ (ticket : Ticket). ticket.piece) (slice_get all issued.id)) is.handed.tickets
-            ∙ ap (option_map (λ (ticket : Ticket). ticket.piece)) ticket_at
+            ap (option_map (λ (ticket : Ticket). ticket.piece)) ticket_at
             ∙ ap Some its.piece
 
         pub intact_is : (draw : Draw) → slice_get (draws_of_job job write.pass) write.number ≡ Some draw

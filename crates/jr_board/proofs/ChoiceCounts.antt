@@ -1,7 +1,7 @@
 -- A clone's step by its counts and its standing.
-use Rattle.std.proofs.Common.{◌≡◌, ℕ, zero, suc, ◌+◌, ◌*◌, ◌^◌, ◌<◌, ◌≤◌, List, [], ◌∷◌, length, drop, map, get_or, Bool, true, false}
+use Rattle.std.proofs.Common.{◌≡◌, ℕ, zero, suc, ◌+◌, ◌*◌, ◌^◌, ◌<◌, ◌≤◌, List, [], ◌∷◌, length, drop, get_or, Bool, true, false}
 use Rattle.std.proofs.Common.{◌&&◌, ◌||◌, not, refl, sym, ◌∙◌, ap, subst, arith}
-use Rattle.std.specs.Prelude.{Option, Some, None, IfSome, slice_get, nat_lt, nat_le, ◌==◌, is_some, sum, fold}
+use Rattle.std.specs.Prelude.{Option, Some, None, IfSome, slice_get, nat_lt, nat_le, ◌==◌, is_some}
 use Rattle.std.proofs.lemmas.Bool.{and_from, eq-eqb, ne_eqb, eqb-true, lt-ltb, le-ltb, lt-leb}
 use Rattle.std.proofs.lemmas.List.{length-map}
 use Rattle.std.proofs.Math.ListN.{drop_of_length-le}
@@ -9,18 +9,16 @@ use Rattle.jr_model.specs.declared.events.Event.{Event}
 use Rattle.jr_model.specs.declared.workloads.Draw.{Draw}
 use Rattle.jr_model.specs.Choice.{choice_of_clone}
 use Rattle.jr_model.specs.Draws.{draws_of_job, draws_over}
-use Rattle.jr_model.specs.History.{started, first_given}
-use Rattle.jr_model.specs.Legal.{is_legal, is_halted, has_room, phase_is_open}
+use Rattle.jr_model.specs.History.{first_given}
+use Rattle.jr_model.specs.Legal.{is_halted, has_room, phase_is_open}
 use Rattle.jr_model.specs.Plan.{Plan, SubJob, clone_of}
 use Rattle.jr_model.specs.Rounds.{pass_of, issued_count, has_rounds, no_issue_flies, pass_finished}
 use Rattle.jr_model.specs.Tickets.{piece_fits}
 use Rattle.jr_model.specs.Words.{pass_words}
 use Rattle.jr_plan.specs.PlanFacts.{IsPlanned}
-use Rattle.jr_plan.specs.PlanFacts as facts
 use Rattle.jr_draw.proofs.TheLaw.{pass_law, drawable_of}
 use Rattle.jr_backlog.specs.CurrentRound.{current_round}
 use Rattle.jr_standing.specs.Deferred.{is_settled}
-use Rattle.jr_steps.proofs.CountLaws.{started_few}
 use Rattle.jr_steps.proofs.DrawnLaws.{all_at}
 use Rattle.jr_steps.proofs.PlaceLemmas.{got_dropped, made_at}
 use Rattle.jr_steps.proofs.StartedLemmas.{same_some}
@@ -38,6 +36,7 @@ use Rattle.jr_board.specs.Tallying.{counts_of}
 use Rattle.jr_board.proofs.ChoiceLists.{read_at}
 use Rattle.jr_board.proofs.ChoiceMoves.{chosen, step_blocked, step_barred, step_checks, step_issues, next_unopened}
 use Rattle.jr_board.proofs.ChoiceBoards.{stands, round_is}
+use Rattle.jr_board.proofs.StartedFew.{started_small}
 
 -- the standing and the counts that were read of a clone are there
 pub standing_at : (plan : Plan) (board : Board) (c : ℕ) (standing : Standing) → IsBoard plan board → c < length plan.clones
@@ -52,21 +51,6 @@ counts_at plan board c counts is below read =
     let count : length board.tallies.counts.items ≡ length plan.clones = ap length is.tallies.counts
     ∙ length-map plan.clones (counts_of board.history.items) in
     read_at board.tallies.counts.items board.tallies.counts.items c counts refl (omega (arith, below, count)) read
-
-work_in : SubJob → ℕ
-work_in job = job.cells * job.passes
-
-fold-map : (n : ℕ) (clones : List SubJob) → fold ◌+◌ n (map work_in clones) ≡ fold (λ (a : ℕ). λ (job : SubJob). a + work_in job) n clones
-fold-map n [] = refl
-fold-map n (job ∷ clones) = fold-map (n + work_in job) clones
-
-work-same : (clones : List SubJob) → sum (map (λ (job : SubJob). job.cells * job.passes) clones) ≡ facts.work_of clones
-unfolding work_in
-work-same clones = fold-map 0 clones
-
-started_small : (plan : Plan) (history : List Event) → IsPlanned plan → is_legal plan history ≡ true → length (started history) ≤ 2 ^ 31
-started_small plan history planned legal =
-    omega (arith, started_few plan history planned legal, work-same plan.clones, planned.drafted.work)
 
 blocked_by : (a b : Bool) → a ≡ true → (a || b) ≡ true
 blocked_by true b h = refl

@@ -16,7 +16,7 @@ use Rattle.jr_model.specs.Tickets.{piece_fits}
 use Rattle.jr_plan.specs.PlanFacts.{IsPlanned}
 use Rattle.jr_steps.proofs.DrawnLaws.{started_fit-law}
 use Rattle.jr_board.specs.Kept.{IsOwn}
-use Rattle.jr_board.proofs.HandingMoves.{own_started}
+use Rattle.jr_board.proofs.Keeping.{own_started}
 
 -- the I/O of a ticket of the desk's own, and its clone
 pub record OwnParts (plan : Plan) (history : List Event) (ticket : Ticket) : Type 0 where
@@ -50,13 +50,13 @@ own_parts plan history ticket planned legal own =
     let found = own_started plan history ticket own in
     let io = found.0 in
     let fits = started_fit-law plan history ticket.id io planned legal found.1 in
-    let write : io.write ≡ ticket.write = sym (ap (λ (t : Ticket). t.write) found.2) in
-    let piece : io.piece ≡ ticket.piece = sym (ap (λ (t : Ticket). t.piece) found.2) in
+    let write : io.write ≡ ticket.write = ap (λ (t : Ticket). t.write) found.2 in
+    let piece : io.piece ≡ ticket.piece = ap (λ (t : Ticket). t.piece) found.2 in
     record {
       io = io;
       job = fits.0;
       at = found.1;
-      kind = sym (ap (λ (t : Ticket). t.kind) found.2);
+      kind = ap (λ (t : Ticket). t.kind) found.2;
       write = write;
       piece = piece;
       clone = ap (λ (w : WriteId). w.clone) write;

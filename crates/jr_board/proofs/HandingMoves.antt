@@ -2,8 +2,10 @@
 use Rattle.std.proofs.Common.{◌≡◌, ℕ, ◌+◌, ◌<◌, ◌≤◌, List, [], ◌∷◌, ◌++◌, length, map, Bool, true, false, cond, refl, sym, ◌∙◌, ap, arith}
 use Rattle.std.proofs.Math.ListN.{set}
 use Rattle.std.specs.Prelude.{Option, Some, None, slice_get}
-use Rattle.std.specs.List.{enumerate_from, range_with_len}
+use Rattle.std.specs.List.{cons_option, enumerate_from, filter_map, range_with_len}
+use Rattle.std.specs.Option.{option_map, option_to_list}
 use Rattle.std.proofs.lemmas.List.{map-append}
+use Rattle.std.proofs.lemmas.List.Elements.{filter_map-append}
 use Rattle.std.proofs.lemmas.List.FromFn.{map-range_with_len_more, length-map-range_with_len}
 use Rattle.jr_model.specs.declared.events.Event.{Event}
 use Rattle.jr_model.specs.declared.events.Event.TheVariants.{Issue, Probe, Skip, End, Verdict}
@@ -21,11 +23,14 @@ use Rattle.jr_tally_laws.proofs.Grown.{outcome_of-stays, outcome_of-other, outco
 use Rattle.jr_board.specs.declared.handed.Handed.{Handed}
 use Rattle.jr_board.specs.declared.handed.Progress.{Progress}
 use Rattle.jr_board.specs.declared.handed.Progress.TheVariants as progress
-use Rattle.jr_board.specs.Handing.{IsHanded, all_progress, by_outcome, progress_of}
-use Rattle.jr_board.specs.Kept.{IsOwn, tickets_of}
+use Rattle.jr_board.specs.declared.launches.Launch.{Launch}
+use Rattle.jr_board.specs.Handing.{IsHanded, all_progress, by_outcome, header_wanted, launch_of, launched_piece, launches_from, progress_of, ticket_again}
+use Rattle.jr_board.specs.Kept.{tickets_of}
 use Rattle.jr_board.specs.Nexts.{IsNext, grown}
 use Rattle.jr_board.specs.Tickets.{ticket_of}
-use Rattle.jr_board.proofs.HandingLists.{enumerated, length_numbered, got_numbered, numbered_at, map_same, map_moved}
+use Rattle.jr_board.proofs.HandingLaunches.{headers_few, kept_at, launches_more, length-launches, tickets_again}
+use Rattle.jr_board.proofs.HandingLists.{enumerated, numbered_at, map_same, map_moved}
+use Rattle.jr_board.proofs.Keeping.{tickets_count}
 
 -- the tickets
 
@@ -42,17 +47,6 @@ pub tickets_stay : (plan : Plan) (history : List Event) (event : Event) → star
     → tickets_of plan (grown history event) ≡ tickets_of plan history
 tickets_stay plan history event nothing =
     ap (λ (ios : List Started). map (ticket_of plan) (enumerate_from 0 ios)) (started-other history event nothing)
-
-pub tickets_count : (plan : Plan) (history : List Event) → length (tickets_of plan history) ≡ length (started history)
-tickets_count plan history = length_numbered (ticket_of plan) 0 (started history)
-
--- a ticket of the board's own is that of an I/O that was started
-pub own_started : (plan : Plan) (history : List Event) (ticket : Ticket) → IsOwn plan history ticket
-    → (io : Started) × (slice_get (started history) ticket.id ≡ Some io) × (ticket ≡ ticket_of plan (ticket.id, io))
-own_started plan history ticket own =
-    let got = got_numbered (ticket_of plan) 0 (started history) ticket.id ticket own in
-    let same : 0 + ticket.id ≡ ticket.id = omega arith in
-    (got.0, got.1, sym got.2 ∙ ap (λ (i : ℕ). ticket_of plan (i, got.0)) same)
 
 -- an I/O that was started has its ticket
 pub ticket_started : (plan : Plan) (history : List Event) (id : ℕ) (io : Started) → slice_get (started history) id ≡ Some io
@@ -174,28 +168,53 @@ progress_skip history worker write =
 -- the index goes on agreeing with the history
 
 pub handed_starts : (plan : Plan) (history : List Event) (event : Event) (io : Started) (before after : Handed) (ticket : Ticket)
-    → IsNext plan history event → started_by event ≡ Some io → ticket ≡ ticket_of plan (length (started history), io)
-    → after.tickets.items ≡ before.tickets.items ++ ticket ∷ []
-    → after.progress.items ≡ before.progress.items ++ progress.InFlight ∷ [] → IsHanded plan history before
+    → IsNext plan history event
+    → started_by event ≡ Some io
+    → ticket ≡ ticket_of plan (length (started history), io)
+    → after.launches.items ≡ before.launches.items ++ launch_of (length before.headers.items) ticket ∷ []
+    → after.headers.items ≡ before.headers.items ++ option_to_list (header_wanted ticket)
+    → after.progress.items ≡ before.progress.items ++ progress.InFlight ∷ []
+    → IsHanded plan history before
     → IsHanded plan (grown history event) after
-handed_starts plan history event io before after ticket next starts is tickets come handed = record {
-  tickets =
-      tickets
-      ∙ ap (λ (ts : List Ticket). ts ++ ticket ∷ []) handed.tickets
-      ∙ ap (λ (t : Ticket). tickets_of plan history ++ t ∷ []) is
-      ∙ sym (tickets_starts plan history event io starts);
+handed_starts plan history event io before after ticket next starts is launches headers come handed = record {
+  launches =
+      launches
+      ∙ ap (λ (ls : List Launch). ls ++ launch_of (length before.headers.items) ticket ∷ []) handed.launches
+      ∙ ap (λ (n : ℕ). launches_from 0 tickets ++ launch_of n ticket ∷ []) (ap length handed.headers ∙ count)
+      ∙ sym (launches_more 0 tickets ticket)
+      ∙ ap (launches_from 0) more;
+  headers =
+      headers
+      ∙ ap (λ (hs : List (List ℕ)). hs ++ option_to_list (header_wanted ticket)) handed.headers
+      ∙ sym (filter_map-append header_wanted tickets (ticket ∷ []) ∙ ap (λ (hs : List (List ℕ)). filter_map header_wanted tickets ++ hs) (alone (header_wanted ticket)))
+      ∙ ap (filter_map header_wanted) more;
   progress =
       come
       ∙ ap (λ (ps : List Progress). ps ++ progress.InFlight ∷ []) handed.progress
       ∙ sym (progress_starts plan history event io next.legal starts);
 }
+  where
+    tickets : List Ticket
+    tickets = tickets_of plan history
+
+    count : length (filter_map header_wanted tickets) ≡ 0 + length (filter_map header_wanted tickets)
+    count = omega arith
+
+    more : tickets ++ ticket ∷ [] ≡ tickets_of plan (grown history event)
+    more = ap (λ (t : Ticket). tickets ++ t ∷ []) is ∙ sym (tickets_starts plan history event io starts)
+
+    alone : (o : Option (List ℕ)) → cons_option o [] ≡ option_to_list o
+    alone None = refl
+    alone (Some h) = refl
 
 pub handed_end : (plan : Plan) (history : List Event) (worker id : ℕ) (outcome : Outcome) (before after : Handed)
-    → IsNext plan history (End worker id outcome) → after.tickets.items ≡ before.tickets.items
+    → IsNext plan history (End worker id outcome) → after.launches.items ≡ before.launches.items
+    → after.headers.items ≡ before.headers.items
     → after.progress.items ≡ set before.progress.items id (by_outcome (Some outcome)) → IsHanded plan history before
     → IsHanded plan (grown history (End worker id outcome)) after
-handed_end plan history worker id outcome before after next tickets come handed = record {
-  tickets = tickets ∙ handed.tickets ∙ sym (tickets_stay plan history (End worker id outcome) refl);
+handed_end plan history worker id outcome before after next launches headers come handed = record {
+  launches = launches ∙ handed.launches ∙ sym (ap (launches_from 0) (tickets_stay plan history (End worker id outcome) refl));
+  headers = headers ∙ handed.headers ∙ sym (ap (filter_map header_wanted) (tickets_stay plan history (End worker id outcome) refl));
   progress =
       come
       ∙ ap (λ (ps : List Progress). set ps id (by_outcome (Some outcome))) handed.progress
@@ -203,11 +222,13 @@ handed_end plan history worker id outcome before after next tickets come handed 
 }
 
 pub handed_verdict : (plan : Plan) (history : List Event) (worker id : ℕ) (verdict : GivenVerdict) (before after : Handed)
-    → IsNext plan history (Verdict worker id verdict) → after.tickets.items ≡ before.tickets.items
+    → IsNext plan history (Verdict worker id verdict) → after.launches.items ≡ before.launches.items
+    → after.headers.items ≡ before.headers.items
     → after.progress.items ≡ set before.progress.items id progress.Judged → IsHanded plan history before
     → IsHanded plan (grown history (Verdict worker id verdict)) after
-handed_verdict plan history worker id verdict before after next tickets come handed = record {
-  tickets = tickets ∙ handed.tickets ∙ sym (tickets_stay plan history (Verdict worker id verdict) refl);
+handed_verdict plan history worker id verdict before after next launches headers come handed = record {
+  launches = launches ∙ handed.launches ∙ sym (ap (launches_from 0) (tickets_stay plan history (Verdict worker id verdict) refl));
+  headers = headers ∙ handed.headers ∙ sym (ap (filter_map header_wanted) (tickets_stay plan history (Verdict worker id verdict) refl));
   progress =
       come
       ∙ ap (λ (ps : List Progress). set ps id progress.Judged) handed.progress
@@ -217,7 +238,8 @@ handed_verdict plan history worker id verdict before after next tickets come han
 pub handed_skip : (plan : Plan) (history : List Event) (worker : ℕ) (write : WriteId) (handed : Handed)
     → IsNext plan history (Skip worker write) → IsHanded plan history handed → IsHanded plan (grown history (Skip worker write)) handed
 handed_skip plan history worker write handed next is = record {
-  tickets = is.tickets ∙ sym (tickets_stay plan history (Skip worker write) refl);
+  launches = is.launches ∙ sym (ap (launches_from 0) (tickets_stay plan history (Skip worker write) refl));
+  headers = is.headers ∙ sym (ap (filter_map header_wanted) (tickets_stay plan history (Skip worker write) refl));
   progress = is.progress ∙ sym (progress_skip history worker write);
 }
 
@@ -227,6 +249,39 @@ pub handed_length : (plan : Plan) (history : List Event) (handed : Handed) → I
     → length handed.progress.items ≡ length (started history)
 handed_length plan history handed is = ap length is.progress ∙ progress_count history
 
-pub tickets_length : (plan : Plan) (history : List Event) (handed : Handed) → IsHanded plan history handed
-    → length handed.tickets.items ≡ length (started history)
-tickets_length plan history handed is = ap length is.tickets ∙ tickets_count plan history
+pub launches_length : (plan : Plan) (history : List Event) (handed : Handed) → IsHanded plan history handed
+    → length handed.launches.items ≡ length (started history)
+launches_length plan history handed is =
+    ap length is.launches ∙ length-launches 0 (tickets_of plan history) ∙ tickets_count plan history
+
+-- and no more headers are kept
+pub headers_within : (plan : Plan) (history : List Event) (handed : Handed) → IsHanded plan history handed
+    → length handed.headers.items ≤ length (started history)
+headers_within plan history handed is =
+    omega (arith, ap length is.headers, headers_few (tickets_of plan history), tickets_count plan history)
+
+-- what is found under a number
+
+-- the ticket made again is the one that was handed out
+pub ticket_found : (plan : Plan) (history : List Event) (handed : Handed) (id : ℕ) → IsHanded plan history handed
+    → option_map (ticket_again plan handed.headers.items id) (slice_get handed.launches.items id)
+    ≡ slice_get (tickets_of plan history) id
+ticket_found plan history handed id is =
+    ap (λ (hs : List (List ℕ)). option_map (ticket_again plan hs id) (slice_get handed.launches.items id)) is.headers
+    ∙ ap (λ (ls : List Launch). option_map (ticket_again plan (filter_map header_wanted (tickets_of plan history)) id) (slice_get ls id))
+    is.launches
+    ∙ tickets_again plan history id
+
+pub seed_found : (plan : Plan) (history : List Event) (handed : Handed) (id : ℕ) → IsHanded plan history handed
+    → option_map (λ (launch : Launch). launch.seed) (slice_get handed.launches.items id)
+    ≡ option_map (λ (t : Ticket). t.seed) (slice_get (tickets_of plan history) id)
+seed_found plan history handed id is =
+    ap (λ (ls : List Launch). option_map (λ (launch : Launch). launch.seed) (slice_get ls id)) is.launches
+    ∙ kept_at (λ (launch : Launch). launch.seed) (λ (t : Ticket). t.seed) (λ n t. refl) 0 (tickets_of plan history) id
+
+pub piece_found : (plan : Plan) (history : List Event) (handed : Handed) (id : ℕ) → IsHanded plan history handed
+    → option_map launched_piece (slice_get handed.launches.items id)
+    ≡ option_map (λ (t : Ticket). t.piece) (slice_get (tickets_of plan history) id)
+piece_found plan history handed id is =
+    ap (λ (ls : List Launch). option_map launched_piece (slice_get ls id)) is.launches
+    ∙ kept_at launched_piece (λ (t : Ticket). t.piece) (λ n t. refl) 0 (tickets_of plan history) id

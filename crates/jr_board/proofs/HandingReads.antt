@@ -1,6 +1,5 @@
 -- What the index holds of a number that was started.
-use Rattle.std.proofs.Common.{◌≡◌, ℕ, ◌<◌, List, length, true, false, get_or, ltb, ◌∙◌, ap, arith}
-use Rattle.std.proofs.lemmas.Bool.{lt-ltb}
+use Rattle.std.proofs.Common.{◌≡◌, ℕ, ◌<◌, List, length, get_or, ◌∙◌, ap, arith}
 use Rattle.std.proofs.lemmas.List.FromFn.{get_or-map-range_with_len}
 use Rattle.jr_model.specs.declared.events.Event.{Event}
 use Rattle.jr_model.specs.History.{started}
@@ -8,7 +7,6 @@ use Rattle.jr_model.specs.Plan.{Plan}
 use Rattle.jr_board.specs.declared.handed.Handed.{Handed}
 use Rattle.jr_board.specs.declared.handed.Progress.{Progress}
 use Rattle.jr_board.specs.Handing.{IsHanded, progress_of}
-use Rattle.jr_board.proofs.HandingMoves.{handed_length}
 
 -- it is how far the I/O of this number has come
 pub found_there : (plan : Plan) (history : List Event) (handed : Handed) (id : ℕ) (items : List Progress) (found : Progress)

@@ -1,5 +1,5 @@
 -- What a desk keeps beside its history goes on agreeing with it.
-use Rattle.std.proofs.Common.{◌≡◌, ℕ, zero, suc, ◌+◌, ◌≤◌, List, [], ◌∷◌, ◌++◌, length, map, Bool, true, false, ◌&&◌, not, cond, refl, sym, ◌∙◌, ap, subst, arith, append_assoc, append-nil}
+use Rattle.std.proofs.Common.{◌≡◌, ℕ, ◌+◌, ◌≤◌, List, [], ◌∷◌, ◌++◌, length, map, Bool, true, false, ◌&&◌, not, cond, refl, sym, ◌∙◌, ap, subst, arith, append_assoc, append-nil}
 use Rattle.std.specs.Prelude.{Option, Some, None, slice_get, is_none, is_some, nat_lt, ◌==◌, IfSome}
 use Rattle.std.specs.Bool.{MatchBool}
 use Rattle.std.specs.List.{enumerate_from, cons_option}
@@ -14,11 +14,10 @@ use Rattle.jr_model.specs.declared.steps.DeskFault.TheVariants.{Stranger, Twice,
 use Rattle.jr_model.specs.declared.tickets.Ticket.{Ticket}
 use Rattle.jr_model.specs.declared.tickets.TicketKind.{TicketKind}
 use Rattle.jr_model.specs.declared.tickets.TicketKind.TheVariants as ticket
-use Rattle.jr_model.specs.declared.totals.Totals.{Totals}
 use Rattle.jr_model.specs.Content.{expected_of}
 use Rattle.jr_model.specs.History.{started, started_by, flies, outcome_of, is_judged, is_probe, ended_whole}
 use Rattle.jr_model.specs.Judgement.{verdict_of}
-use Rattle.jr_model.specs.Legal.{is_legal, is_complete, may_happen, outcome_fits, end_fits, verdict_fits, job_says, kind_says}
+use Rattle.jr_model.specs.Legal.{is_legal, may_happen, outcome_fits, end_fits, verdict_fits, job_says, kind_says}
 use Rattle.jr_model.specs.Machine.{Appends, is_skip}
 use Rattle.jr_model.specs.Tickets.{has_pattern}
 use Rattle.jr_model.specs.declared.contents.Expected.{Expected}
@@ -26,7 +25,6 @@ use Rattle.jr_model.specs.declared.contents.Method.{Method}
 use Rattle.jr_model.specs.declared.events.Verdict.{Verdict as GivenVerdict}
 use Rattle.std.proofs.lemmas.List.Elements.{filter_map-append}
 use Rattle.jr_model.specs.Plan.{Plan, SubJob, IsNumbered, clone_of}
-use Rattle.jr_model.specs.Report.{all_totals}
 use Rattle.jr_model.proofs.LegalLaws.{is_legal-more, choice_may_happen}
 use Rattle.jr_model.proofs.MachineLaws.{verdict_of_fits}
 use Rattle.jr_plan.specs.PlanFacts.{IsPlanned}
@@ -34,23 +32,15 @@ use Rattle.jr_header.specs.Served.{is_whole_check}
 use Rattle.jr_steps.specs.Drawn.{FitsPlan}
 use Rattle.jr_steps.proofs.CountLaws.{numbered_of}
 use Rattle.jr_steps.proofs.DrawnLaws.{started_fit-law}
-use Rattle.jr_steps.proofs.StartedLemmas.{started-other, same_some, started_below}
+use Rattle.jr_steps.proofs.StartedLemmas.{started_below}
 use Rattle.jr_board.specs.DeskState.{DeskState}
 use Rattle.jr_board.specs.Kept.{IsOwn, tickets_of}
 use Rattle.jr_board.specs.Refusals.{Owns, judge_fault}
 use Rattle.jr_board.specs.Takes.{IsChosen, last_started, ticket_for}
 use Rattle.jr_board.specs.Tickets.{CanBeServed, method_of, seed_of, expected_by, ticket_of}
+use Rattle.jr_board.proofs.HandingLists.{enumerated, got_numbered, length_numbered}
 
 -- tickets
-
-enumerated : {X : Type 0} (n : ℕ) (xs : List X) (x : X) → enumerate_from n (xs ++ x ∷ []) ≡ enumerate_from n xs ++ (n + length xs, x) ∷ []
-enumerated {X = X} n [] x =
-    let same : n ≡ n + 0 = omega arith in
-    ap (λ (k : ℕ). (k, x) ∷ []) same
-enumerated {X = X} n (y ∷ xs) x =
-    let same : n + 1 + length xs ≡ n + suc (length xs) = omega arith in
-    ap (λ (zs : List (ℕ × X)). (n, y) ∷ zs) (enumerated (n + 1) xs x)
-    ∙ ap (λ (k : ℕ). (n, y) ∷ (enumerate_from (n + 1) xs ++ (k, x) ∷ [])) same
 
 -- where one more is started, one more ticket is handed out
 pub tickets_more : (plan : Plan) (before after : List Event) (io : Option Started) → started after ≡ started before ++ cons_option io [] → tickets_of plan after ≡ tickets_of plan before ++ cons_option (ticket_for plan (length (started before)) io) []
@@ -65,14 +55,7 @@ tickets_more plan before after (Some io) more =
     ∙ ap (λ (k : ℕ). tickets_of plan before ++ ticket_of plan (k, io) ∷ []) same
 
 pub got_ticket : (plan : Plan) (n : ℕ) (ios : List Started) (k : ℕ) (t : Ticket) → slice_get (map (ticket_of plan) (enumerate_from n ios)) k ≡ Some t → (io : Started) × (slice_get ios k ≡ Some io) × (ticket_of plan (n + k, io) ≡ t)
-got_ticket plan n [] k t at = cc
-got_ticket plan n (io ∷ ios) zero t at =
-    let same : n + 0 ≡ n = omega arith in
-    (io, refl, ap (λ (i : ℕ). ticket_of plan (i, io)) same ∙ same_some (ticket_of plan (n, io)) t at)
-got_ticket plan n (io ∷ ios) (suc k) t at =
-    let rest = got_ticket plan (n + 1) ios k t at in
-    let same : n + suc k ≡ n + 1 + k = omega arith in
-    (rest.0, rest.1, ap (λ (i : ℕ). ticket_of plan (i, rest.0)) same ∙ rest.2)
+got_ticket plan n ios k t at = got_numbered (ticket_of plan) n ios k t at
 
 -- a ticket of the desk's own is that of an I/O that was started
 pub own_started : (plan : Plan) (history : List Event) (t : Ticket) → IsOwn plan history t → (io : Started) × (slice_get (started history) t.id ≡ Some io) × (ticket_of plan (t.id, io) ≡ t)
@@ -81,12 +64,8 @@ own_started plan history t own =
     let same : t.id ≡ 0 + t.id = omega arith in
     (got.0, got.1, ap (λ (i : ℕ). ticket_of plan (i, got.0)) same ∙ got.2)
 
-length_tickets : (plan : Plan) (n : ℕ) (ios : List Started) → length (map (ticket_of plan) (enumerate_from n ios)) ≡ length ios
-length_tickets plan n [] = refl
-length_tickets plan n (io ∷ ios) = ap suc (length_tickets plan (n + 1) ios)
-
 pub tickets_count : (plan : Plan) (history : List Event) → length (tickets_of plan history) ≡ length (started history)
-tickets_count plan history = length_tickets plan 0 (started history)
+tickets_count plan history = length_numbered (ticket_of plan) 0 (started history)
 
 -- what is chosen
 

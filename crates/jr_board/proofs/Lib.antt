@@ -7,6 +7,7 @@ pub mod EndingBoards
 pub mod EndingParts
 pub mod FlyingEntries
 pub mod FlyingMoves
+pub mod HandingLaunches
 pub mod HandingLists
 pub mod HandingMoves
 pub mod HandingReads

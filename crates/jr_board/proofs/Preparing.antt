@@ -1,7 +1,7 @@
 -- The standings of a board's clones, made one after another, and prepared one after another.
 use Rattle.std.proofs.Common.{◌≡◌, ℕ, ◌+◌, ◌<◌, ◌≤◌, List, [], ◌∷◌, ◌++◌, length, take, get_or, true, refl, sym, ◌∙◌, ap, subst, arith, inl, inr, length-append}
 use Rattle.std.proofs.Math.ListN.{set}
-use Rattle.std.specs.Prelude.{Some, slice_get, sum_by}
+use Rattle.std.specs.Prelude.{Some, slice_get}
 use Rattle.std.proofs.lemmas.List.{length-set}
 use Rattle.std.proofs.lemmas.List.Sums.{sum_by_more}
 use Rattle.std.proofs.lemmas.Option.{slice_get_within}
@@ -13,7 +13,8 @@ use Rattle.jr_standing.specs.Deferred.{is_settled}
 use Rattle.jr_board.specs.declared.standings.Standing.{Standing}
 use Rattle.jr_board.specs.Boards.{left_of}
 use Rattle.jr_board.specs.Standings.{ArePrepared, AreStanding, IsPrepared, IsStanding}
-use Rattle.jr_board.proofs.StandingSets.{got_after_set, got_set_other, standings_set}
+use Rattle.jr_board.proofs.StandingSets.{got_set_other, standings_set}
+use Rattle.jr_board.proofs.StartingStandings.{got_set}
 
 -- so many clones have their standings
 pub record StandTo (plan : Plan) (history : List Event) (n : ℕ) (standings : List Standing) : Type 0 where
@@ -94,11 +95,11 @@ prepared_next plan n job before now old new was at found moves is = record {
   kept = kept_next plan n job before now old new was at found moves;
   prepared = λ (k : ℕ) (other : SubJob) (standing : Standing) (below : k < n + 1) (there : clone_of plan k ≡ Some other)
       (got : slice_get (set now n new) k ≡ Some standing).
-      elim (got_after_set now n k new standing got (slice_get_within now n old found)) [
+      elim (got_set now n k standing new got) [
         | inl here ↦
             let same : job ≡ other = same_some job other (sym at ∙ ap (clone_of plan) (sym here.0) ∙ there) in
             subst (λ (s : Standing). IsPrepared other s) (sym here.1) (subst (λ (j : SubJob). IsPrepared j new) same is)
-        | inr far ↦ was.prepared k other standing (below_last k n below far.0) there far.1
+        | inr far ↦ was.prepared k other standing (below_last k n below (λ (e : k ≡ n). far.0 (sym e))) there far.1
       ];
 }
   where

@@ -1,30 +1,16 @@
 -- The standings of all clones where that of one clone is changed.
-use Rattle.std.proofs.Common.{◌≡◌, ℕ, zero, suc, ◌<◌, List, [], ◌∷◌, length, get_or, refl, sym, ◌∙◌, ap, arith, inl, inr}
+use Rattle.std.proofs.Common.{◌≡◌, ℕ, zero, suc, ◌<◌, List, [], ◌∷◌, length, get_or, refl, ◌∙◌, ap}
 use Rattle.std.proofs.Math.ListN.{set}
-use Rattle.std.specs.Prelude.{◌⊎◌, Some, slice_get}
+use Rattle.std.specs.Prelude.{Some, slice_get}
 use Rattle.std.proofs.lemmas.List.{get_or-set_same}
 use Rattle.jr_model.specs.declared.events.Event.{Event}
 use Rattle.jr_model.specs.Plan.{Plan, SubJob, clone_of}
-use Rattle.jr_steps.proofs.StartedLemmas.{same_some}
 use Rattle.jr_standing.specs.Deferred.{Deferred, round_now}
 use Rattle.jr_board.specs.declared.standings.Standing.{Standing}
 use Rattle.jr_board.specs.Standings.{IsStanding, AreStanding}
 use Rattle.jr_board.proofs.StartingStandings.{standing_moves}
 
--- what is found after one item was changed is that item, or it was there before
-pub got_after_set : {X : Type 0} (xs : List X) (c k : ℕ) (s x : X) → slice_get (set xs c s) k ≡ Some x → c < length xs
-    → ((k ≡ c) × (x ≡ s)) ⊎ ((k ≡ c → ⊥) × (slice_get xs k ≡ Some x))
-got_after_set [] c k s x got below = absurd (omega (arith, below))
-got_after_set (y ∷ ys) zero zero s x got below = inl (refl, same_some x s (sym got))
-got_after_set (y ∷ ys) zero (suc k) s x got below = inr (λ (e : suc k ≡ 0). omega (arith, e), got)
-got_after_set (y ∷ ys) (suc c) zero s x got below = inr (λ (e : 0 ≡ suc c). omega (arith, e), got)
-got_after_set (y ∷ ys) (suc c) (suc k) s x got below =
-    elim (got_after_set ys c k s x got (omega (arith, below))) [
-      | inl here ↦ inl (ap suc here.0, here.1)
-      | inr there ↦ inr (λ (e : suc k ≡ suc c). there.0 (omega (arith, e)), there.1)
-    ]
-
--- the others stay
+-- where one item is changed, the others stay
 pub got_set_other : {X : Type 0} (xs : List X) (c k : ℕ) (s : X) → (k ≡ c → ⊥) → slice_get (set xs c s) k ≡ slice_get xs k
 got_set_other [] c k s apart = refl
 got_set_other (y ∷ ys) zero zero s apart = absurd (apart refl)

@@ -1,6 +1,6 @@
 -- A run starts so few I/Os that their numbers are 32-bit numbers.
-use Rattle.std.proofs.Common.{◌≡◌, ℕ, zero, suc, ◌++◌, take, ◌∙◌, ◌+◌, ◌*◌, ◌^◌, ◌≤◌, List, [], ◌∷◌, length, Bool, true, map, sum, arith, refl, sym, ap}
-use Rattle.std.specs.Prelude.{fold, slice_get, Some}
+use Rattle.std.proofs.Common.{◌≡◌, ℕ, ◌+◌, ◌*◌, ◌^◌, ◌≤◌, List, [], ◌∷◌, length, true, map, sum, arith, refl}
+use Rattle.std.specs.Prelude.{fold}
 use Rattle.jr_model.specs.declared.events.Event.{Event}
 use Rattle.jr_model.specs.History.{started}
 use Rattle.jr_model.specs.Legal.{is_legal}
@@ -17,7 +17,7 @@ fold-map n [] = refl
 fold-map n (job ∷ clones) = fold-map (n + work_in job) clones
 
 -- the work of a plan, counted either way
-work-same : (clones : List SubJob) → sum (map (λ (job : SubJob). job.cells * job.passes) clones) ≡ facts.work_of clones
+pub work-same : (clones : List SubJob) → sum (map (λ (job : SubJob). job.cells * job.passes) clones) ≡ facts.work_of clones
 work-same clones = fold-map 0 clones
 
 -- so few are started that their numbers are 32-bit numbers

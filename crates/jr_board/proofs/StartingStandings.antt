@@ -16,7 +16,7 @@ use Rattle.jr_board.specs.Boards.{left_of}
 use Rattle.jr_board.specs.Standings.{ArePrepared, AreStanding, IsPrepared, IsStanding}
 
 -- an item of a list in which one was put is that one, or another that stayed
-got_set : {X : Type 0} (xs : List X) (i k : ℕ) (x y : X) → slice_get (set xs i y) k ≡ Some x
+pub got_set : {X : Type 0} (xs : List X) (i k : ℕ) (x y : X) → slice_get (set xs i y) k ≡ Some x
     → ((k ≡ i) × (x ≡ y)) ⊎ ((i ≡ k → ⊥) × (slice_get xs k ≡ Some x))
 got_set [] i k x y at = cc
 got_set (z ∷ xs) zero zero x y at = inl (refl, sym (same_some y x at))

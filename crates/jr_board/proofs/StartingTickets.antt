@@ -94,16 +94,16 @@ has_read plan board write job standing found issued standings draws is planned a
     (got_there draws found.issued.items write.number issued drawn below got)
 
 -- the seed read there
-pub seed_read : (plan : Plan) (history : List Event) (write : WriteId) (id : ℕ) (t : Ticket) → HasTicket plan history write id
-    → Some t ≡ slice_get (tickets_of plan history) id
-    → t.seed ≡ seed_of_draw (slice_get (draws_of plan write.clone write.pass) write.number)
-seed_read plan history write id t has read =
-    ap (λ (x : Ticket). x.seed) (same_some t has.ticket (read ∙ has.at)) ∙ has.seed
+pub seed_read : (plan : Plan) (history : List Event) (write : WriteId) (id seed : ℕ) → HasTicket plan history write id
+    → Some seed ≡ option_map (λ (t : Ticket). t.seed) (slice_get (tickets_of plan history) id)
+    → seed ≡ seed_of_draw (slice_get (draws_of plan write.clone write.pass) write.number)
+seed_read plan history write id seed has read =
+    same_some seed has.ticket.seed (read ∙ ap (option_map (λ (t : Ticket). t.seed)) has.at) ∙ has.seed
 
 pub ticket_missing : (plan : Plan) (history : List Event) (write : WriteId) (id : ℕ) → HasTicket plan history write id
-    → None ≡ slice_get (tickets_of plan history) id → ⊥
+    → None ≡ option_map (λ (t : Ticket). t.seed) (slice_get (tickets_of plan history) id) → ⊥
 ticket_missing plan history write id has read =
-    let wrong : None ≡ Some has.ticket = read ∙ has.at in
+    let wrong : None ≡ Some has.ticket.seed = read ∙ ap (option_map (λ (t : Ticket). t.seed)) has.at in
     cc
 
 -- the ticket of an issue

@@ -1,29 +1,26 @@
 -- A take on its way: skips alone were appended so far, and the choice is the next thing to append.
-use Rattle.std.proofs.Common.{◌≡◌, ℕ, List, [], ◌∷◌, ◌++◌, length, Bool, true, false, refl, sym, ◌∙◌, ap, subst, append-nil, inl, inr}
-use Rattle.std.specs.Prelude.{◌⊎◌, Option, Some, None}
+use Rattle.std.proofs.Common.{◌≡◌, ℕ, List, [], ◌∷◌, ◌++◌, length, true, false, refl, sym, ◌∙◌, ap, subst, append-nil, inl, inr}
+use Rattle.std.specs.Prelude.{Option, Some, None}
 use Rattle.std.proofs.lemmas.List.Elements.{filter_map-append}
 use Rattle.jr_model.specs.declared.blocks.Dir.{Dir}
 use Rattle.jr_model.specs.declared.blocks.Piece.{Piece}
 use Rattle.jr_model.specs.declared.events.Event.{Event}
 use Rattle.jr_model.specs.declared.events.Event.TheVariants.{Issue, Probe, Skip, End, Verdict}
-use Rattle.jr_model.specs.declared.events.Outcome.{Outcome}
 use Rattle.jr_model.specs.declared.events.Started.{Started}
-use Rattle.jr_model.specs.declared.events.Verdict.{Verdict as GivenVerdict}
 use Rattle.jr_model.specs.declared.events.WriteId.{WriteId}
 use Rattle.jr_model.specs.declared.tickets.Ticket.{Ticket}
-use Rattle.jr_model.specs.declared.tickets.TicketKind.TheVariants as ticket
 use Rattle.jr_model.specs.Choice.{choice}
-use Rattle.jr_model.specs.History.{started, started_by, kind_for}
+use Rattle.jr_model.specs.History.{started, started_by}
 use Rattle.jr_model.specs.Legal.{may_happen}
 use Rattle.jr_model.specs.Machine.{is_skip}
-use Rattle.jr_model.specs.Plan.{Plan, IsNumbered}
-use Rattle.jr_model.specs.Rounds.{pass_of, write_id}
+use Rattle.jr_model.specs.Plan.{Plan}
+use Rattle.jr_model.specs.Rounds.{pass_of}
 use Rattle.jr_model.proofs.LegalLaws.{choice_is_step, choice_may_happen, cases_step_of}
 use Rattle.jr_plan.specs.PlanFacts.{IsPlanned}
 use Rattle.jr_steps.proofs.CountLaws.{numbered_of}
 use Rattle.jr_board.specs.declared.board.Board.{Board}
 use Rattle.jr_board.specs.Boards.{IsBoard, IsReady}
-use Rattle.jr_board.specs.Takes.{IsChosen, last_started, ticket_for}
+use Rattle.jr_board.specs.Takes.{IsChosen, ticket_for}
 use Rattle.jr_board.specs.Tickets.{ticket_of}
 use Rattle.jr_board.proofs.Leading.{LeadsTo, leads_first, leads_on, chosen_none, chosen_last}
 

@@ -1,6 +1,6 @@
 -- What an event makes of the tallies of a legal history, and that a clone's can be counted on.
-use Rattle.std.proofs.Common.{◌≡◌, ℕ, zero, suc, ◌+◌, ◌*◌, ◌^◌, ◌<◌, ◌≤◌, List, [], ◌∷◌, ◌++◌, length, map, set, take, sum, get_or, Bool, true, false, cond, ◌&&◌, ◌||◌, refl, sym, ◌∙◌, ap, subst, arith, append-nil}
-use Rattle.std.specs.Prelude.{Option, Some, None, slice_get, fold}
+use Rattle.std.proofs.Common.{◌≡◌, ℕ, zero, suc, ◌+◌, ◌^◌, ◌<◌, ◌≤◌, List, [], ◌∷◌, ◌++◌, length, map, set, take, get_or, Bool, true, false, cond, ◌&&◌, ◌||◌, refl, sym, ◌∙◌, ap, subst, arith, append-nil}
+use Rattle.std.specs.Prelude.{Option, Some, None, slice_get}
 use Rattle.std.specs.List.{cons_option}
 use Rattle.std.specs.Option.{option_map}
 use Rattle.std.proofs.lemmas.Bool.{eq-eqb}
@@ -25,8 +25,7 @@ use Rattle.jr_model.specs.Plan.{Plan, SubJob, IsNumbered, clone_of}
 use Rattle.jr_model.specs.Report.{Miscompare, miscompare_on, miscompares}
 use Rattle.jr_model.specs.Totals.{totals_of}
 use Rattle.jr_plan.specs.PlanFacts.{IsPlanned}
-use Rattle.jr_plan.specs.PlanFacts as facts
-use Rattle.jr_steps.proofs.CountLaws.{numbered_of, started_few}
+use Rattle.jr_steps.proofs.CountLaws.{numbered_of}
 use Rattle.jr_steps.proofs.StartedLemmas.{same_some}
 use Rattle.jr_tally_laws.specs.Tallies.{Tally, flying_issues, flying_checks, awaited, tally_of, named_in, concerns, tally_ended, tally_after, totals_ended, totals_judged, totals_after, halted_by, miscompare_in}
 use Rattle.jr_tally_laws.proofs.Bads.{miscompares-more, ends_counted, verdicts_counted}
@@ -37,6 +36,7 @@ use Rattle.jr_board.specs.declared.tallies.Bad.{Bad}
 use Rattle.jr_board.specs.declared.tallies.Counts.{Counts}
 use Rattle.jr_board.specs.declared.tallies.Tallies.{Tallies}
 use Rattle.jr_board.specs.Nexts.{IsNext, grown}
+use Rattle.jr_board.proofs.StartedFew.{started_small, work-same}
 use Rattle.jr_board.specs.Tallying.{AreLow, AreSmall, CanCount, IsTallied, counts_of, counts_with, flying_in, miscompare_of, tally_in, tally_judged}
 
 -- lists
@@ -153,18 +153,6 @@ can_judge plan history worker id verdict io tallies c at same next is counts got
     omega (arith, verdicts, names.verdict)
 
 -- so few are started that all counts and totals are small
-
-fold-map : (f : SubJob → ℕ) (n : ℕ) (clones : List SubJob) → fold ◌+◌ n (map f clones) ≡ fold (λ (a : ℕ). λ (job : SubJob). a + f job) n clones
-fold-map f n [] = refl
-fold-map f n (job ∷ clones) = fold-map f (n + f job) clones
-
--- the work of a plan, counted either way
-work-same : (clones : List SubJob) → sum (map (λ (job : SubJob). job.cells * job.passes) clones) ≡ facts.work_of clones
-work-same clones = fold-map (λ (job : SubJob). job.cells * job.passes) 0 clones
-
-pub started_small : (plan : Plan) (history : List Event) → IsPlanned plan → is_legal plan history ≡ true → length (started history) ≤ 2 ^ 31
-started_small plan history planned legal =
-    omega (arith, started_few plan history planned legal, work-same plan.clones, planned.drafted.work)
 
 are_low : (plan : Plan) (history : List Event) (job : SubJob) → IsPlanned plan → is_legal plan history ≡ true → AreLow (counts_of history job)
 are_low plan history job planned legal =

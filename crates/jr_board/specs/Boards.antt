@@ -28,7 +28,8 @@ left_of standings = sum_by (λ (standing : Standing). length standing.rounds.rou
 -- a skip of each write that is still to check, and one more step, take no memory
 pub record IsReady (plan : Plan) (board : Board) : Type 0 where
   pub history : vec_len board.history + left_of board.standings.items < vec_capacity board.history
-  pub tickets : vec_len board.handed.tickets < vec_capacity board.handed.tickets
+  pub launches : vec_len board.handed.launches < vec_capacity board.handed.launches
+  pub headers : vec_len board.handed.headers < vec_capacity board.handed.headers
   pub progress : vec_len board.handed.progress < vec_capacity board.handed.progress
   pub flying : board.flying.begun ≡ None
   pub standings : ArePrepared plan board.standings.items

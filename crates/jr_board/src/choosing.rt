@@ -1,6 +1,5 @@
 ghost use Rattle.std.specs.Prelude.{◌≡◌, ◌<◌, ℕ, true, false, length, nat_le, slice_get, Some, IfSome};
 ghost use Rattle.std.specs.List.{list_any};
-ghost use Rattle.std.specs.Option.{option_map};
 ghost use Rattle.jr_model.specs.Choice.{choice, choice_of_clone};
 ghost use Rattle.jr_model.specs.History.{first_given, same_write};
 ghost use Rattle.jr_model.specs.Legal.{is_halted, phase_is_open};
@@ -14,10 +13,9 @@ ghost use Rattle.jr_board.specs.Boards.{IsBoard, IsReady};
 ghost use Rattle.jr_board.specs.declared.standings.Standing.{Standing as Stood};
 
 use crate::board::Board;
-use crate::handed::Handed;
 use crate::resting::{open_phase, pass_is_finished};
 use crate::standings::{Standing, has_rounds};
-use jr_model::{Dir, Draw, Event, IoId, Piece, WriteId};
+use jr_model::{Dir, Draw, Event, WriteId};
 use jr_plan::Plan;
 
 // What a take by this worker appends next, if it may append anything: the least step of all clones.
@@ -106,7 +104,7 @@ fn take_up(
     if issued.is_taken_up {
         return None;
     }
-    let piece = piece_of(&board.handed, issued.id)?;
+    let piece = board.handed.piece(issued.id)?;
     if !board.flying.is_clear(&piece, Dir::Read) {
         return None;
     }
@@ -118,16 +116,6 @@ fn take_up(
         })
     } else {
         Some(Event::Skip { worker, write })
-    }
-}
-
-// The piece of the ticket of this number, if it was handed out.
-fn piece_of(handed: &Handed, id: IoId) -> Option<Piece>
-    ensures { result ≡ option_map (λ ticket. ticket.piece) (slice_get handed.now.tickets.items id) }
-{
-    match handed.tickets.get(id as usize) {
-        None => None,
-        Some(ticket) => Some(ticket.piece),
     }
 }
 

@@ -148,7 +148,8 @@ impl Desk {
 
     /// The bad verdicts so far, in the order in which they were given.
     pub fn bads(&self) -> &[Bad]
-        ensures { map miscompare_of result.now ≡ miscompares self.now.history }
+        ensures value { map miscompare_of result.now ≡ miscompares self.now.history }
+        ensures legal { is_legal self.now.plan self.now.history ≡ true }
     {
         self.board.tallies.bads.as_slice()
     }
@@ -179,7 +180,7 @@ impl Desk {
     pub fn ticket_at(&self, id: u32) -> Option<Ticket>
         ensures { result ≡ slice_get (tickets_of self.now.plan self.now.history) id }
     {
-        self.board.handed.ticket(id)
+        self.board.handed.ticket(&self.plan, id)
     }
 
     /// Whether an I/O or check that was handed out has ended.

@@ -8,6 +8,7 @@ mod desk;
 mod ending;
 mod flying;
 mod handed;
+mod launches;
 mod resting;
 mod sameness;
 mod standings;

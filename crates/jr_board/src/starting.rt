@@ -141,9 +141,9 @@ fn seed_of(board: &Board, write: WriteId) -> u64
     let Some(issued) = standing.issued.get(write.number as usize) else {
         return 0;
     };
-    match board.handed.ticket(issued.id) {
+    match board.handed.seed(issued.id) {
         None => 0,
-        Some(ticket) => ticket.seed,
+        Some(seed) => seed,
     }
 }
 

@@ -45,6 +45,11 @@ index_mut-requires c =
     let there = clone_stands c.args.plan.now board c.args.ticket.now.write.clone parts.job c.requires.board parts.planned in
     omega (arith, there, board.standings.ok.0)
 
+pub returns-in_err-reserve-clause-board : goal.returns-in_err-reserve-clause-board
+returns-in_err-reserve-clause-board c =
+    let is = c.requires.board in
+    board_stays c.args.plan.now c.args.board.now _ is c.reserve.ensures.items is.handed is.flying refl is.tallies is.standings
+
 pub returns-in_err-settle-clause-board : goal.returns-in_err-settle-clause-board
 returns-in_err-settle-clause-board c =
     let plan = c.args.plan.now in

@@ -1,17 +1,31 @@
 -- The index of each part takes the step that the verdict is, or stays.
-use Rattle.std.proofs.Common.{◌≡◌, List, sym, ◌∙◌, ap}
+use Rattle.std.proofs.Common.{◌≡◌, List, refl, sym, ◌∙◌, ap}
 use Rattle.std.proofs.lemmas.Option.{slice_get_within}
 use Rattle.jr_model.specs.declared.events.Event.{Event}
 use Rattle.jr_model.specs.declared.events.Event.TheVariants.{Verdict as Judged}
 use Rattle.jr_model.specs.Plan.{SubJob}
 use Rattle.jr_steps.proofs.StartedLemmas.{same_some}
 use Rattle.jr_board.specs.Nexts.{grown}
-use Rattle.jr_board.proofs.EndingBoards.{own_below, parts_of}
+use Rattle.jr_board.proofs.EndingBoards.{board_stays, own_below, parts_of}
 use Rattle.jr_board.proofs.FlyingMoves.{flying_verdict, log_verdict}
 use Rattle.jr_board.proofs.StandingStays.{standings_judged}
 use Rattle.jr_board.proofs.StartingBoards.{board_grows, next_of}
 use Rattle.jr_board.proofs.TallyMoves.{can_count, can_judge, tallied_same}
 use Rattle.jr_board.proofs.ending.judge.Goals as goal
+
+pub returns-in_err-reserve-clause-board : goal.returns-in_err-reserve-clause-board
+returns-in_err-reserve-clause-board c =
+    let is = c.requires.board in
+    board_stays c.args.plan.now c.args.board.now _ is c.reserve.ensures.items is.handed is.flying refl is.tallies is.standings
+
+pub returns-in_err-reserve-2-clause-board : goal.returns-in_err-reserve-2-clause-board
+returns-in_err-reserve-2-clause-board c =
+    let plan = c.args.plan.now in
+    let board = c.args.board.now in
+    let is = c.requires.board in
+    board_stays plan board _ is c.reserve.ensures.items is.handed is.flying refl
+    (tallied_same plan board.history.items board.tallies c.reserve-2.new.self is.tallies c.reserve-2.ensures.counts
+    c.reserve-2.ensures.totals c.reserve-2.ensures.bads) is.standings
 
 pub clone_at-requires : goal.clone_at-requires
 clone_at-requires c =

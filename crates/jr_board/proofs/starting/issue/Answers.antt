@@ -9,6 +9,7 @@ use Rattle.jr_backlog.specs.Rounds.{comes_last, takes_writes}
 use Rattle.jr_board.specs.Nexts.{IsNext, grown}
 use Rattle.jr_board.proofs.FlyingMoves.{log_issue}
 use Rattle.jr_board.proofs.IssueMoves.{issue_fills}
+use Rattle.jr_board.proofs.HandingMoves.{headers_within}
 use Rattle.jr_board.proofs.StandingMoves.{clone_is, clone_there, stays_other_issue}
 use Rattle.jr_board.proofs.StartedFew.{started_small}
 use Rattle.jr_board.proofs.StartingBoards.{board_grows, clone_stands, next_of, stands_at, stands_now}
@@ -78,6 +79,13 @@ issued-requires c =
     let board = c.args.board.now in
     can_count c.args.plan.now board.history.items board.tallies c.args.write.clone c.clone_at-job.result.now is.planned is.legal
     is.tallies c.clone_at-job.ensures.value
+
+pub hand-requires-clause-few : goal.hand-requires-clause-few
+hand-requires-clause-few c =
+    let plan = c.args.plan.now in
+    let history = c.args.board.now.history.items in
+    let is = c.requires.board in
+    omega (arith, headers_within plan history c.args.board.now.handed is.handed, started_small plan history is.planned is.legal)
 
 pub returns-clause-ticket : goal.returns-clause-ticket
 returns-clause-ticket c =

@@ -13,6 +13,7 @@ use Rattle.jr_steps.proofs.StartedLemmas.{same_some}
 use Rattle.jr_steps.proofs.StepLaws.{may_probe_of}
 use Rattle.jr_board.specs.Nexts.{grown}
 use Rattle.jr_board.proofs.FlyingMoves.{log_probe}
+use Rattle.jr_board.proofs.HandingMoves.{headers_within}
 use Rattle.jr_board.proofs.StandingMoves.{clone_is, clone_there, taken_up_here, stays_other_probe}
 use Rattle.jr_board.proofs.StartedFew.{started_small}
 use Rattle.jr_board.proofs.StartingBoards.{board_grows, clone_stands, next_of, stands_at, stands_now}
@@ -64,6 +65,13 @@ take_up-requires c =
     (taken_up_here plan board.history.items step.job c.index_mut.result.now
     (stands_now plan board write.clone step.job c.index_mut.result.now is step.named.planned c.index_mut.ensures.value)
     worker write piece (next_of plan board (Probe worker write piece) is c.requires.may) step.named.planned).1
+
+pub hand-requires-clause-few : goal.hand-requires-clause-few
+hand-requires-clause-few c =
+    let plan = c.args.plan.now in
+    let history = c.args.board.now.history.items in
+    let is = c.requires.board in
+    omega (arith, headers_within plan history c.args.board.now.handed is.handed, started_small plan history is.planned is.legal)
 
 pub returns-clause-ticket : goal.returns-clause-ticket
 returns-clause-ticket c =

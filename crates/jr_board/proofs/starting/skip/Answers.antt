@@ -108,7 +108,8 @@ returns-clause-ready c =
     let fewer = left_falls board.standings.items write.clone old c.skip.new.self at c.skip.ensures.fewer in
     record {
       history = omega (arith, ready.history, c.push_reserved.ensures.len, c.push_reserved.ensures.capacity, fewer);
-      tickets = ready.tickets;
+      launches = ready.launches;
+      headers = ready.headers;
       progress = ready.progress;
       flying = ready.flying;
       standings =

@@ -16,7 +16,11 @@ returns-in_err-prepare_standings-clause-board c =
     let history = board.history.items in
     let is = c.requires in
     board_stays c.args.plan.now board _ is refl
-    (record { tickets = c.reserve.ensures.tickets ∙ is.handed.tickets; progress = c.reserve.ensures.progress ∙ is.handed.progress })
+    (record {
+      launches = c.reserve.ensures.launches ∙ is.handed.launches;
+      headers = c.reserve.ensures.headers ∙ is.handed.headers;
+      progress = c.reserve.ensures.progress ∙ is.handed.progress;
+    })
     (c.in_ok-settle.ensures.kept history is.flying) refl is.tallies (c.prepare_standings.ensures.kept history is.standings)
 
 pub left_in-requires : goal.left_in-requires
@@ -34,7 +38,11 @@ returns-in_err-reserve-2-clause-board c =
     let history = board.history.items in
     let is = c.requires in
     board_stays c.args.plan.now board _ is c.reserve-2.ensures.items
-    (record { tickets = c.reserve.ensures.tickets ∙ is.handed.tickets; progress = c.reserve.ensures.progress ∙ is.handed.progress })
+    (record {
+      launches = c.reserve.ensures.launches ∙ is.handed.launches;
+      headers = c.reserve.ensures.headers ∙ is.handed.headers;
+      progress = c.reserve.ensures.progress ∙ is.handed.progress;
+    })
     (c.in_ok-settle.ensures.kept history is.flying) refl is.tallies (c.prepare_standings.ensures.kept history is.standings)
 
 pub returns-clause-board : goal.returns-clause-board
@@ -43,5 +51,9 @@ returns-clause-board c =
     let history = board.history.items in
     let is = c.requires in
     board_stays c.args.plan.now board _ is c.reserve-2.ensures.items
-    (record { tickets = c.reserve.ensures.tickets ∙ is.handed.tickets; progress = c.reserve.ensures.progress ∙ is.handed.progress })
+    (record {
+      launches = c.reserve.ensures.launches ∙ is.handed.launches;
+      headers = c.reserve.ensures.headers ∙ is.handed.headers;
+      progress = c.reserve.ensures.progress ∙ is.handed.progress;
+    })
     (c.in_ok-settle.ensures.kept history is.flying) refl is.tallies (c.prepare_standings.ensures.kept history is.standings)

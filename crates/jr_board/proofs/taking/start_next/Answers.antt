@@ -1,8 +1,7 @@
-use Rattle.std.proofs.Common.{◌≡◌, ℕ, List, true, false, refl, sym, ◌∙◌, ap}
-use Rattle.std.specs.Prelude.{Some, None}
-use Rattle.jr_model.specs.declared.events.Event.{Event}
+use Rattle.std.proofs.Common.{refl, sym, ◌∙◌, ap}
+use Rattle.std.specs.Prelude.{Some}
 use Rattle.jr_model.specs.declared.events.Event.TheVariants.{Issue, Probe, Skip}
-use Rattle.jr_board.proofs.Takings.{taking_first, taking_on, taken_none, taken_one, chosen_may, chosen_step, chosen_skip, chosen_issue, chosen_probe}
+use Rattle.jr_board.proofs.Takings.{taking_on, taken_none, taken_one, chosen_may, chosen_step, chosen_skip, chosen_issue, chosen_probe}
 use Rattle.jr_board.proofs.taking.start_next.Goals as goal
 
 pub returns-in_default-clause-taken : goal.returns-in_default-clause-taken

@@ -14,7 +14,7 @@ same_end given outcome same = sym (ap {B = Progress} (λ (how : Outcome). by_out
 
 pub returns : goal.returns
 returns c plan history worker next is =
-    handed_end plan history worker c.args.id c.args.outcome c.args.self.now _ next refl
+    handed_end plan history worker c.args.id c.args.outcome c.args.self.now _ next refl refl
     (ap (set c.args.self.now.progress.items c.args.id)
     (elim c.match-outcome.branch [
       | in-Whole w ↦ w.t-5-is ∙ same_end c.args.outcome _ w.in-Whole.is

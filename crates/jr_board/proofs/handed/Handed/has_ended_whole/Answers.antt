@@ -10,7 +10,7 @@ use Rattle.jr_board.specs.declared.handed.Progress.{Progress}
 use Rattle.jr_board.specs.declared.handed.Progress.TheVariants as progress
 use Rattle.jr_board.specs.Handing.{by_outcome}
 use Rattle.jr_board.proofs.HandingReads.{found_there}
-use Rattle.jr_board.proofs.Unstarted.{unstarted_unended, unstarted_unjudged, past_started, within_started}
+use Rattle.jr_board.proofs.Unstarted.{unstarted_unended, past_started, within_started}
 use Rattle.jr_board.proofs.handed.Handed.has_ended_whole.Goals as goal
 
 whole_unjudged : (judged : Bool) (o : Option Outcome) → (judged ≡ true → o ≡ Some Whole)

@@ -9,7 +9,7 @@ use Rattle.jr_board.specs.declared.handed.Progress.{Progress}
 use Rattle.jr_board.specs.declared.handed.Progress.TheVariants as progress
 use Rattle.jr_board.specs.Handing.{by_outcome}
 use Rattle.jr_board.proofs.HandingReads.{found_there}
-use Rattle.jr_board.proofs.Unstarted.{unstarted_unended, unstarted_unjudged, past_started, within_started}
+use Rattle.jr_board.proofs.Unstarted.{unstarted_unjudged, past_started, within_started}
 use Rattle.jr_board.proofs.handed.Handed.is_judged.Goals as goal
 
 judged_alone : (judged : Bool) (o : Option Outcome) → sameb the_type (cond judged progress.Judged (by_outcome o)) progress.Judged ≡ judged

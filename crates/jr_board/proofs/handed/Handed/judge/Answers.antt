@@ -4,4 +4,4 @@ use Rattle.jr_board.proofs.handed.Handed.judge.Goals as goal
 
 pub returns : goal.returns
 returns c plan history worker verdict next is =
-    handed_verdict plan history worker c.args.id verdict c.args.self.now _ next refl refl is
+    handed_verdict plan history worker c.args.id verdict c.args.self.now _ next refl refl refl is
