@@ -1,14 +1,17 @@
 pub mod Calling
 pub mod Carrying
 pub mod Chosen
+pub mod Clearing
 pub mod Counting
 pub mod Crewing
+pub mod Following
 pub mod Going
 pub mod Handing
 pub mod Matching
 pub mod Running
 pub mod Serially
 pub mod Settling
+pub mod Stopping
 pub mod Tables
 pub mod Turning
 pub mod Tying

@@ -45,10 +45,10 @@ use Rattle.jr_crew.proofs.Calling.{IsCall, is_call}
 use Rattle.jr_crew.proofs.Turning.{asked_room_for}
 use Rattle.jr_crew.proofs.Tying.{IsNextCall, IsOnBytes}
 
--- each verdict on what this worker has ended is that on the bytes that were kept
-abbrev pub AreSaidOn : Plan → List Event → ℕ → List Event → List (ℕ × List ℕ) → Type 0
-AreSaidOn plan history worker before kept =
-    (io : ℕ) (s : Started) (v : GivenVerdict) → slice_get (started history) io ≡ Some s → s.worker ≡ worker → ended_whole (outcome_of before io) ≡ true → verdict_in history io ≡ Some v → verdict_on plan s (bytes_read kept io) ≡ v
+-- where workers judge, each verdict on what this worker has ended is that on the bytes that were kept
+abbrev pub AreSaidOn : Plan → Bool → List Event → ℕ → List Event → List (ℕ × List ℕ) → Type 0
+AreSaidOn plan inline history worker before kept =
+    inline ≡ true → (io : ℕ) (s : Started) (v : GivenVerdict) → slice_get (started history) io ≡ Some s → s.worker ≡ worker → ended_whole (outcome_of before io) ≡ true → verdict_in history io ≡ Some v → verdict_on plan s (bytes_read kept io) ≡ v
 
 or_nothing : {X : Type 0} (o : Option X) → option_or o None ≡ o
 or_nothing None = refl
@@ -61,9 +61,9 @@ outcome_other before e io none =
     ∙ ap (λ (o : Option Outcome). option_or (outcome_of before io) (option_or o None)) none
     ∙ or_nothing (outcome_of before io)
 
-said_other : (plan : Plan) (history : List Event) (worker : ℕ) (before : List Event) (e : Event) (kept : List (ℕ × List ℕ)) → ((io : ℕ) → end_of io e ≡ None) → AreSaidOn plan history worker before kept → AreSaidOn plan history worker (before ++ e ∷ []) kept
-said_other plan history worker before e kept none said io s v at by ended given =
-    said io s v at by (ap ended_whole (sym (outcome_other before e io (none io))) ∙ ended) given
+said_other : (plan : Plan) (inline : Bool) (history : List Event) (worker : ℕ) (before : List Event) (e : Event) (kept : List (ℕ × List ℕ)) → ((io : ℕ) → end_of io e ≡ None) → AreSaidOn plan inline history worker before kept → AreSaidOn plan inline history worker (before ++ e ∷ []) kept
+said_other plan inline history worker before e kept none said so io s v at by ended given =
+    said so io s v at by (ap ended_whole (sym (outcome_other before e io (none io))) ∙ ended) given
 
 -- what has no verdict has none
 unjudged_none : (before : List Event) (io : ℕ) → is_judged before io ≡ false → verdict_in before io ≡ None
@@ -117,23 +117,28 @@ ended_front before w id io outcome other ended =
     ap ended_whole (sym (outcome_other before (End w id outcome) io (ap (λ (b : Bool). cond b (Some outcome) None) other))) ∙ ended
 
 differs : (a b : ℕ) → (a == b) ≡ false → a ≡ b → ⊥
-differs a b other same = let yes = eq-eqb a b same in cc
+differs a b other same = let so = eq-eqb a b same in cc
 
-module _ (plan : Plan) (history : List Event) (worker : ℕ) (planned : IsPlanned plan) (legal : is_legal plan history ≡ true) where
+-- where it is so
+only_if : (b : Bool) (A : Type 0) → (b ≡ true → A) → MatchBool b A (Unit {0})
+only_if true A f = f refl
+only_if false A f = tt
+
+module _ (plan : Plan) (inline : Bool) (history : List Event) (worker : ℕ) (planned : IsPlanned plan) (legal : is_legal plan history ≡ true) where
   -- the engine's calls for the rest of the book are those of the rest of the history
   abbrev Follows : List Event → EngineState → List (ℕ × List ℕ) → EngineState → Type 0
   Follows events engine kept final =
-      (read_back : List (ℕ × List ℕ)) × TiedAlong plan true worker (started history) (known_engine engine kept) events (known_engine final read_back)
+      (read_back : List (ℕ × List ℕ)) × TiedAlong plan inline worker (started history) (known_engine engine kept) events (known_engine final read_back)
 
   -- as after this front
   abbrev Goes : List Event → List Event → EngineState → EngineState → List (ℕ × List ℕ) → Type 0
   Goes before events final engine kept =
-      IsTrue engine.is_known → CoversFiles plan engine.memory → AreSaidOn plan history worker before kept → AreCallsFor true engine (filter_map (done_by plan true history worker) events) final → Follows events engine kept final
+      IsTrue engine.is_known → CoversFiles plan engine.memory → AreSaidOn plan inline history worker before kept → AreCallsFor inline engine (filter_map (done_by plan inline history worker) events) final → Follows events engine kept final
 
   -- a verdict of this worker is that on the bytes of its check
-  on_bytes : (before events : List Event) (w io : ℕ) (v : GivenVerdict) (engine : EngineState) (kept : List (ℕ × List ℕ)) → before ++ Verdict w io v ∷ events ≡ history → ended_whole (outcome_of before io) ≡ true → is_judged before io ≡ false → is_workers w (slice_get (tickets_of plan history) io) ≡ true → AreSaidOn plan history worker before kept → (b : Bool) → (w == worker) ≡ b → MatchBool b (IsOnBytes plan (started history) (known_engine engine kept) io v) (Unit {0})
-  on_bytes before events w io v engine kept same whole unjudged own said false is = tt
-  on_bytes before events w io v engine kept same whole unjudged own said true is =
+  on_bytes : (before events : List Event) (w io : ℕ) (v : GivenVerdict) (engine : EngineState) (kept : List (ℕ × List ℕ)) → before ++ Verdict w io v ∷ events ≡ history → ended_whole (outcome_of before io) ≡ true → is_judged before io ≡ false → inline ≡ true → is_workers w (slice_get (tickets_of plan history) io) ≡ true → AreSaidOn plan inline history worker before kept → (b : Bool) → (w == worker) ≡ b → MatchBool b (IsOnBytes plan (started history) (known_engine engine kept) io v) (Unit {0})
+  on_bytes before events w io v engine kept same whole unjudged so own said false is = tt
+  on_bytes before events w io v engine kept same whole unjudged so own said true is =
       let t = owner w (slice_get (tickets_of plan history) io) own in
       let s = got_ticket plan 0 (started history) io t.0 t.1 in
       let by : s.0.worker ≡ worker = ap (λ (x : Ticket). x.worker) s.2 ∙ t.2 ∙ eqb-true w worker is in
@@ -142,10 +147,10 @@ module _ (plan : Plan) (history : List Event) (worker : ℕ) (planned : IsPlanne
       ∙ first_given-append (verdict_by io) before (Verdict w io v ∷ events)
       ∙ ap (λ (o : Option GivenVerdict). option_or o (verdict_in (Verdict w io v ∷ events) io)) (unjudged_none before io unjudged)
       ∙ ap (λ (b : Bool). option_or (cond b (Some v) None) (verdict_in events io)) (eq-eqb io io refl) in
-      (s.0, s.1, said io s.0 v s.1 by whole given)
+      (s.0, s.1, said so io s.0 v s.1 by whole given)
 
   -- one call of this worker's engine
-  module _ (before events : List Event) (io : ℕ) (s : Started) (outcome : Outcome) (engine middle final : EngineState) (kept : List (ℕ × List ℕ)) (at : slice_get (started history) io ≡ Some s) (call : IsCalledFor true engine (record { ticket = ticket_of plan (io, s); outcome = outcome; verdict = verdict_in history io }) middle) (known : IsTrue engine.is_known) (covered : CoversFiles plan engine.memory) (said : AreSaidOn plan history worker before kept) where
+  module _ (before events : List Event) (io : ℕ) (s : Started) (outcome : Outcome) (engine middle final : EngineState) (kept : List (ℕ × List ℕ)) (at : slice_get (started history) io ≡ Some s) (call : IsCalledFor inline engine (record { ticket = ticket_of plan (io, s); outcome = outcome; verdict = cond inline (verdict_in history io) None }) middle) (known : IsTrue engine.is_known) (covered : CoversFiles plan engine.memory) (said : AreSaidOn plan inline history worker before kept) where
     drawn : (job : SubJob) × (draw : Draw) × IsDrawOf plan s.write s.piece job draw
     drawn = draw_started plan history io s legal at
 
@@ -177,18 +182,20 @@ module _ (plan : Plan) (history : List Event) (worker : ℕ) (planned : IsPlanne
     next_kept = (called plan (known_engine engine kept) io s.kind s).engine.read_back
 
     -- its verdict is that on the bytes that it gave
-    said_here : (v : GivenVerdict) → verdict_in history io ≡ Some v → verdict_on plan s (bytes_read next_kept io) ≡ v
-    said_here v given =
+    said_here : inline ≡ true → (v : GivenVerdict) → verdict_in history io ≡ Some v → verdict_on plan s (bytes_read next_kept io) ≡ v
+    said_here so v given =
         let job = drawn in
-        let so = judged_so (is_to_judge call.answer) (answer_verdict call.answer) v (sym given ∙ call.verdict) in
+        let noted : verdict_in history io ≡ cond (is_to_judge call.answer) (Some (answer_verdict call.answer)) None =
+        subst (λ (b : Bool). cond b (verdict_in history io) None ≡ cond (b && is_to_judge call.answer) (Some (answer_verdict call.answer)) None) so call.verdict in
+        let so = judged_so (is_to_judge call.answer) (answer_verdict call.answer) v (sym given ∙ noted) in
         let whole : is_whole_check s.kind call.answer.outcome ≡ true = ap (λ (t : Ticket). is_whole_check t.kind call.answer.outcome) (sym call.asked.ticket) ∙ so.0 in
         ap (verdict_on plan s) (is.bytes whole)
         ∙ verdict_is plan s job.0 s.kind call.answer.outcome call.answer.bytes job.2.planned whole
         ∙ ap (λ (t : Ticket). verdict_of t.method.kind t.expected call.answer.bytes) (sym call.asked.ticket)
         ∙ so.1
 
-    next_said : (w : ℕ) → AreSaidOn plan history worker (before ++ End w io outcome ∷ []) next_kept
-    next_said w id x v there by ended given = on (io == id) refl
+    next_said : (w : ℕ) → AreSaidOn plan inline history worker (before ++ End w io outcome ∷ []) next_kept
+    next_said w so id x v there by ended given = on (io == id) refl
       where
         on : (b : Bool) → (io == id) ≡ b → verdict_on plan x (bytes_read next_kept id) ≡ v
         on true same =
@@ -196,12 +203,12 @@ module _ (plan : Plan) (history : List Event) (worker : ℕ) (planned : IsPlanne
             let who : s ≡ x = same_some s x (sym at ∙ ap (slice_get (started history)) (sym one) ∙ there) in
             ap (λ (y : Started). verdict_on plan y (bytes_read next_kept id)) (sym who)
             ∙ ap (λ (n : ℕ). verdict_on plan s (bytes_read next_kept n)) one
-            ∙ said_here v (ap (verdict_in history) (sym one) ∙ given)
+            ∙ said_here so v (ap (verdict_in history) (sym one) ∙ given)
         on false other =
             ap (verdict_on plan x) (kept_other plan engine kept io id s.kind s other)
-            ∙ said id x v there by (ended_front before w io id outcome other ended) given
+            ∙ said so id x v there by (ended_front before w io id outcome other ended) given
 
-    pub call_goes : (w : ℕ) → AreCallsFor true middle (filter_map (done_by plan true history worker) events) final → Goes (before ++ End w io outcome ∷ []) events final middle next_kept → (read_back : List (ℕ × List ℕ)) × IsNextCall plan (started history) (known_engine engine kept) io outcome (λ (e : KnownEngine). TiedAlong plan true worker (started history) e events (known_engine final read_back))
+    pub call_goes : (w : ℕ) → AreCallsFor inline middle (filter_map (done_by plan inline history worker) events) final → Goes (before ++ End w io outcome ∷ []) events final middle next_kept → (read_back : List (ℕ × List ℕ)) × IsNextCall plan (started history) (known_engine engine kept) io outcome (λ (e : KnownEngine). TiedAlong plan inline worker (started history) e events (known_engine final read_back))
     call_goes w calls next =
         let rest = next (call.asked.known ∙ known) next_covers (next_said w) calls in (
           rest.0,
@@ -209,33 +216,33 @@ module _ (plan : Plan) (history : List Event) (worker : ℕ) (planned : IsPlanne
             s,
             at,
             is.outcome ∙ sym call.outcome,
-            subst (λ (e : KnownEngine). TiedAlong plan true worker (started history) e events (known_engine final rest.0)) is.leaves rest.1,
+            subst (λ (e : KnownEngine). TiedAlong plan inline worker (started history) e events (known_engine final rest.0)) is.leaves rest.1,
           ),
         )
 
   -- an end of this worker is its engine's next call; another's is none
-  end_goes : (before events : List Event) (w io : ℕ) (outcome : Outcome) (s : Started) (engine final : EngineState) (kept : List (ℕ × List ℕ)) → slice_get (started history) io ≡ Some s → s.worker ≡ w → IsTrue engine.is_known → CoversFiles plan engine.memory → AreSaidOn plan history worker before kept → (b : Bool) → (w == worker) ≡ b → AreCallsFor true engine (cons_option (cond b (done_with outcome (verdict_in history io) (slice_get (tickets_of plan history) io)) None) (filter_map (done_by plan true history worker) events)) final → ((next : EngineState) (more : List (ℕ × List ℕ)) → Goes (before ++ End w io outcome ∷ []) events final next more) → (read_back : List (ℕ × List ℕ)) × MatchBool b (IsNextCall plan (started history) (known_engine engine kept) io outcome (λ (e : KnownEngine). TiedAlong plan true worker (started history) e events (known_engine final read_back))) (TiedAlong plan true worker (started history) (known_engine engine kept) events (known_engine final read_back))
+  end_goes : (before events : List Event) (w io : ℕ) (outcome : Outcome) (s : Started) (engine final : EngineState) (kept : List (ℕ × List ℕ)) → slice_get (started history) io ≡ Some s → s.worker ≡ w → IsTrue engine.is_known → CoversFiles plan engine.memory → AreSaidOn plan inline history worker before kept → (b : Bool) → (w == worker) ≡ b → AreCallsFor inline engine (cons_option (cond b (done_with outcome (cond inline (verdict_in history io) None) (slice_get (tickets_of plan history) io)) None) (filter_map (done_by plan inline history worker) events)) final → ((next : EngineState) (more : List (ℕ × List ℕ)) → Goes (before ++ End w io outcome ∷ []) events final next more) → (read_back : List (ℕ × List ℕ)) × MatchBool b (IsNextCall plan (started history) (known_engine engine kept) io outcome (λ (e : KnownEngine). TiedAlong plan inline worker (started history) e events (known_engine final read_back))) (TiedAlong plan inline worker (started history) (known_engine engine kept) events (known_engine final read_back))
   end_goes before events w io outcome s engine final kept at by known covered said true mine calls next =
-      let done : Done = record { ticket = ticket_of plan (io, s); outcome = outcome; verdict = verdict_in history io } in
+      let done : Done = record { ticket = ticket_of plan (io, s); outcome = outcome; verdict = cond inline (verdict_in history io) None } in
       let its : slice_get (tickets_of plan history) io ≡ Some (ticket_of plan (io, s)) =
       let zeroth : 0 + io ≡ io = omega arith in
       ticket_at plan 0 (started history) io s at ∙ ap (λ (n : ℕ). Some (ticket_of plan (n, s))) zeroth in
-      let all : AreCallsFor true engine (done ∷ filter_map (done_by plan true history worker) events) final =
-      subst (λ (o : Option Ticket). AreCallsFor true engine (cons_option (done_with outcome (verdict_in history io) o) (filter_map (done_by plan true history worker) events)) final) its calls in
+      let all : AreCallsFor inline engine (done ∷ filter_map (done_by plan inline history worker) events) final =
+      subst (λ (o : Option Ticket). AreCallsFor inline engine (cons_option (done_with outcome (cond inline (verdict_in history io) None) o) (filter_map (done_by plan inline history worker) events)) final) its calls in
       call_goes before events io s outcome engine all.0 final kept at all.1 known covered said w all.2
       (next all.0 (next_kept before events io s outcome engine all.0 final kept at all.1 known covered said))
   end_goes before events w io outcome s engine final kept at by known covered said false other calls next =
       next engine kept known covered
-      (λ id x v there mine ended given.
-      not_here (io == id) id refl x v there mine ended given)
+      (λ so id x v there mine ended given.
+      not_here so (io == id) id refl x v there mine ended given)
       calls
     where
-      not_here : (b : Bool) (id : ℕ) → (io == id) ≡ b → (x : Started) (v : GivenVerdict) → slice_get (started history) id ≡ Some x → x.worker ≡ worker → ended_whole (outcome_of (before ++ End w io outcome ∷ []) id) ≡ true → verdict_in history id ≡ Some v → verdict_on plan x (bytes_read kept id) ≡ v
-      not_here true id same x v there mine ended given =
+      not_here : inline ≡ true → (b : Bool) (id : ℕ) → (io == id) ≡ b → (x : Started) (v : GivenVerdict) → slice_get (started history) id ≡ Some x → x.worker ≡ worker → ended_whole (outcome_of (before ++ End w io outcome ∷ []) id) ≡ true → verdict_in history id ≡ Some v → verdict_on plan x (bytes_read kept id) ≡ v
+      not_here so true id same x v there mine ended given =
           let one : io ≡ id = eqb-true io id same in
           let who : s ≡ x = same_some s x (sym at ∙ ap (slice_get (started history)) one ∙ there) in
           absurd (differs w worker other (sym by ∙ ap (λ (y : Started). y.worker) who ∙ mine))
-      not_here false id different x v there mine ended given = said id x v there mine (ended_front before w io id outcome different ended) given
+      not_here so false id different x v there mine ended given = said so id x v there mine (ended_front before w io id outcome different ended) given
 
   -- what starts, and is in the history
   ends_started : (before events : List Event) (w io : ℕ) (outcome : Outcome) → before ++ End w io outcome ∷ events ≡ history → may_happen plan before (End w io outcome) ≡ true → (s : Started) × (slice_get (started history) io ≡ Some s) × (s.worker ≡ w)
@@ -249,33 +256,39 @@ module _ (plan : Plan) (history : List Event) (worker : ℕ) (planned : IsPlanne
       )
 
   -- along the rest of the history
-  pub walk : (events before : List Event) → before ++ events ≡ history → legal_after plan before events ≡ true → list_all (is_own_verdict (tickets_of plan history)) events ≡ true → (final engine : EngineState) (kept : List (ℕ × List ℕ)) → Goes before events final engine kept
+  pub walk : (events before : List Event) → before ++ events ≡ history → legal_after plan before events ≡ true → (inline ≡ true → list_all (is_own_verdict (tickets_of plan history)) events ≡ true) → (final engine : EngineState) (kept : List (ℕ × List ℕ)) → Goes before events final engine kept
   walk [] before same legal own final engine kept known covered said calls = (kept, ap (λ (e : EngineState). known_engine e kept) calls)
   walk (Issue w dir write piece ∷ events) before same legal own final engine kept known covered said calls =
       let e = Issue w dir write piece in
       walk events (before ++ e ∷ []) (append_assoc before (e ∷ []) events ∙ same)
       (and_parts (may_happen plan before e) (legal_after plan (before ++ e ∷ []) events) legal).1 own final engine kept known covered
-      (said_other plan history worker before e kept (λ io. refl) said) calls
+      (said_other plan inline history worker before e kept (λ io. refl) said) calls
   walk (Probe w write piece ∷ events) before same legal own final engine kept known covered said calls =
       let e = Probe w write piece in
       walk events (before ++ e ∷ []) (append_assoc before (e ∷ []) events ∙ same)
       (and_parts (may_happen plan before e) (legal_after plan (before ++ e ∷ []) events) legal).1 own final engine kept known covered
-      (said_other plan history worker before e kept (λ io. refl) said) calls
+      (said_other plan inline history worker before e kept (λ io. refl) said) calls
   walk (Skip w write ∷ events) before same legal own final engine kept known covered said calls =
       let e = Skip w write in
       walk events (before ++ e ∷ []) (append_assoc before (e ∷ []) events ∙ same)
       (and_parts (may_happen plan before e) (legal_after plan (before ++ e ∷ []) events) legal).1 own final engine kept known covered
-      (said_other plan history worker before e kept (λ io. refl) said) calls
+      (said_other plan inline history worker before e kept (λ io. refl) said) calls
   walk (Verdict w io v ∷ events) before same legal own final engine kept known covered said calls =
       let e = Verdict w io v in
       let tickets = tickets_of plan history in
       let may = and_parts (may_happen plan before e) (legal_after plan (before ++ e ∷ []) events) legal in
-      let mine = and_parts (is_own_verdict tickets e) (list_all (is_own_verdict tickets) events) own in
+      let mine = λ (so : inline ≡ true). and_parts (is_own_verdict tickets e) (list_all (is_own_verdict tickets) events) (own so) in
       let parts = judged_parts (ended_whole (outcome_of before io)) (is_judged before io) _ may.0 in
       let rest =
-      walk events (before ++ e ∷ []) (append_assoc before (e ∷ []) events ∙ same) may.1 mine.1 final engine kept known covered
-      (said_other plan history worker before e kept (λ id. refl) said) calls in
-      (rest.0, (on_bytes before events w io v engine kept same parts.0 parts.1 mine.0 said (w == worker) refl, rest.1))
+      walk events (before ++ e ∷ []) (append_assoc before (e ∷ []) events ∙ same) may.1 (λ so. (mine so).1) final engine kept known covered
+      (said_other plan inline history worker before e kept (λ id. refl) said) calls in (
+        rest.0,
+        (
+          only_if inline (MatchBool (w == worker) (IsOnBytes plan (started history) (known_engine engine kept) io v) (Unit {0}))
+              (λ so. on_bytes before events w io v engine kept same parts.0 parts.1 so (mine so).0 said (w == worker) refl),
+          rest.1,
+        ),
+      )
     where
       judged_parts : (a b c : Bool) → (a && not b && c) ≡ true → (a ≡ true) × (b ≡ false)
       judged_parts true false c h = (refl, refl)

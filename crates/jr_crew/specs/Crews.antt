@@ -1,5 +1,5 @@
 -- Believed: what a run has of each worker: its book, and what was done to its engine (of this project).
-use Rattle.std.specs.Prelude.{◌≡◌, ℕ, ◌+◌, Bool, true, List, [], length, count_by}
+use Rattle.std.specs.Prelude.{◌≡◌, ℕ, ◌+◌, ◌==◌, Bool, List, [], length, count_by}
 use Rattle.jr_model.specs.declared.events.Event.{Event}
 use Rattle.jr_model.specs.Plan.{Plan}
 use Rattle.jr_model.specs.Replies.{EngineState}
@@ -13,15 +13,19 @@ use Rattle.jr_crew.specs.Runs.{known_engine, IsCovering}
 abbrev pub is_failed_done : Done → Bool
 is_failed_done done = is_failed done.outcome
 
+-- the workers judge their own checks where a plan wants no verifiers
+abbrev pub judges_inline : Plan → Bool
+judges_inline plan = plan.verifiers == 0
+
 -- the engine's calls are what this worker completed
 abbrev pub IsTiedTo : Plan → List Event → ℕ → EngineState → EngineState → Type 0
 IsTiedTo plan history worker before after =
-    (read_back : List (ℕ × List ℕ)) × IsTied plan true history worker (known_engine before []) (known_engine after read_back)
+    (read_back : List (ℕ × List ℕ)) × IsTied plan (judges_inline plan) history worker (known_engine before []) (known_engine after read_back)
 
 -- what it completed is what the history says, its engine was called once for each of these and failed for those that failed;
 -- and where the engine's memory is known and covers the plan's files, its calls are these
 pub record IsWorkers (plan : Plan) (history : List Event) (worker : ℕ) (before after : EngineState) (dones : List Done) : Type 0 where
-  pub book : dones ≡ dones_of plan true history worker
+  pub book : dones ≡ dones_of plan (judges_inline plan) history worker
   pub calls : after.calls ≡ before.calls + length dones
   pub failures : after.failures ≡ before.failures + count_by is_failed_done dones
   pub tied : IsCovering plan before → IsTiedTo plan history worker before after

@@ -4,6 +4,7 @@ pub mod Crews
 pub mod Ends
 pub mod FaultTexts
 pub mod Faults
+pub mod Halts
 pub mod Runs
 pub mod Turns
 pub mod Working

@@ -1,13 +1,13 @@
-ghost use Rattle.std.specs.Prelude.{◌≡◌, ℕ, ◌++◌, [], IsTrue, IfOk, OnOk, filter_map, Option, Some, None, slice_get, if◌then◌else◌};
+ghost use Rattle.std.specs.Prelude.{◌≡◌, ℕ, [], IsTrue, IfOk, Option, Some, None, slice_get, if◌then◌else◌};
 ghost use Rattle.std.specs.Option.{option_or};
-ghost use Rattle.std.specs.List.{list_all, cons_option};
+ghost use Rattle.std.specs.List.{list_all};
 ghost use Rattle.jr_model.specs.declared.events.Verdict.{Verdict as GivenVerdict};
 ghost use Rattle.jr_board.specs.Kept.{tickets_of};
-ghost use Rattle.jr_crew.specs.Accounts.{IsTableOf, is_own_verdict};
+ghost use Rattle.jr_crew.specs.Accounts.{IsTableOf, is_own_verdict, AreFollowed, AreMoved, IsMoved, AreGonePast};
 ghost use Rattle.jr_crew.specs.Books.{verdict_by, verdict_in, done_by, done_with, dones_of};
 
 use crate::books::Done;
-use crate::faults::RunFault;
+use crate::halts::Halt;
 use jr_board::{Desk, is_same};
 use jr_model::{Event, Memory, Outcome, Verdict};
 use std::alloc::Global;
@@ -66,83 +66,116 @@ fn is_own_verdict(desk: &Desk, event: &Event) -> bool
     }
 }
 
-// Whether this is what the worker completed, as the history of the desk has it.
-pub fn is_book_of(
+// Whether each book is what its worker completed, as the history of the desk has it.
+#[tactic(auto, using(crate::proofs::Following::follow_first))]
+pub fn are_books(
     alloc: Global,
     desk: &Desk,
-    table: &[Option<Verdict>],
     inline: bool,
-    worker: u32,
-    book: &[Done],
-) -> Result<bool, RunFault>
-    requires { IsTableOf table.now desk.now.history }
-    ensures { IfOk result (λ is. IsTrue is → book.now ≡ dones_of desk.now.plan inline desk.now.history worker) }
+    books: &[Vec<Done>],
+) -> Result<bool, Memory>
+    ensures { IfOk result (λ are. IsTrue are → (i : ℕ) (book : _) → slice_get books.now i ≡ Some book
+        → book.items ≡ dones_of desk.now.plan inline desk.now.history i) }
 {
-    let theirs = book_of(alloc, desk, table, inline, worker, desk.history())?;
-    Ok(are_same(book, &theirs))
+    let table = verdicts_of(alloc, desk.history())?;
+    let mut places = vec![in alloc; 0; books.len()]?;
+    Ok(are_followed(desk, &table, inline, books, places.as_mut_slice()))
 }
 
-// What the worker completed by these events of the desk's history.
-fn book_of(
-    alloc: Global,
+// The same: the history is walked once, with a place in each book.
+fn are_followed(
     desk: &Desk,
     table: &[Option<Verdict>],
     inline: bool,
-    worker: u32,
+    books: &[Vec<Done>],
+    places: &mut [usize],
+) -> bool
+    requires table { IsTableOf table.now desk.now.history }
+    requires first { AreFollowed books.now (λ book. book.items) (done_by desk.now.plan inline desk.now.history) places.old [] }
+    ensures { IsTrue result → (i : ℕ) (book : _) → slice_get books.now i ≡ Some book
+        → book.items ≡ dones_of desk.now.plan inline desk.now.history i }
+{
+    if !follow_all(desk, table, inline, books, places, desk.history()) {
+        return false;
+    }
+    are_gone_past(books, places)
+}
+
+// Goes past what these events completed in each book, as long as that is what stands there.
+fn follow_all(
+    desk: &Desk,
+    table: &[Option<Verdict>],
+    inline: bool,
+    books: &[Vec<Done>],
+    places: &mut [usize],
     events: &[Event],
-) -> Result<Vec<Done>, RunFault>
-    requires { IsTableOf table.now desk.now.history }
-    ensures { IfOk result (λ book. book.items ≡ filter_map (done_by desk.now.plan inline desk.now.history worker) events.now) }
+) -> bool
+    requires table { IsTableOf table.now desk.now.history }
+    requires first { AreFollowed books.now (λ book. book.items) (done_by desk.now.plan inline desk.now.history) places.old [] }
+    ensures { IsTrue result → AreFollowed books.now (λ book. book.items) (done_by desk.now.plan inline desk.now.history) places.new events.now }
 {
-    let mut book = Vec::new(alloc);
     for event in events {
-        add_done(&mut book, desk, table, inline, worker, event)?;
+        if !follows(desk, table, inline, books, places, event) {
+            return false;
+        }
     }
-    Ok(book)
+    true
 }
 
-// Puts what the worker completed by this event, if it did, behind the last one.
-fn add_done(
-    book: &mut Vec<Done>,
+// Goes past what this event completed, if anything.
+fn follows(
     desk: &Desk,
     table: &[Option<Verdict>],
     inline: bool,
-    worker: u32,
+    books: &[Vec<Done>],
+    places: &mut [usize],
     event: &Event,
-) -> Result<(), RunFault>
+) -> bool
     requires { IsTableOf table.now desk.now.history }
-    ensures { OnOk result (book.new.items ≡ book.old.items ++ cons_option (done_by desk.now.plan inline desk.now.history worker event.now) []) }
-{
-    if let Some(done) = done_by(desk, table, inline, worker, event)? {
-        book.extend_from_slice(&[done])?;
-    }
-    Ok(())
-}
-
-// What the worker completed by this event.
-fn done_by(
-    desk: &Desk,
-    table: &[Option<Verdict>],
-    inline: bool,
-    worker: u32,
-    event: &Event,
-) -> Result<Option<Done>, RunFault>
-    requires { IsTableOf table.now desk.now.history }
-    ensures { IfOk result (λ done. done ≡ done_by desk.now.plan inline desk.now.history worker event.now) }
+    ensures { IsTrue result → AreMoved books.now (λ book. book.items) (done_by desk.now.plan inline desk.now.history) places.old places.new event.now }
 {
     match *event {
         Event::End {
-            worker: by,
+            worker,
             io,
             outcome,
-        } => {
-            if by != worker {
-                return Ok(None);
-            }
-            completed(desk, table, inline, io, outcome)
-        }
-        _ => Ok(None),
+        } => match completed(desk, table, inline, io, outcome) {
+            Ok(Some(done)) => moves(books, places, worker as usize, &done),
+            _ => false,
+        },
+        _ => true,
     }
+}
+
+// Goes past this in one of the books, if it stands there.
+fn moves(books: &[Vec<Done>], places: &mut [usize], at: usize, done: &Done) -> bool
+    ensures { IsTrue result → IsMoved books.now (λ book. book.items) places.old places.new at done.now }
+{
+    if at >= books.len() || at >= places.len() {
+        return false;
+    }
+    let place = places[at];
+    let book = &books[at];
+    if place >= book.len() || !is_same_done(&book[place], done) {
+        return false;
+    }
+    places[at] = place + 1;
+    true
+}
+
+// Whether nothing is left in any book.
+fn are_gone_past(books: &[Vec<Done>], places: &[usize]) -> bool
+    ensures { IsTrue result → AreGonePast books.now (λ book. book.items) places.now }
+{
+    if places.len() != books.len() {
+        return false;
+    }
+    for i in 0..books.len() {
+        if places[i] != books[i].len() {
+            return false;
+        }
+    }
+    true
 }
 
 // What was completed by the end of this I/O.
@@ -152,7 +185,7 @@ fn completed(
     inline: bool,
     io: u32,
     outcome: Outcome,
-) -> Result<Option<Done>, RunFault>
+) -> Result<Option<Done>, Halt>
     requires { IsTableOf table.now desk.now.history }
     ensures { let said = if inline then verdict_in desk.now.history io else None in
         IfOk result (λ done. done ≡ done_with outcome said (slice_get (tickets_of desk.now.plan desk.now.history) io)) }
@@ -180,7 +213,7 @@ fn verdict_for(
     table: &[Option<Verdict>],
     inline: bool,
     io: u32,
-) -> Result<Option<Verdict>, RunFault>
+) -> Result<Option<Verdict>, Halt>
     requires { IsTableOf table.now desk.now.history }
     ensures { IfOk result (λ said. said ≡ (if inline then verdict_in desk.now.history io else None)) }
 {
@@ -190,24 +223,8 @@ fn verdict_for(
     }
     match table.get(io as usize) {
         Some(said) => Ok(*said),
-        None => Err(RunFault::Books),
+        None => Err(Halt::Books),
     }
-}
-
-// Whether two books differ in nothing.
-#[tactic(auto, using(crate::proofs::Tables::same_items))]
-fn are_same(a: &[Done], b: &[Done]) -> bool
-    ensures { IsTrue result → a.now ≡ b.now }
-{
-    if a.len() != b.len() {
-        return false;
-    }
-    for i in 0..a.len() {
-        if !is_same_done(&a[i], &b[i]) {
-            return false;
-        }
-    }
-    true
 }
 
 fn is_same_done(a: &Done, b: &Done) -> bool

@@ -1,20 +1,26 @@
-ghost use Rattle.std.specs.Prelude.{◌≡◌, ℕ, ◌<◌, ◌++◌, ◌∷◌, true, [], Some, Ok, Err, IfOk, OnOk, map, length, slice_get, slice_index_or};
+ghost use Rattle.std.specs.Prelude.{◌≡◌, ℕ, ◌+◌, ◌<◌, ◌++◌, true, [], Some, Ok, Err, IfOk, IfErr, OnOk, IsTrue, map, replicate, length, slice_get, slice_index_or};
 ghost use Rattle.std.specs.List.{list_all};
 ghost use Rattle.jr_model.specs.Legal.{is_legal, is_complete};
 ghost use Rattle.jr_board.specs.Kept.{tickets_of};
-ghost use Rattle.jr_crew.specs.Accounts.{IsTableOf, is_own_verdict};
+ghost use Rattle.jr_crew.specs.Accounts.{is_own_verdict};
 ghost use Rattle.jr_crew.specs.Books.{dones_of};
-ghost use Rattle.jr_crew.specs.Crews.{IsWorkers};
+ghost use Rattle.jr_crew.specs.Crews.{judges_inline, IsWorkers};
+ghost use Rattle.jr_handover.specs.declared.parcel.Parcel.TheVariants.{Stop};
+ghost use Rattle.jr_handover.specs.Passes.{hand_of};
 ghost use Rattle.jr_crew.specs.Working.{AreCallsFor};
 
-use crate::accounts::{are_own_verdicts, is_book_of, verdicts_of};
+use crate::accounts::{are_books, are_own_verdicts};
 use crate::books::Done;
 use crate::faults::RunFault;
+use crate::halts::{Halt, fault_of};
+use crate::hands::Hand;
 use crate::held::{Naming, Shared};
-use crate::work::work;
+use crate::staff::{Job, Judge, jobs_for, judges_for, push, room_for};
+use crate::verifier::verify;
+use crate::work::{Post, work};
 use jr_board::Desk;
 use jr_engines::Engine;
-use jr_model::Verdict;
+use jr_handover::Handoff;
 use jr_plan::Plan;
 use std::alloc::Global;
 use std::marker::Brand;
@@ -30,8 +36,8 @@ pub struct Ran {
     pub books: Vec<Vec<Done>>,
 }
 
-/// Runs a plan with one worker an engine, numbered from 0, which work at once. Each judges its own checks, however many
-/// verifiers the plan asks for.
+/// Runs a plan with one worker an engine, numbered from 0, and as many verifiers as the plan wants, numbered on from them; all
+/// work at once. Without verifiers each worker judges its own checks.
 pub fn run<R: Threads + Wait + Sync>(
     rt: &R,
     alloc: Global,
@@ -47,11 +53,15 @@ pub fn run<R: Threads + Wait + Sync>(
         → slice_get ran.engines.items i ≡ Some after → slice_get ran.books.items i ≡ Some book
         → IsWorkers plan ran.desk.history i (state before) (state after) book.items) }
     ensures none { engines.items ≡ [] → result ≡ Err RunFault.NoEngine }
+    ensures no_engine { IfErr result (λ fault. fault ≡ RunFault.NoEngine → engines.items ≡ []) }
 {
     if engines.is_empty() {
         return Err(RunFault::NoEngine);
     }
-    run_as::<Brand, R>(rt, alloc, plan, engines)
+    match run_as::<Brand, R>(rt, alloc, plan, engines) {
+        Ok(ran) => Ok(ran),
+        Err(halt) => Err(fault_of(halt)),
+    }
 }
 
 // The same, where the plan has its name.
@@ -60,7 +70,7 @@ fn run_as<P: Naming + Send + Sync, R: Threads + Wait + Sync>(
     alloc: Global,
     plan: Plan,
     engines: Vec<Box<dyn Engine + Send>>,
-) -> Result<Ran, RunFault>
+) -> Result<Ran, Halt>
     requires { plan ≡ P.plan }
     ensures plan { IfOk result (λ ran. ran.desk.plan ≡ plan) }
     ensures legal { IfOk result (λ ran. is_legal plan ran.desk.history ≡ true) }
@@ -73,12 +83,20 @@ fn run_as<P: Naming + Send + Sync, R: Threads + Wait + Sync>(
 {
     // Its contract says what holds of every plan.
     plan.facts();
+    let inline = judges_inline(&plan);
+    let verifiers = plan.verifiers();
+    let (handoff, pass) = Handoff::new(rt, alloc, room_for(verifiers))?;
+    let mut hand = Hand::new(&handoff, pass);
+    let judges = judges_for(alloc, engines.len(), verifiers, &mut hand)?;
+    let jobs = jobs_for(alloc, engines, &mut hand)?;
     let shared = Shared::<P>::new(Desk::new(alloc, plan)?);
-    let jobs = numbered(alloc, engines)?;
-    let worked = work_all(rt, &shared, alloc, jobs);
-    let desk = shared.into_desk();
+    let worked = man(rt, &shared, alloc, inline, jobs, judges, hand);
+    let (desk, halt) = shared.into_parts();
+    if let Some(halt) = halt {
+        return Err(halt);
+    }
     let (engines, books) = sorted_out(alloc, worked?)?;
-    check(alloc, &desk, &books)?;
+    check(alloc, &desk, inline, &books)?;
     Ok(Ran {
         desk,
         engines,
@@ -86,87 +104,133 @@ fn run_as<P: Naming + Send + Sync, R: Threads + Wait + Sync>(
     })
 }
 
+// Whether workers judge their own checks.
+fn judges_inline(plan: &Plan) -> bool
+    ensures { result ≡ judges_inline plan.now }
+{
+    plan.verifiers() == 0
+}
+
 // What a worker brings back: its engine, and what it completed.
 #[derive(Drop)]
 pub struct Worked {
     pub engine: Box<dyn Engine + Send>,
-    pub book: Result<Vec<Done>, RunFault>,
+    pub book: Result<Vec<Done>, Halt>,
 }
 
-// Each engine with its place.
-fn numbered(
-    alloc: Global,
-    engines: Vec<Box<dyn Engine + Send>>,
-) -> Result<Vec<(usize, Box<dyn Engine + Send>)>, RunFault>
-    ensures { IfOk result (λ jobs. map (λ job. job.1) jobs.items ≡ engines.items) }
-{
-    let mut jobs = Vec::new(alloc);
-    for engine in engines {
-        let number = jobs.len();
-        push(&mut jobs, (number, engine))?;
-    }
-    Ok(jobs)
-}
-
-// Puts it behind the last one.
-fn push<X: Drop>(all: &mut Vec<X>, one: X) -> Result<(), RunFault>
-    ensures { OnOk result (all.new.items ≡ all.old.items ++ one ∷ []) }
-{
-    match all.push(one) {
-        Ok(()) => Ok(()),
-        Err(_) => Err(RunFault::Memory),
-    }
-}
-
-// Lets all work at once, and waits for them.
-fn work_all<P: Naming + Send + Sync, R: Threads + Wait + Sync>(
+// Lets the verifiers judge and the workers work at once, and waits for them. Once the workers are back, each verifier is told to
+// stop.
+fn man<'a, P: Naming + Send + Sync, R: Threads + Wait + Sync>(
     rt: &R,
     shared: &Shared<P>,
     alloc: Global,
-    jobs: Vec<(usize, Box<dyn Engine + Send>)>,
-) -> Result<Vec<Worked>, RunFault>
-    ensures len { IfOk result (λ worked. length worked.items ≡ length jobs.items) }
-    ensures each { IfOk result (λ worked. (i : ℕ) (job : _) (one : _) → i < length jobs.items
-        → IfOk (slice_index_or worked.items i one).book (λ book. AreCallsFor true (state (slice_index_or jobs.items i job).1) book.items (state (slice_index_or worked.items i one).engine))) }
+    inline: bool,
+    jobs: Vec<Job<'a>>,
+    judges: Vec<Judge<'a>>,
+    hand: Hand<'a>,
+) -> Result<Vec<Worked>, Halt>
+    ensures len { IfOk result (λ worked. length worked.items ≡ length jobs.entry.items) }
+    ensures each { IfOk result (λ worked. (i : ℕ) (job : _) (one : _) → i < length jobs.entry.items
+        → IfOk (slice_index_or worked.items i one).book (λ book. AreCallsFor inline (state (slice_index_or jobs.entry.items i job).engine) book.items (state (slice_index_or worked.items i one).engine))) }
 {
+    thread::scope(
+        thread::scope_env(),
+        rt,
+        move |scope| -> Result<Vec<Worked>, Halt>
+            ensures len { IfOk result (λ worked. length worked.items ≡ length jobs.entry.items) }
+            ensures each { IfOk result (λ worked. (i : ℕ) (job : _) (one : _) → i < length jobs.entry.items
+                → IfOk (slice_index_or worked.items i one).book (λ book. AreCallsFor inline (state (slice_index_or jobs.entry.items i job).engine) book.items (state (slice_index_or worked.items i one).engine))) }
+        {
+            let mut hand = hand;
+            let wanted = judges.len();
+            let mut started: usize = 0;
+            for judge in judges {
+                let Judge { number, hand } = judge;
+                if scope
+                    .spawn(move || verify(rt, shared, number, hand))
+                    .is_ok()
+                {
+                    started = started.saturating_add(1);
+                }
+            }
+            let worked = work_all(rt, shared, alloc, inline, jobs, started == wanted);
+            stop_all(rt, &mut hand, started);
+            worked
+        },
+    )
+}
+
+// Tells so many verifiers that nothing more comes.
+fn stop_all<R: Wait>(rt: &R, hand: &mut Hand<'_>, verifiers: usize)
+    ensures { (hand_of hand.new.pass).put ≡ (hand_of hand.old.pass).put ++ replicate verifiers Stop }
+{
+    for told in 0..verifiers {
+        hand.stop(rt);
+    }
+}
+
+// Lets all workers work at once, and waits for them. None begins where a verifier couldn't be started.
+fn work_all<'a, P: Naming + Send + Sync, R: Threads + Wait + Sync>(
+    rt: &R,
+    shared: &Shared<P>,
+    alloc: Global,
+    inline: bool,
+    jobs: Vec<Job<'a>>,
+    are_judged: bool,
+) -> Result<Vec<Worked>, Halt>
+    ensures len { IfOk result (λ worked. length worked.items ≡ length jobs.entry.items) }
+    ensures each { IfOk result (λ worked. (i : ℕ) (job : _) (one : _) → i < length jobs.entry.items
+        → IfOk (slice_index_or worked.items i one).book (λ book. AreCallsFor inline (state (slice_index_or jobs.entry.items i job).engine) book.items (state (slice_index_or worked.items i one).engine))) }
+{
+    if !are_judged {
+        shared.stop(rt, Halt::Thread);
+        return Err(Halt::Thread);
+    }
     let worked = thread::map_vec(
         rt,
         jobs,
-        &|job: (usize, Box<dyn Engine + Send>)| -> Worked
-            ensures { IfOk result.book (λ book. AreCallsFor true (state job.1) book.items (state result.engine)) }
-        { worked_by(rt, shared, alloc, job) },
+        &|job: Job| -> Worked
+            ensures { IfOk result.book (λ book. AreCallsFor inline (state job.entry.engine) book.items (state result.engine)) }
+        { worked_by(rt, shared, alloc, inline, job) },
     )?;
     Ok(worked)
 }
 
 // Lets one worker work.
-fn worked_by<P: Naming, R: Wait>(
+fn worked_by<'a, P: Naming, R: Wait>(
     rt: &R,
     shared: &Shared<P>,
     alloc: Global,
-    job: (usize, Box<dyn Engine + Send>),
+    inline: bool,
+    job: Job<'a>,
 ) -> Worked
-    ensures { IfOk result.book (λ book. AreCallsFor true (state job.1) book.items (state result.engine)) }
+    ensures { IfOk result.book (λ book. AreCallsFor inline (state job.entry.engine) book.items (state result.engine)) }
 {
-    let (number, mut engine) = job;
-    let book = match u32::try_from(number) {
-        Ok(worker) => work(rt, alloc, shared, worker, &mut *engine),
-        Err(_) => Err(RunFault::Books),
+    let Job {
+        number,
+        engine,
+        hand,
+    } = job;
+    let mut engine = engine;
+    let mut hand = hand;
+    let post = Post {
+        alloc,
+        shared,
+        inline,
+        number,
     };
+    let book = work(rt, &post, &mut hand, &mut *engine);
     Worked { engine, book }
 }
 
-// The engines and the books, unless a worker met a fault.
+// The engines and the books, where no worker met a fault.
 fn sorted_out(
     alloc: Global,
     worked: Vec<Worked>,
-) -> Result<(Vec<Box<dyn Engine + Send>>, Vec<Vec<Done>>), RunFault>
+) -> Result<(Vec<Box<dyn Engine + Send>>, Vec<Vec<Done>>), Halt>
     ensures engines { IfOk result (λ both. both.0.items ≡ map (λ one. one.engine) worked.items) }
     ensures books { IfOk result (λ both. map Ok both.1.items ≡ map (λ one. one.book) worked.items) }
 {
-    if let Some(fault) = fault_of(&worked) {
-        return Err(fault);
-    }
     let mut engines = Vec::new(alloc);
     let mut books = Vec::new(alloc);
     for one in worked {
@@ -177,49 +241,19 @@ fn sorted_out(
     Ok((engines, books))
 }
 
-// The fault that the run ended with, if it did: want of memory before others.
-fn fault_of(worked: &[Worked]) -> Option<RunFault> {
-    let mut found = None;
-    for one in worked {
-        if let Err(fault) = &one.book {
-            if found.is_none() || *fault == RunFault::Memory {
-                found = Some(*fault);
-            }
-        }
-    }
-    found
-}
-
 // Compares what the workers say that they completed with what the desk holds.
-fn check(alloc: Global, desk: &Desk, books: &[Vec<Done>]) -> Result<(), RunFault>
+fn check(alloc: Global, desk: &Desk, inline: bool, books: &[Vec<Done>]) -> Result<(), Halt>
     ensures legal { OnOk result (is_legal desk.now.plan desk.now.history ≡ true) }
     ensures complete { OnOk result (is_complete desk.now.plan desk.now.history ≡ true) }
-    ensures own { OnOk result (list_all (is_own_verdict (tickets_of desk.now.plan desk.now.history)) desk.now.history ≡ true) }
-    ensures each { OnOk result ((i : ℕ) (book : _) → slice_get books.now i ≡ Some book → book.items ≡ dones_of desk.now.plan true desk.now.history i) }
+    ensures own { IsTrue inline → OnOk result (list_all (is_own_verdict (tickets_of desk.now.plan desk.now.history)) desk.now.history ≡ true) }
+    ensures each { OnOk result ((i : ℕ) (book : _) → slice_get books.now i ≡ Some book → book.items ≡ dones_of desk.now.plan inline desk.now.history i) }
 {
-    if !desk.is_complete() || !are_own_verdicts(desk) {
-        return Err(RunFault::Books);
+    let _legal = desk.history();
+    if !desk.is_complete() || (inline && !are_own_verdicts(desk)) {
+        return Err(Halt::Books);
     }
-    let table = verdicts_of(alloc, desk.history())?;
-    check_books(alloc, desk, &table, books)
-}
-
-fn check_books(
-    alloc: Global,
-    desk: &Desk,
-    table: &[Option<Verdict>],
-    books: &[Vec<Done>],
-) -> Result<(), RunFault>
-    requires { IsTableOf table.now desk.now.history }
-    ensures { OnOk result ((i : ℕ) (book : _) → slice_get books.now i ≡ Some book → book.items ≡ dones_of desk.now.plan true desk.now.history i) }
-{
-    for place in 0..books.len() {
-        let Ok(worker) = u32::try_from(place) else {
-            return Err(RunFault::Books);
-        };
-        if !is_book_of(alloc, desk, table, true, worker, &books[place])? {
-            return Err(RunFault::Books);
-        }
+    if !are_books(alloc, desk, inline, books)? {
+        return Err(Halt::Books);
     }
     Ok(())
 }

@@ -10,7 +10,7 @@ pub enum RunFault {
     Memory,
     /// There is no engine to run with.
     NoEngine,
-    /// A thread couldn't be started. Not answered yet: workers that can't be started are carried out one after another.
+    /// A verifier couldn't be started. Workers that can't be started are carried out one after another.
     Thread,
     /// What the workers did isn't what the desk holds. No right run meets it, unless an engine's count of calls or the
     /// numbers of workers (below 2^32) are at their end.

@@ -1,11 +1,13 @@
-ghost use Rattle.std.specs.Prelude.{◌≡◌, true, IfOk, IfSome};
+ghost use Rattle.std.specs.Prelude.{◌≡◌, ◌++◌, ◌∷◌, [], true, Some, IfOk, IfSome, OnOk};
 ghost use Rattle.jr_model.specs.Tickets.{ticket_fits};
+ghost use Rattle.jr_header.specs.Served.{answer_verdict};
 ghost use Rattle.jr_board.specs.Takes.{is_fitting};
+ghost use Rattle.jr_crew.specs.Halts.{first_cause};
 
-use crate::faults::RunFault;
+use crate::halts::Halt;
 use jr_board::{Desk, DeskFault, Take};
 use jr_header::{Ruling, Served};
-use jr_model::Ticket;
+use jr_model::{Event, Ticket};
 use std::marker::{Brand, PhantomData};
 use std::sync::{Condvar, Mutex, Wait};
 
@@ -23,10 +25,11 @@ impl Naming for Brand {
     ghost plan = { record { clones = []; files = []; engine = kind.Null; verifiers = 0 } };
 }
 
-// What lies under the lock: the desk of that plan.
+// What lies under the lock: the desk of that plan, and why the run was ended before its time, if it was.
 #[derive(Drop)]
 pub struct Held<P: Naming> {
     desk: Desk,
+    halt: Option<Halt>,
     of: PhantomData<P>,
     ghost plan_is: { desk.plan ≡ P.plan },
 }
@@ -38,24 +41,48 @@ impl<P: Naming> Held<P> {
         self.desk.take(worker)
     }
 
-    fn end(&mut self, served: &Served) -> Result<(), DeskFault> {
+    fn end(&mut self, served: &Served) -> Result<(), DeskFault>
+        ensures { OnOk result (self.new.desk.history
+            ≡ self.old.desk.history ++ Event.End served.now.ticket.worker served.now.ticket.id served.now.outcome ∷ []) }
+    {
         self.desk.end(served)
     }
 
-    fn judge(&mut self, by: u32, ruling: &Ruling<'_>) -> Result<(), DeskFault> {
+    fn judge(&mut self, by: u32, ruling: &Ruling<'_>) -> Result<(), DeskFault>
+        ensures { OnOk result (self.new.desk.history
+            ≡ self.old.desk.history ++ Event.Verdict by ruling.now.ticket.id (answer_verdict ruling.now) ∷ []) }
+    {
         self.desk.judge(by, ruling)
     }
 
-    fn stop(&mut self) {
+    fn stop(&mut self, halt: Halt)
+        ensures stopped { self.new.desk.is_stopped ≡ true }
+        ensures cause { self.new.halt ≡ Some (first_cause halt self.old.halt) }
+    {
+        self.halt = Some(first_cause(halt, self.halt));
         self.desk.stop();
     }
 
-    // The desk, once no thread shares it any more.
-    fn into_desk(self) -> Desk
-        ensures { result.plan ≡ P.plan }
+    // The desk and the cause, once no thread shares them any more.
+    fn into_parts(self) -> (Desk, Option<Halt>)
+        ensures desk { result.0.plan ≡ P.plan }
+        ensures halt { result.1 ≡ self.halt }
     {
-        let Held { desk, of: _ } = self;
-        desk
+        let Held { desk, halt, of: _ } = self;
+        (desk, halt)
+    }
+}
+
+// The first cause stays, but want of memory comes before others.
+fn first_cause(halt: Halt, before: Option<Halt>) -> Halt
+    ensures { result ≡ first_cause halt before }
+{
+    match (halt, before) {
+        (Halt::Memory, _) => Halt::Memory,
+        (Halt::Thread, None) => Halt::Thread,
+        (Halt::Thread, Some(first)) => first,
+        (Halt::Books, None) => Halt::Books,
+        (Halt::Books, Some(first)) => first,
     }
 }
 
@@ -72,6 +99,7 @@ impl<P: Naming> Shared<P> {
     {
         let held = Held {
             desk,
+            halt: None,
             of: PhantomData,
         };
         Shared {
@@ -80,17 +108,17 @@ impl<P: Naming> Shared<P> {
         }
     }
 
-    // The desk, once all threads have ended.
-    pub fn into_desk(self) -> Desk
-        ensures { result.plan ≡ P.plan }
+    // The desk, and why the run was ended before its time, if it was, once all threads have ended.
+    pub fn into_parts(self) -> (Desk, Option<Halt>)
+        ensures { result.0.plan ≡ P.plan }
     {
         let Shared { held, changed: _ } = self;
-        held.into_inner().into_desk()
+        held.into_inner().into_parts()
     }
 
     // The ticket of what this worker is to carry out next; none where the run has ended. It waits while nothing may be
     // started: nothing but an end, a verdict or a stop lets anything start again.
-    pub fn next<R: Wait>(&self, rt: &R, worker: u32) -> Result<Option<Ticket>, RunFault>
+    pub fn next<R: Wait>(&self, rt: &R, worker: u32) -> Result<Option<Ticket>, Halt>
         ensures { IfOk result (λ ticket. IfSome ticket (λ t. ticket_fits t ≡ true)) }
     {
         let mut held = self.held.lock(rt);
@@ -100,29 +128,29 @@ impl<P: Naming> Shared<P> {
                 Ok(Take::Probe(ticket)) => return Ok(Some(ticket)),
                 Ok(Take::Finished) => return Ok(None),
                 Ok(Take::Wait) => held = self.changed.wait(rt, held),
-                Err(fault) => return Err(RunFault::from(fault)),
+                Err(fault) => return Err(Halt::from(fault)),
             }
         }
         unreachable!()
     }
 
     // Takes in how a ticket ended.
-    pub fn end<R: Wait>(&self, rt: &R, served: &Served) -> Result<(), RunFault> {
+    pub fn end<R: Wait>(&self, rt: &R, served: &Served) -> Result<(), Halt> {
         self.held.lock(rt).end(served)?;
         self.changed.notify_all();
         Ok(())
     }
 
     // Takes in a verdict.
-    pub fn judge<R: Wait>(&self, rt: &R, by: u32, ruling: &Ruling<'_>) -> Result<(), RunFault> {
+    pub fn judge<R: Wait>(&self, rt: &R, by: u32, ruling: &Ruling<'_>) -> Result<(), Halt> {
         self.held.lock(rt).judge(by, ruling)?;
         self.changed.notify_all();
         Ok(())
     }
 
     // Ends the run for all threads.
-    pub fn stop<R: Wait>(&self, rt: &R) {
-        self.held.lock(rt).stop();
+    pub fn stop<R: Wait>(&self, rt: &R, halt: Halt) {
+        self.held.lock(rt).stop(halt);
         self.changed.notify_all();
     }
 }

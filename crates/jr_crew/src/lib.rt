@@ -1,12 +1,16 @@
-// Who carries out a run: one worker that waits for nobody, or many at once. Each judges its own checks.
+// Who carries out a run: one worker that waits for nobody, or many at once, with verifiers beside them or without.
 #![tactic(auto)]
 
 mod accounts;
 mod books;
 mod crew;
 mod faults;
+mod halts;
+mod hands;
 mod held;
 mod serial;
+mod staff;
+mod verifier;
 mod work;
 
 pub use books::Done;

@@ -11,22 +11,22 @@ use Rattle.jr_crew.proofs.crew.run_as.Goals as goal
 
 pub returns-clause-engines : goal.returns-clause-engines
 returns-clause-engines g c =
-    engines_size (λ job. job.1) (λ one. one.engine) c.args.engines.items c.in_ok-engines.engines.items c.in_ok-jobs.jobs.items c.in_ok-worked.field-0.items
+    engines_size (λ job. job.engine) (λ one. one.engine) c.args.engines.items c.in_ok-engines.engines.items c.in_ok-jobs.jobs.items c.in_ok-worked.field-0.items
     c.in_ok-jobs.ensures c.in_ok-worked.ensures.len c.in_ok-engines.ensures.engines
 
 pub returns-clause-books : goal.returns-clause-books
 returns-clause-books g c =
-    books_size (λ job. job.1) (λ one. one.book) c.args.engines.items c.in_ok-jobs.jobs.items c.in_ok-worked.field-0.items c.in_ok-engines.books.items
+    books_size (λ job. job.engine) (λ one. one.book) c.args.engines.items c.in_ok-jobs.jobs.items c.in_ok-worked.field-0.items c.in_ok-engines.books.items
     c.in_ok-jobs.ensures c.in_ok-worked.ensures.len c.in_ok-engines.ensures.books
 
 pub returns-clause-each : goal.returns-clause-each
 returns-clause-each g c =
-    let desk = c.into_desk-desk.result in
-    let same : desk.plan ≡ c.args.plan = c.into_desk-desk.ensures ∙ sym c.requires in
-    each_part (λ e. (g.dyn-1.0.entry e.vtable).1.state e.value) (λ job. job.1) (λ one. one.engine) (λ one. one.book) (λ book. book.items)
+    let desk = c.into_parts-desk.result.0 in
+    let same : desk.plan ≡ c.args.plan = c.into_parts-desk.ensures ∙ sym c.requires in
+    each_part (λ e. (g.dyn-1.0.entry e.vtable).1.state e.value) (λ job. job.engine) (λ one. one.engine) (λ one. one.book) (λ book. book.items)
     c.args.engines.items c.in_ok-engines.engines.items c.in_ok-jobs.jobs.items c.in_ok-worked.field-0.items c.in_ok-engines.books.items
-    c.args.plan desk.history c.facts.ensures
+    c.args.plan c.judges_inline-inline.result desk.history c.judges_inline-inline.ensures c.facts.ensures
     (subst (λ (p : Plan). is_legal p desk.history ≡ true) same c.in_ok-check.ensures.legal)
-    (subst (λ (p : Plan). list_all (is_own_verdict (tickets_of p desk.history)) desk.history ≡ true) same c.in_ok-check.ensures.own)
+    (λ so. subst (λ (p : Plan). list_all (is_own_verdict (tickets_of p desk.history)) desk.history ≡ true) same (c.in_ok-check.ensures.own so))
     c.in_ok-jobs.ensures c.in_ok-worked.ensures.each c.in_ok-engines.ensures.engines c.in_ok-engines.ensures.books
-    (λ i book at. c.in_ok-check.ensures.each i book (ap (λ books. slice_get books i) c.deref.ensures.value ∙ at) ∙ ap (λ (p : Plan). dones_of p true desk.history i) same)
+    (λ i book at. c.in_ok-check.ensures.each i book (ap (λ books. slice_get books i) c.deref.ensures.value ∙ at) ∙ ap (λ (p : Plan). dones_of p c.judges_inline-inline.result desk.history i) same)

@@ -1,8 +1,7 @@
-use Rattle.std.proofs.Common.{true}
 use Rattle.jr_crew.specs.Working.{AreCallsFor}
 use Rattle.jr_crew.proofs.work.work_on.Given as goal
 
 -- the book so far is of the engine's calls so far
 abbrev pub invariant-loop : goal.invariant-loop
 invariant-loop g l =
-    AreCallsFor true ((goal.Engine-dyn g l.fn.engine.now).state l.fn.engine.now.1) l.book.items ((goal.Engine-dyn g l.engine.now).state l.engine.now.1)
+    AreCallsFor l.post.inline ((goal.Engine-dyn g l.fn.engine.now).state l.fn.engine.now.1) l.book.items ((goal.Engine-dyn g l.engine.now).state l.engine.now.1)

@@ -1,0 +1,99 @@
+ghost use Rattle.std.specs.Prelude.{◌≡◌, ◌+◌, ◌≤◌, ◌++◌, ◌∷◌, [], IfOk, OnOk, map, length};
+
+use crate::halts::Halt;
+use crate::hands::Hand;
+use jr_engines::Engine;
+use std::alloc::Global;
+
+// What a worker begins with: its number, its engine, and what it has of the hand-over.
+#[derive(Drop)]
+pub struct Job<'a> {
+    pub number: u32,
+    pub engine: Box<dyn Engine + Send>,
+    pub hand: Hand<'a>,
+}
+
+// What a verifier begins with: its number, and what it has of the hand-over.
+#[derive(Drop)]
+pub struct Judge<'a> {
+    pub number: u32,
+    pub hand: Hand<'a>,
+}
+
+// A job for each engine; the workers are numbered from 0.
+pub fn jobs_for<'a>(
+    alloc: Global,
+    engines: Vec<Box<dyn Engine + Send>>,
+    hand: &mut Hand<'a>,
+) -> Result<Vec<Job<'a>>, Halt>
+    ensures { IfOk result (λ jobs. map (λ job. job.engine) jobs.items ≡ engines.items) }
+{
+    let mut jobs = Vec::new(alloc);
+    for engine in engines {
+        let number = number_of(jobs.len())?;
+        let hand = hand.another()?;
+        push(
+            &mut jobs,
+            Job {
+                number,
+                engine,
+                hand,
+            },
+        )?;
+    }
+    Ok(jobs)
+}
+
+// So many verifiers, numbered on from the workers.
+pub fn judges_for<'a>(
+    alloc: Global,
+    workers: usize,
+    verifiers: u32,
+    hand: &mut Hand<'a>,
+) -> Result<Vec<Judge<'a>>, Halt>
+    ensures { IfOk result (λ judges. length judges.items ≡ verifiers) }
+{
+    let first = number_of(workers)?;
+    let mut judges = Vec::new(alloc);
+    for place in 0..verifiers {
+        let number = number_behind(first, place)?;
+        let hand = hand.another()?;
+        push(&mut judges, Judge { number, hand })?;
+    }
+    Ok(judges)
+}
+
+// How many parcels the hand-over holds: four for each verifier.
+pub fn room_for(verifiers: u32) -> usize
+    ensures { 1 ≤ result }
+{
+    (4 * verifiers as usize).max(1)
+}
+
+fn number_of(place: usize) -> Result<u32, Halt>
+    ensures { IfOk result (λ number. number ≡ place) }
+{
+    match u32::try_from(place) {
+        Ok(number) => Ok(number),
+        Err(_) => Err(Halt::Books),
+    }
+}
+
+fn number_behind(first: u32, place: u32) -> Result<u32, Halt>
+    ensures { IfOk result (λ number. number ≡ first + place) }
+{
+    match first.checked_add(place) {
+        Some(number) => Ok(number),
+        None => Err(Halt::Books),
+    }
+}
+
+// Puts it behind the last one.
+pub fn push<X: Drop>(all: &mut Vec<X>, one: X) -> Result<(), Halt>
+    ensures { OnOk result (all.new.items ≡ all.old.items ++ one ∷ []) }
+{
+    match all.push(one) {
+        Ok(()) => Ok(()),
+        Err(_) => Err(Halt::Memory),
+    }
+}
