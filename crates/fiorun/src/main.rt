@@ -4,24 +4,44 @@
 ghost use Rattle.std.specs.Prelude.{◌≡◌, ◌≤◌, ◌^◌, IfOk};
 
 use jr_cli::{
-    Choice, CliFault, answer_words, choose, execute_serial, memory_or, print_check, print_plan,
-    read_job, read_text, read_trace,
+    Choice, CliFault, answer_words, choose, execute, execute_serial, memory_or, print_check,
+    print_plan, read_job, read_text, read_trace, workers_of,
 };
-use jr_engines::{Engine, MemoryEngine, NullEngine};
-use jr_files::{FileEngine, FileFault, lay_out};
+use jr_engines::{Engine, MemoryEngine, NullEngine, SharedMemory};
+use jr_files::{FileEngine, FileFault, SharedFile, lay_out};
 use jr_model::EngineKind;
 use jr_plan::Plan;
+use std::alloc::Global;
 use std::env::Env;
 use std::fs::{File, Files};
 use std::io::BufWriter;
 use std::process::ExitCode;
+use std::sync::Wait;
+use std::thread::Threads;
 use std::{env, fs, io};
 
 #[cfg(test)]
 mod tests;
 
 fn main(rt: HostRuntime) -> ExitCode {
-    match run(&rt) {
+    let _held = held(&rt);
+    // The shares of a memory keep the runtime, so they are boxed here.
+    let run_shared = |job: SharedRun| -> Result<u8, CliFault> {
+        let mut engines: Vec<Box<dyn Engine + Send>> = Vec::new(rt.alloc());
+        let Ok(shared) = rt.clone() else {
+            return Err(CliFault::Memory);
+        };
+        for share in shares(shared, rt.alloc(), &job.plan, job.workers)? {
+            add(&mut engines, boxed(rt.alloc(), share)?)?;
+        }
+        run_memory(&rt, job, engines)
+    };
+    let ended = match begin(&rt) {
+        Ok(Turn::Ended(status)) => Ok(status),
+        Ok(Turn::Shared(job)) => run_shared(job),
+        Err(fault) => Err(fault),
+    };
+    match ended {
         Ok(status) => ExitCode::from(status),
         Err(fault) => {
             let _ = eprintln!(rt; "fiorun: {fault}");
@@ -30,14 +50,34 @@ fn main(rt: HostRuntime) -> ExitCode {
     }
 }
 
-// Does what the words ask for, and gives the exit status.
-fn run<R: Env + Files<File = File> + Input + Print + Eprint + AllocGlobal>(
-    rt: &R,
-) -> Result<u8, CliFault> {
+// Holds the numbers of standard input, output and error where they are closed, so that no file of a job gets one of them.
+fn held<R: Files>(rt: &R) -> [io::Result<R::File>; 3] {
+    [fs::open(rt, "/"), fs::open(rt, "/"), fs::open(rt, "/")]
+}
+
+// How far the program gets by itself: to its end with this status, or to a run whose workers share a memory.
+#[derive(Drop)]
+enum Turn {
+    Ended(u8),
+    Shared(SharedRun),
+}
+
+// A run whose workers share a memory: the plan, how many they are, and the file that the trace goes to.
+#[derive(Drop)]
+struct SharedRun {
+    plan: Plan,
+    workers: u32,
+    events: Option<BufWriter<File>>,
+}
+
+// Does what the words ask for, but for a run over a shared memory.
+fn begin<
+    R: Env + Files<File = File> + Input + Print + Eprint + AllocGlobal + Threads + Wait + Sync,
+>(rt: &R) -> Result<Turn, CliFault> {
     let words = words_of(rt)?;
     match choose(rt.alloc(), words.as_slice()) {
         Ok(choice) => perform(rt, &choice),
-        Err(error) => answer_words(rt, &error),
+        Err(error) => Ok(Turn::Ended(answer_words(rt, &error)?)),
     }
 }
 
@@ -48,10 +88,10 @@ fn words_of<R: Env + AllocGlobal>(rt: &R) -> Result<Vec<String>, CliFault> {
     }
 }
 
-fn perform<R: Files<File = File> + Input + Print + AllocGlobal>(
+fn perform<R: Files<File = File> + Input + Print + AllocGlobal + Threads + Wait + Sync>(
     rt: &R,
     choice: &Choice<'_>,
-) -> Result<u8, CliFault> {
+) -> Result<Turn, CliFault> {
     let text = job_text(rt, choice.job)?;
     let plan = read_job(rt.alloc(), text.as_slice(), choice.section)?;
     let Ok(mut out) = BufWriter::new(rt.alloc(), io::writer(rt)) else {
@@ -59,14 +99,15 @@ fn perform<R: Files<File = File> + Input + Print + AllocGlobal>(
     };
     if choice.parse_only {
         print_plan(rt.alloc(), &plan, &mut out)?;
-        return Ok(0);
+        return Ok(Turn::Ended(0));
     }
     if let Some(path) = choice.check_trace {
         let events = trace_text(rt, path)?;
         print_check(rt.alloc(), &plan, events.as_slice(), &mut out)?;
-        return Ok(0);
+        return Ok(Turn::Ended(0));
     }
-    run_plan(rt, choice.trace, plan, &mut out)
+    let workers = workers_of(&plan, choice.workers);
+    run_plan(rt, choice.trace, plan, workers, &mut out)
 }
 
 // The trace that is to be checked.
@@ -77,11 +118,17 @@ fn trace_text<R: Files + AllocGlobal>(rt: &R, path: &str) -> Result<Vec<u8>, Cli
     }
 }
 
-// The file that the trace of a run goes to, made anew.
-fn trace_file<R: Files + AllocGlobal>(rt: &R, path: &str) -> Result<BufWriter<R::File>, CliFault> {
+// The file that the trace of a run goes to, made anew, where one is asked for.
+fn trace_file<R: Files + AllocGlobal>(
+    rt: &R,
+    trace: Option<&str>,
+) -> Result<Option<BufWriter<R::File>>, CliFault> {
+    let Some(path) = trace else {
+        return Ok(None);
+    };
     match fs::create(rt, path) {
         Ok(file) => match BufWriter::new(rt.alloc(), file) {
-            Ok(events) => Ok(events),
+            Ok(events) => Ok(Some(events)),
             Err(_) => Err(CliFault::Memory),
         },
         Err(error) => Err(memory_or(&error, CliFault::Write)),
@@ -102,8 +149,40 @@ fn job_text<R: Files + Input + AllocGlobal>(
     }
 }
 
-// Runs the plan over its kind of engine.
-fn run_plan<R: Files<File = File> + AllocGlobal, V: io::Write>(
+// Runs the plan over its kind of engine, but for one over a memory that several workers share.
+fn run_plan<R: Files<File = File> + AllocGlobal + Threads + Wait + Sync, V: io::Write>(
+    rt: &R,
+    trace: Option<&str>,
+    plan: Plan,
+    workers: u32,
+    out: &mut V,
+) -> Result<Turn, CliFault> {
+    if workers == 1 && plan.verifiers() == 0 {
+        return Ok(Turn::Ended(run_alone(rt, trace, plan, out)?));
+    }
+    match plan.engine() {
+        EngineKind::File => {
+            let engines = opened_for(rt, &plan, workers)?;
+            let events = trace_file(rt, trace)?;
+            Ok(Turn::Ended(run_files(rt, plan, engines, events, out)?))
+        }
+        EngineKind::Memory => {
+            let events = trace_file(rt, trace)?;
+            Ok(Turn::Shared(SharedRun {
+                plan,
+                workers,
+                events,
+            }))
+        }
+        EngineKind::Null => {
+            let events = trace_file(rt, trace)?;
+            Ok(Turn::Ended(run_nulls(rt, plan, workers, events, out)?))
+        }
+    }
+}
+
+// Runs the plan with one worker, which judges its own checks.
+fn run_alone<R: Files<File = File> + AllocGlobal, V: io::Write>(
     rt: &R,
     trace: Option<&str>,
     plan: Plan,
@@ -125,17 +204,52 @@ fn run_plan<R: Files<File = File> + AllocGlobal, V: io::Write>(
     }
 }
 
-// The plan's files, made where they are missing, long enough, and opened.
+// Makes the plan's files where they are missing, and long enough.
+fn laid_out<R: Files>(rt: &R, plan: &Plan) -> Result<(), CliFault> {
+    match lay_out(rt, plan) {
+        Ok(()) => Ok(()),
+        Err(fault) => Err(open_fault(fault)),
+    }
+}
+
+// The plan's files, made where they are missing, long enough, and opened for one worker.
 fn opened<R: Files<File = File> + AllocGlobal>(rt: &R, plan: &Plan) -> Result<FileEngine, CliFault>
     ensures { IfOk result (λ engine. engine.calls ≡ 0) }
 {
-    if let Err(fault) = lay_out(rt, plan) {
-        return Err(open_fault(fault));
-    }
+    laid_out(rt, plan)?;
     match FileEngine::new(rt, rt.alloc(), plan) {
         Ok(engine) => Ok(engine),
         Err(fault) => Err(open_fault(fault)),
     }
+}
+
+// The same for so many workers, which share the open files.
+fn opened_for<R: Files<File = File> + AllocGlobal>(
+    rt: &R,
+    plan: &Plan,
+    workers: u32,
+) -> Result<Vec<FileEngine<SharedFile>>, CliFault> {
+    laid_out(rt, plan)?;
+    match FileEngine::shared(rt, rt.alloc(), plan) {
+        Ok(first) => file_shares(rt.alloc(), first, workers),
+        Err(fault) => Err(open_fault(fault)),
+    }
+}
+
+fn file_shares(
+    alloc: Global,
+    first: FileEngine<SharedFile>,
+    workers: u32,
+) -> Result<Vec<FileEngine<SharedFile>>, CliFault> {
+    let mut engines = Vec::new(alloc);
+    for _ in 1..workers {
+        match first.share(alloc) {
+            Ok(engine) => add(&mut engines, engine)?,
+            Err(fault) => return Err(open_fault(fault)),
+        }
+    }
+    add(&mut engines, first)?;
+    Ok(engines)
 }
 
 fn open_fault(fault: FileFault) -> CliFault {
@@ -145,7 +259,22 @@ fn open_fault(fault: FileFault) -> CliFault {
     }
 }
 
-// Runs the plan over this engine, and writes the report and then the trace where one is asked for.
+fn boxed<X: Drop>(alloc: Global, one: X) -> Result<Box<X>, CliFault> {
+    match Box::new(alloc, one) {
+        Ok(made) => Ok(made),
+        Err(_) => Err(CliFault::Memory),
+    }
+}
+
+// Puts it behind the last one.
+fn add<X: Drop>(all: &mut Vec<X>, one: X) -> Result<(), CliFault> {
+    match all.push(one) {
+        Ok(()) => Ok(()),
+        Err(_) => Err(CliFault::Memory),
+    }
+}
+
+// Runs the plan over this engine with one worker, and writes the report and then the trace where one is asked for.
 fn run_over<R: Files + AllocGlobal, V: io::Write>(
     rt: &R,
     trace: Option<&str>,
@@ -155,11 +284,85 @@ fn run_over<R: Files + AllocGlobal, V: io::Write>(
 ) -> Result<u8, CliFault>
     requires { (state engine.old).calls ≤ 2 ^ 63 }
 {
-    match trace {
+    match trace_file(rt, trace)? {
         None => execute_serial(rt.alloc(), plan, engine, None::<&mut Vec<u8>>, out),
-        Some(path) => {
-            let mut events = trace_file(rt, path)?;
-            execute_serial(rt.alloc(), plan, engine, Some(&mut events), out)
-        }
+        Some(mut events) => execute_serial(rt.alloc(), plan, engine, Some(&mut events), out),
+    }
+}
+
+// Runs the plan over the system's files, with a worker for each of these engines.
+fn run_files<R: AllocGlobal + Threads + Wait + Sync, V: io::Write>(
+    rt: &R,
+    plan: Plan,
+    shares: Vec<FileEngine<SharedFile>>,
+    events: Option<BufWriter<File>>,
+    out: &mut V,
+) -> Result<u8, CliFault> {
+    let mut engines: Vec<Box<dyn Engine + Send>> = Vec::new(rt.alloc());
+    for engine in shares {
+        add(&mut engines, boxed(rt.alloc(), engine)?)?;
+    }
+    run_with(rt, plan, engines, events, out)
+}
+
+// Runs the plan over nothing, with so many workers.
+fn run_nulls<R: AllocGlobal + Threads + Wait + Sync, V: io::Write>(
+    rt: &R,
+    plan: Plan,
+    workers: u32,
+    events: Option<BufWriter<File>>,
+    out: &mut V,
+) -> Result<u8, CliFault> {
+    let mut engines: Vec<Box<dyn Engine + Send>> = Vec::new(rt.alloc());
+    for _ in 0..workers {
+        add(&mut engines, boxed(rt.alloc(), NullEngine::new())?)?;
+    }
+    run_with(rt, plan, engines, events, out)
+}
+
+// So many shares of one memory for the plan's files.
+fn shares<R: Wait + Clone + Drop>(
+    rt: R,
+    alloc: Global,
+    plan: &Plan,
+    workers: u32,
+) -> Result<Vec<SharedMemory<R>>, CliFault> {
+    let first = SharedMemory::new(rt, alloc, plan)?;
+    let mut shares = Vec::new(alloc);
+    for _ in 1..workers {
+        add(&mut shares, first.share()?)?;
+    }
+    add(&mut shares, first)?;
+    Ok(shares)
+}
+
+// Runs the job over the shares of a memory, and writes its report to standard output.
+fn run_memory<R: Print + AllocGlobal + Threads + Wait + Sync>(
+    rt: &R,
+    job: SharedRun,
+    engines: Vec<Box<dyn Engine + Send>>,
+) -> Result<u8, CliFault> {
+    let Ok(mut out) = BufWriter::new(rt.alloc(), io::writer(rt)) else {
+        return Err(CliFault::Memory);
+    };
+    let SharedRun {
+        plan,
+        workers: _,
+        events,
+    } = job;
+    run_with(rt, plan, engines, events, &mut out)
+}
+
+// Runs the plan with a worker for each engine, and writes the report and then the trace where one is asked for.
+fn run_with<R: AllocGlobal + Threads + Wait + Sync, V: io::Write>(
+    rt: &R,
+    plan: Plan,
+    engines: Vec<Box<dyn Engine + Send>>,
+    events: Option<BufWriter<File>>,
+    out: &mut V,
+) -> Result<u8, CliFault> {
+    match events {
+        None => execute(rt, rt.alloc(), plan, engines, None::<&mut Vec<u8>>, out),
+        Some(mut events) => execute(rt, rt.alloc(), plan, engines, Some(&mut events), out),
     }
 }

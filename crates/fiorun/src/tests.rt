@@ -1,12 +1,17 @@
-use crate::run_plan;
+ghost use Rattle.jr_files.specs.Engines.{files_state};
+
+use crate::{Turn, run_over, run_plan};
 use jr_cli::{CliFault, read_job};
-use jr_files::{FileFault, lay_out};
+use jr_engines::{Engine, EngineFault};
+use jr_files::{FileEngine, FileFault, lay_out};
 use std::alloc::Global;
 use std::fs::{File, OpenOptions};
 use std::os::unix::fs::symlink;
 use std::process::Abort;
 use std::rt::{Env, Files};
+use std::sync::Wait;
 use std::test::Fail;
+use std::thread::Threads;
 use std::{env, fs, io, process};
 
 // A folder of this test's own, below the system's folder for such.
@@ -23,16 +28,21 @@ fn text_in(alloc: Global, folder: &str, jobs: &str) -> Result<String, Fail> {
     Ok(format!(in alloc; "[global]\nioengine=psync\ndirectory={folder}\n{jobs}")?)
 }
 
-// What the program writes for the jobs of a folder, and its status.
-fn run_in<R: Files<File = File> + AllocGlobal>(
+// What the program writes for the jobs of a folder with so many workers, and its status.
+fn run_in<R: Files<File = File> + AllocGlobal + Threads + Wait + Sync>(
     rt: &R,
     folder: &str,
     jobs: &str,
+    workers: u32,
 ) -> Result<(Vec<u8>, Result<u8, CliFault>), Fail> {
     let text = text_in(rt.alloc(), folder, jobs)?;
     let plan = read_job(rt.alloc(), text.as_bytes(), None)?;
     let mut out = Vec::new(rt.alloc());
-    let status = run_plan(rt, None, plan, &mut out);
+    let status = match run_plan(rt, None, plan, workers, &mut out) {
+        Ok(Turn::Ended(status)) => Ok(status),
+        Ok(Turn::Shared(_)) => return Err(Fail::from("a run over files")),
+        Err(fault) => Err(fault),
+    };
     Ok((out, status))
 }
 
@@ -57,19 +67,32 @@ fn assert_holds(
 
 #[test]
 fn a_real_file_holds_what_its_job_wrote(rt: HostRuntime) -> Result<(), Fail> {
-    let folder = fresh_folder(&rt, process::id(rt.process()), "first")?;
+    for workers in [1, 4, 16] {
+        one_file_is_written(&rt, process::id(rt.process()), workers)?;
+    }
+    Ok(())
+}
+
+// One job writes one file with so many workers.
+fn one_file_is_written<R: Files<File = File> + Env + AllocGlobal + Threads + Wait + Sync + Abort>(
+    rt: &R,
+    id: u32,
+    workers: u32,
+) -> Result<(), Fail> {
+    let folder = fresh_folder(rt, id, "first")?;
     let (out, status) = run_in(
-        &rt,
+        rt,
         folder.as_str(),
         "[w]\nrw=write\nsize=16k\nverify=pattern\nverify_pattern=0xab\n",
+        workers,
     )?;
     assert!(rt;
         out.as_slice()
             == "w: clone=0 reads=0 rbytes=0 writes=4 wbytes=16384 checks=4 good=4 bad=0 skipped=0 void=0 faults=0\n".as_bytes()
     );
     assert_eq!(rt; status, Ok(0));
-    assert_holds(&rt, folder.as_str(), "w.0.0", &[(16384, 0xab)])?;
-    fs::remove_dir_all(&rt, folder.as_str())?;
+    assert_holds(rt, folder.as_str(), "w.0.0", &[(16384, 0xab)])?;
+    fs::remove_dir_all(rt, folder.as_str())?;
     Ok(())
 }
 
@@ -83,6 +106,7 @@ fn jobs_write_where_their_offsets_say(rt: HostRuntime) -> Result<(), Fail> {
         &rt,
         folder.as_str(),
         "filename=f\nrw=write\nsize=8k\nverify=pattern\n[a]\noffset=4k\nverify_pattern=1\n[b]\noffset=16k\nverify_pattern=2\n",
+        2,
     )?;
     assert!(rt;
         out.as_slice()
@@ -106,6 +130,7 @@ fn a_symbolic_link_is_followed(rt: HostRuntime) -> Result<(), Fail> {
         &rt,
         folder.as_str(),
         "[w]\nfilename=link\nrw=write\nsize=4k\noffset=512\nbs=512\n",
+        1,
     )?;
     assert!(rt;
         out.as_slice()
@@ -127,7 +152,7 @@ fn files_that_are_not_opened_end_with_3(rt: HostRuntime) -> Result<(), Fail> {
     let text = text_in(rt.alloc(), missing.as_str(), jobs)?;
     let plan = read_job(rt.alloc(), text.as_bytes(), None)?;
     assert_eq!(rt; lay_out(&rt, &plan), Err(FileFault::File(0)));
-    let (out, status) = run_in(&rt, missing.as_str(), jobs)?;
+    let (out, status) = run_in(&rt, missing.as_str(), jobs, 2)?;
     assert_eq!(rt; (out.len(), status), (0, Err(CliFault::Open)));
     assert_eq!(rt; CliFault::Open.status(), 3);
     let path = format!(in rt.alloc(); "{folder}/f")?;
@@ -142,8 +167,87 @@ fn files_that_are_not_opened_end_with_3(rt: HostRuntime) -> Result<(), Fail> {
     } else {
         Ok(0)
     };
-    let (_, status) = run_in(&rt, folder.as_str(), jobs)?;
+    let (_, status) = run_in(&rt, folder.as_str(), jobs, 1)?;
     assert_eq!(rt; status, expected);
+    fs::remove_dir_all(&rt, folder.as_str())?;
+    Ok(())
+}
+
+// The device refuses each write. It isn't laid out, since it can't be extended.
+#[test]
+fn a_full_device_halts_its_clone(rt: HostRuntime) -> Result<(), Fail> {
+    let jobs = "[w]\nfilename=full\nrw=write\nsize=16k\nverify=pattern\nverify_pattern=1\n";
+    let text = text_in(rt.alloc(), "/dev", jobs)?;
+    let plan = read_job(rt.alloc(), text.as_bytes(), None)?;
+    let mut engine = FileEngine::new(&rt, rt.alloc(), &plan)?;
+    let mut out = Vec::new(rt.alloc());
+    let status = run_over(&rt, None, plan, &mut engine, &mut out);
+    assert!(rt;
+        out.as_slice()
+            == "w: clone=0 reads=0 rbytes=0 writes=0 wbytes=0 checks=0 good=0 bad=0 skipped=0 void=0 faults=1\n".as_bytes()
+    );
+    assert_eq!(rt; status, Ok(1));
+    assert_eq!(rt; (engine.calls(), engine.failures()), (1, 1));
+    Ok(())
+}
+
+// An engine over files, one of which is cut to its first block before the third call.
+#[derive(Drop)]
+struct Cutting {
+    engine: FileEngine,
+    file: File,
+}
+
+impl Cutting {
+    fn cut(&self) {
+        if self.engine.calls() == 2 {
+            let _ = self.file.set_len(4096);
+        }
+    }
+}
+
+impl Engine for Cutting {
+    ghost state = { λ a. files_state a.engine };
+
+    fn read(&mut self, file: u32, offset: u64, buf: &mut [u8]) -> Result<usize, EngineFault> {
+        self.cut();
+        self.engine.read(file, offset, buf)
+    }
+
+    fn write(&mut self, file: u32, offset: u64, buf: &[u8]) -> Result<usize, EngineFault> {
+        self.cut();
+        self.engine.write(file, offset, buf)
+    }
+
+    fn calls(&self) -> u64 {
+        self.engine.calls()
+    }
+
+    fn failures(&self) -> u64 {
+        self.engine.failures()
+    }
+}
+
+#[test]
+fn a_file_that_is_cut_gives_one_fault(rt: HostRuntime) -> Result<(), Fail> {
+    let folder = fresh_folder(&rt, process::id(rt.process()), "cut")?;
+    let jobs =
+        "rw=write\nsize=8k\nverify=pattern\nverify_pattern=1\n[a]\nfilename=a\n[b]\nfilename=b\n";
+    let text = text_in(rt.alloc(), folder.as_str(), jobs)?;
+    let plan = read_job(rt.alloc(), text.as_bytes(), None)?;
+    lay_out(&rt, &plan)?;
+    let path = format!(in rt.alloc(); "{folder}/a")?;
+    let file: File = OpenOptions::new().write(true).open(&rt, path.as_str())?;
+    let engine = FileEngine::new(&rt, rt.alloc(), &plan)?;
+    let mut engine = Cutting { engine, file };
+    let mut out = Vec::new(rt.alloc());
+    let status = run_over(&rt, None, plan, &mut engine, &mut out);
+    assert!(rt;
+        out.as_slice()
+            == "a: clone=0 reads=0 rbytes=0 writes=2 wbytes=8192 checks=1 good=1 bad=0 skipped=0 void=0 faults=1\nb: clone=1 reads=0 rbytes=0 writes=2 wbytes=8192 checks=2 good=2 bad=0 skipped=0 void=0 faults=0\n".as_bytes()
+    );
+    assert_eq!(rt; status, Ok(1));
+    assert_eq!(rt; (engine.calls(), engine.failures()), (8, 0));
     fs::remove_dir_all(&rt, folder.as_str())?;
     Ok(())
 }

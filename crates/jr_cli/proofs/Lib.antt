@@ -1,2 +1,4 @@
 pub mod CleanRuns
 pub mod CommandLineFacts
+pub mod CrewRuns
+pub mod QuietRuns

@@ -1,8 +1,9 @@
 -- Believed: the command line: its arguments, as clap reads them, and what it holds for each.
-use Rattle.std.specs.Prelude.{◌≡◌, ℕ, false, List, Some, option_map, unwrap_or, codes, pos}
+use Rattle.std.specs.Prelude.{◌≡◌, ℕ, false, true, List, Some, option_map, unwrap_or, codes, pos}
 use Rattle.std.specs.Option.{option_copied}
 use Rattle.std.specs.Str.{bytes_eq}
 use Rattle.std.specs.Str.Parse.{digits_value, without_leading_plus}
+use Rattle.clap.specs.Simple.{on_top}
 use Rattle.clap.specs.Words.{App, Row, Rule, Text, first_of, new_app, new_rule, one_of, with_rule}
 use Rattle.clap.specs.declared.builder.ArgAction.TheVariants.{Set, SetTrue}
 use Rattle.clap.specs.declared.builder.value_parser.ValueParser.TheVariants as parser
@@ -35,8 +36,12 @@ trace_rule = option_rule (codes "trace")
 abbrev pub check_trace_rule : Rule
 check_trace_rule = option_rule (codes "check-trace")
 
+-- a program that tells its version
+abbrev pub with_version : App → App
+with_version app = on_top (λ shape. record shape { has_version = true }) app
+
 unfoldable pub command_line : App
-command_line = with_rule (with_rule (with_rule (with_rule (with_rule (with_rule (new_app (codes "fiorun")) job_rule) section_rule)
+command_line = with_rule (with_rule (with_rule (with_rule (with_rule (with_rule (with_version (new_app (codes "fiorun"))) job_rule) section_rule)
     parse_only_rule) workers_rule) trace_rule) check_trace_rule
 
 -- the number that a text of digits writes

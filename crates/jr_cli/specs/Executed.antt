@@ -1,15 +1,19 @@
 -- Believed: what a run of the program is, and how it ends (of this project).
 use Rattle.std.proofs.Common.{inl, inr}
-use Rattle.std.specs.Prelude.{◌≡◌, ◌⊎◌, ℕ, ◌+◌, true, List, Option, Some, None}
+use Rattle.std.specs.Prelude.{◌≡◌, ◌⊎◌, ℕ, ◌+◌, true, List, length, Option, Some, None, slice_get}
 use Rattle.std.specs.Borrow.{MutBor}
 use Rattle.std.specs.Io.KnownBytes.{Appends}
 use Rattle.jr_model.specs.declared.events.Event.{Event}
 use Rattle.jr_model.specs.Legal.{is_legal, is_complete}
 use Rattle.jr_model.specs.Plan.{Plan}
 use Rattle.jr_model.specs.Replies.{EngineState}
+use Rattle.jr_model.specs.Quiet.{quiet_report}
 use Rattle.jr_model.specs.Report.{all_totals, report_of}
+use Rattle.jr_plan.specs.Files.{are_apart}
 use Rattle.jr_stats.specs.Traces.{trace_of}
 use Rattle.jr_crew.specs.declared.faults.RunFault.TheVariants as run
+use Rattle.jr_crew.specs.declared.books.Done.{Done}
+use Rattle.jr_crew.specs.Crews.{IsWorkers}
 use Rattle.jr_crew.specs.Ends.{ends_of, failed_ends_of}
 use Rattle.jr_crew.specs.Runs.{IsCovering, IsTiedRun}
 use Rattle.jr_cli.specs.declared.faults.CliFault.{CliFault}
@@ -34,6 +38,25 @@ pub record IsRun (plan : Plan) (history : List Event) (before after : EngineStat
 abbrev pub HasRun : Plan → EngineState → EngineState → (List Event → Type 0) → Type 0
 HasRun plan before after Holds = (history : List Event) × IsRun plan history before after × Holds history
 
+-- the history is that of a run of many workers over engines that were so before, and are so after: whole and legal, and of each
+-- worker there is a book, which is what the history says that it completed and what its engine was called for
+pub record IsCrewRun (plan : Plan) (history : List Event) (befores afters : List EngineState) (books : List (List Done)) : Type 0 where
+  pub legal : is_legal plan history ≡ true
+  pub complete : is_complete plan history ≡ true
+  pub engines_count : length afters ≡ length befores
+  pub books_count : length books ≡ length befores
+  pub each : (i : ℕ) (before after : EngineState) (dones : List Done) → slice_get befores i ≡ Some before → slice_get afters i ≡ Some after
+      → slice_get books i ≡ Some dones → IsWorkers plan history i before after dones
+
+-- such a run has a history of which this holds
+abbrev pub HasCrewRun : Plan → List EngineState → (List Event → Type 0) → Type 0
+HasCrewRun plan befores Holds =
+    (history : List Event) × (afters : List EngineState) × (books : List (List Done)) × IsCrewRun plan history befores afters books × Holds history
+
+-- where no two clones have one file and the status is clean, what was written is the report that the draws alone give
+abbrev pub IsQuietlyReported : Plan → Option (List ℕ) → Option (List ℕ) → ℕ → Type 0
+IsQuietlyReported plan blank written status = are_apart plan.clones ≡ true → status ≡ 0 → Appends blank written (quiet_report plan)
+
 -- what an `Option<&mut W>` leaves: nothing at `None`, and the writer as it is then at `Some`
 abbrev pub LeftWriter : Type 0 → Type 0
 LeftWriter W = Unit {0} ⊎ ((MutBor W × Unit {0}) ⊎ ⊥)
@@ -47,3 +70,10 @@ IsTraced contents (Some writer) left history = ⊥
 -- why a run ends without its report, or with a cut one: memory was wanting, or writing failed
 abbrev pub IsCutShort : CliFault → Type 0
 IsCutShort f = (f ≡ fault.Run run.Memory) ⊎ ((f ≡ fault.Memory) ⊎ (f ≡ fault.Write))
+
+-- the same of many workers: they met a fault, memory was wanting, or writing failed
+abbrev pub IsRunFault : CliFault → Type 0
+IsRunFault (fault.Run f) = Unit {0}
+IsRunFault fault.Memory = Unit {0}
+IsRunFault fault.Write = Unit {0}
+IsRunFault other = ⊥

@@ -4,3 +4,4 @@ pub mod Executed
 pub mod FaultTexts
 pub mod JobRefusals
 pub mod Status
+pub mod Workers

@@ -5,16 +5,22 @@ mod faults;
 mod inputs;
 mod runs;
 mod words;
+mod workers;
 
 pub use faults::CliFault;
 pub use inputs::{memory_or, read_text, read_trace};
-pub use runs::{execute_serial, print_check, print_plan, read_job};
+pub use runs::{execute, execute_serial, print_check, print_plan, read_job};
 pub use words::{Choice, answer_words, choose};
+pub use workers::workers_of;
 
 #[cfg(test)]
-mod desk_tests;
+mod crew_tests;
 #[cfg(test)]
 mod program_tests;
+#[cfg(test)]
+mod reply_tests;
+#[cfg(test)]
+mod run_tests;
 #[cfg(test)]
 mod tests;
 #[cfg(test)]

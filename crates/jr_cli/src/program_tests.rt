@@ -1,3 +1,4 @@
+use crate::tests::assert_said;
 use crate::{
     CliFault, answer_words, choose, execute_serial, print_check, print_plan, read_job, read_text,
     read_trace,
@@ -7,6 +8,7 @@ use jr_stats::TraceFault;
 use std::alloc::Global;
 use std::io;
 use std::io::{ErrorKind, Read, Write};
+use std::process::Abort;
 use std::test::Fail;
 
 // Gives some bytes, and then fails.
@@ -68,27 +70,41 @@ const LINE_OF_A: &str =
 const LINE_OF_B: &str =
     "b: clone=1 phase=0 file=b.0.0 start=0 size=32768 cell=16384 cells=2 rw=write iodepth=1 loops=1 verify=none\n";
 
-#[test]
-fn a_plan_is_printed_line_by_line(rt: HostRuntime) -> Result<(), Fail> {
-    let text = read_text(rt.alloc(), TWO.as_bytes())?;
-    let plan = read_job(rt.alloc(), text.as_slice(), None)?;
+// Is this the plan of the job text's jobs of that name?
+fn assert_planned(
+    rt: &(impl AllocGlobal + Abort),
+    text: &str,
+    only: Option<&str>,
+    want: &str,
+) -> Result<(), Fail> {
+    let text = read_text(rt.alloc(), text.as_bytes())?;
+    let plan = read_job(rt.alloc(), text.as_slice(), only)?;
     let mut out = Vec::new(rt.alloc());
     print_plan(rt.alloc(), &plan, &mut out)?;
-    let want = format!(in rt.alloc(); "{LINE_OF_A}{LINE_OF_B}")?;
     assert!(rt; out.as_slice() == want.as_bytes());
-    let plan = read_job(rt.alloc(), text.as_slice(), Some("a"))?;
-    out.clear();
-    print_plan(rt.alloc(), &plan, &mut out)?;
-    assert!(rt; out.as_slice() == LINE_OF_A.as_bytes());
-    assert_eq!(rt;
-        print_plan(rt.alloc(), &plan, &mut full()),
-        Err(CliFault::Write)
-    );
-    match read_job(rt.alloc(), text.as_slice(), Some("c")) {
-        Ok(_) => assert!(rt; false, "a plan of no job"),
-        Err(fault) => assert_eq!(rt; fault.status(), 2),
-    }
     Ok(())
+}
+
+#[test]
+fn a_plan_is_printed_line_by_line(rt: HostRuntime) -> Result<(), Fail> {
+    let both = format!(in rt.alloc(); "{LINE_OF_A}{LINE_OF_B}")?;
+    assert_planned(&rt, TWO, None, both.as_str())?;
+    assert_planned(&rt, TWO, Some("a"), LINE_OF_A)?;
+    Ok(())
+}
+
+#[test]
+fn a_plan_that_is_cut_is_no_plan(rt: HostRuntime) -> Result<(), Fail> {
+    let plan = read_job(rt.alloc(), TWO.as_bytes(), None)?;
+    let cut = print_plan(rt.alloc(), &plan, &mut full());
+    assert!(rt; cut == Err(CliFault::Write));
+    match read_job(rt.alloc(), TWO.as_bytes(), Some("c")) {
+        Ok(_) => Err(Fail::from("a plan of no job")),
+        Err(fault) => {
+            assert!(rt; fault.status() == 2);
+            Ok(())
+        }
+    }
 }
 
 #[test]
@@ -99,30 +115,32 @@ fn a_text_is_read_up_to_its_limit(rt: HostRuntime) -> Result<(), Fail> {
     Ok(())
 }
 
+// Is the text unread, with these words?
+fn assert_unread(
+    rt: &(impl AllocGlobal + Abort),
+    read: Result<Vec<u8>, CliFault>,
+    text: &str,
+) -> Result<(), Fail> {
+    match read {
+        Ok(_) => Err(Fail::from("a text of half a file")),
+        Err(fault) => assert_said(rt, fault, 3, text),
+    }
+}
+
 #[test]
 fn what_fails_to_be_read_ends_with_3(rt: HostRuntime) -> Result<(), Fail> {
     for is_begun in [false, true] {
         let job = read_text(rt.alloc(), BrokenReader { is_begun });
+        assert_unread(&rt, job, "cannot read the job file")?;
         let events = read_trace(rt.alloc(), BrokenReader { is_begun });
-        for (read, text) in [
-            (job, "cannot read the job file"),
-            (events, "cannot read the trace"),
-        ] {
-            match read {
-                Ok(_) => assert!(rt; false, "a text of half a file"),
-                Err(fault) => {
-                    let said = format!(in rt.alloc(); "{fault}")?;
-                    assert_eq!(rt; (said.as_str(), fault.status()), (text, 3));
-                }
-            }
-        }
+        assert_unread(&rt, events, "cannot read the trace")?;
     }
     Ok(())
 }
 
 #[test]
 fn words_end_the_program_by_their_kind(rt: HostRuntime) -> Result<(), Fail> {
-    for (word, status) in [("--help", 0), ("--nosuch", 2), ("--workers=17", 2)] {
+    for (word, status) in [("--help", 0), ("--version", 0), ("--workers=17", 2)] {
         match choose(rt.alloc(), &["fiorun", word]) {
             Ok(_) => assert!(rt; false, "{word} is taken"),
             Err(error) => assert_eq!(rt; answer_words(&rt, &error), Ok(status), "{word}"),
@@ -139,25 +157,49 @@ const EVENTS: &str =
 const TOTALS: &str =
     "w: clone=0 reads=0 rbytes=0 writes=2 wbytes=8192 checks=2 good=2 bad=0 skipped=0 void=0 faults=0\n";
 
+// What a run of the plan writes to these, with its status.
+fn written<W: Write, V: Write>(
+    alloc: Global,
+    events: Option<&mut W>,
+    out: &mut V,
+) -> Result<u8, CliFault> {
+    let plan = read_job(alloc, CHECKED.as_bytes(), None)?;
+    let mut engine = MemoryEngine::new(alloc, &plan)?;
+    execute_serial(alloc, plan, &mut engine, events, out)
+}
+
 #[test]
-fn a_trace_is_written_and_checked(rt: HostRuntime) -> Result<(), Fail> {
-    let plan = read_job(rt.alloc(), CHECKED.as_bytes(), None)?;
-    let mut engine = MemoryEngine::new(rt.alloc(), &plan)?;
+fn a_trace_is_written(rt: HostRuntime) -> Result<(), Fail> {
     let mut events = Vec::new(rt.alloc());
     let mut out = Vec::new(rt.alloc());
-    let status = execute_serial(rt.alloc(), plan, &mut engine, Some(&mut events), &mut out)?;
-    assert_eq!(rt; status, 0);
+    let status = written(rt.alloc(), Some(&mut events), &mut out)?;
+    assert!(rt; status == 0);
     assert!(rt; out.as_slice() == TOTALS.as_bytes());
     assert!(rt; events.as_slice() == EVENTS.as_bytes());
-    let plan = read_job(rt.alloc(), CHECKED.as_bytes(), None)?;
-    out.clear();
-    print_check(rt.alloc(), &plan, events.as_slice(), &mut out)?;
+    Ok(())
+}
+
+#[test]
+fn a_trace_that_is_cut_is_no_trace(rt: HostRuntime) -> Result<(), Fail> {
+    let mut out = Vec::new(rt.alloc());
+    let cut = written(rt.alloc(), Some(&mut full()), &mut out);
+    assert!(rt; cut == Err(CliFault::Write));
+    Ok(())
+}
+
+// What the check of a trace of CHECKED writes.
+fn checked(alloc: Global, events: &str, out: &mut Vec<u8>) -> Result<(), CliFault> {
+    let plan = read_job(alloc, CHECKED.as_bytes(), None)?;
+    print_check(alloc, &plan, events.as_bytes(), out)
+}
+
+#[test]
+fn a_trace_is_checked(rt: HostRuntime) -> Result<(), Fail> {
+    let mut out = Vec::new(rt.alloc());
+    checked(rt.alloc(), EVENTS, &mut out)?;
     assert!(rt; out.as_slice() == TOTALS.as_bytes());
-    let refused = print_check(rt.alloc(), &plan, b"I 0 0 0 0 0\nQ\n", &mut out);
-    assert_eq!(rt; refused, Err(CliFault::Trace(TraceFault::Line(2))));
-    let mut engine = MemoryEngine::new(rt.alloc(), &plan)?;
-    let cut = execute_serial(rt.alloc(), plan, &mut engine, Some(&mut full()), &mut out);
-    assert_eq!(rt; cut, Err(CliFault::Write));
+    let refused = checked(rt.alloc(), "I 0 0 0 0 0\nQ\n", &mut out);
+    assert!(rt; refused == Err(CliFault::Trace(TraceFault::Line(2))));
     Ok(())
 }
 
@@ -173,25 +215,24 @@ const UNKNOWN: &str =
 const UNENDED: &str =
     "I 0 0 0 0 0\nE 0 0 whole\nI 0 1 0 0 1\nE 0 1 whole\nP 0 2 0 0 0\nE 0 2 whole\nV 0 2 good\nP 0 3 0 0 1\nE 0 3 whole\n";
 
+// Is the trace refused with these words, and nothing printed?
+fn assert_refused(rt: &(impl AllocGlobal + Abort), events: &str, text: &str) -> Result<(), Fail> {
+    let mut out = Vec::new(rt.alloc());
+    match checked(rt.alloc(), events, &mut out) {
+        Ok(()) => Err(Fail::from("a refused trace is accepted")),
+        Err(fault) => {
+            assert!(rt; out.is_empty());
+            assert_said(rt, fault, 2, text)
+        }
+    }
+}
+
 #[test]
 fn refused_traces_have_their_text_and_status(rt: HostRuntime) -> Result<(), Fail> {
-    let plan = read_job(rt.alloc(), CHECKED.as_bytes(), None)?;
-    for (events, text) in [
-        (EXCHANGED, "trace: line 1: not legal here"),
-        (UNKNOWN, "trace: line 3: not a trace line"),
-        (UNENDED, "trace: not complete"),
-        ("", "trace: not complete"),
-    ] {
-        let mut out = Vec::new(rt.alloc());
-        match print_check(rt.alloc(), &plan, events.as_bytes(), &mut out) {
-            Ok(()) => assert!(rt; false, "accepted: {events}"),
-            Err(fault) => {
-                let said = format!(in rt.alloc(); "{fault}")?;
-                assert_eq!(rt; (said.as_str(), fault.status()), (text, 2));
-            }
-        }
-        assert_eq!(rt; out.len(), 0);
-    }
+    assert_refused(&rt, EXCHANGED, "trace: line 1: not legal here")?;
+    assert_refused(&rt, UNKNOWN, "trace: line 3: not a trace line")?;
+    assert_refused(&rt, UNENDED, "trace: not complete")?;
+    assert_refused(&rt, "", "trace: not complete")?;
     Ok(())
 }
 
@@ -222,25 +263,18 @@ fn a_round_of_checks_follows_each_third_write(rt: HostRuntime) -> Result<(), Fai
     Ok(())
 }
 
+// How a run ends whose report goes to such a writer.
+fn ended_over(alloc: Global, room: usize, flushes: bool) -> Result<u8, CliFault> {
+    let mut out = FaultyWriter { room, flushes };
+    written(alloc, None::<&mut Vec<u8>>, &mut out)
+}
+
 #[test]
 fn a_report_that_is_cut_is_no_report(rt: HostRuntime) -> Result<(), Fail> {
-    for (room, flushes, want) in [
-        (0, true, Err(CliFault::Write)),
-        (TOTALS.len() - 1, true, Err(CliFault::Write)),
-        (TOTALS.len(), false, Err(CliFault::Write)),
-        (TOTALS.len(), true, Ok(0)),
-    ] {
-        let plan = read_job(rt.alloc(), CHECKED.as_bytes(), None)?;
-        let mut engine = MemoryEngine::new(rt.alloc(), &plan)?;
-        let mut out = FaultyWriter { room, flushes };
-        let ended = execute_serial(
-            rt.alloc(),
-            plan,
-            &mut engine,
-            None::<&mut Vec<u8>>,
-            &mut out,
-        );
-        assert_eq!(rt; ended, want, "room for {room}, flushes: {flushes}");
-    }
+    let whole = TOTALS.len();
+    assert!(rt; ended_over(rt.alloc(), 0, true) == Err(CliFault::Write));
+    assert!(rt; ended_over(rt.alloc(), whole - 1, true) == Err(CliFault::Write));
+    assert!(rt; ended_over(rt.alloc(), whole, false) == Err(CliFault::Write));
+    assert!(rt; ended_over(rt.alloc(), whole, true) == Ok(0));
     Ok(())
 }

@@ -1,4 +1,4 @@
-ghost use Rattle.std.specs.Prelude.{◌≡◌, ◌⊎◌, ◌≤◌, ◌^◌, IfOk, IfErr, IfSome, IsOkAnd, OnOk};
+ghost use Rattle.std.specs.Prelude.{◌≡◌, ◌⊎◌, ◌≤◌, ◌^◌, [], map, Err, IfOk, IfErr, IfSome, IsOkAnd, OnOk};
 ghost use Rattle.std.specs.List.{list_any};
 ghost use Rattle.std.specs.Option.{option_copied};
 ghost use Rattle.std.specs.Io.KnownBytes.{Appends};
@@ -6,7 +6,7 @@ ghost use Rattle.jr_model.specs.Report.{report_of, totals_lines};
 ghost use Rattle.jr_model.specs.Serial.{serial_history};
 ghost use Rattle.jr_crew.specs.Runs.{IsFresh};
 ghost use Rattle.jr_cli.specs.Checked.{IsCheckFault};
-ghost use Rattle.jr_cli.specs.Executed.{HasRun, IsCutShort, IsReported, IsTraced};
+ghost use Rattle.jr_cli.specs.Executed.{HasRun, HasCrewRun, IsCutShort, IsQuietlyReported, IsReported, IsRunFault, IsTraced};
 ghost use Rattle.jr_plan.specs.PlanText.{plan_text};
 ghost use Rattle.jr_stats.specs.TraceChecks.{check_of};
 ghost use Rattle.jr_stats.specs.Traces.{trace_of};
@@ -15,7 +15,7 @@ ghost use Rattle.jr_cli.specs.Status.{status_of, is_unclean};
 
 use crate::faults::CliFault;
 use jr_board::Desk;
-use jr_crew::run_serial;
+use jr_crew::{RunFault, run, run_serial};
 use jr_engines::Engine;
 use jr_model::Totals;
 use jr_options::{Plan, plan, plan_text};
@@ -23,6 +23,8 @@ use jr_stats::{check_trace, report, totals_text, trace};
 use jr_text::sections;
 use std::alloc::Global;
 use std::io::Write;
+use std::sync::Wait;
+use std::thread::Threads;
 
 /// The plan of a job text: of all its jobs, or of those of one name.
 pub fn read_job(alloc: Global, text: &[u8], only: Option<&str>) -> Result<Plan, CliFault>
@@ -59,22 +61,58 @@ pub fn execute_serial<W: Write, V: Write>(
         IsReported plan (serial_history plan) (V.contents out.old) (V.contents out.new) status
         × IsTraced W.contents events.entry events.exit (serial_history plan)) }
     ensures clean { IsFresh plan (state engine.old) → IfOk result (λ status. status ≡ 0) }
+    ensures quiet { IfOk result (IsQuietlyReported plan (V.contents out.old) (V.contents out.new)) }
     ensures failed { IfErr result IsCutShort }
 {
+    // Its contract says what holds of every plan.
+    plan.facts();
     let desk = run_serial(alloc, plan, engine)?;
-    print_report(alloc, &desk, out)?;
+    let status = print_report(alloc, &desk, out)?;
     if let Some(events) = events {
         print_trace(alloc, &desk, events)?;
     }
-    Ok(status_of(desk.totals()))
+    Ok(status)
 }
 
-fn print_report<V: Write>(alloc: Global, desk: &Desk, out: &mut V) -> Result<(), CliFault>
-    ensures printed { OnOk result (Appends (V.contents out.old) (V.contents out.new) (report_of desk.now.plan desk.now.history)) }
+/// Runs a plan with one worker an engine, all at once, writes the report and then the trace where one is asked for, and gives
+/// the exit status, as `execute_serial` does.
+pub fn execute<R: Threads + Wait + Sync, W: Write, V: Write>(
+    rt: &R,
+    alloc: Global,
+    plan: Plan,
+    engines: Vec<Box<dyn Engine + Send>>,
+    events: Option<&mut W>,
+    out: &mut V,
+) -> Result<u8, CliFault>
+    // The report, the trace and the status are those of one run of these engines.
+    ensures run { IfOk result (λ status. HasCrewRun plan (map (λ engine. state engine) engines.items) (λ history.
+        IsReported plan history (V.contents out.old) (V.contents out.new) status
+        × IsTraced W.contents events.entry events.exit history)) }
+
+    // So the report is the same for every schedule, where the clones have files of their own and nothing goes wrong.
+    ensures quiet { IfOk result (IsQuietlyReported plan (V.contents out.old) (V.contents out.new)) }
+    ensures none { engines.items ≡ [] → result ≡ Err (CliFault.Run RunFault.NoEngine) }
+    ensures no_engine { IfErr result (λ fault. fault ≡ CliFault.Run RunFault.NoEngine → engines.items ≡ []) }
+    ensures failed { IfErr result IsRunFault }
+{
+    // Its contract says what holds of every plan.
+    plan.facts();
+    let ran = run(rt, alloc, plan, engines)?;
+    let status = print_report(alloc, &ran.desk, out)?;
+    if let Some(events) = events {
+        print_trace(alloc, &ran.desk, events)?;
+    }
+    Ok(status)
+}
+
+// Prints the report of the desk's history, and gives the exit status.
+fn print_report<V: Write>(alloc: Global, desk: &Desk, out: &mut V) -> Result<u8, CliFault>
+    ensures reported { IfOk result (IsReported desk.now.plan desk.now.history (V.contents out.old) (V.contents out.new)) }
     ensures failed { IfErr result IsCutShort }
 {
     let text = report(alloc, desk)?;
-    write_out(text.as_slice(), out)
+    write_out(text.as_slice(), out)?;
+    Ok(status_of(desk.totals()))
 }
 
 fn print_trace<W: Write>(alloc: Global, desk: &Desk, events: &mut W) -> Result<(), CliFault>

@@ -18,6 +18,9 @@ use clap::{Arg, ArgAction, Command, Error, value_parser};
 use std::alloc::{AllocError, Global};
 use std::convert::AsStr;
 
+// The program's version, and the line of the kit that it is proved and built with.
+const VERSION: &str = "0.1.0\nrattle-kit-13b logic dac8208d650f15bf";
+
 /// What the words of the command line ask for.
 #[derive(Clone, Copy, Debug, PartialEq, Eq)]
 pub struct Choice<'a> {
@@ -35,8 +38,8 @@ pub struct Choice<'a> {
     pub check_trace: Option<&'a str>,
 }
 
-/// Reads the words of the command line, of which the first is the program's name. Help is asked for
-/// by an error too, which says so.
+/// Reads the words of the command line, of which the first is the program's name. Help and the version are
+/// asked for by an error too, which says so.
 pub fn choose<'a, S: AsStr>(alloc: Global, words: &'a [S]) -> Result<Choice<'a>, Error>
     ensures fields { IfOk result (λ choice. IsChoiceOf choice (matches_of command_line (map S.text words.entry.now))) }
     ensures workers { IfOk result (λ choice. IfSome choice.workers (λ n. (1 ≤ n) × (n ≤ 16))) }
@@ -55,8 +58,8 @@ pub fn choose<'a, S: AsStr>(alloc: Global, words: &'a [S]) -> Result<Choice<'a>,
     })
 }
 
-/// Prints what clap says of words that it refused, or the help that they ask for, and gives the exit
-/// status.
+/// Prints what clap says of words that it refused, or the help or version that they ask for, and gives the
+/// exit status.
 pub fn answer_words<R: Print + Eprint>(rt: &R, error: &Error) -> Result<u8, CliFault>
     ensures refused { status_of_words (kind_of error.now) ≡ 2 → result ≡ Ok 2 }
     ensures help { status_of_words (kind_of error.now) ≡ 0 → (result ≡ Ok 0) ⊎ (result ≡ Err CliFault.Write) }
@@ -79,6 +82,7 @@ fn command<'a>(alloc: Global) -> Result<Command<'a>, AllocError>
     ensures { IfOk result (λ command. app_of command ≡ command_line) }
 {
     Command::new(alloc, "fiorun")
+        .version(VERSION)
         .about("Runs a fio job file and checks what was written.")
         .arg(job_arg(alloc))?
         .arg(section_arg(alloc))?

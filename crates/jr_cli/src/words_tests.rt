@@ -1,5 +1,7 @@
 use crate::{Choice, choose};
 use clap::error::ErrorKind;
+use std::alloc::Global;
+use std::process::Abort;
 use std::test::Fail;
 
 const NOTHING: Choice<'static> = Choice {
@@ -13,78 +15,112 @@ const NOTHING: Choice<'static> = Choice {
 
 #[test]
 fn each_word_goes_to_its_field(rt: HostRuntime) -> Result<(), Fail> {
-    let choice = choose(rt.alloc(), &["fiorun"])?;
-    assert_eq!(rt; choice, NOTHING);
-    let choice = choose(
-        rt.alloc(),
-        &[
-            "fiorun",
-            "--workers=16",
-            "disk.fio",
-            "--parse-only",
-            "--section=w",
-            "--trace=t",
-            "--check-trace=c",
-        ],
-    )?;
-    assert_eq!(rt; choice.job, Some("disk.fio"));
-    assert_eq!(rt; choice.section, Some("w"));
-    assert!(rt; choice.parse_only);
-    assert_eq!(rt; choice.workers, Some(16));
-    assert_eq!(rt; choice.trace, Some("t"));
-    assert_eq!(rt; choice.check_trace, Some("c"));
-    let choice = choose(rt.alloc(), &["fiorun", "--workers", "1", "--section", ""])?;
-    assert_eq!(rt;
-        choice,
-        Choice {
-            section: Some(""),
-            workers: Some(1),
-            ..NOTHING
-        }
-    );
+    let words = [
+        "fiorun",
+        "--workers=16",
+        "disk.fio",
+        "--parse-only",
+        "--section=w",
+        "--trace=t",
+        "--check-trace=c",
+    ];
+    let want = Choice {
+        job: Some("disk.fio"),
+        section: Some("w"),
+        parse_only: true,
+        workers: Some(16),
+        trace: Some("t"),
+        check_trace: Some("c"),
+    };
+    let choice = choose(rt.alloc(), &words)?;
+    assert!(rt; choice == want);
     Ok(())
 }
 
 #[test]
-fn words_are_refused_by_their_kind(rt: HostRuntime) -> Result<(), Fail> {
-    for (word, kind) in [
-        ("--nosuch", ErrorKind::UnknownArgument),
-        ("--workers=0", ErrorKind::ValueValidation),
-        ("--workers=17", ErrorKind::ValueValidation),
-        ("--workers=-1", ErrorKind::ValueValidation),
-        ("--workers=two", ErrorKind::ValueValidation),
-        ("--workers", ErrorKind::InvalidValue),
-        ("--parse-only=1", ErrorKind::TooManyValues),
-        ("--help", ErrorKind::DisplayHelp),
-    ] {
-        match choose(rt.alloc(), &["fiorun", word]) {
-            Ok(_) => assert!(rt; false, "{word} is taken"),
-            Err(error) => {
-                assert_eq!(rt; error.kind(), kind, "{word}");
-                assert_eq!(rt; error.use_stderr(), kind != ErrorKind::DisplayHelp);
-            }
+fn words_may_be_left_out(rt: HostRuntime) -> Result<(), Fail> {
+    let choice = choose(rt.alloc(), &["fiorun"])?;
+    assert!(rt; choice == NOTHING);
+    let words = ["fiorun", "--workers", "1", "--section", ""];
+    let want = Choice {
+        section: Some(""),
+        workers: Some(1),
+        ..NOTHING
+    };
+    let choice = choose(rt.alloc(), &words)?;
+    assert!(rt; choice == want);
+    Ok(())
+}
+
+// Is the word refused by this kind of error?
+fn assert_refused(
+    rt: &(impl AllocGlobal + Abort),
+    word: &str,
+    kind: ErrorKind,
+) -> Result<(), Fail> {
+    match choose(rt.alloc(), &["fiorun", word]) {
+        Ok(_) => Err(Fail::from("a refused word is taken")),
+        Err(error) => {
+            assert!(rt; error.kind() == kind, "{word}");
+            Ok(())
         }
+    }
+}
+
+#[test]
+fn workers_are_1_to_16(rt: HostRuntime) -> Result<(), Fail> {
+    for word in [
+        "--workers=0",
+        "--workers=17",
+        "--workers=-1",
+        "--workers=two",
+    ] {
+        assert_refused(&rt, word, ErrorKind::ValueValidation)?;
     }
     Ok(())
 }
 
 #[test]
+fn words_are_refused_by_their_kind(rt: HostRuntime) -> Result<(), Fail> {
+    assert_refused(&rt, "--nosuch", ErrorKind::UnknownArgument)?;
+    assert_refused(&rt, "--workers", ErrorKind::InvalidValue)?;
+    assert_refused(&rt, "--parse-only=1", ErrorKind::TooManyValues)?;
+    assert_refused(&rt, "--help", ErrorKind::DisplayHelp)?;
+    assert_refused(&rt, "--version", ErrorKind::DisplayVersion)?;
+    Ok(())
+}
+
+// What is printed for a word in place of a run.
+fn answer_to(alloc: Global, word: &str) -> Result<String, Fail> {
+    match choose(alloc, &["/usr/bin/fiorun", word]) {
+        Ok(_) => Err(Fail::from("an answer is a choice")),
+        Err(error) => Ok(format!(in alloc; "{error}")?),
+    }
+}
+
+#[test]
+fn the_version_names_the_kit(rt: HostRuntime) -> Result<(), Fail> {
+    let version = answer_to(rt.alloc(), "--version")?;
+    assert!(rt;
+        version.as_str() == "fiorun 0.1.0\nrattle-kit-13b logic dac8208d650f15bf\n",
+        "{version}"
+    );
+    Ok(())
+}
+
+#[test]
 fn help_names_each_argument(rt: HostRuntime) -> Result<(), Fail> {
-    match choose(rt.alloc(), &["/usr/bin/fiorun", "--help"]) {
-        Ok(_) => assert!(rt; false, "help is a choice"),
-        Err(error) => {
-            let help = format!(in rt.alloc(); "{error}")?;
-            for part in [
-                "Usage: fiorun [OPTIONS] [JOBFILE]",
-                "--section <NAME>",
-                "--parse-only",
-                "--workers <N>",
-                "--trace <FILE>",
-                "--check-trace <FILE>",
-            ] {
-                assert!(rt; help.contains(part), "{part}");
-            }
-        }
+    let help = answer_to(rt.alloc(), "--help")?;
+    for part in [
+        "Usage: fiorun [OPTIONS] [JOBFILE]",
+        "--section <NAME>",
+        "--parse-only",
+        "--workers <N>",
+        "--trace <FILE>",
+        "--check-trace <FILE>",
+        "--version",
+    ] {
+        assert!(rt; help.contains(part), "{part}");
     }
     Ok(())
 }

@@ -2,13 +2,14 @@ use Rattle.std.proofs.Common.{◌∙◌, ap, ap₂}
 use Rattle.std.proofs.lemmas.Result.{IfOk-weaker}
 use Rattle.clap.specs.Words.{with_rule}
 use Rattle.clap.specs.Simple.{app_of_fields}
-use Rattle.jr_cli.specs.CommandLine.{command_line}
+use Rattle.jr_cli.specs.CommandLine.{command_line, with_version}
 use Rattle.jr_cli.proofs.words.command.Goals as goal
 
 pub returns : goal.returns
 unfolding command_line
 returns c =
-    let named = ap app_of_fields c.about.ensures ∙ c.new.ensures.app in
+    let versioned = ap app_of_fields c.version.ensures ∙ ap with_version c.new.ensures.app in
+    let named = ap app_of_fields c.about.ensures ∙ versioned in
     let with_job = c.in_ok-arg.ensures.shape c.job_arg.ensures.local ∙ ap₂ with_rule named c.job_arg.ensures.rule in
     let with_section = c.in_ok-arg-2.ensures.shape c.section_arg.ensures.local ∙ ap₂ with_rule with_job c.section_arg.ensures.rule in
     let with_flag = c.in_ok-arg-3.ensures.shape c.parse_only_arg.ensures.local ∙ ap₂ with_rule with_section c.parse_only_arg.ensures.rule in
