@@ -489,6 +489,9 @@ impl Drill {
         assert_unchanged(rt, &self.desk, &before);
         for served in &self.ended {
             assert_eq!(rt; self.desk.end(served), Err(DeskFault::Stopped));
+            if served.to_judge() {
+                assert_eq!(rt; self.desk.judge(1, &rule(served)), Err(DeskFault::Stopped));
+            }
         }
         assert_unchanged(rt, &self.desk, &before);
         Ok(())
