@@ -14,15 +14,10 @@ use Rattle.std.proofs.lemmas.Bool.{and_parts, eqb-true}
 use Rattle.std.proofs.lemmas.Bool.Decides.{nat_tests}
 use Rattle.std.proofs.lemmas.Cmp.{nat_cmp_total, on_total, then_total}
 use Rattle.jr_model.specs.declared.events.WriteId.{WriteId}
-use Rattle.jr_model.specs.History.{same_write}
-use Rattle.jr_backlog.specs.Rounds.{Round, write_order, is_before, is_due, IsInOrder, new_round, is_closed, filling, comes_last, next_to_check_after, with_written}
+use Rattle.jr_model.specs.History.{same_write, write_order}
+use Rattle.jr_model.proofs.Equality.{write_order_total}
+use Rattle.jr_backlog.specs.Rounds.{Round, is_before, is_due, IsInOrder, new_round, is_closed, filling, comes_last, next_to_check_after, with_written}
 use Rattle.jr_backlog.proofs.OrderedKeys as keys
-
--- the order of writes is a total order
-pub write_order_total : IsTotalOrder write_order
-write_order_total =
-    then_total (on_total (λ (w : WriteId). w.clone) nat_cmp_total)
-    (then_total (on_total (λ (w : WriteId). w.pass) nat_cmp_total) (on_total (λ (w : WriteId). w.number) nat_cmp_total))
 
 -- two parts of a name tie where both do
 is_eq-then : (o p : Ordering) → is_eq (ordering_then o p) ≡ (is_eq o && is_eq p)

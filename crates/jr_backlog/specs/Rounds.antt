@@ -3,10 +3,10 @@
 use Rattle.std.specs.Prelude.{ℕ, ◌+◌, ◌==◌, nat_lt, min, Bool, false, true, not, ◌&&◌, ◌||◌, List, [], ◌∷◌, ◌++◌, length, filter, find, slice_get, Option, None, if◌then◌else◌}
 use Rattle.std.specs.List.{list_all, list_any}
 use Rattle.std.specs.List.Sorted.{IsStrictlySortedBy}
-use Rattle.std.specs.Ordering.{is_lt, nat_cmp, ordering_then}
+use Rattle.std.specs.Ordering.{is_lt}
 use Rattle.std.specs.declared.cmp.Ordering.{Ordering}
 use Rattle.jr_model.specs.declared.events.WriteId.{WriteId}
-use Rattle.jr_model.specs.History.{same_write}
+use Rattle.jr_model.specs.History.{same_write, write_order}
 
 -- a round as it stands
 pub record Round : Type 0 where
@@ -18,11 +18,6 @@ pub record Round : Type 0 where
   pub exhausted : Bool
   -- the writes of the round that weren't passed yet, in order
   pub to_check : List WriteId
-
--- writes are in the order of their clone, then of their pass, then of their number
-abbrev pub write_order : WriteId → WriteId → Ordering
-write_order a b =
-    ordering_then (nat_cmp a.clone b.clone) (ordering_then (nat_cmp a.pass b.pass) (nat_cmp a.number b.number))
 
 abbrev pub is_before : WriteId → WriteId → Bool
 is_before a b = is_lt (write_order a b)

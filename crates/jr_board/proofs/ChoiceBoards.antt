@@ -13,15 +13,15 @@ use Rattle.jr_model.specs.declared.events.WriteId.{WriteId}
 use Rattle.jr_model.specs.declared.tickets.Ticket.{Ticket}
 use Rattle.jr_model.specs.declared.workloads.Draw.{Draw}
 use Rattle.jr_model.specs.Draws.{draws_of_job}
-use Rattle.jr_model.specs.History.{started, first_given, same_write}
+use Rattle.jr_model.specs.History.{started, first_given, same_write, write_order}
 use Rattle.jr_model.specs.LastWrite.{is_intact}
 use Rattle.jr_model.specs.Legal.{is_halted, takes_up}
 use Rattle.jr_model.specs.Plan.{Plan, SubJob, clone_of}
 use Rattle.jr_model.specs.Rounds.{has_rounds}
 use Rattle.jr_model.specs.Tickets.{piece_fits}
-use Rattle.jr_backlog.specs.Rounds.{Round, is_before, is_due, write_order, IsInOrder, next_to_check, next_to_check_after}
+use Rattle.jr_model.proofs.Equality.{write_order_total}
+use Rattle.jr_backlog.specs.Rounds.{Round, is_before, is_due, IsInOrder, next_to_check, next_to_check_after}
 use Rattle.jr_backlog.specs.CurrentRound.{current_round}
-use Rattle.jr_backlog.proofs.RoundFacts.{write_order_total}
 use Rattle.jr_standing.specs.Deferred.{Deferred, is_settled, round_now}
 use Rattle.jr_writes.specs.declared.logs.Logged.{Logged}
 use Rattle.jr_writes.specs.LoggedWrites.{logged}

@@ -15,9 +15,9 @@ use Rattle.jr_model.specs.Legal.{is_halted, has_room, is_clear, phase_is_open, t
 use Rattle.jr_model.specs.Plan.{Plan, SubJob}
 use Rattle.jr_model.specs.Rounds.{pass_of, write_id, is_write_draw, issued_count, has_rounds, no_issue_flies, pass_finished}
 use Rattle.jr_model.specs.Rounds.{group_of, group_index}
+use Rattle.jr_model.proofs.Equality.{eq_write}
 use Rattle.jr_backlog.specs.CurrentRound.{current_round, round_up_to, is_left, last_issued}
 use Rattle.jr_steps.proofs.PlaceLemmas.{any_found, got_made, got_filtered}
-use Rattle.jr_steps.proofs.StepLaws.{eq_write}
 use Rattle.jr_steps.proofs.CountSteps.{number_of_draw}
 use Rattle.jr_quiet.proofs.Issues.{all_at}
 use Rattle.jr_round_laws.specs.Rounds.{HasRound}

@@ -21,11 +21,12 @@ use Rattle.jr_model.specs.Plan.{Plan, SubJob, clone_of}
 use Rattle.jr_model.specs.Rounds.{pass_of, write_id, is_write_draw, issued_count, has_rounds, group_index, is_full, is_settled, is_probe_of, settles}
 use Rattle.jr_model.proofs.LegalLaws.{is_legal-more, same_write_refl}
 use Rattle.jr_model.proofs.SerialLaws.{first_given-append}
+use Rattle.jr_model.proofs.Equality.{eq_write}
 use Rattle.jr_plan.specs.PlanFacts.{IsPlanned}
 use Rattle.jr_steps.proofs.IdleLaws.{numbered_of}
 use Rattle.jr_steps.proofs.OnceLaws.{is_taken_up, started_once-law}
 use Rattle.jr_steps.proofs.StartedLemmas.{by_events, same_some, started-other, started_stays}
-use Rattle.jr_steps.proofs.StepLaws.{eq_write, may_probe_of, may_skip_of}
+use Rattle.jr_steps.proofs.StepLaws.{may_probe_of, may_skip_of}
 use Rattle.jr_quiet.proofs.Checks.{settled_taken}
 use Rattle.jr_quiet.proofs.Groups.{number_is}
 use Rattle.jr_quiet.proofs.Members.{in_own_group, full_issued}

@@ -10,7 +10,6 @@ mod flying;
 mod handed;
 mod launches;
 mod resting;
-mod sameness;
 mod standings;
 mod starting;
 mod takes;
@@ -20,7 +19,6 @@ mod written;
 
 pub use desk::Desk;
 pub use jr_model::{DeskFault, Totals};
-pub use sameness::is_same;
 pub use takes::Take;
 pub use tallies::Bad;
 

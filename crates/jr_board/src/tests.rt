@@ -1,8 +1,8 @@
-use crate::{Bad, Desk, Take, is_same};
+use crate::{Bad, Desk, Take};
 use jr_engines::{Engine, NullEngine};
 use jr_header::{Served, rule, serve};
 use jr_model::{
-    EngineKind, IoType, Method, Pattern, Piece, Ticket, Totals, VerifyKind, What, WriteId,
+    EngineKind, IoType, Method, Pattern, Piece, Ticket, Totals, VerifyKind, What, WriteId, is_same,
 };
 use jr_plan::{Draft, Plan, Workload};
 use std::alloc::Global;

@@ -8,8 +8,8 @@ ghost use Rattle.jr_crew.specs.Books.{verdict_by, verdict_in, done_by, done_with
 
 use crate::books::Done;
 use crate::halts::Halt;
-use jr_board::{Desk, is_same};
-use jr_model::{Event, Memory, Outcome, Verdict};
+use jr_board::Desk;
+use jr_model::{Event, Memory, Outcome, Verdict, is_same};
 use std::alloc::Global;
 
 // The verdict on each check, at its number.

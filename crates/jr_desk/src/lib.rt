@@ -5,8 +5,8 @@
 mod plays;
 mod scripted;
 
-pub use jr_board::{Bad, Desk, Take, is_same};
-pub use jr_model::{DeskFault, Step, StepReply, Totals};
+pub use jr_board::{Bad, Desk, Take};
+pub use jr_model::{DeskFault, Step, StepReply, Totals, is_same};
 pub use plays::{Played, play};
 
 #[cfg(test)]

@@ -23,8 +23,9 @@ use Rattle.jr_model.specs.Plan.{Plan}
 use Rattle.jr_model.specs.Rounds.{is_write_draw}
 use Rattle.jr_model.proofs.LegalLaws.{is_legal-more, same_write_refl}
 use Rattle.jr_model.proofs.SerialLaws.{EndsWereStarted, first_given-append, ends-more}
+use Rattle.jr_model.proofs.Equality.{eq_write}
 use Rattle.jr_plan.specs.PlanFacts.{IsPlanned}
-use Rattle.jr_laws.proofs.Starts.{some_same, same_write-eq, checkable, issuable, clear_of, probe_event, draw_started}
+use Rattle.jr_laws.proofs.Starts.{some_same, checkable, issuable, clear_of, probe_event, draw_started}
 use Rattle.jr_laws.proofs.Contents.{IsWholeBlocks, block_of, covers_from, lies_in_file}
 
 -- what holds at first, and after each event that may happen where it held before, holds after each legal history
@@ -131,7 +132,7 @@ range_all p a (suc n) k all low below =
 
 this_write : (write : WriteId) (last : Option WriteId) → is_this_write write last ≡ true → last ≡ Some write
 this_write write None h = absurd (false≢true h)
-this_write write (Some other) h = ap Some (same_write-eq other write h)
+this_write write (Some other) h = ap Some (eq_write other write h)
 
 -- an intact write is the last one of each block of its piece
 pub intact_block : (history : List Event) (write : WriteId) (piece : Piece) (block : ℕ) → IsWholeBlocks piece → is_intact history write piece ≡ true → covers_block piece piece.file block ≡ true → last_write history piece.file block ≡ Some write

@@ -20,6 +20,7 @@ use Rattle.jr_model.specs.LastWrite.{is_intact}
 use Rattle.jr_model.specs.Legal.{may_happen, may_take_up, may_issue, legal_after, is_legal, is_clear, conflicts, step_of, step_of_draw, step_of_clone, same_dir, is_this_issue, is_this_probe, takes_up, is_halted, has_room, phase_is_open}
 use Rattle.jr_model.specs.Plan.{Plan, SubJob, clone_of}
 use Rattle.jr_model.specs.Rounds.{Pass, pass_of, write_id, is_write_draw, issued_count, has_rounds, group_index, is_open, waits_for_round, is_current}
+use Rattle.jr_model.proofs.Equality.{eq_piece, eq_write, eq_dir}
 
 -- induction over legal histories
 
@@ -118,31 +119,6 @@ starts_at (Verdict worker id verdict ∷ history) (suc io) s h =
 
 -- the draw of the plan that an event names
 
-pub same_write-eq : (a b : WriteId) → same_write a b ≡ true → a ≡ b
-same_write-eq a b h =
-    let parts = and_parts ((a.clone == b.clone) && (a.pass == b.pass)) (a.number == b.number) h in
-    let more = and_parts (a.clone == b.clone) (a.pass == b.pass) parts.0 in
-    let clone : a.clone ≡ b.clone = eqb-true a.clone b.clone more.0 in
-    let pass : a.pass ≡ b.pass = eqb-true a.pass b.pass more.1 in
-    let number : a.number ≡ b.number = eqb-true a.number b.number parts.1 in
-    let made : ℕ → ℕ → ℕ → WriteId = λ c p n. record { clone = c; pass = p; number = n } in
-    ap (λ (c : ℕ). made c a.pass a.number) clone ∙ ap (λ (p : ℕ). made b.clone p a.number) pass ∙ ap (made b.clone b.pass) number
-
-pub same_piece-eq : (a b : Piece) → same_piece a b ≡ true → a ≡ b
-same_piece-eq a b h =
-    let parts = and_parts ((a.file == b.file) && (a.offset == b.offset)) (a.len == b.len) h in
-    let more = and_parts (a.file == b.file) (a.offset == b.offset) parts.0 in
-    let file : a.file ≡ b.file = eqb-true a.file b.file more.0 in
-    let offset : a.offset ≡ b.offset = eqb-true a.offset b.offset more.1 in
-    let len : a.len ≡ b.len = eqb-true a.len b.len parts.1 in
-    let made : ℕ → ℕ → ℕ → Piece = λ f o n. record { file = f; offset = o; len = n } in
-    ap (λ (f : ℕ). made f a.offset a.len) file ∙ ap (λ (o : ℕ). made b.file o a.len) offset ∙ ap (made b.file b.offset) len
-
-pub same_dir-eq : (a b : Dir) → same_dir a b ≡ true → a ≡ b
-same_dir-eq Read Read h = refl
-same_dir-eq Write Write h = refl
-same_dir-eq Read Write h = cc
-same_dir-eq Write Read h = cc
 
 -- draw k of a pass of this clone, over this piece
 pub record IsDrawOf (plan : Plan) (write : WriteId) (piece : Piece) (job : SubJob) (draw : Draw) : Type 0 where
@@ -181,7 +157,7 @@ found_step plan before worker write test none (Some job) h =
 checked : (write : WriteId) (piece : Piece) (a b c : Bool) (w : WriteId) (p : Piece) (worker : ℕ) (dir : Dir) → is_this_probe write piece (cond a (Some (cond b (Probe worker w p) (Skip worker w))) (cond c (Some (Issue worker dir w p)) None)) ≡ true → (a ≡ true) × (b ≡ true) × (w ≡ write) × (p ≡ piece)
 checked write piece true true c w p worker dir h =
     let parts = and_parts (same_write w write) (same_piece p piece) h in
-    (refl, refl, same_write-eq w write parts.0, same_piece-eq p piece parts.1)
+    (refl, refl, eq_write w write parts.0, eq_piece p piece parts.1)
 checked write piece true false c w p worker dir h = cc
 checked write piece false b true w p worker dir h = cc
 checked write piece false b false w p worker dir h = cc
@@ -193,7 +169,7 @@ issued dir write piece true false c w p worker d h = cc
 issued dir write piece false b true w p worker d h =
     let parts = and_parts (same_dir d dir && same_write w write) (same_piece p piece) h in
     let more = and_parts (same_dir d dir) (same_write w write) parts.0 in
-    (refl, same_dir-eq d dir more.0, same_write-eq w write more.1, same_piece-eq p piece parts.1)
+    (refl, eq_dir d dir more.0, eq_write w write more.1, eq_piece p piece parts.1)
 issued dir write piece false b false w p worker d h = cc
 
 pub checkable : (plan : Plan) (before : List Event) (worker : ℕ) (write : WriteId) (piece : Piece) → may_happen plan before (Probe worker write piece) ≡ true → IsCheckable plan before write piece

@@ -19,6 +19,7 @@ use Rattle.jr_model.specs.Legal.{is_legal, may_happen}
 use Rattle.jr_model.specs.Pieces.{pieces_overlap}
 use Rattle.jr_model.specs.Plan.{Plan}
 use Rattle.jr_model.proofs.LegalLaws.{is_legal-more, same_write_refl}
+use Rattle.jr_model.proofs.Equality.{eq_write}
 use Rattle.jr_plan.specs.PlanFacts.{IsPlanned}
 use Rattle.jr_writes.specs.declared.logs.Logged.{Logged}
 use Rattle.jr_writes.specs.LoggedWrites.{if_apart, lies_apart, logged}
@@ -29,7 +30,6 @@ use Rattle.jr_quiet.proofs.LastWrites.{overlap_from}
 use Rattle.jr_quiet.proofs.Latest.{common_block}
 use Rattle.jr_quiet.proofs.Steps.{started_push, got_within}
 use Rattle.jr_steps.proofs.StartedLemmas.{same_some, by_events, started_stays, started_below, started-other}
-use Rattle.jr_steps.proofs.StepLaws.{eq_write}
 use Rattle.jr_log_laws.specs.Intact.{log_after, WasStarted, IsOfIntact}
 use Rattle.jr_log_laws.proofs.LogGrowth.{log-same, log-whole, log-failed}
 use Rattle.jr_log_laws.proofs.LastBlocks.{last_law, last_write_push, flying_of, outcome_now, HasBlocks, intact_same, intact_all, intact_not, one_place, blocks_at, unlanded}

@@ -22,6 +22,7 @@ use Rattle.jr_model.specs.Plan.{Plan}
 use Rattle.jr_model.specs.Tickets.{piece_fits}
 use Rattle.jr_model.proofs.LegalLaws.{same_write_refl}
 use Rattle.jr_model.proofs.SerialLaws.{first_given-append}
+use Rattle.jr_model.proofs.Equality.{eq_write}
 use Rattle.jr_plan.specs.PlanFacts.{IsPlanned}
 use Rattle.jr_quiet.proofs.LastWrites.{last_after_agrees, fold_agrees}
 use Rattle.jr_quiet.proofs.Latest.{InSectors, covers_own, not_all}
@@ -30,7 +31,6 @@ use Rattle.jr_steps.proofs.OnceLaws.{started_once-law}
 use Rattle.jr_steps.proofs.DrawnLaws.{started_fit-law}
 use Rattle.jr_steps.proofs.PlaceLemmas.{item_at, all_from, got_ranged, ranged_at}
 use Rattle.jr_steps.proofs.StartedLemmas.{same_some, by_events, started_stays}
-use Rattle.jr_steps.proofs.StepLaws.{eq_write}
 use Rattle.jr_log_laws.proofs.LogGrowth.{refers_now, all_refer}
 
 -- an event makes of a block's last write what it says

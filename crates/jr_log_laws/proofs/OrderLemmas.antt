@@ -10,10 +10,11 @@ use Rattle.std.specs.List.Sorted.{IsStrictlySortedBy}
 use Rattle.std.specs.Map.{keys_of}
 use Rattle.std.specs.Ordering.{match_ordering, ordering_reverse}
 use Rattle.jr_model.specs.declared.events.WriteId.{WriteId}
+use Rattle.jr_model.specs.History.{write_order}
+use Rattle.jr_model.proofs.Equality.{write_order_total}
 use Rattle.jr_writes.specs.declared.logs.Logged.{Logged}
-use Rattle.jr_writes.specs.LoggedWrites.{write_order, lies_apart, unsettled, settled}
+use Rattle.jr_writes.specs.LoggedWrites.{lies_apart, unsettled, settled}
 use Rattle.jr_writes.specs.LogSteps.{LogStep, settle, unsettle, after_step, log_of}
-use Rattle.jr_writes.proofs.IndexLemmas.{write_order_total}
 
 module _ {K X : Type 0} where
   -- what holds of all keys holds of those that a filter keeps

@@ -3,6 +3,8 @@
 use Rattle.std.specs.Prelude.{ℕ, ◌==◌, nat_lt, Bool, true, false, not, ◌&&◌, List, [], ◌∷◌, length, Option, Some, None, filter, filter_map, is_none, if◌then◌else◌}
 use Rattle.std.specs.Option.{option_or}
 use Rattle.std.specs.List.{list_any, enumerate_from}
+use Rattle.std.specs.Ordering.{nat_cmp, ordering_then}
+use Rattle.std.specs.declared.cmp.Ordering.{Ordering}
 use Rattle.jr_model.specs.declared.blocks.Dir.{Dir}
 use Rattle.jr_model.specs.declared.blocks.Dir.TheVariants as direction
 use Rattle.jr_model.specs.declared.blocks.Piece.{Piece}
@@ -112,6 +114,11 @@ awaiting history = filter_map (if_awaiting history) (enumerate_from 0 (started h
 -- one write
 abbrev pub same_write : WriteId → WriteId → Bool
 same_write a b = (a.clone == b.clone) && (a.pass == b.pass) && (a.number == b.number)
+
+-- the order of writes: by clone, then by pass, then by number
+abbrev pub write_order : WriteId → WriteId → Ordering
+write_order a b =
+    ordering_then (nat_cmp a.clone b.clone) (ordering_then (nat_cmp a.pass b.pass) (nat_cmp a.number b.number))
 
 -- one piece
 abbrev pub same_piece : Piece → Piece → Bool

@@ -9,6 +9,7 @@ mod laws;
 mod limits;
 mod memory;
 mod replies;
+mod sameness;
 mod steps;
 #[cfg(test)]
 mod tests;
@@ -24,11 +25,12 @@ pub use laws::{
     verdict_is_of_its_kind,
 };
 pub use limits::{
-    LARGEST_BLOCK, LARGEST_END, MOST_CELLS, MOST_CLONES, MOST_DEPTH, MOST_PASSES, MOST_VERIFIERS,
-    MOST_WORK, SECTOR,
+    LARGEST_BLOCK, LARGEST_END, LONGEST_TEXT, MOST_CELLS, MOST_CLONES, MOST_DEPTH, MOST_PASSES,
+    MOST_VERIFIERS, MOST_WORK, SECTOR,
 };
 pub use memory::Memory;
 pub use replies::{Reply, ReplyBytes};
+pub use sameness::{is_same, same_piece, same_write};
 pub use steps::{DeskFault, Step, StepReply};
 pub use tickets::{Ticket, TicketKind};
 pub use totals::Totals;

@@ -26,3 +26,6 @@ pub const MOST_DEPTH: u32 = 256;
 
 /// The most threads of a run that judge checks beside the workers.
 pub const MOST_VERIFIERS: u32 = 16;
+
+/// The most bytes that a job file may have (1 MiB).
+pub const LONGEST_TEXT: usize = 1_048_576;

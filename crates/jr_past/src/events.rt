@@ -1,8 +1,8 @@
 ghost use Rattle.std.specs.Prelude.{◌≡◌, IfOk};
 ghost use Rattle.std.specs.List.{list_any};
-ghost use Rattle.jr_model.specs.History.{started_by, started, end_of, outcome_of, kind_for, is_verdict_on, is_judged, is_probe, is_write, ended_whole, same_write, same_piece};
+ghost use Rattle.jr_model.specs.History.{started_by, started, end_of, outcome_of, kind_for, is_verdict_on, is_judged, is_probe, is_write, ended_whole};
 
-use jr_model::{Dir, Event, Memory, Outcome, Piece, Started, TicketKind, WriteId};
+use jr_model::{Dir, Event, Memory, Outcome, Started, TicketKind};
 use std::alloc::Global;
 
 // The kind of ticket for a draw of this direction.
@@ -117,18 +117,4 @@ pub fn ended_whole(outcome: Option<Outcome>) -> bool
     ensures { result ≡ ended_whole outcome }
 {
     outcome == Some(Outcome::Whole)
-}
-
-/// Whether two names are of one write.
-pub fn same_write(a: &WriteId, b: &WriteId) -> bool
-    ensures { result ≡ same_write a.now b.now }
-{
-    a.clone == b.clone && a.pass == b.pass && a.number == b.number
-}
-
-/// Whether two pieces are one.
-pub fn same_piece(a: &Piece, b: &Piece) -> bool
-    ensures { result ≡ same_piece a.now b.now }
-{
-    a.file == b.file && a.offset == b.offset && a.len == b.len
 }

@@ -2,11 +2,10 @@ ghost use Rattle.std.specs.Prelude.{◌≡◌, None, fold};
 ghost use Rattle.jr_model.specs.LastWrite.{covers_block, last_write, is_this_write, is_intact};
 ghost use Rattle.jr_past.specs.WriteEnds.{if_whole, is_over_block, last_by};
 
-use crate::events::same_write;
 use crate::histories::Past;
 use crate::marks::WriteEnd;
 use crate::parts::part_of;
-use jr_model::{Piece, SECTOR, WriteId};
+use jr_model::{Piece, SECTOR, WriteId, same_write};
 
 // Whether the block of this file lies in the piece.
 fn covers_block(piece: &Piece, file: u32, block: u64) -> bool

@@ -24,6 +24,7 @@ use Rattle.jr_model.specs.Rounds.{Pass, pass_of, write_id}
 use Rattle.jr_model.specs.Words.{pass_words}
 use Rattle.jr_model.proofs.LegalLaws.{is_legal-more, number-draws_from}
 use Rattle.jr_model.proofs.SerialLaws.{IsWell, well-more, whole_some}
+use Rattle.jr_model.proofs.Equality.{eq_dir, eq_piece}
 use Rattle.jr_quiet.specs.Quiet.{is_calm, is_quiet}
 
 -- an event that may happen after a legal history, with nothing wrong so far
@@ -139,31 +140,6 @@ got_push (z ∷ xs) x y (suc k) h =
 abbrev pub Agrees : {X : Type 0} → (List Started → Event → X) → Type 0
 Agrees F = (ios more : List Started) (e : Event) → refers (length ios) e ≡ true → F (ios ++ more) e ≡ F ios e
 
--- equal parts, equal records
-pub same_write_eq : (a b : WriteId) → same_write a b ≡ true → a ≡ b
-same_write_eq a b h =
-    let parts = and_parts ((a.clone == b.clone) && (a.pass == b.pass)) (a.number == b.number) h in
-    let front = and_parts (a.clone == b.clone) (a.pass == b.pass) parts.0 in
-    let make : ℕ → ℕ → ℕ → WriteId = λ (c p k : ℕ). record { clone = c; pass = p; number = k } in
-    ap (λ (c : ℕ). make c a.pass a.number) (eqb-true a.clone b.clone front.0)
-    ∙ ap (λ (p : ℕ). make b.clone p a.number) (eqb-true a.pass b.pass front.1)
-    ∙ ap (λ (k : ℕ). make b.clone b.pass k) (eqb-true a.number b.number parts.1)
-
-pub same_piece_eq : (a b : Piece) → same_piece a b ≡ true → a ≡ b
-same_piece_eq a b h =
-    let parts = and_parts ((a.file == b.file) && (a.offset == b.offset)) (a.len == b.len) h in
-    let front = and_parts (a.file == b.file) (a.offset == b.offset) parts.0 in
-    let make : ℕ → ℕ → ℕ → Piece = λ (f o l : ℕ). record { file = f; offset = o; len = l } in
-    ap (λ (f : ℕ). make f a.offset a.len) (eqb-true a.file b.file front.0)
-    ∙ ap (λ (o : ℕ). make b.file o a.len) (eqb-true a.offset b.offset front.1)
-    ∙ ap (λ (l : ℕ). make b.file b.offset l) (eqb-true a.len b.len parts.1)
-
-pub same_dir_eq : (a b : Dir) → same_dir a b ≡ true → a ≡ b
-same_dir_eq direction.Read direction.Read h = refl
-same_dir_eq direction.Read direction.Write h = cc
-same_dir_eq direction.Write direction.Read h = cc
-same_dir_eq direction.Write direction.Write h = refl
-
 -- the event names this draw of the plan
 pub record IsNamed (plan : Plan) (write : WriteId) (job : SubJob) (draw : Draw) : Type 0 where
   pub planned : clone_of plan write.clone ≡ Some job
@@ -212,7 +188,7 @@ issue_of plan h worker dir write piece numbered may = by_clone (clone_of plan wr
     by_cases pass draw false intact true g =
         let parts = and_parts (same_dir draw.dir dir && same_write (write_id pass draw) write) (same_piece draw.piece piece) g in
         let front = and_parts (same_dir draw.dir dir) (same_write (write_id pass draw) write) parts.0 in
-        (refl, same_dir_eq draw.dir dir front.0, same_piece_eq draw.piece piece parts.1)
+        (refl, eq_dir draw.dir dir front.0, eq_piece draw.piece piece parts.1)
 
     by_draw : (job : SubJob) → clone_of plan write.clone ≡ Some job → (o : Option Draw) → slice_get (draws_of_job job write.pass) write.number ≡ o → is_this_issue dir write piece (step_of_draw plan h worker (pass_of job write.pass) o) ≡ true → IsIssue plan h dir write piece
     by_draw job planned None drawn g = cc

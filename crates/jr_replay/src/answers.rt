@@ -9,8 +9,9 @@ use crate::legal::{is_over, step_of};
 use crate::passes::Pass;
 use jr_model::{
     Dir, Draw, Event, Memory, Outcome, Piece, Started, Verdict, VerifyKind, What, WriteId,
+    same_piece, same_write,
 };
-use jr_past::{Past, ended_whole, is_probe, same_piece, same_write};
+use jr_past::{Past, ended_whole, is_probe};
 use jr_plan::Plan;
 use std::alloc::Global;
 

@@ -11,9 +11,11 @@ use Rattle.jr_model.specs.declared.events.WriteId.{WriteId}
 use Rattle.jr_model.specs.Legal.{is_legal}
 use Rattle.jr_model.specs.Plan.{Plan}
 use Rattle.jr_model.specs.Report.{Miscompare, in_order, miscompares}
+use Rattle.jr_model.specs.History.{write_order}
+use Rattle.jr_model.proofs.Equality.{write_order_total}
 use Rattle.jr_plan.specs.PlanFacts.{IsPlanned}
 use Rattle.jr_steps.proofs.IdleLaws.{numbered_of}
-use Rattle.jr_report_laws.specs.InOrder.{write_order, by_write}
+use Rattle.jr_report_laws.specs.InOrder.{by_write}
 use Rattle.jr_report_laws.proofs.Found.{all_named, all_distinct}
 use Rattle.jr_report_laws.proofs.Named.{in_order_permuted}
 use Rattle.jr_report_laws.proofs.Ordered.{in_order_sorted}
@@ -28,11 +30,6 @@ pub ordered_lines : (plan : Plan) (history : List Event) → IsPlanned plan → 
     → IsStrictlySortedBy by_write (in_order plan (miscompares history))
 ordered_lines plan history planned legal =
     in_order_sorted (miscompares history) (all_distinct plan history planned legal) plan (numbered_of plan planned)
-
-pub write_order_total : IsTotalOrder write_order
-write_order_total =
-    then_total (on_total (λ (w : WriteId). w.clone) nat_cmp_total)
-    (then_total (on_total (λ (w : WriteId). w.pass) nat_cmp_total) (on_total (λ (w : WriteId). w.number) nat_cmp_total))
 
 -- no two go before each other
 one_way : (x y : Miscompare) → by_write x y ≡ Less → by_write y x ≡ Less → ⊥

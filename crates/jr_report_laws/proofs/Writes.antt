@@ -8,11 +8,11 @@ use Rattle.std.specs.List.Sorted.{IsStrictlySortedBy}
 use Rattle.std.specs.Ordering.{nat_cmp, ordering_then}
 use Rattle.std.proofs.lemmas.Bool.{eq-eqb, lt-ltb, le-ltb, false_from_ne_true}
 use Rattle.jr_model.specs.declared.events.WriteId.{WriteId}
-use Rattle.jr_model.specs.History.{same_write}
+use Rattle.jr_model.specs.History.{same_write, write_order}
 use Rattle.jr_model.specs.Report.{Miscompare, on_write}
+use Rattle.jr_model.proofs.Equality.{eq_write}
 use Rattle.jr_steps.proofs.StartedLemmas.{same_some}
-use Rattle.jr_steps.proofs.StepLaws.{eq_write}
-use Rattle.jr_report_laws.specs.InOrder.{write_order, by_write}
+use Rattle.jr_report_laws.specs.InOrder.{by_write}
 use Rattle.jr_report_laws.proofs.FlatMaps.{all_filter_map}
 
 -- the order of writes

@@ -2,18 +2,13 @@
 use Rattle.std.specs.Prelude.{◌≡◌, true, List}
 use Rattle.std.specs.declared.cmp.Ordering.{Ordering}
 use Rattle.std.specs.List.Sorted.{IsPermutation, IsStrictlySortedBy}
-use Rattle.std.specs.Ordering.{nat_cmp, ordering_then}
 use Rattle.jr_model.specs.declared.events.Event.{Event}
 use Rattle.jr_model.specs.declared.events.WriteId.{WriteId}
+use Rattle.jr_model.specs.History.{write_order}
 use Rattle.jr_model.specs.Legal.{is_legal}
 use Rattle.jr_model.specs.Plan.{Plan}
 use Rattle.jr_model.specs.Report.{Miscompare, in_order, miscompares}
 use Rattle.jr_plan.specs.PlanFacts.{IsPlanned}
-
--- by clone, then by pass, then by number
-abbrev pub write_order : WriteId → WriteId → Ordering
-write_order a b =
-    ordering_then (nat_cmp a.clone b.clone) (ordering_then (nat_cmp a.pass b.pass) (nat_cmp a.number b.number))
 
 -- bad verdicts by the writes that they are on
 abbrev pub by_write : Miscompare → Miscompare → Ordering

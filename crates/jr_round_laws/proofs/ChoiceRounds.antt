@@ -15,11 +15,11 @@ use Rattle.jr_model.specs.Legal.{is_halted, has_room, is_clear, takes_up, may_ta
 use Rattle.jr_model.specs.Plan.{Plan, SubJob}
 use Rattle.jr_model.specs.Rounds.{pass_of, write_id, is_write_draw, writes_of, has_rounds, group_of, group_index, is_full, is_settled, is_closed, no_issue_flies, waits_for_round}
 use Rattle.jr_model.proofs.LegalLaws.{same_write_refl}
+use Rattle.jr_model.proofs.Equality.{eq_write}
 use Rattle.jr_backlog.specs.CurrentRound.{is_left, round_up_to}
 use Rattle.jr_steps.proofs.DrawnLaws.{takeable}
 use Rattle.jr_steps.proofs.IssueLaws.{numbered_draws}
 use Rattle.jr_steps.proofs.PlaceLemmas.{any_found, any_at, got_filtered, got_taken, got_dropped, got_made, made_at}
-use Rattle.jr_steps.proofs.StepLaws.{eq_write}
 use Rattle.jr_quiet.proofs.Checks.{settled_taken}
 use Rattle.jr_quiet.proofs.Groups.{Rising, rising_take, rising_drop, writes_rise, group_is, group_is_all}
 use Rattle.jr_quiet.proofs.Issues.{all_at}

@@ -11,9 +11,9 @@ use Rattle.jr_model.specs.History.{same_write}
 use Rattle.jr_model.specs.Plan.{Plan, SubJob, IsNumbered}
 use Rattle.jr_model.specs.Rounds.{pass_of, write_id, is_write_draw, issued_count, all_issued, issued_among, is_settled, is_full, is_closed, waits_for_round, rounds_closed, pass_finished, has_rounds, group_of, group_count, group_index}
 use Rattle.jr_model.proofs.LegalLaws.{same_write_refl}
+use Rattle.jr_model.proofs.Equality.{eq_write}
 use Rattle.jr_steps.proofs.IdleLaws.{numbered_of}
 use Rattle.jr_steps.proofs.PlaceLemmas.{any_found, any_at, got_made, got_filtered, made_at}
-use Rattle.jr_steps.proofs.StepLaws.{eq_write}
 use Rattle.jr_quiet.proofs.Issues.{all_at, got_range, finished_parts}
 use Rattle.jr_quiet.proofs.Groups.{number_is, got_filter}
 use Rattle.jr_quiet.proofs.Members.{in_own_group, member_is, full_issued, index_mono}

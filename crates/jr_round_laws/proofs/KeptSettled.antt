@@ -14,8 +14,8 @@ use Rattle.jr_model.specs.Legal.{is_legal, may_happen, end_fits, is_io_of, is_fa
 use Rattle.jr_model.specs.Plan.{Plan, SubJob, IsNumbered, clone_of}
 use Rattle.jr_model.specs.Rounds.{pass_of, issued_count, is_probe_of, settles, is_settled, group_index}
 use Rattle.jr_model.proofs.MachineLaws.{got_front}
+use Rattle.jr_model.proofs.Equality.{eq_write}
 use Rattle.jr_steps.proofs.StartedLemmas.{by_events, started-append, same_some}
-use Rattle.jr_steps.proofs.StepLaws.{eq_write}
 use Rattle.jr_steps.proofs.DrawnLaws.{takeable}
 use Rattle.jr_quiet.proofs.Steps.{IsTakeUp, probe_of, skip_of, all_weaker, got_within}
 use Rattle.jr_quiet.proofs.Members.{in_own_group, full_issued}

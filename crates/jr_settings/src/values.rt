@@ -4,6 +4,7 @@ ghost use Rattle.std.specs.Char.{is_ascii_digit};
 ghost use Rattle.std.specs.Option.{option_map};
 ghost use Rattle.jr_settings.specs.OptionValues.{number_within, flag_of, is_comma, by_direction, values_in, block_size, block_sizes, split_part, splits, pattern_of, decimal_pattern, hex_digit, hex_byte, hex_pairs, hex_pattern, with_bytes};
 
+use jr_digits::all_digits;
 use jr_model::Pattern;
 use jr_sizes::{ReadSplit, Split};
 use jr_text::number;
@@ -129,12 +130,6 @@ pub(crate) fn pattern(text: &str) -> Option<Pattern>
         [b'0', b'x' | b'X', digits @ ..] => hexadecimal(digits),
         _ => decimal(text),
     }
-}
-
-fn all_digits(text: &[u8]) -> bool
-    ensures { result ≡ list_all is_ascii_digit text.now }
-{
-    text.iter().all(|byte| byte.is_ascii_digit())
 }
 
 // One byte, in decimal digits alone.

@@ -11,17 +11,6 @@ use Rattle.std.proofs.lemmas.List.Splits.{slice_split_first, slice_split_none}
 use Rattle.std.proofs.lemmas.List.Sums.{prefix_len_passes}
 use Rattle.jr_stats.specs.TraceLines.{is_space, fields_of, field_at}
 
--- the value of a digit
-digit_value_is : (b : ℕ) → is_ascii_digit b ≡ true → digit_value b + 48 ≡ b
-digit_value_is b h = grind (arith, nat_tests)
-
--- one digit more
-pub digits_value_next : (ds : List ℕ) (i : ℕ) → i < length ds → is_ascii_digit (get_or ds i 0) ≡ true → (48 ≤ get_or ds i 0) × (digits_value 10 (take (i + 1) ds) + 48 ≡ digits_value 10 (take i ds) * 10 + get_or ds i 0)
-digits_value_next ds i l d =
-    let step = digits_value_more 10 ds i l in
-    let value = digit_value_is (get_or ds i 0) d in
-    (omega arith, omega arith)
-
 -- what all elements pass, each passes
 pub All-from_test : (test : ℕ → Bool) (xs : List ℕ) → list_all test xs ≡ true → All (λ b. test b ≡ true) xs
 All-from_test test [] h k d l = absurd (omega arith)

@@ -12,18 +12,18 @@ use Rattle.std.proofs.lemmas.List.Sums.{sum_by-cons}
 use Rattle.std.proofs.lemmas.List.Sorted.{IsPermutation-map, IsPermutation-sym, sum_by-IsPermutation}
 use Rattle.jr_model.specs.declared.events.Event.{Event}
 use Rattle.jr_model.specs.declared.events.WriteId.{WriteId}
-use Rattle.jr_model.specs.History.{same_write}
+use Rattle.jr_model.specs.History.{same_write, write_order}
 use Rattle.jr_model.specs.Legal.{is_legal}
 use Rattle.jr_model.specs.Plan.{Plan}
 use Rattle.jr_model.specs.Report.{Miscompare, in_order, miscompares}
+use Rattle.jr_model.proofs.Equality.{write_order_total, eq_write}
 use Rattle.jr_plan.specs.PlanFacts.{IsPlanned}
-use Rattle.jr_steps.proofs.StepLaws.{eq_write}
 use Rattle.jr_board.specs.declared.tallies.Bad.{Bad}
 use Rattle.jr_board.specs.Tallying.{miscompare_of}
-use Rattle.jr_report_laws.specs.InOrder.{write_order, by_write}
+use Rattle.jr_report_laws.specs.InOrder.{by_write}
 use Rattle.jr_report_laws.proofs.FlatMaps.{all_weaker}
 use Rattle.jr_report_laws.proofs.Found.{all_distinct}
-use Rattle.jr_report_laws.proofs.Reported.{sorted_lines, write_order_total}
+use Rattle.jr_report_laws.proofs.Reported.{sorted_lines}
 use Rattle.jr_report_laws.proofs.Writes.{AreDistinct, NoneIsOn}
 
 -- writes that are not in order the other way round, and are two, are in order

@@ -6,6 +6,7 @@ ghost use Rattle.std.specs.Str.Parse.{digits_value};
 ghost use Rattle.jr_stats.specs.TraceLines.{is_space, fields_of, field_at, is_word, is_numeral, number_in, number_at, named, name_at, start_of, start_in, skip_of, skip_in, ending_in, end_of, end_in, word_finding, finding_in, verdict_of, verdict_in, entry_in, read_line};
 
 use crate::entries::{Ending, Entry, Finding, Name, Start};
+use jr_digits::{all_digits, digits_number};
 
 // What a line of a trace says, without its line feed; nothing where it is no line of a trace.
 pub fn read_line(line: &[u8]) -> Option<Entry>
@@ -198,26 +199,6 @@ fn is_numeral(field: &[u8]) -> bool
     ensures { result ≡ is_numeral field.now }
 {
     !field.is_empty() && all_digits(field) && (field.len() == 1 || field[0] != b'0')
-}
-
-fn all_digits(field: &[u8]) -> bool
-    ensures { result ≡ list_all is_ascii_digit field.now }
-{
-    field.iter().all(|byte| byte.is_ascii_digit())
-}
-
-// The value of digits, where it is below 2^64.
-fn digits_number(digits: &[u8]) -> Option<u64>
-    requires { All (λ b. is_ascii_digit b ≡ true) digits.now }
-    ensures { SomeIff result (digits_value 10 digits.now < 2 ^ 64) (digits_value 10 digits.now) }
-{
-    let mut number = 0u64;
-    for digit in digits {
-        number = number
-            .checked_mul(10)?
-            .checked_add(u64::from(*digit - b'0'))?;
-    }
-    Some(number)
 }
 
 // How many fields a line has.

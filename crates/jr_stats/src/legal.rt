@@ -4,8 +4,8 @@ ghost use Rattle.jr_stats.specs.TraceChecks.{is_small, name_fits, ending_fits, f
 ghost use Rattle.jr_stats.specs.TraceSteps.{begun, ended, judged, issue_in, probe_in, skip_in};
 
 use crate::entries::{Ending, Entry, Finding, Name, Start};
-use jr_model::{Event, Memory, Outcome, Verdict, What, WriteId};
-use jr_past::{Past, same_write};
+use jr_model::{Event, Memory, Outcome, Verdict, What, WriteId, same_write};
+use jr_past::Past;
 use jr_plan::Plan;
 use jr_replay::{Agenda, legal_step_at, may_end, may_judge};
 use std::alloc::Global;

@@ -23,13 +23,14 @@ use Rattle.jr_model.specs.Rounds.{Pass, pass_of, issues_of, issued_count}
 use Rattle.jr_model.specs.Words.{seeded, pass_seed, pass_words}
 use Rattle.jr_model.proofs.LegalLaws.{same_write_refl}
 use Rattle.jr_model.proofs.SerialLaws.{any-append}
+use Rattle.jr_model.proofs.Equality.{eq_write}
 use Rattle.jr_words.proofs.WordLemmas.{length-words_from}
 use Rattle.jr_plan.specs.PlanFacts.{IsPlanned}
 use Rattle.jr_draw.specs.PassLaw.{is_mapped}
 use Rattle.jr_draw.proofs.TheLaw.{pass_law, drawable_of}
 use Rattle.jr_steps.specs.Drawn.{IsDrawn}
 use Rattle.jr_steps.proofs.StartedLemmas.{same_some, got_within, started-append, is_started_by, is_started_legally}
-use Rattle.jr_steps.proofs.StepLaws.{eq_write, MayIssue, may_issue_of, may_probe_of}
+use Rattle.jr_steps.proofs.StepLaws.{MayIssue, may_issue_of, may_probe_of}
 use Rattle.jr_steps.proofs.DrawnLaws.{issuable, takeable, started_are_drawn-law}
 
 -- an issue, and what comes after it, are counted on

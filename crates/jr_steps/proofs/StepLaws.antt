@@ -15,38 +15,9 @@ use Rattle.jr_model.specs.LastWrite.{is_intact}
 use Rattle.jr_model.specs.Legal.{may_happen, may_take_up, may_issue, step_of_draw, step_of_clone, same_dir, is_this_issue, is_this_probe, is_this_skip}
 use Rattle.jr_model.specs.Plan.{Plan, SubJob, clone_of}
 use Rattle.jr_model.specs.Rounds.{pass_of, write_id}
+use Rattle.jr_model.proofs.Equality.{eq_piece, eq_write, eq_dir}
 
 -- equal by test
-pub eq_write : (a b : WriteId) → same_write a b ≡ true → a ≡ b
-eq_write a b h =
-    let parts = and_parts ((a.clone == b.clone) && (a.pass == b.pass)) (a.number == b.number) h in
-    let front = and_parts (a.clone == b.clone) (a.pass == b.pass) parts.0 in
-    let clone : a.clone ≡ b.clone = eqb-true a.clone b.clone front.0 in
-    let pass : a.pass ≡ b.pass = eqb-true a.pass b.pass front.1 in
-    let number : a.number ≡ b.number = eqb-true a.number b.number parts.1 in
-    let made : ℕ → ℕ → ℕ → WriteId = λ c p n. record { clone = c; pass = p; number = n } in
-    ap (λ (c : ℕ). made c a.pass a.number) clone
-    ∙ ap (λ (p : ℕ). made b.clone p a.number) pass
-    ∙ ap (made b.clone b.pass) number
-
-pub eq_piece : (a b : Piece) → same_piece a b ≡ true → a ≡ b
-eq_piece a b h =
-    let parts = and_parts ((a.file == b.file) && (a.offset == b.offset)) (a.len == b.len) h in
-    let front = and_parts (a.file == b.file) (a.offset == b.offset) parts.0 in
-    let file : a.file ≡ b.file = eqb-true a.file b.file front.0 in
-    let offset : a.offset ≡ b.offset = eqb-true a.offset b.offset front.1 in
-    let len : a.len ≡ b.len = eqb-true a.len b.len parts.1 in
-    let made : ℕ → ℕ → ℕ → Piece = λ f o l. record { file = f; offset = o; len = l } in
-    ap (λ (f : ℕ). made f a.offset a.len) file
-    ∙ ap (λ (o : ℕ). made b.file o a.len) offset
-    ∙ ap (made b.file b.offset) len
-
-pub eq_dir : (a b : Dir) → same_dir a b ≡ true → a ≡ b
-eq_dir direction.Read direction.Read h = refl
-eq_dir direction.Write direction.Write h = refl
-eq_dir direction.Read direction.Write h = cc
-eq_dir direction.Write direction.Read h = cc
-
 -- the draw of a planned clone that has this name
 pub record IsNamed (plan : Plan) (write : WriteId) (job : SubJob) (draw : Draw) : Type 0 where
   pub planned : clone_of plan write.clone ≡ Some job

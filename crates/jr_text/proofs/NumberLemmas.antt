@@ -32,17 +32,6 @@ scale_positive (suc (suc (suc (suc zero)))) h = lit≤ tt
 scale_positive (suc (suc (suc (suc (suc zero))))) h = lit≤ tt
 scale_positive (suc (suc (suc (suc (suc (suc n)))))) h = absurd (omega arith)
 
--- the value of a digit
-pub digit_value_is : (b : ℕ) → is_ascii_digit b ≡ true → digit_value b + 48 ≡ b
-digit_value_is b h = grind (arith, nat_tests)
-
--- one digit more
-pub digits_value_next : (ds : List ℕ) (i : ℕ) → i < length ds → is_ascii_digit (get_or ds i 0) ≡ true → (48 ≤ get_or ds i 0) × (digits_value 10 (take (i + 1) ds) + 48 ≡ digits_value 10 (take i ds) * 10 + get_or ds i 0)
-digits_value_next ds i l d =
-    let step = digits_value_more 10 ds i l in
-    let value = digit_value_is (get_or ds i 0) d in
-    (omega arith, omega arith)
-
 -- what a text begins with are digits
 pub all_digits : (text : List ℕ) → All (λ b. is_ascii_digit b ≡ true) (digits_in text)
 all_digits text k d l =

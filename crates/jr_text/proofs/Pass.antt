@@ -5,6 +5,7 @@ use Rattle.std.specs.Str.{is_utf8}
 use Rattle.std.proofs.lemmas.Bool.Decides.{nat_tests}
 use Rattle.std.proofs.lemmas.List.{at_drop_more, at_drop_all}
 use Rattle.std.proofs.lemmas.Str.{IsUtf8-from_is_utf8, is_utf8-from_IsUtf8}
+use Rattle.jr_model.specs.declared.limits.TheConstants.{LONGEST_TEXT}
 use Rattle.jr_text.specs.declared.faults.TextFault.{TextFault}
 use Rattle.jr_text.specs.declared.faults.TextFault.TheVariants.{TooLong, NotUtf8, OpenBracket, EmptyName, Outside, Memory}
 use Rattle.jr_text.specs.Records.{SectionText}
@@ -77,17 +78,17 @@ not_true true h = absurd (h refl)
 not_true false h = refl
 
 -- what the length and UTF-8 say of a text
-pub sections_of-too_long : (text : List ℕ) → 1048576 < length text → sections_of text ≡ Err TooLong
+pub sections_of-too_long : (text : List ℕ) → LONGEST_TEXT < length text → sections_of text ≡ Err TooLong
 unfolding sections_of
 sections_of-too_long text long = grind (arith, nat_tests)
 
-pub sections_of-lines : (text : List ℕ) → length text ≤ 1048576 → IsUtf8 text → sections_of text ≡ read_lines (lines_of text)
+pub sections_of-lines : (text : List ℕ) → length text ≤ LONGEST_TEXT → IsUtf8 text → sections_of text ≡ read_lines (lines_of text)
 unfolding sections_of
 sections_of-lines text short utf8 =
     let test = is_utf8-from_IsUtf8 text utf8 in
     grind (arith, nat_tests)
 
-pub sections_of-not_utf8 : (text : List ℕ) → length text ≤ 1048576 → (IsUtf8 text → ⊥) → sections_of text ≡ Err NotUtf8
+pub sections_of-not_utf8 : (text : List ℕ) → length text ≤ LONGEST_TEXT → (IsUtf8 text → ⊥) → sections_of text ≡ Err NotUtf8
 unfolding sections_of
 sections_of-not_utf8 text short other =
     let test = not_true (is_utf8 text) (λ e. other (IsUtf8-from_is_utf8 text e)) in

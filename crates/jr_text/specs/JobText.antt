@@ -3,6 +3,7 @@ use Rattle.std.specs.Prelude.{ℕ, ◌-◌, List, [], ◌∷◌, ◌++◌, lengt
 use Rattle.std.specs.List.{prefix_len, suffix_len, position_or_len, before_first, after_first, slice_split, enumerate_from}
 use Rattle.std.specs.Str.{is_utf8}
 use Rattle.std.specs.Str.Lines.{strip_carriage_return}
+use Rattle.jr_model.specs.declared.limits.TheConstants.{LONGEST_TEXT}
 use Rattle.jr_text.specs.declared.faults.TextFault.{TextFault}
 use Rattle.jr_text.specs.declared.faults.TextFault.TheVariants.{TooLong, NotUtf8, OpenBracket, EmptyName, Outside}
 use Rattle.jr_text.specs.Records.{LineText, SectionText}
@@ -114,8 +115,8 @@ unless_faulty (fault ∷ more) sections = Err fault
 abbrev pub read_lines : List (ℕ × List ℕ) → Result (List SectionText) TextFault
 read_lines lines = unless_faulty (faults_in lines) (sections_in lines)
 
--- the sections that a text of at most a mebibyte says
+-- the sections that a text of at most 1 MiB says
 unfoldable pub sections_of : List ℕ → Result (List SectionText) TextFault
 sections_of text =
-    if nat_lt 1048576 (length text) then Err TooLong
+    if nat_lt LONGEST_TEXT (length text) then Err TooLong
     else (if is_utf8 text then read_lines (lines_of text) else Err NotUtf8)

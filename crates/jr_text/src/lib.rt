@@ -10,4 +10,4 @@ mod reader;
 pub use entries::{Line, Section};
 pub use faults::{NumFault, TextFault};
 pub use numbers::number;
-pub use reader::{LONGEST_TEXT, sections};
+pub use reader::sections;

@@ -4,6 +4,7 @@ ghost use Rattle.std.specs.Str.Parse.{digits_value};
 ghost use Rattle.jr_text.specs.Number.{binary_fault, digits_in, is_hexadecimal, number_of, power_of, small_number, unit_of};
 
 use crate::faults::NumFault;
+use jr_digits::digits_number;
 
 /// The number that a text writes: decimal digits, then nothing, `b`, or one of `k m g t p` with an
 /// optional `b`, in any case, for the powers 1 to 5 of 1024.
@@ -86,20 +87,6 @@ fn unit_power(unit: &[u8]) -> Result<u32, NumFault>
         }
         _ => Err(NumFault::BadUnit),
     }
-}
-
-// The value of digits, where it is below 2^64.
-fn digits_number(digits: &[u8]) -> Option<u64>
-    requires { All (λ b. is_ascii_digit b ≡ true) digits.now }
-    ensures { SomeIff result (digits_value 10 digits.now < 2 ^ 64) (digits_value 10 digits.now) }
-{
-    let mut number = 0u64;
-    for digit in digits {
-        number = number
-            .checked_mul(10)?
-            .checked_add(u64::from(*digit - b'0'))?;
-    }
-    Some(number)
 }
 
 // The value of digits in a unit, which is this power of 1024.

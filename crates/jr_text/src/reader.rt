@@ -9,10 +9,8 @@ ghost use Rattle.jr_text.specs.Refusals.{refusal_of};
 use crate::cuts::{before_comment, content};
 use crate::entries::{Line, Section, section_name};
 use crate::faults::TextFault;
+use jr_model::LONGEST_TEXT;
 use std::alloc::Global;
-
-/// The most bytes that a job file may have.
-pub const LONGEST_TEXT: usize = 1_048_576;
 
 /// The sections of a job file: each opened by a line `[name]`, with the option lines up to the next.
 /// Any bytes are taken; the first fault is named, a text that is too long before one that isn't UTF-8,
@@ -34,7 +32,7 @@ pub fn sections(alloc: Global, text: &[u8]) -> Result<Vec<Section>, TextFault>
 }
 
 fn read_text(alloc: Global, text: &str) -> Result<Vec<Section>, TextFault>
-    requires { length text.now ≤ 1048576 }
+    requires { length text.now ≤ LONGEST_TEXT }
     ensures refused { IfSome (result_err (read_lines (lines_of text.now))) (λ fault. result ≡ Err fault) }
     ensures memory { result_err (read_lines (lines_of text.now)) ≡ None → IfErr result (λ fault. fault ≡ OutOfMemory) }
     ensures read { IfOk result (λ sections. read_lines (lines_of text.now) ≡ Ok sections.items) }
@@ -47,7 +45,7 @@ fn read_text(alloc: Global, text: &str) -> Result<Vec<Section>, TextFault>
 
 // Goes over all lines once, without memory.
 fn first_fault(text: &str) -> Option<TextFault>
-    requires { length text.now ≤ 1048576 }
+    requires { length text.now ≤ LONGEST_TEXT }
     ensures { result ≡ result_err (read_lines (lines_of text.now)) }
 {
     let mut is_open = false;
@@ -76,7 +74,7 @@ fn is_open_below(is_open: bool, number: u32, line: &str) -> Result<bool, TextFau
 }
 
 fn read_lines(alloc: Global, text: &str) -> Result<Vec<Section>, TextFault>
-    requires { length text.now ≤ 1048576 }
+    requires { length text.now ≤ LONGEST_TEXT }
     ensures ok { IfOk result (λ sections. read_lines (lines_of text.now) ≡ Ok sections.items) }
     ensures err { IfErr result (λ fault. IsRefusal fault (read_lines (lines_of text.now))) }
 {

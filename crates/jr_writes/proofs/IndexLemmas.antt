@@ -16,41 +16,25 @@ use Rattle.std.specs.Option.{option_map}
 use Rattle.std.specs.Ordering.{is_eq}
 use Rattle.jr_model.specs.declared.blocks.Piece.{Piece}
 use Rattle.jr_model.specs.declared.events.WriteId.{WriteId}
-use Rattle.jr_model.specs.History.{same_write}
+use Rattle.jr_model.specs.History.{same_write, write_order}
 use Rattle.jr_model.specs.Pieces.{pieces_overlap}
+use Rattle.jr_model.proofs.Equality.{eq_write, is_at-write_order, write_order_total}
 use Rattle.jr_writes.specs.declared.logs.Logged.{Logged}
 use Rattle.jr_writes.specs.declared.spots.Spot.{Spot}
 use Rattle.jr_writes.specs.Index.{IsIndexed, NoneOverlaps, StandsHere, is_kept, piece_at, place_of, place_order, spot_of, stays}
-use Rattle.jr_writes.specs.LoggedWrites.{lies_apart, logged, settled, write_order}
+use Rattle.jr_writes.specs.LoggedWrites.{lies_apart, logged, settled}
 use Rattle.jr_writes.proofs.EntryLemmas.{filter-insert_entry, filter-remove_entry}
 use Rattle.jr_writes.proofs.Overlaps.{overlap_back, same_place}
-
-pub write_order_total : IsTotalOrder write_order
-write_order_total =
-    then_total (on_total (λ (w : WriteId). w.clone) nat_cmp_total)
-    (then_total (on_total (λ (w : WriteId). w.pass) nat_cmp_total) (on_total (λ (w : WriteId). w.number) nat_cmp_total))
 
 pub place_order_total : IsTotalOrder place_order
 place_order_total =
     then_total (on_total (λ (p : ℕ × ℕ). p.0) nat_cmp_total) (on_total (λ (p : ℕ × ℕ). p.1) nat_cmp_total)
 
--- the order of writes tells them apart, as `same_write` does
-pub is_at-write_order : (a b : WriteId) → is_at (write_order a) b ≡ same_write a b
-is_at-write_order a b = grind (arith, nat_tests)
-
-same_parts : (a b : WriteId) → same_write a b ≡ true → (a.clone ≡ b.clone) × (a.pass ≡ b.pass) × (a.number ≡ b.number)
-same_parts a b h = grind (arith, nat_tests)
-
-pub one_write : (a b : WriteId) → same_write a b ≡ true → a ≡ b
-one_write a b h =
-    let parts = same_parts a b h in
-    λ i. record { clone = parts.0 i; pass = parts.1 i; number = parts.2 i }
-
 pub write_itself : (a : WriteId) → is_at (write_order a) a ≡ true
 write_itself a = ap is_eq (tied_itself write_order_total a)
 
 pub write_same : (a b : WriteId) → is_at (write_order a) b ≡ true → a ≡ b
-write_same a b h = one_write a b (sym (is_at-write_order a b) ∙ h)
+write_same a b h = eq_write a b (sym (is_at-write_order a b) ∙ h)
 
 pub place_itself : (a : ℕ × ℕ) → is_at (place_order a) a ≡ true
 place_itself a = ap is_eq (tied_itself place_order_total a)
@@ -200,7 +184,7 @@ module _ (entry_of new_of : WriteId → Option Logged) (spot_in new_in : ℕ × 
       let place : place_of entry.piece ≡ q = place_same (place_of entry.piece) q here.0 in
       λ i. piece_at (sym place i) (sym here.1 i))
       (λ (there : (is_at (place_order (place_of entry.piece)) q ≡ false) × (spot_in q ≡ Some t)).
-      let one : write ≡ t.write = one_write write t.write same in
+      let one : write ≡ t.write = eq_write write t.write same in
       absurd (none-some (piece_at q t) (ap (λ (o : Option Logged). option_map (λ (e : Logged). e.piece) o) (sym fresh ∙ ap entry_of one) ∙ index.leads_back q t there.1)))
       (is_in q t h)
 
@@ -301,4 +285,4 @@ module _ (write : WriteId) (entry : Logged) (es : List (WriteId × Logged)) (ord
       differs : (w : WriteId) → (write_order write w ≡ Equal → ⊥) → same_write write w ≡ false
       differs w other =
           false_from_ne_true (same_write write w)
-          (λ same. other (subst (λ (x : WriteId). write_order write x ≡ Equal) (one_write write w same) (tied_itself write_order_total write)))
+          (λ same. other (subst (λ (x : WriteId). write_order write x ≡ Equal) (eq_write write w same) (tied_itself write_order_total write)))

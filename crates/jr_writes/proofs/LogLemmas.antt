@@ -9,11 +9,11 @@ use Rattle.std.specs.Map.{keys_of}
 use Rattle.jr_model.specs.declared.blocks.Piece.{Piece}
 use Rattle.jr_model.specs.declared.contents.Expected.{Expected}
 use Rattle.jr_model.specs.declared.events.WriteId.{WriteId}
-use Rattle.jr_model.specs.History.{same_write}
+use Rattle.jr_model.specs.History.{same_write, write_order}
+use Rattle.jr_model.proofs.Equality.{is_at-write_order, write_order_total}
 use Rattle.jr_writes.specs.declared.logs.Logged.{Logged}
-use Rattle.jr_writes.specs.LoggedWrites.{if_apart, lies_apart, logged, settled, unsettled, write_order}
+use Rattle.jr_writes.specs.LoggedWrites.{if_apart, lies_apart, logged, settled, unsettled}
 use Rattle.jr_writes.proofs.EntryLemmas.{lookup-insert_entry}
-use Rattle.jr_writes.proofs.IndexLemmas.{is_at-write_order, write_order_total}
 
 same_write_back : (a b : WriteId) → same_write a b ≡ same_write b a
 same_write_back a b = grind (arith, nat_tests)

@@ -8,11 +8,13 @@ use Rattle.std.specs.Map.{keys_of, remove_entry}
 use Rattle.std.specs.Option.{option_map}
 use Rattle.jr_model.specs.declared.events.WriteId.{WriteId}
 use Rattle.jr_model.specs.Pieces.{pieces_overlap}
+use Rattle.jr_model.specs.History.{write_order}
+use Rattle.jr_model.proofs.Equality.{is_at-write_order}
 use Rattle.jr_writes.specs.declared.logs.Logged.{Logged}
 use Rattle.jr_writes.specs.declared.spots.Spot.{Spot}
 use Rattle.jr_writes.specs.Index.{IsIndexed, StandsHere, piece_at, place_of, place_order, spot_of, stays}
-use Rattle.jr_writes.specs.LoggedWrites.{logged, settled, write_order}
-use Rattle.jr_writes.proofs.IndexLemmas.{IsIndexed-inserted, IsIndexed-removed, StandsHere-inserted, filter-inserted, filter-removed, is_at-write_order, place_itself, write_same}
+use Rattle.jr_writes.specs.LoggedWrites.{logged, settled}
+use Rattle.jr_writes.proofs.IndexLemmas.{IsIndexed-inserted, IsIndexed-removed, StandsHere-inserted, filter-inserted, filter-removed, place_itself, write_same}
 use Rattle.jr_writes.proofs.Overlaps.{overlap_from_parts}
 
 turned : {X : Type 0} (b c : Bool) (y : X) (o : Option X) → (b ≡ true → c ≡ true → ⊥) → cond b None (cond c (Some y) o) ≡ cond c (Some y) (cond b None o)

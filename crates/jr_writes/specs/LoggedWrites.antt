@@ -2,19 +2,14 @@
 -- piece is settled or a piece is unsettled (of this project).
 use Rattle.std.specs.Prelude.{Bool, not, List, Option, Some, None, filter, if◌then◌else◌}
 use Rattle.std.specs.declared.cmp.Ordering.{Ordering}
-use Rattle.std.specs.Ordering.{nat_cmp, ordering_then}
 use Rattle.std.specs.Map.{lookup}
 use Rattle.std.specs.BTreeMap.{insert_entry, is_at}
 use Rattle.jr_model.specs.declared.blocks.Piece.{Piece}
 use Rattle.jr_model.specs.declared.contents.Expected.{Expected}
 use Rattle.jr_model.specs.declared.events.WriteId.{WriteId}
+use Rattle.jr_model.specs.History.{write_order}
 use Rattle.jr_model.specs.Pieces.{pieces_overlap}
 use Rattle.jr_writes.specs.declared.logs.Logged.{Logged}
-
--- the order of writes: by clone, then by pass, then by number
-abbrev pub write_order : WriteId → WriteId → Ordering
-write_order a b =
-    ordering_then (nat_cmp a.clone b.clone) (ordering_then (nat_cmp a.pass b.pass) (nat_cmp a.number b.number))
 
 -- what the entries have of a write
 abbrev pub logged : List (WriteId × Logged) → WriteId → Option Logged

@@ -29,7 +29,8 @@ impl Model for WriteLog {
     ghost Value = { List (Name × Entry) };
 
     ghost use Rattle.jr_writes.specs.Index.{IsIndexed, place_order, spot_at};
-    ghost use Rattle.jr_writes.specs.LoggedWrites.{logged, write_order};
+    ghost use Rattle.jr_model.specs.History.{write_order};
+    ghost use Rattle.jr_writes.specs.LoggedWrites.{logged};
 
     ghost view = { λ log. log.writes.entries };
 

@@ -1,8 +1,9 @@
 ghost use Rattle.std.specs.Prelude.{◌≡◌, ◌^◌, ◌<◌, ◌≤◌, Some, None, filter, OnOk, OnErr};
 ghost use Rattle.std.specs.BTreeMap.{IsOrdered};
 ghost use Rattle.jr_model.specs.Pieces.{piece_end};
+ghost use Rattle.jr_model.specs.History.{write_order};
 ghost use Rattle.jr_writes.specs.Index.{AreDisjoint, IsIndexed, IsLastBefore, IsLastOther, IsOverlapped, StandsHere, is_kept, piece_at, place_order, spot_at, stays};
-ghost use Rattle.jr_writes.specs.LoggedWrites.{logged, settled, write_order};
+ghost use Rattle.jr_writes.specs.LoggedWrites.{logged, settled};
 
 use crate::logs::Logged;
 use jr_model::{Expected, Memory, Piece, WriteId, overlaps};

@@ -2,13 +2,15 @@ use Rattle.std.proofs.Common.{ap, ◌∙◌, cond, filter, None, Some}
 use Rattle.std.specs.BTreeMap.{is_at}
 use Rattle.std.specs.Map.{remove_entry}
 use Rattle.jr_writes.specs.Index.{spot_at, stays}
-use Rattle.jr_writes.specs.LoggedWrites.{logged, write_order}
+use Rattle.jr_writes.specs.LoggedWrites.{logged}
 use Rattle.jr_writes.specs.declared.logs.Logged.{Logged}
 use Rattle.jr_writes.proofs.EntryLemmas.{remove-insert_entry}
-use Rattle.jr_writes.proofs.IndexLemmas.{IsIndexed-inserted, StandsHere-inserted, filter-inserted, write_order_total}
+use Rattle.jr_writes.proofs.IndexLemmas.{IsIndexed-inserted, StandsHere-inserted, filter-inserted}
 use Rattle.jr_writes.proofs.PutLemmas.{IsIndexed-over, StandsHere-over, filter-over}
 use Rattle.std.proofs.Common.{sym}
 use Rattle.jr_writes.proofs.spots.put.Goals as goal
+use Rattle.jr_model.specs.History.{write_order}
+use Rattle.jr_model.proofs.Equality.{write_order_total}
 
 pub returns-in-Ok-None-clause-entries : goal.returns-in-Ok-None-clause-entries
 returns-in-Ok-None-clause-entries c =

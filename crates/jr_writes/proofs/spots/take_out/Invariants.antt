@@ -1,8 +1,9 @@
 use Rattle.std.proofs.Common.{◌≡◌, filter}
 use Rattle.std.specs.BTreeMap.{IsOrdered, btree_map_len}
 use Rattle.jr_writes.specs.Index.{IsIndexed, StandsHere, spot_at, stays}
-use Rattle.jr_writes.specs.LoggedWrites.{logged, write_order}
+use Rattle.jr_writes.specs.LoggedWrites.{logged}
 use Rattle.jr_writes.proofs.spots.take_out.Given as goal
+use Rattle.jr_model.specs.History.{write_order}
 
 abbrev pub invariant-loop-place : goal.invariant-loop-place
 invariant-loop-place l = record {

@@ -3,7 +3,8 @@ use Rattle.std.specs.Prelude.{slice_get, filter}
 use Rattle.std.specs.BTreeMap.Range.{range_contains}
 use Rattle.std.specs.declared.ops.Bound.TheVariants.{Excluded, Unbounded}
 use Rattle.jr_model.specs.declared.events.WriteId.{WriteId}
-use Rattle.jr_backlog.specs.Rounds.{Round, write_order}
+use Rattle.jr_model.specs.History.{write_order}
+use Rattle.jr_backlog.specs.Rounds.{Round}
 use Rattle.jr_backlog.proofs.OrderedKeys.{first_shown}
 use Rattle.jr_backlog.proofs.RoundFacts.{later_than}
 use Rattle.jr_backlog.proofs.rounds.Rounds.next_after.Goals as goal

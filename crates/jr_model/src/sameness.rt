@@ -1,6 +1,10 @@
 ghost use Rattle.std.specs.Prelude.{◌≡◌, IsTrue, IsFalse};
+ghost use Rattle.jr_model.specs.History.{same_write, same_piece};
 
-use jr_model::{Expected, Method, Pattern, Piece, Ticket, TicketKind, VerifyKind, WriteId};
+use crate::blocks::Piece;
+use crate::contents::{Expected, Method, Pattern, VerifyKind};
+use crate::events::WriteId;
+use crate::tickets::{Ticket, TicketKind};
 
 /// Whether a ticket differs from another in nothing.
 pub fn is_same(a: &Ticket, b: &Ticket) -> bool
@@ -11,8 +15,8 @@ pub fn is_same(a: &Ticket, b: &Ticket) -> bool
         && a.worker == b.worker
         && a.seed == b.seed
         && is_same_kind(a.kind, b.kind)
-        && is_same_write(&a.write, &b.write)
-        && is_same_piece(&a.piece, &b.piece)
+        && same_write(&a.write, &b.write)
+        && same_piece(&a.piece, &b.piece)
         && is_same_method(&a.method, &b.method)
         && is_same_expected(&a.expected, &b.expected)
 }
@@ -24,14 +28,18 @@ fn is_same_kind(a: TicketKind, b: TicketKind) -> bool
     a == b
 }
 
-fn is_same_write(a: &WriteId, b: &WriteId) -> bool
+/// Whether two names are of one write.
+pub fn same_write(a: &WriteId, b: &WriteId) -> bool
+    ensures value { result ≡ same_write a.now b.now }
     ensures yes { IsTrue result → a.now ≡ b.now }
     ensures no { IsFalse result → ¬ a.now ≡ b.now }
 {
     a.clone == b.clone && a.pass == b.pass && a.number == b.number
 }
 
-fn is_same_piece(a: &Piece, b: &Piece) -> bool
+/// Whether two pieces are one.
+pub fn same_piece(a: &Piece, b: &Piece) -> bool
+    ensures value { result ≡ same_piece a.now b.now }
     ensures yes { IsTrue result → a.now ≡ b.now }
     ensures no { IsFalse result → ¬ a.now ≡ b.now }
 {

@@ -2,8 +2,8 @@ use Rattle.std.proofs.Common.{◌≡◌, ◌+◌, sym, ap, ◌∙◌, lit≤, ar
 use Rattle.std.proofs.lemmas.List.{take_all}
 use Rattle.std.specs.Str.Parse.{digits_value}
 use Rattle.std.proofs.lemmas.Str.Parse.{digits_value-take-le}
-use Rattle.jr_text.proofs.NumberLemmas.{digits_value_next}
-use Rattle.jr_text.proofs.numbers.digits_number.Goals as goal
+use Rattle.jr_digits.proofs.DigitLemmas.{digits_value_next}
+use Rattle.jr_digits.proofs.digits.digits_number.Goals as goal
 
 pub returns-in_err-checked_mul : goal.returns-in_err-checked_mul
 returns-in_err-checked_mul c =

@@ -1,0 +1,45 @@
+-- Equal by test is equal, and the order of writes is a total one that tells them apart.
+use Rattle.std.proofs.Common.{◌≡◌, ℕ, ◌==◌, Bool, true, ◌&&◌, refl, ap, sym, ◌∙◌, arith}
+use Rattle.std.proofs.lemmas.Bool.{and_parts, eqb-true}
+use Rattle.std.proofs.lemmas.Bool.Decides.{nat_tests}
+use Rattle.std.proofs.lemmas.Cmp.{nat_cmp_total, on_total, then_total}
+use Rattle.std.specs.BTreeMap.{is_at}
+use Rattle.std.specs.Cmp.{IsTotalOrder}
+use Rattle.jr_model.specs.declared.blocks.Dir.{Dir}
+use Rattle.jr_model.specs.declared.blocks.Dir.TheVariants as direction
+use Rattle.jr_model.specs.declared.blocks.Piece.{Piece}
+use Rattle.jr_model.specs.declared.events.WriteId.{WriteId}
+use Rattle.jr_model.specs.History.{same_piece, same_write, write_order}
+use Rattle.jr_model.specs.Legal.{same_dir}
+
+pub eq_write : (a b : WriteId) → same_write a b ≡ true → a ≡ b
+eq_write a b h =
+    let parts = and_parts ((a.clone == b.clone) && (a.pass == b.pass)) (a.number == b.number) h in
+    let front = and_parts (a.clone == b.clone) (a.pass == b.pass) parts.0 in
+    let made : ℕ → ℕ → ℕ → WriteId = λ c p n. record { clone = c; pass = p; number = n } in
+    ap (λ (c : ℕ). made c a.pass a.number) (eqb-true a.clone b.clone front.0)
+    ∙ ap (λ (p : ℕ). made b.clone p a.number) (eqb-true a.pass b.pass front.1)
+    ∙ ap (made b.clone b.pass) (eqb-true a.number b.number parts.1)
+
+pub eq_piece : (a b : Piece) → same_piece a b ≡ true → a ≡ b
+eq_piece a b h =
+    let parts = and_parts ((a.file == b.file) && (a.offset == b.offset)) (a.len == b.len) h in
+    let front = and_parts (a.file == b.file) (a.offset == b.offset) parts.0 in
+    let made : ℕ → ℕ → ℕ → Piece = λ f o n. record { file = f; offset = o; len = n } in
+    ap (λ (f : ℕ). made f a.offset a.len) (eqb-true a.file b.file front.0)
+    ∙ ap (λ (o : ℕ). made b.file o a.len) (eqb-true a.offset b.offset front.1)
+    ∙ ap (made b.file b.offset) (eqb-true a.len b.len parts.1)
+
+pub eq_dir : (a b : Dir) → same_dir a b ≡ true → a ≡ b
+eq_dir direction.Read direction.Read h = refl
+eq_dir direction.Read direction.Write h = cc
+eq_dir direction.Write direction.Read h = cc
+eq_dir direction.Write direction.Write h = refl
+
+pub write_order_total : IsTotalOrder write_order
+write_order_total =
+    then_total (on_total (λ (w : WriteId). w.clone) nat_cmp_total)
+    (then_total (on_total (λ (w : WriteId). w.pass) nat_cmp_total) (on_total (λ (w : WriteId). w.number) nat_cmp_total))
+
+pub is_at-write_order : (a b : WriteId) → is_at (write_order a) b ≡ same_write a b
+is_at-write_order a b = grind (arith, nat_tests)
