@@ -34,31 +34,80 @@ build() {
   return $status
 }
 
+# Crates that stand apart are built side by side, as many at once as there are processors.
 build_crates() {
-  local what="build" name count=0
+  what="build"
   [ -e "$program" ] || what="first build"
   mkdir -p "$out"
   [ -e "$begun" ] || : >"$begun"
   touch "$begun"
   SECONDS=0
-  order=()
+  order=() runs=() changed=" " built=" " count=0
   read_crates
   visit fiorun
-  changed=" "
-  for name in "${order[@]}"; do
-    count=$((count + 1))
-    if [ "$name" = fiorun ] || needs_proof "$name"; then
-      changed+="$name "
-      say "$what: proving $name ($count of ${#order[@]}), $((SECONDS / 60)) min"
-      prove "$name" || return
-    fi
+  total=${#order[@]}
+  trap 'end_all; exit 130' INT TERM HUP
+  until [ ${#order[@]} -eq 0 ] && [ ${#runs[@]} -eq 0 ]; do
+    start_ready
+    [ ${#runs[@]} -eq 0 ] || end_one || { end_all; return 1; }
   done
+  trap - INT TERM HUP
   mv "$begun" "$ended"
+}
+
+# Starts the crates whose turn it is: all that they stand on is built. Where a crate needs no proof, it is built already.
+start_ready() {
+  local name left=()
+  for name in "${order[@]}"; do
+    if ! is_ready "$name" || [ ${#runs[@]} -ge "$(nproc)" ]; then
+      left+=("$name")
+      continue
+    fi
+    count=$((count + 1))
+    if [ "$name" != fiorun ] && ! needs_proof "$name"; then
+      built+="$name "
+      continue
+    fi
+    changed+="$name "
+    say "$what: proving $name ($count of $total), $((SECONDS / 60)) min"
+    # (in a process group of its own, so that all of it can be ended)
+    set -m
+    prove "$name" &
+    set +m
+    runs[$!]=$name
+  done
+  order=("${left[@]}")
+}
+
+# Is all built that the crate stands on?
+is_ready() {
+  local dep
+  for dep in ${below[$1]}; do
+    [ -z "${below[$dep]+here}" ] || case "$built" in *" $dep "*) ;; *) return 1 ;; esac
+  done
+}
+
+# Waits until one of those that run has ended, and says whether it was built.
+end_one() {
+  local ended_run status=0
+  wait -n -p ended_run "${!runs[@]}" || status=$?
+  [ "$status" -ne 0 ] || built+="${runs[$ended_run]} "
+  unset "runs[$ended_run]"
+  return $status
+}
+
+# Ends all that run.
+end_all() {
+  local run
+  for run in "${!runs[@]}"; do
+    kill -- "-$run" 2>/dev/null || true
+  done
+  wait
 }
 
 # Proves and builds a crate with the kit, over what earlier runs have kept; where it fails, says what was said.
 prove() {
-  local log=$out/build.log words=(lib)
+  local log=$out/build.$1.log words=(lib)
   [ "$1" != fiorun ] || words=(run -- --help)
   if ! (cd "$top/crates/$1" && rt "${words[@]}") </dev/null >"$log" 2>&1; then
     say "$1 was not built; the end of $log:"
@@ -93,6 +142,7 @@ needs_proof() {
   [ -e "$stamp" ] || return 0
   for dep in ${below[$1]}; do
     case "$changed" in *" $dep "*) return 0 ;; esac
+    [ ! "$top/crates/$dep/out/rlib/stamp" -nt "$stamp" ] || return 0
   done
   [ -n "$(find "$top/crates/$1"/{src,specs,proofs} -newer "$stamp" -print -quit 2>/dev/null)" ]
 }
