@@ -5,6 +5,7 @@ program=$out/fiorun
 # Made as a build begins, and renamed when it has ended well: so an interrupted build is seen, and an edit during one.
 begun=$out/build.begun
 ended=$out/build.ended
+lanes=$out/lanes
 
 # Is the program there, and no source newer than the start of its build (or than itself, where the gate made it)?
 is_built() {
@@ -38,10 +39,11 @@ build() {
 build_crates() {
   what="build"
   [ -e "$program" ] || what="first build"
-  mkdir -p "$out"
+  mkdir -p "$lanes"
   [ -e "$begun" ] || : >"$begun"
   touch "$begun"
   SECONDS=0
+  end_lanes
   order=() runs=() changed=" " built=" " count=0
   read_crates
   visit fiorun
@@ -52,6 +54,8 @@ build_crates() {
     [ ${#runs[@]} -eq 0 ] || end_one || { end_all; return 1; }
   done
   trap - INT TERM HUP
+  rmdir "$lanes"
+  say "$what: done in $(((SECONDS + 30) / 60)) min"
   mv "$begun" "$ended"
 }
 
@@ -107,13 +111,55 @@ end_all() {
 
 # Proves and builds a crate with the kit, over what earlier runs have kept; where it fails, says what was said.
 prove() {
-  local log=$out/build.$1.log words=(lib)
-  [ "$1" != fiorun ] || words=(run -- --help)
-  if ! (cd "$top/crates/$1" && rt "${words[@]}") </dev/null >"$log" 2>&1; then
+  local log=$out/build.$1.log status=0
+  if [ "$1" = fiorun ]; then
+    (cd "$top/crates/fiorun" && rt run -- --help) </dev/null >"$log" 2>&1 || status=1
+  else
+    lay_lane "$1"
+    (cd "$lanes/$1/crates/$1" && rt lib) </dev/null >"$log" 2>&1 || status=1
+    end_lane "$1"
+  fi
+  [ "$status" -eq 0 ] || {
     say "$1 was not built; the end of $log:"
     tail -n 30 "$log" >&2
-    return 1
-  fi
+  }
+  return $status
+}
+
+# A crate's lane is a folder for its build: links to all sources and to the libraries below it, and what it has kept itself. For rt
+# lets nothing else into the folders of a crate, and of those below it, while it builds one.
+lay_lane() {
+  local lane=$lanes/$1 folder name part
+  mkdir -p "$lane/crates"
+  cp -l "$top/crates.txt" "$top/HANDLES" "$lane"
+  for folder in "$top"/crates/*; do
+    name=${folder##*/}
+    mkdir "$lane/crates/$name"
+    for part in src specs proofs; do
+      [ ! -d "$folder/$part" ] || cp -rl "$folder/$part" "$lane/crates/$name"
+    done
+    case "$built" in *" $name "*)
+      mkdir "$lane/crates/$name/out"
+      cp -rl "$folder/out/rlib" "$lane/crates/$name/out"
+      ;;
+    esac
+  done
+  [ ! -d "$top/crates/$1/out" ] || mv "$top/crates/$1/out" "$lane/crates/$1"
+}
+
+# Gives the crate what was made in its lane.
+end_lane() {
+  local made=$lanes/$1/crates/$1/out
+  [ ! -d "$made" ] || mv "$made" "$top/crates/$1"
+  rm -rf "${lanes:?}/$1"
+}
+
+# Ends the lanes of a build that was interrupted.
+end_lanes() {
+  local lane
+  for lane in "$lanes"/*; do
+    [ ! -d "$lane" ] || end_lane "${lane##*/}"
+  done
 }
 
 # The crates of crates.txt, each with what it stands on.
