@@ -1,6 +1,6 @@
 -- The marks of events, one event and one I/O after another.
-use Rattle.std.proofs.Common.{◌≡◌, ℕ, suc, zero, ◌+◌, ◌<◌, ◌≤◌, List, [], ◌∷◌, ◌++◌, length, Bool, true, false, cond, eqb, refl, sym, ap, ◌∙◌, arith, eq-eqb, append-nil, subst}
-use Rattle.std.specs.Prelude.{Option, Some, None, is_some, nat_eq, ◌||◌, ◌&&◌, slice_get, filter, filter_map, count_by, if◌then◌else◌}
+use Rattle.std.proofs.Common.{◌≡◌, ℕ, suc, zero, ◌+◌, ◌≤◌, List, [], ◌∷◌, ◌++◌, length, Bool, true, false, cond, eqb, refl, sym, ap, ◌∙◌, arith, eq-eqb, append-nil, subst}
+use Rattle.std.specs.Prelude.{Option, Some, None, is_some, nat_eq, ◌||◌, ◌&&◌, slice_get, filter, filter_map, count_by}
 use Rattle.std.specs.HashMap.{get}
 use Rattle.std.specs.HashSet.{contains}
 use Rattle.std.specs.List.{list_any, cons_option}

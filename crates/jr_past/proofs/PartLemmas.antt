@@ -1,10 +1,9 @@
 -- The ends of writes over a block are among those over its part.
-use Rattle.std.proofs.Common.{◌≡◌, ℕ, suc, ◌+◌, ◌*◌, ◌/◌, ◌%◌, ◌<◌, ◌≤◌, List, [], ◌∷◌, Bool, true, false, cond, ◌&&◌, refl, sym, ap, ◌∙◌, arith, eq-eqb, ltb-true}
+use Rattle.std.proofs.Common.{◌≡◌, ℕ, ◌+◌, ◌*◌, ◌/◌, ◌%◌, ◌<◌, ◌≤◌, List, [], ◌∷◌, Bool, true, false, cond, ◌&&◌, refl, sym, ap, ◌∙◌, arith, eq-eqb, ltb-true}
 use Rattle.std.specs.Prelude.{Option, nat_lt, nat_le, ◌==◌, filter, fold}
 use Rattle.std.proofs.lemmas.Bool.{and_parts, and_from, eqb-true, leb-true, le-leb, lt-ltb}
 use Rattle.std.proofs.lemmas.Grind.{div_ceil_times}
 use Rattle.std.proofs.lemmas.Nat.{div-add-mod', mod_below}
-use Rattle.std.specs.Int.{div_ceil}
 use Rattle.jr_model.specs.declared.events.WriteId.{WriteId}
 use Rattle.jr_past.specs.declared.marks.WriteEnd.{WriteEnd}
 use Rattle.jr_past.specs.Parts.{first_part, is_over_part, part_count, part_of}

@@ -1,6 +1,5 @@
 -- Internal: the ends of writes, and the last write of a block by them.
-use Rattle.std.specs.Prelude.{ℕ, Bool, ◌&&◌, List, Option, Some, None, slice_get, if◌then◌else◌}
-use Rattle.jr_model.specs.declared.blocks.Piece.{Piece}
+use Rattle.std.specs.Prelude.{ℕ, Bool, List, Option, Some, None, slice_get, if◌then◌else◌}
 use Rattle.jr_model.specs.declared.events.Event.{Event}
 use Rattle.jr_model.specs.declared.events.Event.TheVariants.{Issue, Probe, Skip, End, Verdict}
 use Rattle.jr_model.specs.declared.events.Started.{Started}

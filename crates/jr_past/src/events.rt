@@ -1,8 +1,9 @@
 ghost use Rattle.std.specs.Prelude.{◌≡◌, IfOk};
 ghost use Rattle.std.specs.List.{list_any};
-ghost use Rattle.jr_model.specs.History.{started_by, started, end_of, outcome_of, kind_for, is_verdict_on, is_judged, is_probe, is_write, ended_whole};
+ghost use Rattle.jr_model.specs.History.{started_by, started, end_of, outcome_of, kind_for, is_verdict_on, is_judged, is_probe, is_write, is_of_clone, ended_whole};
+ghost use Rattle.jr_model.specs.Legal.{is_io_of, is_fault, is_bad};
 
-use jr_model::{Dir, Event, Memory, Outcome, Started, TicketKind};
+use jr_model::{Dir, Event, Memory, Outcome, Started, TicketKind, Verdict};
 use std::alloc::Global;
 
 // The kind of ticket for a draw of this direction.
@@ -117,4 +118,35 @@ pub fn ended_whole(outcome: Option<Outcome>) -> bool
     ensures { result ≡ ended_whole outcome }
 {
     outcome == Some(Outcome::Whole)
+}
+
+/// Whether an outcome is a fault.
+pub fn is_fault(outcome: Outcome) -> bool
+    ensures { result ≡ is_fault outcome }
+{
+    outcome != Outcome::Whole
+}
+
+/// Whether a verdict is bad.
+pub fn is_bad(verdict: Verdict) -> bool
+    ensures { result ≡ is_bad verdict }
+{
+    verdict != Verdict::Good
+}
+
+/// Whether an I/O is of this clone.
+pub fn is_of_clone(clone: u32, io: &Started) -> bool
+    ensures { result ≡ is_of_clone clone io.now }
+{
+    io.write.clone == clone
+}
+
+/// Whether an I/O is there and of this clone.
+pub fn is_io_of(clone: u32, io: Option<Started>) -> bool
+    ensures { result ≡ is_io_of clone io }
+{
+    match io {
+        None => false,
+        Some(io) => is_of_clone(clone, &io),
+    }
 }

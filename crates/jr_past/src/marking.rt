@@ -12,10 +12,10 @@ ghost use Rattle.jr_past.specs.Marks.{IsMarkedBy, counted, is_given, is_issue_in
 ghost use Rattle.jr_past.specs.Parts.{ends_at, is_over_part};
 ghost use Rattle.jr_past.specs.WriteEnds.{if_write, write_end};
 
-use crate::events::{ended_whole, is_probe, is_write};
+use crate::events::{ended_whole, is_bad, is_fault, is_probe, is_write};
 use crate::marks::{Marks, WriteEnd};
 use crate::parts::{Parts, put};
-use jr_model::{Event, Memory, Outcome, Started, Verdict, WriteId};
+use jr_model::{Event, Memory, Outcome, Started, WriteId};
 use std::alloc::Global;
 use std::collections::{HashMap, HashSet};
 
@@ -134,7 +134,7 @@ fn clone_at_fault(ios: &[Started], event: &Event) -> Option<u32>
     ensures { (clone : ℕ) → is_fault_of ios.now clone event.now ≡ is_given nat_eq result clone }
 {
     match *event {
-        Event::End { io, outcome, .. } if outcome != Outcome::Whole => {
+        Event::End { io, outcome, .. } if is_fault(outcome) => {
             ios.get(io as usize).map(|io| io.write.clone)
         }
         _ => None,
@@ -157,7 +157,7 @@ fn condemned_by(ios: &[Started], event: &Event) -> Option<u32>
     ensures { (clone : ℕ) → is_verdict_of ios.now is_bad clone event.now ≡ is_given nat_eq result clone }
 {
     match *event {
-        Event::Verdict { io, verdict, .. } if verdict != Verdict::Good => {
+        Event::Verdict { io, verdict, .. } if is_bad(verdict) => {
             ios.get(io as usize).map(|io| io.write.clone)
         }
         _ => None,

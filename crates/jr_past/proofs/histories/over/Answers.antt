@@ -1,6 +1,5 @@
-use Rattle.std.proofs.Common.{◌≡◌, ℕ, List, ap, ◌∙◌}
+use Rattle.std.proofs.Common.{◌≡◌, ap, ◌∙◌}
 use Rattle.std.specs.Prelude.{filter_map}
-use Rattle.jr_model.specs.declared.events.Started.{Started}
 use Rattle.jr_model.specs.History.{if_flying, if_awaiting}
 use Rattle.jr_past.specs.Unfinished.{unfinished}
 use Rattle.jr_past.proofs.UnfinishedLemmas.{flying_is, waiting_is}

@@ -1,4 +1,4 @@
-use Rattle.std.proofs.Common.{ℕ, List, length, take, sym, subst, arith, length-take}
+use Rattle.std.proofs.Common.{List, take, sym, subst, arith, length-take}
 use Rattle.std.proofs.lemmas.List.{take_all, take_more}
 use Rattle.jr_model.specs.declared.events.Event.{Event}
 use Rattle.jr_past.specs.Marks.{IsMarked}
