@@ -8,8 +8,9 @@ use crate::halts::Halt;
 use jr_board::{Desk, DeskFault, Take};
 use jr_header::{Ruling, Served};
 use jr_model::{Event, Ticket};
+use std::hint;
 use std::marker::{Brand, PhantomData};
-use std::sync::{Condvar, Mutex, Wait};
+use std::sync::{Condvar, Mutex, MutexGuard, Wait};
 
 // The plan of a run. Each run picks its own.
 pub trait Naming {
@@ -86,6 +87,10 @@ fn first_cause(halt: Halt, before: Option<Halt>) -> Halt
     }
 }
 
+// How often a thread looks whether the lock is free before it sleeps until it is. A call of the desk takes about a microsecond, and
+// to sleep and be woken takes several.
+const LOOKS: u32 = 400;
+
 // The desk under its lock, and what those wait on that can't go on.
 #[derive(Drop)]
 pub struct Shared<P: Naming> {
@@ -116,12 +121,23 @@ impl<P: Naming> Shared<P> {
         held.into_inner().into_parts()
     }
 
+    // Takes the lock, and looks for a while whether it is free before it waits for it.
+    fn enter<R: Wait>(&self, rt: &R) -> MutexGuard<'_, Held<P>> {
+        for _ in 0..LOOKS {
+            if let Some(held) = self.held.try_lock() {
+                return held;
+            }
+            hint::spin_loop();
+        }
+        self.held.lock(rt)
+    }
+
     // The ticket of what this worker is to carry out next; none where the run has ended. It waits while nothing may be
     // started: nothing but an end, a verdict or a stop lets anything start again.
     pub fn next<R: Wait>(&self, rt: &R, worker: u32) -> Result<Option<Ticket>, Halt>
         ensures { IfOk result (λ ticket. IfSome ticket (λ t. ticket_fits t ≡ true)) }
     {
-        let mut held = self.held.lock(rt);
+        let mut held = self.enter(rt);
         for _ in rt.forever() {
             match held.take(worker) {
                 Ok(Take::Io(ticket)) => return Ok(Some(ticket)),
@@ -136,21 +152,21 @@ impl<P: Naming> Shared<P> {
 
     // Takes in how a ticket ended.
     pub fn end<R: Wait>(&self, rt: &R, served: &Served) -> Result<(), Halt> {
-        self.held.lock(rt).end(served)?;
+        self.enter(rt).end(served)?;
         self.changed.notify_all();
         Ok(())
     }
 
     // Takes in a verdict.
     pub fn judge<R: Wait>(&self, rt: &R, by: u32, ruling: &Ruling<'_>) -> Result<(), Halt> {
-        self.held.lock(rt).judge(by, ruling)?;
+        self.enter(rt).judge(by, ruling)?;
         self.changed.notify_all();
         Ok(())
     }
 
     // Ends the run for all threads.
     pub fn stop<R: Wait>(&self, rt: &R, halt: Halt) {
-        self.held.lock(rt).stop(halt);
+        self.enter(rt).stop(halt);
         self.changed.notify_all();
     }
 }
