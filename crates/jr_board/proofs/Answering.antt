@@ -29,8 +29,8 @@ use Rattle.jr_steps.proofs.CountLaws.{numbered_of, along_legal}
 use Rattle.jr_steps.proofs.DrawnLaws.{started_fit-law}
 use Rattle.jr_steps.proofs.IdleLaws.{idle_is_over}
 use Rattle.jr_steps.proofs.RestLaws.{each_ended, none_by_length}
+use Rattle.jr_handed.specs.Tickets.{method_of, seed_of, expected_by, ticket_of}
 use Rattle.jr_board.specs.Takes.{IsChosen, last_started, ticket_for, answer_with, handing, is_fitting, is_finished, WaitsRightly}
-use Rattle.jr_board.specs.Tickets.{method_of, seed_of, expected_by, ticket_of}
 use Rattle.jr_board.proofs.Keeping.{by_is_skip, last-skip, chosen_at, chosen_legal}
 
 -- a ticket fits

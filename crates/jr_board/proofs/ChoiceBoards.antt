@@ -1,7 +1,7 @@
 -- What a board says of a clone's next step.
-use Rattle.std.proofs.Common.{◌≡◌, ℕ, zero, suc, ◌+◌, ◌<◌, List, [], ◌∷◌, length, drop, Bool, true, false, cond, ◌&&◌}
-use Rattle.std.proofs.Common.{not, refl, sym, ◌∙◌, ap, subst, arith, length-drop}
-use Rattle.std.specs.Prelude.{Option, Some, None, slice_get, ◌==◌, filter, find, is_some, is_none, if◌then◌else◌}
+use Rattle.std.proofs.Common.{◌≡◌, ℕ, suc, ◌+◌, ◌<◌, List, length, drop, Bool, true, false, cond, ◌&&◌}
+use Rattle.std.proofs.Common.{refl, sym, ◌∙◌, ap, subst, arith, length-drop}
+use Rattle.std.specs.Prelude.{Option, Some, None, slice_get, ◌==◌, filter, find, is_some, if◌then◌else◌}
 use Rattle.std.specs.List.{list_any, enumerate_from}
 use Rattle.std.specs.Option.{option_map}
 use Rattle.std.proofs.lemmas.Bool.{and_parts, and_from, eq-eqb}
@@ -22,32 +22,28 @@ use Rattle.jr_model.specs.Tickets.{piece_fits}
 use Rattle.jr_model.proofs.Equality.{write_order_total}
 use Rattle.jr_backlog.specs.Rounds.{Round, is_before, is_due, IsInOrder, next_to_check, next_to_check_after}
 use Rattle.jr_backlog.specs.CurrentRound.{current_round}
-use Rattle.jr_standing.specs.Deferred.{Deferred, is_settled, round_now}
+use Rattle.jr_standing.specs.Deferred.{is_settled}
 use Rattle.jr_writes.specs.declared.logs.Logged.{Logged}
 use Rattle.jr_writes.specs.LoggedWrites.{logged}
 use Rattle.jr_steps.proofs.DrawnLaws.{started_are_drawn-law, started_fit-law}
-use Rattle.jr_steps.proofs.PlaceLemmas.{got_made, made_at, any_at}
+use Rattle.jr_steps.proofs.PlaceLemmas.{made_at, any_at}
 use Rattle.jr_steps.proofs.StartedLemmas.{same_some}
 use Rattle.jr_log_laws.proofs.DrawLaws.{log_is_intact_of_draws}
 use Rattle.jr_round_laws.specs.Rounds.{HasRound}
 use Rattle.jr_round_laws.specs.Standing.{is_under_way, take_up_write}
 use Rattle.jr_round_laws.proofs.StandingLists.{numbered_at}
+use Rattle.jr_handed.specs.Kept.{tickets_of}
+use Rattle.jr_handed.specs.Tickets.{ticket_of}
+use Rattle.jr_handed.proofs.OwnTickets.{got_ticket}
 use Rattle.jr_board.specs.declared.board.Board.{Board}
 use Rattle.jr_board.specs.declared.standings.Issued.{Issued}
 use Rattle.jr_board.specs.declared.standings.Standing.{Standing}
 use Rattle.jr_board.specs.Boards.{IsBoard}
-use Rattle.jr_board.specs.Kept.{tickets_of}
 use Rattle.jr_board.specs.Standings.{IsStanding, name_of}
-use Rattle.jr_board.specs.Tickets.{ticket_of}
 use Rattle.jr_board.specs.WriteLogs.{checked_by}
 use Rattle.jr_board.proofs.ChoiceLists.{given_here, given_behind, given_nowhere, after_is_behind, first_after}
 use Rattle.jr_board.proofs.ChoiceMoves.{IsLeft, left_write}
-
-got_numbered : {X : Type 0} (n : ℕ) (xs : List X) (k : ℕ) (numbered : ℕ × X) → slice_get (enumerate_from n xs) k ≡ Some numbered
-    → slice_get xs k ≡ Some numbered.1
-got_numbered n [] k numbered at = cc
-got_numbered n (x ∷ xs) zero numbered at = ap Some (ap (λ (e : ℕ × _). e.1) (same_some (n, x) numbered at))
-got_numbered n (x ∷ xs) (suc k) numbered at = got_numbered (n + 1) xs k numbered at
+use Rattle.jr_board.proofs.StandingMoves.{settled_is}
 
 mapped : {X Y : Type 0} (f : X → Y) (o : Option X) (y : Y) → option_map f o ≡ Some y → (x : X) × (o ≡ Some x) × (f x ≡ y)
 mapped f None y h = cc
@@ -60,18 +56,9 @@ pub handed_fits : (plan : Plan) (board : Board) (id : ℕ) (piece : Piece) → I
 handed_fits plan board id piece is at =
     let history = board.history.items in
     let found = mapped (λ (ticket : Ticket). ticket.piece) (slice_get (tickets_of plan history) id) piece at in
-    let made = got_made (ticket_of plan) (enumerate_from 0 (started history)) id found.0 found.1 in
-    let begun = got_numbered 0 (started history) id made.0 made.1 in
-    let fits = started_fit-law plan history id made.0.1 is.planned is.legal begun in
+    let made = got_ticket plan 0 (started history) id found.0 found.1 in
+    let fits = started_fit-law plan history id made.0 is.planned is.legal made.1 in
     subst (λ (p : Piece). piece_fits p ≡ true) (ap (λ (ticket : Ticket). ticket.piece) made.2 ∙ found.2) fits.1.fits
-
-settled_now : (d : Deferred) → is_settled d ≡ true → round_now d ≡ d.round
-settled_now d h = by d.waiting d.ended refl refl h
-  where
-    by : (w : Option WriteId) (e : Bool) → d.waiting ≡ w → d.ended ≡ e → (is_none w && not e) ≡ true → round_now d ≡ d.round
-    by None false waits ends h = rw (waits, ends) refl
-    by None true waits ends h = cc
-    by (Some write) e waits ends h = cc
 
 -- a draw of a clone's round was issued under this number
 pub record IsEntry (history : List Event) (job : SubJob) (write : WriteId) (issued : Issued) : Type 0 where
@@ -103,7 +90,7 @@ module _ (plan : Plan) (board : Board) (is : IsBoard plan board) (c : ℕ) (job 
       own_round = record { planned = is.planned; legal = is.legal; there = own; in_pass = stands.in_pass; rounds = rounds; runs = runs }
 
       pub round_is : is_settled standing.rounds ≡ true → standing.rounds.round ≡ current_round job history
-      round_is settled = sym (settled_now standing.rounds settled) ∙ stands.round rounds runs
+      round_is settled = sym (settled_is standing.rounds settled) ∙ stands.round rounds runs
 
       module _ (write : WriteId) (left : list_any (same_write write) (current_round job history).to_check ≡ true) where
         pub its : IsLeft history job standing.pass write

@@ -27,16 +27,16 @@ use Rattle.jr_tally_laws.proofs.Compared.{tests_compared}
 use Rattle.jr_tally_laws.proofs.Few.{counts_few}
 use Rattle.jr_round_laws.specs.Standing.{is_under_way, next_issue, take_up_write, step_in_pass}
 use Rattle.jr_round_laws.proofs.StandingPasses.{done_parts}
+use Rattle.jr_tally_laws.proofs.StartedFew.{started_small}
+use Rattle.jr_tallies.specs.declared.tallies.Counts.{Counts}
+use Rattle.jr_tallies.specs.Tallying.{counts_of}
 use Rattle.jr_board.specs.declared.board.Board.{Board}
 use Rattle.jr_board.specs.declared.standings.Standing.{Standing}
-use Rattle.jr_board.specs.declared.tallies.Counts.{Counts}
 use Rattle.jr_board.specs.Boards.{IsBoard}
 use Rattle.jr_board.specs.Standings.{IsPrepared}
-use Rattle.jr_board.specs.Tallying.{counts_of}
 use Rattle.jr_board.proofs.ChoiceLists.{read_at}
 use Rattle.jr_board.proofs.ChoiceMoves.{chosen, step_blocked, step_barred, step_checks, step_issues, next_unopened}
 use Rattle.jr_board.proofs.ChoiceBoards.{stands, round_is}
-use Rattle.jr_board.proofs.StartedFew.{started_small}
 
 -- the standing and the counts that were read of a clone are there
 pub standing_at : (plan : Plan) (board : Board) (c : ℕ) (standing : Standing) → IsBoard plan board → c < length plan.clones

@@ -6,16 +6,16 @@ use Rattle.jr_model.specs.Legal.{is_legal}
 use Rattle.jr_model.specs.Plan.{Plan}
 use Rattle.jr_plan.specs.PlanFacts.{IsPlanned}
 use Rattle.jr_steps.proofs.StartedLemmas.{started_below}
+use Rattle.jr_tallies.specs.Tallying.{IsTallied}
+use Rattle.jr_handed.specs.Handing.{IsHanded}
+use Rattle.jr_handed.specs.Kept.{IsOwn}
+use Rattle.jr_handed.proofs.HandingMoves.{handed_length}
 use Rattle.jr_board.specs.declared.board.Board.{Board}
 use Rattle.jr_board.specs.Boards.{IsBoard}
 use Rattle.jr_board.specs.Flyings.{IsFlying}
-use Rattle.jr_board.specs.Handing.{IsHanded}
-use Rattle.jr_board.specs.Kept.{IsOwn}
 use Rattle.jr_board.specs.Standings.{AreStanding}
-use Rattle.jr_board.specs.Tallying.{IsTallied}
 use Rattle.jr_board.specs.WriteLogs.{log_of_run}
 use Rattle.jr_board.proofs.EndingParts.{OwnParts, own_parts}
-use Rattle.jr_board.proofs.HandingMoves.{handed_length}
 
 -- where no event is put to it, the board stays that of its history
 pub board_stays : (plan : Plan) (before after : Board)

@@ -15,8 +15,8 @@ use Rattle.jr_model.specs.Plan.{Plan, SubJob, clone_of}
 use Rattle.jr_model.specs.Tickets.{piece_fits}
 use Rattle.jr_plan.specs.PlanFacts.{IsPlanned}
 use Rattle.jr_steps.proofs.DrawnLaws.{started_fit-law}
-use Rattle.jr_board.specs.Kept.{IsOwn}
-use Rattle.jr_board.proofs.Keeping.{own_started}
+use Rattle.jr_handed.specs.Kept.{IsOwn}
+use Rattle.jr_handed.proofs.OwnTickets.{own_started}
 
 -- the I/O of a ticket of the desk's own, and its clone
 pub record OwnParts (plan : Plan) (history : List Event) (ticket : Ticket) : Type 0 where

@@ -1,8 +1,7 @@
 -- What each event makes of what is in flight and of the write log.
-use Rattle.std.proofs.Common.{◌≡◌, ℕ, zero, suc, ◌+◌, ◌<◌, List, [], ◌∷◌, ◌++◌, length, Bool, true, false, cond, refl, sym, ◌∙◌, ap, subst}
+use Rattle.std.proofs.Common.{◌≡◌, ℕ, ◌+◌, ◌<◌, List, [], ◌∷◌, ◌++◌, length, Bool, true, false, cond, refl, sym, ◌∙◌, ap, subst}
 use Rattle.std.specs.Prelude.{Option, Some, None, IfSome, nat_lt, ◌==◌, slice_get, is_some}
 use Rattle.std.specs.BTreeMap.{insert_entry, is_at}
-use Rattle.std.specs.List.{enumerate_from}
 use Rattle.std.specs.Map.{keys_of, remove_entry}
 use Rattle.std.specs.List.Sorted.{IsStrictlySortedBy}
 use Rattle.std.specs.declared.cmp.Ordering.TheVariants.{Less, Equal, Greater}
@@ -38,7 +37,6 @@ use Rattle.jr_writes.specs.LoggedWrites.{logged, settled, unsettled}
 use Rattle.jr_writes.proofs.EntryLemmas.{remove-insert_entry}
 use Rattle.jr_quiet.proofs.Issues.{may_issue_parts, may_take_up_parts}
 use Rattle.jr_steps.proofs.DrawnLaws.{started_fit-law}
-use Rattle.jr_steps.proofs.PlaceLemmas.{got_made}
 use Rattle.jr_steps.proofs.StartedLemmas.{started_next, same_some}
 use Rattle.jr_steps.proofs.StepLaws.{may_issue_of, may_probe_of}
 use Rattle.jr_log_laws.specs.Flying.{dir_of, io_of, flight_of}
@@ -46,11 +44,11 @@ use Rattle.jr_log_laws.proofs.DrawLaws.{log_is_intact_of_draws}
 use Rattle.jr_log_laws.proofs.FlyingLaws.{next_is_free, clear_is_clear, next_flies, others_fly_on, ended_flies_no_more, flight-skips}
 use Rattle.jr_log_laws.proofs.IntactLaws.{fresh_at_end}
 use Rattle.jr_log_laws.proofs.LogGrowth.{log-same, log-read, log-whole, log-failed}
+use Rattle.jr_tally_laws.specs.Nexts.{IsNext, grown}
+use Rattle.jr_handed.specs.Kept.{IsOwn}
+use Rattle.jr_handed.proofs.OwnTickets.{own_started}
 use Rattle.jr_board.specs.declared.flying.Flying.{Flying}
 use Rattle.jr_board.specs.Flyings.{with_begun, CanBegin, IsFlying}
-use Rattle.jr_board.specs.Kept.{IsOwn}
-use Rattle.jr_board.specs.Nexts.{IsNext, grown}
-use Rattle.jr_board.specs.Tickets.{ticket_of}
 use Rattle.jr_board.specs.WriteLogs.{checked_by, log_of_run}
 use Rattle.jr_board.proofs.FlyingEntries.{absent_still, none_passes_still, remove_beside, flight_in_order}
 
@@ -237,29 +235,6 @@ pub log_verdict : (plan : Plan) (history : List Event) (worker id : ℕ) (verdic
 log_verdict plan history worker id verdict next =
     log-same plan history (checked_by plan) next.legal (Judged worker id verdict) next.may refl
 
--- a numbered item is the one at its place
-got_numbered : {X : Type 0} (n : ℕ) (xs : List X) (k : ℕ) (p : ℕ × X)
-    → slice_get (enumerate_from n xs) k ≡ Some p
-    → slice_get xs k ≡ Some p.1
-got_numbered n [] k p at = cc
-got_numbered {X} n (x ∷ xs) zero p at = ap (λ (q : ℕ × X). Some q.1) (same_some (n, x) p at)
-got_numbered n (x ∷ xs) (suc k) p at = got_numbered (n + 1) xs k p at
-
--- the ticket is that of an I/O that was started
-pub record IsHandedOut (plan : Plan) (history : List Event) (ticket : Ticket) : Type 0 where
-  pub numbered : ℕ × Started
-  pub at : slice_get (started history) ticket.id ≡ Some numbered.1
-  pub made : ticket_of plan numbered ≡ ticket
-
-pub handed_out : (plan : Plan) (history : List Event) (ticket : Ticket) → IsOwn plan history ticket → IsHandedOut plan history ticket
-handed_out plan history ticket own =
-    let found = got_made (ticket_of plan) (enumerate_from 0 (started history)) ticket.id ticket own in
-    record {
-      numbered = found.0;
-      at = got_numbered 0 (started history) ticket.id found.0 found.1;
-      made = found.2;
-    }
-
 module _ (plan : Plan) (history : List Event) (ticket : Ticket) (outcome : Outcome)
     (next : IsNext plan history (End ticket.worker ticket.id outcome)) (own : IsOwn plan history ticket)
     (log : List (WriteId × Logged)) (is : log ≡ log_of_run plan history) where
@@ -270,32 +245,32 @@ module _ (plan : Plan) (history : List Event) (ticket : Ticket) (outcome : Outco
       → expected ≡ ticket_expected ticket
       → settled log ticket.write ticket.piece expected ≡ log_of_run plan (grown history (End ticket.worker ticket.id outcome))
   log_whole expected kind whole right =
-      let out = handed_out plan history ticket own in
+      let out = own_started plan history ticket own in
       let was = log_of_run plan history in
       ap (λ (es : List (WriteId × Logged)). settled es ticket.write ticket.piece expected) is
       ∙ ap (settled was ticket.write ticket.piece) right
-      ∙ sym (ap (λ (t : Ticket). settled was t.write t.piece (ticket_expected t)) out.made)
-      ∙ sym (log-whole plan history (checked_by plan) next.legal ticket.worker ticket.id outcome out.numbered.1 next.may out.at
-      (ap (λ (t : Ticket). is_write t.kind) out.made ∙ kind) whole)
+      ∙ sym (ap (λ (t : Ticket). settled was t.write t.piece (ticket_expected t)) out.2)
+      ∙ sym (log-whole plan history (checked_by plan) next.legal ticket.worker ticket.id outcome out.0 next.may out.1
+      (ap (λ (t : Ticket). is_write t.kind) out.2 ∙ kind) whole)
 
   -- another end of a write
   pub log_broken : is_write ticket.kind ≡ true
       → ended_whole (Some outcome) ≡ false
       → unsettled log ticket.piece ≡ log_of_run plan (grown history (End ticket.worker ticket.id outcome))
   log_broken kind broken =
-      let out = handed_out plan history ticket own in
+      let out = own_started plan history ticket own in
       ap (λ (es : List (WriteId × Logged)). unsettled es ticket.piece) is
-      ∙ sym (ap (λ (t : Ticket). unsettled (log_of_run plan history) t.piece) out.made)
-      ∙ sym (log-failed plan history (checked_by plan) next.legal ticket.worker ticket.id outcome out.numbered.1 next.may out.at
-      (ap (λ (t : Ticket). is_write t.kind) out.made ∙ kind) broken)
+      ∙ sym (ap (λ (t : Ticket). unsettled (log_of_run plan history) t.piece) out.2)
+      ∙ sym (log-failed plan history (checked_by plan) next.legal ticket.worker ticket.id outcome out.0 next.may out.1
+      (ap (λ (t : Ticket). is_write t.kind) out.2 ∙ kind) broken)
 
   -- the end of a read or a check
   pub log_unwritten : is_write ticket.kind ≡ false → log ≡ log_of_run plan (grown history (End ticket.worker ticket.id outcome))
   log_unwritten kind =
-      let out = handed_out plan history ticket own in
+      let out = own_started plan history ticket own in
       is
-      ∙ sym (log-read plan history (checked_by plan) next.legal ticket.worker ticket.id outcome out.numbered.1 next.may out.at
-      (ap (λ (t : Ticket). is_write t.kind) out.made ∙ kind))
+      ∙ sym (log-read plan history (checked_by plan) next.legal ticket.worker ticket.id outcome out.0 next.may out.1
+      (ap (λ (t : Ticket). is_write t.kind) out.2 ∙ kind))
 
 -- a ticket of a legal history is of a piece of whole blocks
 pub own_fits : (plan : Plan) (history : List Event) (ticket : Ticket)
@@ -304,9 +279,9 @@ pub own_fits : (plan : Plan) (history : List Event) (ticket : Ticket)
     → IsOwn plan history ticket
     → piece_fits ticket.piece ≡ true
 own_fits plan history ticket planned legal own =
-    let out = handed_out plan history ticket own in
-    sym (ap (λ (t : Ticket). piece_fits t.piece) out.made)
-    ∙ (started_fit-law plan history ticket.id out.numbered.1 planned legal out.at).1.fits
+    let out = own_started plan history ticket own in
+    sym (ap (λ (t : Ticket). piece_fits t.piece) out.2)
+    ∙ (started_fit-law plan history ticket.id out.0 planned legal out.1).1.fits
 
 -- where a write may end, the log has nothing of it yet
 pub log_fresh : (plan : Plan) (history : List Event) (worker id : ℕ) (outcome : Outcome) (ticket : Ticket)
@@ -316,11 +291,11 @@ pub log_fresh : (plan : Plan) (history : List Event) (worker id : ℕ) (outcome 
     → is_write ticket.kind ≡ true
     → logged (log_of_run plan history) ticket.write ≡ None
 log_fresh plan history worker id outcome ticket next own same kind =
-    let out = handed_out plan history ticket own in
-    sym (ap (λ (t : Ticket). logged (log_of_run plan history) t.write) out.made)
-    ∙ fresh_at_end plan history (checked_by plan) worker id outcome out.numbered.1 next.planned next.legal next.may
-    (subst (λ (n : ℕ). slice_get (started history) n ≡ Some out.numbered.1) same out.at)
-    (ap (λ (t : Ticket). is_write t.kind) out.made ∙ kind)
+    let out = own_started plan history ticket own in
+    sym (ap (λ (t : Ticket). logged (log_of_run plan history) t.write) out.2)
+    ∙ fresh_at_end plan history (checked_by plan) worker id outcome out.0 next.planned next.legal next.may
+    (subst (λ (n : ℕ). slice_get (started history) n ≡ Some out.0) same out.1)
+    (ap (λ (t : Ticket). is_write t.kind) out.2 ∙ kind)
 
 -- the log has a draw of the plan just where it is intact, with what its check is judged by
 pub log_intact : (plan : Plan) (history : List Event) (c p k : ℕ) (job : SubJob) (draw : Draw)

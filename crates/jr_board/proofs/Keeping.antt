@@ -33,12 +33,13 @@ use Rattle.jr_steps.specs.Drawn.{FitsPlan}
 use Rattle.jr_steps.proofs.CountLaws.{numbered_of}
 use Rattle.jr_steps.proofs.DrawnLaws.{started_fit-law}
 use Rattle.jr_steps.proofs.StartedLemmas.{started_below}
+use Rattle.jr_handed.specs.Kept.{IsOwn, tickets_of}
+use Rattle.jr_handed.specs.Tickets.{CanBeServed, method_of, seed_of, expected_by, ticket_of}
+use Rattle.jr_handed.proofs.HandingLists.{enumerated}
+use Rattle.jr_handed.proofs.OwnTickets.{own_started}
 use Rattle.jr_board.specs.DeskState.{DeskState}
-use Rattle.jr_board.specs.Kept.{IsOwn, tickets_of}
 use Rattle.jr_board.specs.Refusals.{Owns, judge_fault}
 use Rattle.jr_board.specs.Takes.{IsChosen, last_started, ticket_for}
-use Rattle.jr_board.specs.Tickets.{CanBeServed, method_of, seed_of, expected_by, ticket_of}
-use Rattle.jr_board.proofs.HandingLists.{enumerated, got_numbered, length_numbered}
 
 -- tickets
 
@@ -53,19 +54,6 @@ tickets_more plan before after (Some io) more =
     ∙ ap (map (ticket_of plan)) (enumerated 0 (started before) io)
     ∙ map-append (ticket_of plan) (enumerate_from 0 (started before)) ((0 + length (started before), io) ∷ [])
     ∙ ap (λ (k : ℕ). tickets_of plan before ++ ticket_of plan (k, io) ∷ []) same
-
-pub got_ticket : (plan : Plan) (n : ℕ) (ios : List Started) (k : ℕ) (t : Ticket) → slice_get (map (ticket_of plan) (enumerate_from n ios)) k ≡ Some t → (io : Started) × (slice_get ios k ≡ Some io) × (ticket_of plan (n + k, io) ≡ t)
-got_ticket plan n ios k t at = got_numbered (ticket_of plan) n ios k t at
-
--- a ticket of the desk's own is that of an I/O that was started
-pub own_started : (plan : Plan) (history : List Event) (t : Ticket) → IsOwn plan history t → (io : Started) × (slice_get (started history) t.id ≡ Some io) × (ticket_of plan (t.id, io) ≡ t)
-own_started plan history t own =
-    let got = got_ticket plan 0 (started history) t.id t own in
-    let same : t.id ≡ 0 + t.id = omega arith in
-    (got.0, got.1, ap (λ (i : ℕ). ticket_of plan (i, got.0)) same ∙ got.2)
-
-pub tickets_count : (plan : Plan) (history : List Event) → length (tickets_of plan history) ≡ length (started history)
-tickets_count plan history = length_numbered (ticket_of plan) 0 (started history)
 
 -- what is chosen
 

@@ -3,13 +3,13 @@ use Rattle.std.proofs.Common.{◌≡◌, ℕ, List, [], ◌∷◌, ◌++◌, Boo
 use Rattle.std.specs.Prelude.{Option, Some, None}
 use Rattle.std.specs.Bool.{MatchBool}
 use Rattle.jr_model.specs.declared.events.Event.{Event}
-use Rattle.jr_model.specs.declared.events.Event.TheVariants.{Issue, Probe, Skip, End, Verdict}
 use Rattle.jr_model.specs.declared.events.Started.{Started}
 use Rattle.jr_model.specs.Choice.{choice}
 use Rattle.jr_model.specs.History.{started_by}
 use Rattle.jr_model.specs.Machine.{Appends, is_skip}
 use Rattle.jr_model.specs.Plan.{Plan}
 use Rattle.jr_board.specs.Takes.{IsChosen, last_started}
+use Rattle.jr_board.proofs.Keeping.{last-skip}
 
 -- only skips were appended so far: what a take appends from here on, it may append behind them
 abbrev pub LeadsTo : Plan → ℕ → List Event → List Event → Type 0
@@ -18,14 +18,6 @@ LeadsTo plan worker before history =
 
 pub leads_first : (plan : Plan) (worker : ℕ) (before : List Event) → LeadsTo plan worker before before
 leads_first plan worker before rest appends = (rest, refl, appends, refl)
-
-last-skip : (e : Event) (rest : List Event) → is_skip e ≡ true → last_started (e ∷ rest) ≡ last_started rest
-last-skip (Skip worker write) [] skip = refl
-last-skip (Issue worker dir write piece) [] skip = cc
-last-skip (Probe worker write piece) [] skip = cc
-last-skip (End worker io outcome) [] skip = cc
-last-skip (Verdict worker io verdict) [] skip = cc
-last-skip e (next ∷ rest) skip = refl
 
 pub leads_on : (plan : Plan) (worker : ℕ) (before history : List Event) (e : Event) → LeadsTo plan worker before history → choice plan history worker ≡ Some e → is_skip e ≡ true → LeadsTo plan worker before (history ++ e ∷ [])
 leads_on plan worker before history e leads chosen skip rest appends =

@@ -7,10 +7,6 @@ pub mod EndingBoards
 pub mod EndingParts
 pub mod FlyingEntries
 pub mod FlyingMoves
-pub mod HandingLaunches
-pub mod HandingLists
-pub mod HandingMoves
-pub mod HandingReads
 pub mod IssueMoves
 pub mod Keeping
 pub mod Leading
@@ -21,10 +17,7 @@ pub mod StandingDues
 pub mod StandingMoves
 pub mod StandingSets
 pub mod StandingStays
-pub mod StartedFew
 pub mod StartingBoards
 pub mod StartingStandings
 pub mod StartingTickets
 pub mod Takings
-pub mod TallyMoves
-pub mod Unstarted

@@ -10,11 +10,11 @@ use Rattle.jr_model.specs.Plan.{Plan, SubJob, clone_of}
 use Rattle.jr_steps.proofs.PlaceLemmas.{item_at}
 use Rattle.jr_steps.proofs.StartedLemmas.{got_more, same_some}
 use Rattle.jr_standing.specs.Deferred.{is_settled}
+use Rattle.jr_tally_laws.proofs.Lists.{got_set, got_set_other}
 use Rattle.jr_board.specs.declared.standings.Standing.{Standing}
 use Rattle.jr_board.specs.Boards.{left_of}
 use Rattle.jr_board.specs.Standings.{ArePrepared, AreStanding, IsPrepared, IsStanding}
-use Rattle.jr_board.proofs.StandingSets.{got_set_other, standings_set}
-use Rattle.jr_board.proofs.StartingStandings.{got_set}
+use Rattle.jr_board.proofs.StandingSets.{standings_set}
 
 -- so many clones have their standings
 pub record StandTo (plan : Plan) (history : List Event) (n : ℕ) (standings : List Standing) : Type 0 where

@@ -24,12 +24,12 @@ use Rattle.jr_round_laws.proofs.StandingFinished.{finished_by_standing-law, clon
 use Rattle.jr_round_laws.proofs.StandingLists.{same_test}
 use Rattle.jr_tally_laws.specs.Tallies.{flying_issues, flying_checks, awaited}
 use Rattle.jr_tally_laws.proofs.Compared.{nothing_flies_of-counts, is_at_rest-counts, is_complete-counts}
+use Rattle.jr_tallies.specs.declared.tallies.Counts.{Counts}
+use Rattle.jr_tallies.specs.Tallying.{counts_of}
 use Rattle.jr_board.specs.declared.board.Board.{Board}
 use Rattle.jr_board.specs.declared.standings.Standing.{Standing}
-use Rattle.jr_board.specs.declared.tallies.Counts.{Counts}
 use Rattle.jr_board.specs.Boards.{IsBoard}
 use Rattle.jr_board.specs.Standings.{IsStanding}
-use Rattle.jr_board.specs.Tallying.{counts_of}
 
 -- none is left of a list exactly where as many were dropped as it has
 none_after : (n m : ℕ) → n ≤ m → ((m - n) == 0) ≡ (n == m)

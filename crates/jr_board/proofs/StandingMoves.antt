@@ -1,14 +1,12 @@
 -- How a clone stands after one event more: as before, where the event is none of its own, and with a draw taken up or a write
 -- passed, where it checks, skips or ends one.
-use Rattle.std.proofs.Common.{◌≡◌, ℕ, ◌<◌, List, Vec, Global, [], ◌∷◌, ◌++◌, length, drop, Bool, true, false, cond, not, ◌&&◌, ◌||◌, slice_set, get_or, refl, sym, ◌∙◌, ap, subst, arith, inl, inr}
+use Rattle.std.proofs.Common.{◌≡◌, ℕ, ◌<◌, List, Vec, Global, [], ◌∷◌, ◌++◌, length, drop, Bool, true, false, cond, not, ◌&&◌, ◌||◌, slice_set, refl, sym, ◌∙◌, ap, subst, arith, inl, inr}
 use Rattle.std.specs.Prelude.{◌⊎◌, Option, Some, None, slice_get, ◌==◌, nat_lt, is_none}
 use Rattle.std.specs.List.{list_any}
 use Rattle.std.specs.Vec.{with_item}
-use Rattle.std.proofs.lemmas.Bool.{and_parts, and_from, and_left, and_right, cases_eq, eq-eqb, ne_eqb, not-true, or_right, false≢true}
-use Rattle.std.proofs.lemmas.Grind.{get_or-set_at}
-use Rattle.std.proofs.lemmas.List.{get_or-set_other, length-set}
+use Rattle.std.proofs.lemmas.Bool.{and_parts, and_from, and_left, and_right, eq-eqb, ne_eqb, not-true, or_right, false≢true}
+use Rattle.std.proofs.lemmas.List.{length-set}
 use Rattle.std.proofs.lemmas.List.Folds.{list_any-append}
-use Rattle.std.proofs.lemmas.Option.{slice_get-get_or, slice_get_within, get_or_from_slice_get}
 use Rattle.jr_model.specs.declared.blocks.Dir.{Dir}
 use Rattle.jr_model.specs.declared.blocks.Piece.{Piece}
 use Rattle.jr_model.specs.declared.events.Event.{Event}
@@ -42,9 +40,10 @@ use Rattle.jr_round_laws.proofs.StandingFlights.{FliesOf}
 use Rattle.jr_round_laws.proofs.StandingPasses.{TakeIn, take_in}
 use Rattle.jr_round_laws.proofs.StandingSteps.{other_clone, other_keeps_pass}
 use Rattle.jr_standing.specs.Deferred.{Deferred, is_settled, round_now, settled_round}
+use Rattle.jr_tally_laws.specs.Nexts.{IsNext, grown}
+use Rattle.jr_tally_laws.proofs.Lists.{got_set}
 use Rattle.jr_board.specs.declared.standings.Issued.{Issued}
 use Rattle.jr_board.specs.declared.standings.Standing.{Standing}
-use Rattle.jr_board.specs.Nexts.{IsNext, grown}
 use Rattle.jr_board.specs.Standings.{IsStanding, WasIssued, name_of}
 use Rattle.jr_board.proofs.StandingDues.{IsLeft, left_where_taken, left_to_check, taken_in_pass, taken_was_issued, left_in_flight, flies_in_pass}
 
@@ -71,22 +70,6 @@ other_name : (a b : WriteId) (c : ℕ) → (a.clone ≡ c → ⊥) → b.clone �
 other_name a b c apart own =
     and_left ((a.clone == b.clone) && (a.pass == b.pass)) (a.number == b.number)
     (and_left (a.clone == b.clone) (a.pass == b.pass) (ne_eqb a.clone b.clone (λ same. apart (same ∙ own))))
-
--- an item after one of them is written
-got_set : {X : Type 0} (xs : List X) (i k : ℕ) (y x : X)
-    → slice_get (slice_set xs i y) k ≡ Some x
-    → ((k ≡ i) × (x ≡ y)) ⊎ ((k ≡ i → ⊥) × (slice_get xs k ≡ Some x))
-got_set xs i k y x at = by_place (cases_eq k i)
-  where
-    within : k < length xs
-    within = omega (arith, slice_get_within (slice_set xs i y) k x at, length-set xs i y)
-
-    by_place : (k ≡ i) ⊎ (k ≡ i → ⊥) → ((k ≡ i) × (x ≡ y)) ⊎ ((k ≡ i → ⊥) × (slice_get xs k ≡ Some x))
-    by_place (inl same) =
-        inl (same, sym (get_or_from_slice_get (slice_set xs i y) k x y at) ∙ get_or-set_at xs i k y y same (omega (arith, within, same)))
-    by_place (inr apart) =
-        let same : get_or xs k x ≡ x = sym (get_or-set_other xs i k y x apart) ∙ get_or_from_slice_get (slice_set xs i y) k x x at in
-        inr (apart, slice_get-get_or xs k x within ∙ ap Some same)
 
 -- whether a draw was taken up after one event more
 taken_after : (h : List Event) (e : Event) (name : WriteId)
@@ -133,7 +116,7 @@ taken_among : (h : List Event) (e : Event) (job : SubJob) (p i : ℕ) (items : L
     → (k : ℕ) (one : Issued) → slice_get (slice_set items i (record old { is_taken_up = true })) k ≡ Some one
     → WasIssued (h ++ e ∷ []) (name_of job p k) one
 taken_among h e job p i items old w takes own pass number there each k one at =
-    by_place (got_set items i k (record old { is_taken_up = true }) one at)
+    by_place (got_set items i k one (record old { is_taken_up = true }) at)
   where
     hit : k ≡ i → same_write w (name_of job p k) ≡ true
     hit same =
@@ -141,11 +124,11 @@ taken_among h e job p i items old w takes own pass number there each k one at =
         (and_from (w.clone == job.clone) (w.pass == p) (eq-eqb w.clone job.clone own) (eq-eqb w.pass p pass))
         (eq-eqb w.number k (number ∙ sym same))
 
-    miss : (k ≡ i → ⊥) → same_write w (name_of job p k) ≡ false
+    miss : (i ≡ k → ⊥) → same_write w (name_of job p k) ≡ false
     miss apart =
-        and_right ((w.clone == job.clone) && (w.pass == p)) (w.number == k) (ne_eqb w.number k (λ same. apart (sym same ∙ number)))
+        and_right ((w.clone == job.clone) && (w.pass == p)) (w.number == k) (ne_eqb w.number k (λ same. apart (sym number ∙ same)))
 
-    by_place : ((k ≡ i) × (one ≡ record old { is_taken_up = true })) ⊎ ((k ≡ i → ⊥) × (slice_get items k ≡ Some one))
+    by_place : ((k ≡ i) × (one ≡ record old { is_taken_up = true })) ⊎ ((i ≡ k → ⊥) × (slice_get items k ≡ Some one))
         → WasIssued (h ++ e ∷ []) (name_of job p k) one
     by_place (inl here) =
         subst (λ (x : Issued). WasIssued (h ++ e ∷ []) (name_of job p k) x) (sym here.1)

@@ -1,7 +1,7 @@
 -- The standings of all clones where that of one clone is changed.
-use Rattle.std.proofs.Common.{◌≡◌, ℕ, zero, suc, ◌<◌, List, [], ◌∷◌, length, get_or, refl, ◌∙◌, ap}
+use Rattle.std.proofs.Common.{◌≡◌, ℕ, ◌<◌, List, length, get_or, ◌∙◌}
 use Rattle.std.proofs.Math.ListN.{set}
-use Rattle.std.specs.Prelude.{Some, slice_get}
+use Rattle.std.specs.Prelude.{Some}
 use Rattle.std.proofs.lemmas.List.{get_or-set_same}
 use Rattle.jr_model.specs.declared.events.Event.{Event}
 use Rattle.jr_model.specs.Plan.{Plan, SubJob, clone_of}
@@ -9,14 +9,6 @@ use Rattle.jr_standing.specs.Deferred.{Deferred, round_now}
 use Rattle.jr_board.specs.declared.standings.Standing.{Standing}
 use Rattle.jr_board.specs.Standings.{IsStanding, AreStanding}
 use Rattle.jr_board.proofs.StartingStandings.{standing_moves}
-
--- where one item is changed, the others stay
-pub got_set_other : {X : Type 0} (xs : List X) (c k : ℕ) (s : X) → (k ≡ c → ⊥) → slice_get (set xs c s) k ≡ slice_get xs k
-got_set_other [] c k s apart = refl
-got_set_other (y ∷ ys) zero zero s apart = absurd (apart refl)
-got_set_other (y ∷ ys) zero (suc k) s apart = refl
-got_set_other (y ∷ ys) (suc c) zero s apart = refl
-got_set_other (y ∷ ys) (suc c) (suc k) s apart = got_set_other ys c k s (λ (e : k ≡ c). apart (ap suc e))
 
 -- what is read where an item was changed is that item
 pub read_after_set : {X : Type 0} (xs : List X) (c : ℕ) (s x : X) → c < length xs → x ≡ get_or (set xs c s) c x → x ≡ s

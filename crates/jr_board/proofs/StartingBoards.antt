@@ -6,14 +6,14 @@ use Rattle.jr_model.specs.declared.events.Event.{Event}
 use Rattle.jr_model.specs.Legal.{is_legal, may_happen}
 use Rattle.jr_model.specs.Plan.{Plan, SubJob, clone_of}
 use Rattle.jr_model.proofs.LegalLaws.{is_legal-more}
+use Rattle.jr_tally_laws.specs.Nexts.{IsNext, grown}
+use Rattle.jr_tallies.specs.Tallying.{IsTallied}
+use Rattle.jr_handed.specs.Handing.{IsHanded}
 use Rattle.jr_board.specs.declared.board.Board.{Board}
 use Rattle.jr_board.specs.declared.standings.Standing.{Standing}
 use Rattle.jr_board.specs.Boards.{IsBoard}
 use Rattle.jr_board.specs.Flyings.{IsFlying}
-use Rattle.jr_board.specs.Handing.{IsHanded}
-use Rattle.jr_board.specs.Nexts.{IsNext, grown}
 use Rattle.jr_board.specs.Standings.{AreStanding, IsStanding}
-use Rattle.jr_board.specs.Tallying.{IsTallied}
 use Rattle.jr_board.specs.WriteLogs.{log_of_run}
 
 -- each clone of the plan has its standing

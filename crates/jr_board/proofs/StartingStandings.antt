@@ -1,7 +1,7 @@
 -- The standings of all clones, where one of them changes and the others stay.
-use Rattle.std.proofs.Common.{◌≡◌, ◌<◌, ℕ, zero, suc, List, [], ◌∷◌, length, get_or, Bool, true, not, cond, refl, sym, ◌∙◌, ap, subst, arith, inl, inr}
+use Rattle.std.proofs.Common.{◌≡◌, ◌<◌, ℕ, List, [], ◌∷◌, length, get_or, Bool, true, not, cond, refl, sym, ◌∙◌, ap, subst, arith, inl, inr}
 use Rattle.std.proofs.Math.ListN.{set}
-use Rattle.std.specs.Prelude.{◌⊎◌, Some, slice_get, count_by, filter}
+use Rattle.std.specs.Prelude.{Some, slice_get, count_by, filter}
 use Rattle.std.specs.List.{list_any}
 use Rattle.std.proofs.lemmas.List.{length-set}
 use Rattle.std.proofs.lemmas.Bool.{or_cases}
@@ -11,22 +11,10 @@ use Rattle.std.proofs.lemmas.Option.{get_or_from_slice_get, slice_get_within}
 use Rattle.jr_model.specs.declared.events.Event.{Event}
 use Rattle.jr_model.specs.Plan.{Plan, SubJob, clone_of}
 use Rattle.jr_steps.proofs.StartedLemmas.{same_some}
+use Rattle.jr_tally_laws.proofs.Lists.{got_set}
 use Rattle.jr_board.specs.declared.standings.Standing.{Standing}
 use Rattle.jr_board.specs.Boards.{left_of}
 use Rattle.jr_board.specs.Standings.{ArePrepared, AreStanding, IsPrepared, IsStanding}
-
--- an item of a list in which one was put is that one, or another that stayed
-pub got_set : {X : Type 0} (xs : List X) (i k : ℕ) (x y : X) → slice_get (set xs i y) k ≡ Some x
-    → ((k ≡ i) × (x ≡ y)) ⊎ ((i ≡ k → ⊥) × (slice_get xs k ≡ Some x))
-got_set [] i k x y at = cc
-got_set (z ∷ xs) zero zero x y at = inl (refl, sym (same_some y x at))
-got_set (z ∷ xs) zero (suc k) x y at = inr (λ (e : 0 ≡ suc k). omega (arith, e), at)
-got_set (z ∷ xs) (suc i) zero x y at = inr (λ (e : suc i ≡ 0). omega (arith, e), at)
-got_set (z ∷ xs) (suc i) (suc k) x y at =
-    elim (got_set xs i k x y at) [
-      | inl same ↦ inl (ap suc same.0, same.1)
-      | inr other ↦ inr (λ (e : suc i ≡ suc k). other.0 (omega (arith, e)), other.1)
-    ]
 
 -- what holds of each clone's standing holds of each where one is put in its place
 each_set : (plan : Plan) (P Q : SubJob → Standing → Type 0) (standings : List Standing) (c : ℕ) (job : SubJob) (new : Standing)

@@ -30,15 +30,15 @@ use Rattle.jr_flight.specs.declared.ios.Io.{Io}
 use Rattle.jr_log_laws.specs.Flying.{dir_of, io_of}
 use Rattle.jr_steps.proofs.StepLaws.{IsNamed}
 use Rattle.jr_steps.proofs.StartedLemmas.{same_some}
+use Rattle.jr_handed.specs.Kept.{tickets_of}
+use Rattle.jr_handed.specs.Tickets.{method_of, seed_of, expected_by, ticket_of}
+use Rattle.jr_handed.proofs.HandingMoves.{ticket_started}
 use Rattle.jr_board.specs.declared.board.Board.{Board}
 use Rattle.jr_board.specs.declared.standings.Issued.{Issued}
 use Rattle.jr_board.specs.declared.standings.Standing.{Standing}
 use Rattle.jr_board.specs.Boards.{IsBoard}
-use Rattle.jr_board.specs.Kept.{tickets_of}
-use Rattle.jr_board.specs.Tickets.{method_of, seed_of, expected_by, ticket_of}
 use Rattle.jr_board.specs.WriteLogs.{checked_by}
 use Rattle.jr_board.proofs.FlyingMoves.{log_intact}
-use Rattle.jr_board.proofs.HandingMoves.{ticket_started}
 
 -- what is read at a place is the item there
 got_there : {X : Type 0} (items all : List X) (i : ℕ) (x : X) → items ≡ all → true ≡ ltb i (length items) → x ≡ get_or items i x

@@ -3,12 +3,12 @@ use Rattle.std.specs.Prelude.{◌≡◌, ◌+◌, ◌<◌, ℕ, true, List, leng
 use Rattle.jr_model.specs.Legal.{is_legal}
 use Rattle.jr_model.specs.Plan.{Plan}
 use Rattle.jr_plan.specs.PlanFacts.{IsPlanned}
+use Rattle.jr_tallies.specs.Tallying.{IsTallied}
+use Rattle.jr_handed.specs.Handing.{IsHanded}
 use Rattle.jr_board.specs.declared.board.Board.{Board}
 use Rattle.jr_board.specs.declared.standings.Standing.{Standing}
 use Rattle.jr_board.specs.Flyings.{IsFlying}
-use Rattle.jr_board.specs.Handing.{IsHanded}
 use Rattle.jr_board.specs.Standings.{ArePrepared, AreStanding}
-use Rattle.jr_board.specs.Tallying.{IsTallied}
 use Rattle.jr_board.specs.WriteLogs.{log_of_run}
 
 -- the history is legal, and each index is that of the history

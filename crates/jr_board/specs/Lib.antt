@@ -1,12 +1,7 @@
 pub mod Boards
 pub mod DeskState
 pub mod Flyings
-pub mod Handing
-pub mod Kept
-pub mod Nexts
 pub mod Refusals
 pub mod Standings
 pub mod Takes
-pub mod Tallying
-pub mod Tickets
 pub mod WriteLogs

@@ -4,8 +4,8 @@ use Rattle.jr_model.specs.declared.steps.DeskFault.{DeskFault}
 use Rattle.jr_model.specs.declared.steps.DeskFault.TheVariants.{Stranger, Twice, WrongKind, Stopped}
 use Rattle.jr_model.specs.declared.tickets.Ticket.{Ticket}
 use Rattle.jr_model.specs.History.{outcome_of, is_judged, ended_whole}
+use Rattle.jr_handed.specs.Kept.{IsOwn}
 use Rattle.jr_board.specs.DeskState.{DeskState}
-use Rattle.jr_board.specs.Kept.{IsOwn}
 
 -- whether the ticket is the desk's own
 abbrev pub Owns : DeskState → Ticket → Bool → Type 0

@@ -11,9 +11,9 @@ use Rattle.jr_model.specs.Legal.{is_complete}
 use Rattle.jr_model.specs.Machine.{Appends}
 use Rattle.jr_model.specs.Plan.{Plan}
 use Rattle.jr_model.specs.Tickets.{ticket_fits}
+use Rattle.jr_handed.specs.Tickets.{ticket_of}
 use Rattle.jr_board.specs.declared.takes.Take.{Take}
 use Rattle.jr_board.specs.declared.takes.Take.TheVariants as take
-use Rattle.jr_board.specs.Tickets.{ticket_of}
 
 -- what these events start last: only the last of those that a take appends can start anything
 abbrev pub last_started : List Event → Option Started

@@ -1,8 +1,8 @@
 use crate::flying::Flying;
-use crate::handed::Handed;
 use crate::standings::Standing;
-use crate::tallies::Tallies;
+use jr_handed::Handed;
 use jr_model::Event;
+use jr_tallies::Tallies;
 use jr_writes::WriteLog;
 
 // What happened in a run, and what is kept of it, so that no call looks at the whole history.

@@ -3,20 +3,20 @@ ghost use Rattle.jr_model.specs.History.{started, outcome_of, ended_whole, is_ju
 ghost use Rattle.jr_model.specs.Legal.{is_legal, is_complete};
 ghost use Rattle.jr_model.specs.Report.{all_totals, miscompares};
 ghost use Rattle.jr_header.specs.Served.{answer_verdict};
-ghost use Rattle.jr_board.specs.Kept.{tickets_of, IsOwn};
+ghost use Rattle.jr_handed.specs.Kept.{tickets_of, IsOwn};
 ghost use Rattle.jr_board.specs.Refusals.{Owns, end_fault, judge_fault};
 ghost use Rattle.jr_board.specs.Takes.{IsTaken, is_finished, is_fitting, WaitsRightly};
-ghost use Rattle.jr_board.specs.Tallying.{miscompare_of};
+ghost use Rattle.jr_tallies.specs.Tallying.{miscompare_of};
 
 use crate::board::Board;
 use crate::ending::{end, judge};
 use crate::resting::is_complete;
 use crate::takes::Take;
 use crate::taking::{answer_to, new_board, prepare, start_next};
-use crate::tallies::Bad;
 use jr_header::{Ruling, Served};
 use jr_model::{DeskFault, Event, Ticket, Totals, is_same};
 use jr_plan::Plan;
+use jr_tallies::Bad;
 use std::alloc::Global;
 use std::marker::Model;
 

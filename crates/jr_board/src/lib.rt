@@ -7,20 +7,17 @@ mod choosing;
 mod desk;
 mod ending;
 mod flying;
-mod handed;
-mod launches;
 mod resting;
 mod standings;
 mod starting;
 mod takes;
 mod taking;
-mod tallies;
 mod written;
 
 pub use desk::Desk;
 pub use jr_model::{DeskFault, Totals};
+pub use jr_tallies::Bad;
 pub use takes::Take;
-pub use tallies::Bad;
 
 #[cfg(test)]
 mod tests;

@@ -1,4 +1,4 @@
-ghost use Rattle.std.specs.Prelude.{◌≡◌, ◌<◌, ◌++◌, ◌∷◌, [], ℕ, true, length, slice_get, Some};
+ghost use Rattle.std.specs.Prelude.{◌≡◌, ◌<◌, ◌++◌, ◌∷◌, [], true, length, slice_get, Some};
 ghost use Rattle.jr_model.specs.declared.events.Event.TheVariants.{Issue, Probe, Skip};
 ghost use Rattle.jr_model.specs.declared.tickets.TicketKind.TheVariants as kind;
 ghost use Rattle.jr_model.specs.Draws.{draws_of};
@@ -7,7 +7,7 @@ ghost use Rattle.jr_model.specs.Legal.{may_happen};
 ghost use Rattle.jr_model.specs.Machine.{seed_of_draw};
 ghost use Rattle.jr_model.specs.Plan.{Plan as Planned, SubJob as Clone, clone_of};
 ghost use Rattle.jr_board.specs.Boards.{IsBoard, IsReady, left_of};
-ghost use Rattle.jr_board.specs.Tickets.{ticket_of};
+ghost use Rattle.jr_handed.specs.Tickets.{ticket_of};
 ghost use Rattle.jr_board.specs.declared.standings.Standing.{Standing as Stood};
 
 use crate::board::Board;

@@ -13,14 +13,14 @@ ghost use Rattle.jr_board.specs.Takes.{IsChosen, answer_with, ticket_for};
 use crate::board::Board;
 use crate::choosing::choose;
 use crate::flying::Flying;
-use crate::handed::Handed;
 use crate::resting::is_complete;
 use crate::standings::Standing;
 use crate::starting::{issue, probe, skip};
 use crate::takes::{Take, answer_with};
-use crate::tallies::Tallies;
+use jr_handed::Handed;
 use jr_model::{Event, Memory, Ticket};
 use jr_plan::Plan;
+use jr_tallies::Tallies;
 use jr_writes::WriteLog;
 use std::alloc::Global;
 

@@ -1,4 +1,4 @@
-ghost use Rattle.std.specs.Prelude.{◌≡◌, true, List, None, OnOk, OnErr, ℕ};
+ghost use Rattle.std.specs.Prelude.{◌≡◌, true, List, None, OnOk, OnErr};
 ghost use Rattle.jr_model.specs.declared.events.Event.{Event};
 ghost use Rattle.jr_model.specs.declared.events.Event.TheVariants.{End};
 ghost use Rattle.jr_model.specs.History.{is_write};
@@ -6,8 +6,8 @@ ghost use Rattle.jr_model.specs.Plan.{Plan};
 ghost use Rattle.jr_model.specs.Tickets.{piece_fits};
 ghost use Rattle.jr_header.specs.Served.{ticket_expected};
 ghost use Rattle.jr_writes.specs.LoggedWrites.{logged};
-ghost use Rattle.jr_board.specs.Kept.{IsOwn};
-ghost use Rattle.jr_board.specs.Nexts.{IsNext, grown};
+ghost use Rattle.jr_handed.specs.Kept.{IsOwn};
+ghost use Rattle.jr_tally_laws.specs.Nexts.{IsNext, grown};
 ghost use Rattle.jr_board.specs.WriteLogs.{log_of_run};
 
 use jr_model::{Expected, Memory, Outcome, Ticket, TicketKind};

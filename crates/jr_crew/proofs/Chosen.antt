@@ -18,10 +18,11 @@ use Rattle.jr_model.proofs.LegalLaws.{choice_is_step, cases_step_of}
 use Rattle.jr_model.proofs.SerialLaws.{IsWell, well-more, first_given-append, any-append, none_from, false_from}
 use Rattle.jr_plan.specs.PlanFacts.{IsPlanned}
 use Rattle.jr_steps.proofs.CountLaws.{numbered_of, along_legal}
-use Rattle.jr_board.specs.Kept.{IsOwn, tickets_of}
+use Rattle.jr_handed.specs.Kept.{IsOwn, tickets_of}
+use Rattle.jr_handed.specs.Tickets.{ticket_of}
+use Rattle.jr_handed.proofs.OwnTickets.{tickets_count}
 use Rattle.jr_board.specs.Takes.{IsChosen, last_started}
-use Rattle.jr_board.specs.Tickets.{ticket_of}
-use Rattle.jr_board.proofs.Keeping.{by_is_skip, tickets_more, tickets_count, chosen_started}
+use Rattle.jr_board.proofs.Keeping.{by_is_skip, tickets_more, chosen_started}
 
 -- an issue, a check or a skip by this worker
 abbrev pub IsStep : ℕ → Event → Type 0

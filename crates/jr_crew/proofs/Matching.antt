@@ -32,9 +32,9 @@ use Rattle.jr_laws.proofs.Starts.{draw_started, IsDrawOf}
 use Rattle.jr_laws.proofs.Contents.{lies_in_file, length-content_of_io}
 use Rattle.jr_laws.proofs.Memories.{covers_piece}
 use Rattle.jr_steps.proofs.StartedLemmas.{started-append, same_some}
-use Rattle.jr_board.specs.Kept.{tickets_of}
-use Rattle.jr_board.specs.Tickets.{ticket_of}
-use Rattle.jr_board.proofs.Keeping.{got_ticket}
+use Rattle.jr_handed.specs.Kept.{tickets_of}
+use Rattle.jr_handed.specs.Tickets.{ticket_of}
+use Rattle.jr_handed.proofs.OwnTickets.{got_ticket}
 use Rattle.jr_board.proofs.Serving.{content_is, verdict_is}
 use Rattle.jr_crew.specs.declared.books.Done.{Done}
 use Rattle.jr_crew.specs.Accounts.{is_workers, is_own_verdict}

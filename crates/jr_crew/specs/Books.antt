@@ -7,8 +7,8 @@ use Rattle.jr_model.specs.declared.events.Verdict.{Verdict as GivenVerdict}
 use Rattle.jr_model.specs.declared.tickets.Ticket.{Ticket}
 use Rattle.jr_model.specs.History.{first_given}
 use Rattle.jr_model.specs.Plan.{Plan}
-use Rattle.jr_board.specs.Kept.{tickets_of}
 use Rattle.jr_crew.specs.declared.books.Done.{Done}
+use Rattle.jr_handed.specs.Kept.{tickets_of}
 
 -- the verdict on check io, where this event is one
 abbrev pub verdict_by : ℕ → Event → Option GivenVerdict

@@ -13,10 +13,10 @@ use Rattle.jr_model.specs.Tickets.{ticket_fits}
 use Rattle.jr_plan.specs.PlanFacts.{IsPlanned}
 use Rattle.jr_engines.specs.Answers.{AnswerParts, Answers}
 use Rattle.jr_header.specs.Served.{asked_with, is_whole_check, is_to_judge, answer_verdict}
+use Rattle.jr_handed.specs.Kept.{IsOwn}
+use Rattle.jr_handed.specs.Tickets.{ticket_of}
 use Rattle.jr_board.specs.DeskState.{DeskState}
-use Rattle.jr_board.specs.Kept.{IsOwn}
 use Rattle.jr_board.specs.Takes.{IsChosen}
-use Rattle.jr_board.specs.Tickets.{ticket_of}
 
 -- it has ended, and where it is a check that ended whole it has its verdict
 pub record IsSettled (history : List Event) (id : ℕ) (io : Started) : Type 0 where

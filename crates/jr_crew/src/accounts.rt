@@ -2,7 +2,7 @@ ghost use Rattle.std.specs.Prelude.{◌≡◌, ℕ, [], IsTrue, IfOk, Option, So
 ghost use Rattle.std.specs.Option.{option_or};
 ghost use Rattle.std.specs.List.{list_all};
 ghost use Rattle.jr_model.specs.declared.events.Verdict.{Verdict as GivenVerdict};
-ghost use Rattle.jr_board.specs.Kept.{tickets_of};
+ghost use Rattle.jr_handed.specs.Kept.{tickets_of};
 ghost use Rattle.jr_crew.specs.Accounts.{IsTableOf, is_own_verdict, AreFollowed, AreMoved, IsMoved, AreGonePast};
 ghost use Rattle.jr_crew.specs.Books.{verdict_by, verdict_in, done_by, done_with, dones_of};
 

@@ -1,7 +1,7 @@
 ghost use Rattle.std.specs.Prelude.{◌≡◌, ℕ, ◌+◌, ◌<◌, ◌++◌, true, [], Some, Ok, Err, IfOk, IfErr, OnOk, IsTrue, map, replicate, length, slice_get, slice_index_or};
 ghost use Rattle.std.specs.List.{list_all};
 ghost use Rattle.jr_model.specs.Legal.{is_legal, is_complete};
-ghost use Rattle.jr_board.specs.Kept.{tickets_of};
+ghost use Rattle.jr_handed.specs.Kept.{tickets_of};
 ghost use Rattle.jr_crew.specs.Accounts.{is_own_verdict};
 ghost use Rattle.jr_crew.specs.Books.{dones_of};
 ghost use Rattle.jr_crew.specs.Crews.{judges_inline, IsWorkers};

@@ -3,7 +3,7 @@ ghost use Rattle.std.specs.Bool.{MatchBool};
 ghost use Rattle.jr_model.specs.History.{outcome_of, is_judged};
 ghost use Rattle.jr_model.specs.Legal.{is_legal, is_complete};
 ghost use Rattle.jr_model.specs.Serial.{serial_history};
-ghost use Rattle.jr_board.specs.Kept.{IsOwn};
+ghost use Rattle.jr_handed.specs.Kept.{IsOwn};
 ghost use Rattle.jr_crew.specs.Ends.{ends_of, failed_ends_of};
 ghost use Rattle.jr_crew.specs.Runs.{IsCovering, IsFresh, IsTiedRun};
 ghost use Rattle.jr_crew.specs.Turns.{IsBetweenTurns, IsOpen, IsNext, IsCarriedOut, IsTurn, IsLastTurn, judged_by};

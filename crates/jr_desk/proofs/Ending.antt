@@ -29,10 +29,10 @@ use Rattle.jr_steps.proofs.DrawnLaws.{started_fit-law}
 use Rattle.jr_laws.proofs.Memories.{covers_piece}
 use Rattle.jr_laws.proofs.Starts.{draw_started}
 use Rattle.jr_desk.specs.declared.plays.Player.{Player}
+use Rattle.jr_handed.specs.Kept.{tickets_of}
+use Rattle.jr_handed.specs.Tickets.{ticket_of}
 use Rattle.jr_board.specs.DeskState.{DeskState}
-use Rattle.jr_board.specs.Kept.{tickets_of}
 use Rattle.jr_desk.specs.Plays.{GoesOn, IsReady, KeepsReads, kept_by, read_back_of, state_of}
-use Rattle.jr_board.specs.Tickets.{ticket_of}
 use Rattle.jr_desk.proofs.Playing.{known, same_states}
 use Rattle.jr_desk.proofs.Reading.{keeps_ended}
 use Rattle.jr_board.proofs.Serving.{content_is}

@@ -18,10 +18,10 @@ use Rattle.jr_engines.specs.Answers.{AnswerParts}
 use Rattle.jr_header.specs.Served.{answer_verdict, is_to_judge}
 use Rattle.jr_laws.specs.Memory.{CoversFiles}
 use Rattle.jr_desk.specs.declared.plays.Player.{Player}
+use Rattle.jr_handed.specs.Kept.{IsOwn}
 use Rattle.jr_board.specs.declared.takes.Take.{Take}
 use Rattle.jr_board.specs.declared.takes.Take.TheVariants as take
 use Rattle.jr_board.specs.DeskState.{DeskState}
-use Rattle.jr_board.specs.Kept.{IsOwn}
 
 -- the answer to a step that takes
 abbrev pub reply_for : Take → StepReply

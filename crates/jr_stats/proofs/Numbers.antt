@@ -28,9 +28,9 @@ use Rattle.jr_plan.specs.PlanFacts.{IsPlanned}
 use Rattle.jr_steps.proofs.CountLaws.{draws_within}
 use Rattle.jr_steps.proofs.DrawnLaws.{current_pass, issuable, started_fit-law, taken_up_within}
 use Rattle.jr_steps.proofs.StepLaws.{may_issue_of, may_probe_of, may_skip_of}
-use Rattle.jr_board.proofs.StartedFew.{started_small}
 use Rattle.jr_stats.specs.TraceChecks.{ending_fits, entry_fits, finding_fits, is_small, name_fits}
 use Rattle.jr_stats.specs.TraceLaws.{NumbersFit, ending_of, entry_of, finding_of, lines_fit, name_of, worker_of, workers_fit}
+use Rattle.jr_tally_laws.proofs.StartedFew.{started_small}
 
 -- where the rest holds
 both : (a b : Bool) → b ≡ true → (a && b) ≡ a

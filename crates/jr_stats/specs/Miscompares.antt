@@ -4,8 +4,8 @@ use Rattle.jr_model.specs.declared.blocks.Piece.{Piece}
 use Rattle.jr_model.specs.declared.events.WriteId.{WriteId}
 use Rattle.jr_model.specs.Plan.{Plan}
 use Rattle.jr_model.specs.Report.{field, file_name, miscompare_line}
-use Rattle.jr_board.specs.declared.tallies.Bad.{Bad}
-use Rattle.jr_board.specs.Tallying.{miscompare_of}
+use Rattle.jr_tallies.specs.declared.tallies.Bad.{Bad}
+use Rattle.jr_tallies.specs.Tallying.{miscompare_of}
 
 abbrev pub bad_line : Plan → Bad → List ℕ
 bad_line plan bad = miscompare_line plan (miscompare_of bad)

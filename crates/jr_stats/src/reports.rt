@@ -1,6 +1,6 @@
 ghost use Rattle.std.specs.Prelude.{◌≡◌, ◌++◌, IfOk, OnOk, flat_map, map};
-ghost use Rattle.jr_model.specs.Report.{file_name, in_order, miscompare_line, miscompares, report_of, what_text};
-ghost use Rattle.jr_board.specs.Tallying.{miscompare_of};
+ghost use Rattle.jr_model.specs.Report.{file_name, in_order, miscompares, report_of, what_text};
+ghost use Rattle.jr_tallies.specs.Tallying.{miscompare_of};
 ghost use Rattle.jr_stats.specs.Miscompares.{bad_line, named_fields, place_fields};
 
 use crate::texts::{push_field, push_number, push_text};

@@ -3,5 +3,7 @@ pub mod Compared
 pub mod Counted
 pub mod Few
 pub mod Grown
+pub mod Lists
 pub mod Moved
+pub mod StartedFew
 pub mod Tallied

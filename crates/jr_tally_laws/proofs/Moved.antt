@@ -1,5 +1,5 @@
 -- What one event more makes of a clone's totals, of whether it is halted, and of the draws issued.
-use Rattle.std.proofs.Common.{◌≡◌, ℕ, zero, suc, ◌+◌, List, [], ◌∷◌, ◌++◌, length, map, set, Bool, true, false, cond, ◌&&◌, ◌||◌, not, refl, sym, ◌∙◌, ap, arith, length-append, add-zero}
+use Rattle.std.proofs.Common.{◌≡◌, ℕ, ◌+◌, List, [], ◌∷◌, ◌++◌, length, set, Bool, true, false, cond, ◌&&◌, ◌||◌, not, refl, sym, ◌∙◌, ap, arith, length-append, add-zero}
 use Rattle.std.specs.Prelude.{Option, Some, None, slice_get, nat_lt, ◌==◌, count_by, sum_by}
 use Rattle.std.specs.List.{cons_option}
 use Rattle.std.proofs.lemmas.Bool.{ltb-true, eqb-true, eq-eqb, ne_eqb}
@@ -26,6 +26,7 @@ use Rattle.jr_model.specs.Totals.{is_read, if_wanted, moved_by, moved, bytes_of,
 use Rattle.jr_steps.proofs.DrawnLaws.{issued_count-more}
 use Rattle.jr_tally_laws.specs.Tallies.{named_in, concerns, totals_ended, totals_judged, totals_after_end, totals_after, halted_by}
 use Rattle.jr_tally_laws.proofs.Grown.{Agrees, got_longer, kept-more, found-more, counted-more}
+use Rattle.jr_tally_laws.proofs.Lists.{map_set}
 
 -- what an event says by the I/O that it names stays where more I/Os are started
 
@@ -387,22 +388,6 @@ concerns_one c d None (Verdict worker id verdict) this apart = cc
 concerns_one c d (Some s) (Verdict worker id verdict) this apart = one_number s.write.clone c d this apart
 
 -- the totals of all clones: those of the clone that the event is about change
-
-map_same : {X Y : Type 0} (f g : X → Y) (xs : List X) → ((j : ℕ) (y : X) → slice_get xs j ≡ Some y → g y ≡ f y) → map g xs ≡ map f xs
-map_same f g [] same = refl
-map_same {X = X} {Y = Y} f g (x ∷ xs) same =
-    ap (λ (z : Y). z ∷ map g xs) (same 0 x refl)
-    ∙ ap (λ (zs : List Y). f x ∷ zs) (map_same f g xs (λ (j : ℕ) (y : X) (at : slice_get xs j ≡ Some y). same (suc j) y at))
-
-map_set : {X Y : Type 0} (f g : X → Y) (xs : List X) (k : ℕ) (x : X) → slice_get xs k ≡ Some x → ((j : ℕ) (y : X) → slice_get xs j ≡ Some y → (j ≡ k → ⊥) → g y ≡ f y) → map g xs ≡ set (map f xs) k (g x)
-map_set f g [] k x at same = cc
-map_set {X = X} {Y = Y} f g (y ∷ xs) zero x at same =
-    let here : y ≡ x = cc in
-    ap (λ (z : X). g z ∷ map g xs) here
-    ∙ ap (λ (zs : List Y). g x ∷ zs) (map_same f g xs (λ (j : ℕ) (z : X) (there : slice_get xs j ≡ Some z). same (suc j) z there (λ e. absurd (omega (arith, e)))))
-map_set {X = X} {Y = Y} f g (y ∷ xs) (suc k) x at same =
-    ap (λ (z : Y). z ∷ map g xs) (same 0 y refl (λ e. absurd (omega (arith, e))))
-    ∙ ap (λ (zs : List Y). f y ∷ zs) (map_set f g xs k x at (λ (j : ℕ) (z : X) (there : slice_get xs j ≡ Some z) (apart : j ≡ k → ⊥). same (suc j) z there (λ e. apart (omega (arith, e)))))
 
 pub all_totals-more : (plan : Plan) (history : List Event) (e : Event) (c : ℕ) (job : SubJob) → IsNumbered plan → is_legal plan history ≡ true → may_happen plan history e ≡ true → clone_of plan c ≡ Some job → concerns c (named_in (started history) e) e ≡ true → all_totals plan (history ++ e ∷ []) ≡ set (all_totals plan history) c (totals_after c (named_in (started history) e) e (totals_of history c))
 all_totals-more plan history e c job numbered legal may planned about =

@@ -11,13 +11,14 @@ use Rattle.jr_model.specs.Legal.{is_halted}
 use Rattle.jr_model.specs.Plan.{Plan, SubJob, clone_of}
 use Rattle.jr_model.specs.declared.blocks.Piece.{Piece}
 use Rattle.jr_writes.specs.LoggedWrites.{logged}
+use Rattle.jr_tally_laws.specs.Nexts.{IsNext, grown}
+use Rattle.jr_tallies.specs.declared.tallies.Counts.{Counts}
+use Rattle.jr_tallies.proofs.TallyMoves.{can_count, can_end, counts_are}
 use Rattle.jr_board.specs.declared.board.Board.{Board}
 use Rattle.jr_board.specs.Boards.{IsBoard}
 use Rattle.jr_backlog.specs.Rounds.{is_to_check}
 use Rattle.jr_standing.specs.Deferred.{is_settled, round_now}
 use Rattle.jr_board.specs.declared.standings.Standing.{Standing}
-use Rattle.jr_board.specs.declared.tallies.Counts.{Counts}
-use Rattle.jr_board.specs.Nexts.{IsNext, grown}
 use Rattle.jr_board.specs.Standings.{IsStanding}
 use Rattle.jr_board.proofs.EndingBoards.{board_stays, own_below, parts_of}
 use Rattle.jr_board.proofs.FlyingMoves.{log_fresh, own_fits}
@@ -25,7 +26,6 @@ use Rattle.jr_board.proofs.StandingMoves.{check_left}
 use Rattle.jr_board.proofs.StandingSets.{read_after_set, standing_resettled, standings_set}
 use Rattle.jr_board.proofs.StandingStays.{standings_ended}
 use Rattle.jr_board.proofs.StartingBoards.{board_grows, clone_stands, next_of, stands_now}
-use Rattle.jr_board.proofs.TallyMoves.{can_count, can_end, counts_are}
 use Rattle.jr_board.proofs.ending.end.Goals as goal
 
 -- what is read at a clone's place tells whether it is halted

@@ -6,16 +6,16 @@ use Rattle.jr_model.specs.declared.events.Started.{Started}
 use Rattle.jr_model.specs.History.{kind_for, started}
 use Rattle.jr_model.specs.Rounds.{has_rounds}
 use Rattle.jr_backlog.specs.Rounds.{comes_last, takes_writes}
-use Rattle.jr_board.specs.Nexts.{IsNext, grown}
+use Rattle.jr_tally_laws.specs.Nexts.{IsNext, grown}
+use Rattle.jr_tally_laws.proofs.StartedFew.{started_small}
+use Rattle.jr_tallies.proofs.TallyMoves.{can_count}
+use Rattle.jr_handed.proofs.HandingMoves.{headers_within}
 use Rattle.jr_board.proofs.FlyingMoves.{log_issue}
 use Rattle.jr_board.proofs.IssueMoves.{issue_fills}
-use Rattle.jr_board.proofs.HandingMoves.{headers_within}
 use Rattle.jr_board.proofs.StandingMoves.{clone_is, clone_there, stays_other_issue}
-use Rattle.jr_board.proofs.StartedFew.{started_small}
 use Rattle.jr_board.proofs.StartingBoards.{board_grows, clone_stands, next_of, stands_at, stands_now}
 use Rattle.jr_board.proofs.StartingStandings.{standing_moves}
 use Rattle.jr_board.proofs.StartingTickets.{issue_io, issue_ticket}
-use Rattle.jr_board.proofs.TallyMoves.{can_count}
 use Rattle.jr_board.proofs.starting.issue.Goals as goal
 
 pub overflow_cast-id : goal.overflow_cast-id

@@ -11,15 +11,15 @@ use Rattle.jr_model.specs.Plan.{SubJob}
 use Rattle.jr_log_laws.specs.Flying.{io_of}
 use Rattle.jr_steps.proofs.StartedLemmas.{same_some}
 use Rattle.jr_steps.proofs.StepLaws.{may_probe_of}
-use Rattle.jr_board.specs.Nexts.{grown}
+use Rattle.jr_tally_laws.specs.Nexts.{grown}
+use Rattle.jr_tally_laws.proofs.StartedFew.{started_small}
+use Rattle.jr_tallies.proofs.TallyMoves.{can_count}
+use Rattle.jr_handed.proofs.HandingMoves.{headers_within}
 use Rattle.jr_board.proofs.FlyingMoves.{log_probe}
-use Rattle.jr_board.proofs.HandingMoves.{headers_within}
 use Rattle.jr_board.proofs.StandingMoves.{clone_is, clone_there, taken_up_here, stays_other_probe}
-use Rattle.jr_board.proofs.StartedFew.{started_small}
 use Rattle.jr_board.proofs.StartingBoards.{board_grows, clone_stands, next_of, stands_at, stands_now}
 use Rattle.jr_board.proofs.StartingStandings.{standing_moves}
 use Rattle.jr_board.proofs.StartingTickets.{method_planned, probe_expects, ticket_made}
-use Rattle.jr_board.proofs.TallyMoves.{can_count}
 use Rattle.jr_board.proofs.starting.probe.Goals as goal
 
 pub overflow_cast-id : goal.overflow_cast-id

@@ -1,13 +1,13 @@
 use Rattle.std.proofs.Common.{◌≡◌, refl, sym, ◌∙◌, arith}
 use Rattle.jr_model.specs.declared.events.Event.TheVariants.{Skip}
 use Rattle.jr_steps.proofs.StepLaws.{may_skip_of}
-use Rattle.jr_board.specs.Nexts.{grown}
+use Rattle.jr_tally_laws.specs.Nexts.{grown}
+use Rattle.jr_tallies.proofs.TallyMoves.{can_count}
+use Rattle.jr_handed.proofs.HandingMoves.{handed_skip}
 use Rattle.jr_board.proofs.FlyingMoves.{flying_skip, log_skip}
-use Rattle.jr_board.proofs.HandingMoves.{handed_skip}
 use Rattle.jr_board.proofs.StandingMoves.{clone_is, clone_there, skip_left, skipped_here, stays_other_skip}
 use Rattle.jr_board.proofs.StartingBoards.{board_grows, clone_stands, next_of, stands_at, stands_now}
 use Rattle.jr_board.proofs.StartingStandings.{left_falls, prepared_moves, standing_moves}
-use Rattle.jr_board.proofs.TallyMoves.{can_count}
 use Rattle.jr_board.proofs.starting.skip.Goals as goal
 
 pub skipped-requires : goal.skipped-requires

@@ -1,10 +1,10 @@
 use Rattle.std.proofs.Common.{◌≡◌, Bool, cond, refl, sym, ap, ◌∙◌}
 use Rattle.std.specs.Prelude.{None, slice_get}
 use Rattle.std.proofs.lemmas.Bool.{eq-eqb}
-use Rattle.jr_board.specs.Kept.{tickets_of}
 use Rattle.jr_crew.specs.Books.{verdict_in, done_by, done_with}
 use Rattle.jr_crew.proofs.Following.{one_moved}
 use Rattle.jr_crew.proofs.accounts.follows.Goals as goal
+use Rattle.jr_handed.specs.Kept.{tickets_of}
 
 pub returns-in-Ok-Some : goal.returns-in-Ok-Some
 returns-in-Ok-Some c moved =

@@ -3,11 +3,11 @@ use Rattle.std.specs.Prelude.{slice_get}
 use Rattle.std.specs.List.{list_all}
 use Rattle.jr_model.specs.Plan.{Plan}
 use Rattle.jr_model.specs.Legal.{is_legal}
-use Rattle.jr_board.specs.Kept.{tickets_of}
 use Rattle.jr_crew.specs.Accounts.{is_own_verdict}
 use Rattle.jr_crew.specs.Books.{dones_of}
 use Rattle.jr_crew.proofs.Crewing.{each_part, engines_size, books_size}
 use Rattle.jr_crew.proofs.crew.run_as.Goals as goal
+use Rattle.jr_handed.specs.Kept.{tickets_of}
 
 pub returns-clause-engines : goal.returns-clause-engines
 returns-clause-engines g c =

@@ -1,9 +1,9 @@
 use Rattle.std.proofs.Common.{List, rules, subst, IsPermutation}
 use Rattle.std.proofs.lemmas.Fn.{always_returns_same}
 use Rattle.jr_plan.specs.PlanFacts.{IsPlanned}
-use Rattle.jr_board.specs.declared.tallies.Bad.{Bad}
 use Rattle.jr_stats.proofs.SortedBads.{sorted_by_writes}
 use Rattle.jr_stats.proofs.reports.sorted_bads.Goals as goal
+use Rattle.jr_tallies.specs.declared.tallies.Bad.{Bad}
 
 pub returns : goal.returns
 returns c =

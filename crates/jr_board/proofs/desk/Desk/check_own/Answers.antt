@@ -2,7 +2,7 @@ use Rattle.std.proofs.Common.{◌≡◌, refl, sym, ◌∙◌, ap}
 use Rattle.std.specs.Prelude.{Some, None}
 use Rattle.jr_model.specs.declared.tickets.Ticket.{Ticket}
 use Rattle.jr_steps.proofs.StartedLemmas.{same_some}
-use Rattle.jr_board.specs.Kept.{IsOwn}
+use Rattle.jr_handed.specs.Kept.{IsOwn}
 use Rattle.jr_board.proofs.desk.Desk.check_own.Goals as goal
 
 none_own : (t : Ticket) → None ≡ Some t → ⊥

@@ -8,8 +8,8 @@ use Rattle.jr_model.specs.Legal.{is_legal, may_happen}
 use Rattle.jr_model.specs.Judgement.{verdict_of}
 use Rattle.jr_plan.specs.PlanFacts.{IsPlanned}
 use Rattle.jr_engines.specs.Answers.{AnswerParts}
+use Rattle.jr_handed.specs.Kept.{IsOwn}
 use Rattle.jr_board.specs.DeskState.{DeskState}
-use Rattle.jr_board.specs.Kept.{IsOwn}
 use Rattle.jr_board.proofs.Keeping.{judge_refused_twice, judge_refused_kind, judged_probe, may_judge, judge_accepts, not_stopped}
 use Rattle.jr_board.proofs.desk.Desk.judge.Goals as goal
 
