@@ -2,6 +2,7 @@
 ghost use Rattle.std.specs.Prelude.{◌<◌, ◌^◌, length};
 
 use crate::{Bad, Desk, Take};
+use jr_agenda::totals;
 use jr_engines::{Engine, MemoryEngine, ScriptedEngine};
 use jr_header::{Ruling, Served, rule, serve};
 use jr_model::{
@@ -10,7 +11,7 @@ use jr_model::{
 };
 use jr_past::{is_judged, started, started_by};
 use jr_plan::{Draft, Plan, Split, Workload};
-use jr_replay::{allowed, choice, complete, totals};
+use jr_replay::{allowed, choice, complete};
 use std::alloc::Global;
 use std::process::Abort;
 use std::test::Fail;

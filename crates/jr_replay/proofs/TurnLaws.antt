@@ -31,9 +31,9 @@ use Rattle.jr_round_laws.proofs.CurrentTurns.{groups_turn}
 use Rattle.jr_round_laws.proofs.KeptSettled.{ran_before}
 use Rattle.jr_round_laws.proofs.StandingPasses.{issue_in, stays_finished, unbegun}
 use Rattle.jr_round_laws.proofs.StandingSteps.{always_in_pass, before_at, before_from, finished_before}
-use Rattle.jr_replay.specs.Passes.{IsLastBelow, NoneBelow}
+use Rattle.jr_agenda.specs.Passes.{IsLastBelow, NoneBelow}
 use Rattle.jr_replay.specs.Turns.{lets_go_on}
-use Rattle.jr_replay.proofs.RankLemmas.{IsOwn}
+use Rattle.jr_agenda.proofs.RankLemmas.{IsOwn}
 
 -- ---- a write that wasn't taken up
 -- the draw stands at its number

@@ -1,6 +1,2 @@
-pub mod Agendas
-pub mod Counts
-pub mod Laws
-pub mod Passes
 pub mod Rounds
 pub mod Turns

@@ -4,9 +4,8 @@ ghost use Rattle.jr_model.specs.History.{started, flies, outcome_of, is_judged, 
 ghost use Rattle.jr_model.specs.Legal.{step_of_draw, step_of_clone, step_at, same_dir, is_this_issue, is_this_probe, is_this_skip, outcome_fits, end_fits, is_header_finding, is_byte_finding, kind_finds, kind_says, job_says, verdict_fits, may_happen, is_over, is_complete};
 ghost use Rattle.jr_model.specs.Plan.{clone_of};
 
-use crate::agendas::{Agenda, PlannedClone};
 use crate::legal::{is_over, step_of};
-use crate::passes::Pass;
+use jr_agenda::{Agenda, Pass, PlannedClone};
 use jr_model::{
     Dir, Draw, Event, Memory, Outcome, Piece, Started, Verdict, VerifyKind, What, WriteId,
     same_piece, same_write,

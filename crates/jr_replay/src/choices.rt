@@ -1,9 +1,8 @@
 ghost use Rattle.std.specs.Prelude.{◌≡◌, IfOk};
 ghost use Rattle.jr_model.specs.Choice.{choice_of_pass, choice_of_clone, choice};
 
-use crate::agendas::{Agenda, PlannedClone};
 use crate::legal::step_of;
-use crate::passes::Pass;
+use jr_agenda::{Agenda, Pass, PlannedClone};
 use jr_model::{Event, Memory};
 use jr_past::Past;
 use jr_plan::Plan;

@@ -1,42 +1,16 @@
 ghost use Rattle.std.specs.Prelude.{◌≡◌, nat_le, ◌&&◌, ◌||◌, take};
 ghost use Rattle.std.specs.List.{list_any, list_all};
 ghost use Rattle.jr_model.specs.History.{is_of_clone, awaiting, in_flight};
-ghost use Rattle.jr_model.specs.Legal.{is_io_of, is_fault, is_bad, is_halted, is_over, is_at_rest, phase_is_open, has_room, conflicts, is_clear, may_take_up, may_issue, check_or_skip, step_of};
+ghost use Rattle.jr_model.specs.Legal.{is_halted, is_over, is_at_rest, phase_is_open, has_room, conflicts, is_clear, may_take_up, may_issue, check_or_skip, step_of};
 ghost use Rattle.jr_model.specs.Rounds.{clone_finished, is_current, pass_finished, passes_of};
 
-use crate::agendas::{Agenda, PlannedClone};
-use crate::passes::{Pass, has_rounds, is_write_draw};
 use crate::rounds::{
-    flying_count, is_of_clone, is_open, issued_count, nothing_flies_of, pass_finished,
-    waits_for_round,
+    flying_count, is_open, issued_count, nothing_flies_of, pass_finished, waits_for_round,
 };
-use jr_model::{Draw, Event, Outcome, Piece, Started, Verdict, overlaps};
-use jr_past::{Past, is_intact, is_write};
+use jr_agenda::{Agenda, Pass, PlannedClone, has_rounds, is_write_draw};
+use jr_model::{Draw, Event, Piece, Started, overlaps};
+use jr_past::{Past, is_intact, is_of_clone, is_write};
 use jr_plan::SubJob;
-
-// Whether an I/O is there and of this clone.
-pub(crate) fn is_io_of(clone: u32, io: Option<Started>) -> bool
-    ensures { result ≡ is_io_of clone io }
-{
-    match io {
-        None => false,
-        Some(io) => is_of_clone(clone, &io),
-    }
-}
-
-/// Whether an outcome is a fault.
-pub fn is_fault(outcome: Outcome) -> bool
-    ensures { result ≡ is_fault outcome }
-{
-    outcome != Outcome::Whole
-}
-
-/// Whether a verdict is bad.
-pub fn is_bad(verdict: Verdict) -> bool
-    ensures { result ≡ is_bad verdict }
-{
-    verdict != Verdict::Good
-}
 
 // Whether a clone is halted, by whether it has a fault, and a bad verdict that is fatal.
 fn halts(faulty: bool, fatal: bool, condemned: bool) -> bool

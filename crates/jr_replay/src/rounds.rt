@@ -1,20 +1,13 @@
 ghost use Rattle.std.specs.Prelude.{◌≡◌, ◌==◌, ◌&&◌, not, length, reverse};
 ghost use Rattle.std.specs.List.{list_any, list_all, range_with_len};
 ghost use Rattle.jr_model.specs.declared.events.Started.{Started};
-ghost use Rattle.jr_model.specs.History.{in_flight_of, is_of_clone};
+ghost use Rattle.jr_model.specs.History.{in_flight_of};
 ghost use Rattle.jr_model.specs.Rounds.{write_id, group_of, group_count, issued_count, all_issued, is_full, is_settled, is_closed, no_issue_flies, is_open, waits_for_round, rounds_closed, nothing_flies_of, nothing_flies_in, pass_finished};
 ghost use Rattle.jr_replay.specs.Rounds.{is_full_at};
 
-use crate::passes::{Pass, has_rounds};
-use jr_model::{Draw, Started, WriteId};
-use jr_past::{Past, is_probe};
-
-/// Whether an I/O is of this clone.
-pub fn is_of_clone(clone: u32, io: &Started) -> bool
-    ensures { result ≡ is_of_clone clone io.now }
-{
-    io.write.clone == clone
-}
+use jr_agenda::{Pass, has_rounds};
+use jr_model::{Draw, WriteId};
+use jr_past::{Past, is_of_clone, is_probe};
 
 /// How many I/Os and checks a clone has in flight.
 pub fn flying_count(past: &Past, clone: u32) -> usize

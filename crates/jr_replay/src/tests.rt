@@ -1,7 +1,9 @@
-use crate::draws::draws_of;
-use crate::{Agenda, Pass, PlannedClone, allowed, choice, choice_among, complete, step_at, totals};
+use crate::answers::step_at;
+use crate::choices::choice_among;
+use crate::{allowed, choice, complete};
+use jr_agenda::Agenda;
 use jr_model::{
-    Dir, EngineKind, Event, IoType, Method, Outcome, Pattern, Piece, TicketKind, Totals, Verdict,
+    Dir, EngineKind, Event, IoType, Method, Outcome, Pattern, Piece, TicketKind, Verdict,
     VerifyKind, What, WriteId,
 };
 use jr_past::{Past, is_intact, last_write, started};
@@ -290,87 +292,10 @@ fn a_later_phase_waits(rt: HostRuntime) -> Result<(), Fail> {
     Ok(())
 }
 
-const WRITE_0: WriteId = WriteId {
-    clone: 0,
-    pass: 0,
-    number: 0,
-};
-
-const BLOCK_0: Piece = Piece {
-    file: 0,
-    offset: 0,
-    len: 4096,
-};
-
 #[test]
-fn totals_of_a_run(rt: HostRuntime) -> Result<(), Fail> {
-    let history = [
-        Event::Issue {
-            worker: 0,
-            dir: Dir::Write,
-            write: WRITE_0,
-            piece: BLOCK_0,
-        },
-        Event::End {
-            worker: 0,
-            io: 0,
-            outcome: Outcome::Whole,
-        },
-        Event::Probe {
-            worker: 0,
-            write: WRITE_0,
-            piece: BLOCK_0,
-        },
-        Event::End {
-            worker: 0,
-            io: 1,
-            outcome: Outcome::Whole,
-        },
-        Event::Verdict {
-            worker: 0,
-            io: 1,
-            verdict: Verdict::Bad(What::Byte(7)),
-        },
-    ];
-    let want = Totals {
-        reads: 0,
-        rbytes: 0,
-        writes: 1,
-        wbytes: 4096,
-        checks: 1,
-        good: 0,
-        bad: 1,
-        skipped: 0,
-        void: 0,
-        faults: 0,
-    };
-    assert_eq!(rt; totals(rt.alloc(), &history, 0)?, want);
-    Ok(())
-}
-
-// Seven writes in rounds of three.
-#[test]
-fn the_parts_of_a_plan(rt: HostRuntime) -> Result<(), Fail> {
-    let rounds = Workload {
-        backlog: 3,
-        passes: 2,
-        ..checked(7)
-    };
-    let plan = plan_of(rt.alloc(), &[(rounds, "f", 0)])?;
+fn the_steps_of_an_empty_history(rt: HostRuntime) -> Result<(), Fail> {
+    let plan = plan_of(rt.alloc(), &[(checked(7), "f", 0)])?;
     let work = Agenda::new(rt.alloc(), &plan)?;
-    let clone = work.clones().first().ok_or("no clone")?;
-    let draws = draws_of(rt.alloc(), clone.job(), 1)?;
-    assert_eq!(rt; draws.len(), 7);
-    assert_eq!(rt; draws.last().map(|draw| draw.piece), Some(block(6)));
-    let pass = Pass::new(rt.alloc(), clone.job(), 1)?;
-    assert_eq!(rt; pass.draws(), draws.as_slice());
-    assert_eq!(rt; pass.group_count(), 3);
-    assert_eq!(rt; pass.group(2).len(), 1);
-    assert_eq!(rt; pass.group_index(5), 1);
-    assert_eq!(rt;
-        PlannedClone::new(rt.alloc(), clone.job())?.passes().len(),
-        2
-    );
     let past = Past::new(rt.alloc(), &[])?;
     let first = Some(issue(3, write(0, 0), block(0)));
     assert_eq!(rt; choice_among(&work, &past, 3), first);

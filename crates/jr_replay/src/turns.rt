@@ -6,13 +6,12 @@ ghost use Rattle.jr_model.specs.Plan.{clone_of};
 ghost use Rattle.jr_model.specs.Rounds.{pass_of, passes_of, write_id, is_write_draw, issued_count, has_rounds, group_index, is_full, is_closed, is_open, waits_for_round, pass_finished, is_current};
 ghost use Rattle.jr_replay.specs.Turns.{lets_go_on};
 
-use crate::agendas::{Agenda, PlannedClone};
 use crate::answers::step_of_clone;
 use crate::legal::{awaits_verdict, check_or_skip, has_room, is_clear, is_halted, phase_is_open};
-use crate::passes::{Pass, has_rounds, is_write_draw};
 use crate::rounds::{
     is_full, is_pending, issued_count, no_issue_flies, nothing_flies_of, pass_finished,
 };
+use jr_agenda::{Agenda, Pass, PlannedClone, has_rounds, is_write_draw};
 use jr_model::{Draw, Event, Memory, WriteId};
 use jr_past::Past;
 use std::alloc::Global;

@@ -8,10 +8,11 @@ ghost use Rattle.jr_stats.specs.TraceChecks.{IsRefusal, check_of, history_in, is
 use crate::faults::TraceFault;
 use crate::fields::read_line;
 use crate::legal::legal_event;
+use jr_agenda::{Agenda, totals_among};
 use jr_model::{Event, Memory, Totals};
 use jr_past::Past;
 use jr_plan::Plan;
-use jr_replay::{Agenda, complete_among, totals_among};
+use jr_replay::complete_among;
 use std::alloc::Global;
 
 /// Checks a trace: what each clone did, where the text is the trace of a whole legal run of the plan; else its

@@ -4,10 +4,11 @@ ghost use Rattle.jr_stats.specs.TraceChecks.{is_small, name_fits, ending_fits, f
 ghost use Rattle.jr_stats.specs.TraceSteps.{begun, ended, judged, issue_in, probe_in, skip_in};
 
 use crate::entries::{Ending, Entry, Finding, Name, Start};
+use jr_agenda::Agenda;
 use jr_model::{Event, Memory, Outcome, Verdict, What, WriteId, same_write};
 use jr_past::Past;
 use jr_plan::Plan;
-use jr_replay::{Agenda, legal_step_at, may_end, may_judge};
+use jr_replay::{legal_step_at, may_end, may_judge};
 use std::alloc::Global;
 
 // The event that a line speaks of, where it may happen after the legal history.

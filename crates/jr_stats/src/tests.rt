@@ -4,10 +4,10 @@ use crate::{
     TraceFault, accepted_is_a_trace, check_trace, numbers_fit, report, totals_text, trace,
     trace_is_accepted,
 };
+use jr_agenda::Agenda;
 use jr_board::Desk;
 use jr_model::{EngineKind, IoType, Method, Pattern, Totals, VerifyKind};
 use jr_plan::{Draft, Plan, Workload};
-use jr_replay::Agenda;
 use std::alloc::Global;
 use std::test::Fail;
 

@@ -2,7 +2,7 @@ use Rattle.std.proofs.Common.{ℕ, ◌&&◌, not, ap, subst, ◌∙◌}
 use Rattle.jr_model.specs.Plan.{Plan}
 use Rattle.jr_model.specs.Rounds.{writes_of, has_rounds, is_full, is_closed}
 use Rattle.jr_plan.specs.PlanFacts.{IsPlanned}
-use Rattle.jr_replay.specs.Passes.{IsLastBelow, NoneBelow}
+use Rattle.jr_agenda.specs.Passes.{IsLastBelow, NoneBelow}
 use Rattle.jr_replay.proofs.TurnLaws.{waits_after, waits_never}
 use Rattle.jr_replay.proofs.turns.waits_for_round.Goals as goal
 

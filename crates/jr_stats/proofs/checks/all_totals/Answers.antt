@@ -7,7 +7,7 @@ use Rattle.jr_model.specs.declared.totals.Totals.{Totals}
 use Rattle.jr_model.specs.History.{is_write}
 use Rattle.jr_model.specs.Plan.{SubJob}
 use Rattle.jr_model.specs.Totals.{is_read, totals_of}
-use Rattle.jr_replay.proofs.LegalMoves.{moved_at_most_started}
+use Rattle.jr_agenda.proofs.LegalMoves.{moved_at_most_started}
 use Rattle.jr_stats.proofs.checks.all_totals.Goals as goal
 
 -- one clone more

@@ -1,0 +1,3 @@
+pub mod LegalMoves
+pub mod Moves
+pub mod RankLemmas

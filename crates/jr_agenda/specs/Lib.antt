@@ -1,0 +1,4 @@
+pub mod Agendas
+pub mod Counts
+pub mod Laws
+pub mod Passes
