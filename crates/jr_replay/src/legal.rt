@@ -1,8 +1,8 @@
-ghost use Rattle.std.specs.Prelude.{◌≡◌, nat_le, ◌&&◌, ◌||◌, take};
+ghost use Rattle.std.specs.Prelude.{◌≡◌, false, nat_le, ◌==◌, not, ◌&&◌, ◌||◌, take};
 ghost use Rattle.std.specs.List.{list_any, list_all};
 ghost use Rattle.jr_model.specs.History.{is_of_clone, awaiting, in_flight};
-ghost use Rattle.jr_model.specs.Legal.{is_halted, is_over, is_at_rest, phase_is_open, has_room, conflicts, is_clear, may_take_up, may_issue, check_or_skip, step_of};
-ghost use Rattle.jr_model.specs.Rounds.{clone_finished, is_current, pass_finished, passes_of};
+ghost use Rattle.jr_model.specs.Legal.{is_halted, is_over, is_at_rest, phase_is_open, has_room, conflicts, is_clear, takes_up, may_take_up, may_issue, check_or_skip, step_of};
+ghost use Rattle.jr_model.specs.Rounds.{write_id, is_write_draw, issued_count, has_rounds, clone_finished, is_current, pass_finished, passes_of};
 
 use crate::rounds::{
     flying_count, is_open, issued_count, nothing_flies_of, pass_finished, waits_for_round,
@@ -132,6 +132,21 @@ pub fn is_current(past: &Past, clone: &PlannedClone<'_>, pass: &Pass<'_>) -> boo
         && earlier_finished(past, clone, pass.number())
 }
 
+// Whether a draw is the next of its pass, of a clone that isn't halted and has room, with nothing in
+// flight in its way.
+pub(crate) fn is_next(past: &Past, pass: &Pass<'_>, draw: &Draw) -> bool
+    ensures { result
+        ≡ ((draw.now.number == issued_count past.now pass.now)
+        && not (is_halted past.now pass.now.job)
+        && has_room past.now pass.now.job
+        && is_clear past.now (is_write_draw draw.now) draw.now.piece) }
+{
+    draw.number as usize == issued_count(past, pass)
+        && !is_halted(past, pass.job())
+        && has_room(past, pass.job())
+        && is_clear(past, is_write_draw(draw), &draw.piece)
+}
+
 /// Whether a draw of a pass may be issued.
 pub fn may_issue(
     work: &Agenda<'_>,
@@ -143,18 +158,22 @@ pub fn may_issue(
     requires { pass.now.job ≡ clone.now }
     ensures { result ≡ may_issue work.now past.now pass.now draw.now }
 {
-    draw.number as usize == issued_count(past, pass)
-        && !is_halted(past, pass.job())
-        && has_room(past, pass.job())
-        && is_clear(past, is_write_draw(draw), &draw.piece)
+    is_next(past, pass, draw)
         && is_current(past, clone, pass)
         && !waits_for_round(past, pass)
         && phase_is_open(work, past, pass.job())
 }
 
-/// Whether the write of a draw may be checked, or skipped, now.
-pub fn may_take_up(past: &Past, pass: &Pass<'_>, draw: &Draw) -> bool
-    ensures { result ≡ may_take_up past.now pass.now draw.now }
+// Whether a draw is a write that wasn't checked or skipped, of a clone that has rounds, isn't halted
+// and has room, with nothing in flight in its check's way.
+pub(crate) fn is_left(past: &Past, pass: &Pass<'_>, draw: &Draw) -> bool
+    ensures { result
+        ≡ (is_write_draw draw.now
+        && has_rounds pass.now.job
+        && not (list_any (takes_up (write_id pass.now draw.now)) past.now)
+        && not (is_halted past.now pass.now.job)
+        && has_room past.now pass.now.job
+        && is_clear past.now false draw.now.piece) }
 {
     is_write_draw(draw)
         && has_rounds(pass.job())
@@ -162,7 +181,13 @@ pub fn may_take_up(past: &Past, pass: &Pass<'_>, draw: &Draw) -> bool
         && !is_halted(past, pass.job())
         && has_room(past, pass.job())
         && is_clear(past, false, &draw.piece)
-        && is_open(past, pass, pass.group_index(draw.number))
+}
+
+/// Whether the write of a draw may be checked, or skipped, now.
+pub fn may_take_up(past: &Past, pass: &Pass<'_>, draw: &Draw) -> bool
+    ensures { result ≡ may_take_up past.now pass.now draw.now }
+{
+    is_left(past, pass, draw) && is_open(past, pass, pass.group_index(draw.number))
 }
 
 // The check of a write where it is intact, else its skip.
@@ -178,6 +203,18 @@ pub(crate) fn check_or_skip(past: &Past, worker: u32, pass: &Pass<'_>, draw: &Dr
         }
     } else {
         Event::Skip { worker, write }
+    }
+}
+
+// The issue of a draw.
+pub(crate) fn issue_of(worker: u32, pass: &Pass<'_>, draw: &Draw) -> Event
+    ensures { result ≡ Event.Issue worker draw.now.dir (write_id pass.now draw.now) draw.now.piece }
+{
+    Event::Issue {
+        worker,
+        dir: draw.dir,
+        write: pass.write_id(draw),
+        piece: draw.piece,
     }
 }
 
@@ -197,12 +234,7 @@ pub fn step_of(
         return Some(check_or_skip(past, worker, pass, draw));
     }
     if may_issue(work, past, clone, pass, draw) {
-        return Some(Event::Issue {
-            worker,
-            dir: draw.dir,
-            write: pass.write_id(draw),
-            piece: draw.piece,
-        });
+        return Some(issue_of(worker, pass, draw));
     }
     None
 }

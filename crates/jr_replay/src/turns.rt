@@ -7,11 +7,11 @@ ghost use Rattle.jr_model.specs.Rounds.{pass_of, passes_of, write_id, is_write_d
 ghost use Rattle.jr_replay.specs.Turns.{lets_go_on};
 
 use crate::answers::step_of_clone;
-use crate::legal::{awaits_verdict, check_or_skip, has_room, is_clear, is_halted, phase_is_open};
+use crate::legal::{awaits_verdict, check_or_skip, is_left, is_next, issue_of, phase_is_open};
 use crate::rounds::{
     is_full, is_pending, issued_count, no_issue_flies, nothing_flies_of, pass_finished,
 };
-use jr_agenda::{Agenda, Pass, PlannedClone, has_rounds, is_write_draw};
+use jr_agenda::{Agenda, Pass, PlannedClone, has_rounds};
 use jr_model::{Draw, Event, Memory, WriteId};
 use jr_past::Past;
 use std::alloc::Global;
@@ -41,13 +41,7 @@ fn may_take_up(past: &Past, pass: &Pass<'_>, draw: &Draw) -> bool
     requires { slice_get pass.now.draws draw.now.number ≡ Some draw.now }
     ensures { result ≡ may_take_up past.now pass.now draw.now }
 {
-    is_write_draw(draw)
-        && has_rounds(pass.job())
-        && !past.ledger().is_taken_up(&pass.write_id(draw))
-        && !is_halted(past, pass.job())
-        && has_room(past, pass.job())
-        && is_clear(past, false, &draw.piece)
-        && is_open_for(past, pass, draw)
+    is_left(past, pass, draw) && is_open_for(past, pass, draw)
 }
 
 // Whether a group waits for its checks, where the writes of its clone are checked at all.
@@ -172,10 +166,7 @@ fn may_issue(
     requires own { pass.now.job ≡ clone.now }
     ensures { result ≡ may_issue work.now past.now pass.now draw.now }
 {
-    draw.number as usize == issued_count(past, pass)
-        && !is_halted(past, pass.job())
-        && has_room(past, pass.job())
-        && is_clear(past, is_write_draw(draw), &draw.piece)
+    is_next(past, pass, draw)
         && is_current(work, past, clone, pass)
         && !waits_for_round(work, past, clone, pass)
         && is_phase_open(work, past, clone)
@@ -200,12 +191,7 @@ fn legal_step_of(
         return Some(check_or_skip(past, worker, pass, draw));
     }
     if may_issue(work, past, clone, pass, draw) {
-        return Some(Event::Issue {
-            worker,
-            dir: draw.dir,
-            write: pass.write_id(draw),
-            piece: draw.piece,
-        });
+        return Some(issue_of(worker, pass, draw));
     }
     None
 }
