@@ -10,15 +10,17 @@ use Rattle.jr_model.specs.declared.events.WriteId.{WriteId}
 use Rattle.jr_model.specs.declared.workloads.Draw.{Draw}
 use Rattle.jr_model.specs.Draws.{draws_of_clone, draws_of_job}
 use Rattle.jr_model.specs.History.{same_write, same_piece}
-use Rattle.jr_model.specs.Legal.{step_of, step_of_draw, step_of_clone, step_at, same_dir, is_this_issue, is_this_probe}
+use Rattle.jr_model.specs.Legal.{step_of, step_of_draw, step_of_clone, step_at, same_dir, is_this_issue, is_this_probe, is_this_skip}
 use Rattle.jr_model.specs.Plan.{Plan, SubJob, clone_of}
 use Rattle.jr_model.specs.Rounds.{Pass, pass_of}
 use Rattle.jr_model.proofs.LegalLaws.{cases_step_of, same_dir_refl, same_piece_refl}
+use Rattle.jr_stats.specs.declared.entries.Entry.{Entry}
 use Rattle.jr_stats.specs.declared.entries.Entry.TheVariants as entry
 use Rattle.jr_stats.specs.declared.entries.Finding.{Finding}
+use Rattle.jr_stats.specs.declared.entries.Name.{Name}
 use Rattle.jr_stats.specs.declared.entries.Start.{Start}
-use Rattle.jr_stats.specs.TraceChecks.{draw_of, if_legal, legal_event, write_of}
-use Rattle.jr_stats.specs.TraceSteps.{begun, issue_in, judged, probe_in}
+use Rattle.jr_stats.specs.TraceChecks.{draw_of, if_legal, is_small, legal_event, name_fits, write_of}
+use Rattle.jr_stats.specs.TraceSteps.{event_in, event_named, issue_in, judged, named, probe_in, skip_in}
 
 -- the issue of a draw, where it is this step
 if_issue : ℕ → WriteId → Option Draw → Option Event → Option Event
@@ -131,28 +133,44 @@ module _ (plan : Plan) (history : List Event) (worker : ℕ) (write : WriteId) w
   pub probe_is_step : if_legal plan history (option_map (λ (draw : Draw). Probe worker write draw.piece) (draw_of plan write)) ≡ probe_in worker write (step_at plan history worker write)
   probe_is_step = legal_as_probe (draw_of plan write) ∙ probe_of_clone (clone_of plan write.clone)
 
--- what is begun
-from_begun : {X : Type 0} (b : Bool) (x y : X) → cond b (Some x) None ≡ Some y → (b ≡ true) × (x ≡ y)
-from_begun true x y h = (refl, cc)
-from_begun false x y h = cc
+-- the skip of a draw is legal where it is the draw's step
+skip_is_step : (plan : Plan) (history : List Event) (worker : ℕ) (write : WriteId) → if_legal plan history (Some (Skip worker write)) ≡ skip_in worker write (step_at plan history worker write)
+skip_is_step plan history worker write = by_step (step_at plan history worker write)
+  where
+    by_step : (step : Option Event) → cond (is_this_skip write step) (Some (Skip worker write)) None ≡ skip_in worker write step
+    by_step None = refl
+    by_step (Some (Issue w dir issued piece)) = refl
+    by_step (Some (Probe w probed piece)) = refl
+    by_step (Some (Skip w skipped)) = refl
+    by_step (Some (End w io outcome)) = refl
+    by_step (Some (Verdict w io verdict)) = refl
 
-module _ (plan : Plan) (history : List Event) (start : Start) (worker : ℕ) (write : WriteId) (h : begun history start ≡ Some (worker, write)) where
-  -- the event of a line that starts an I/O, or a check
-  pub legal_issue_is : legal_event plan history (entry.Issue start) ≡ issue_in worker write (step_at plan history worker write)
-  legal_issue_is =
-      let got = from_begun _ (start.worker, write_of start.write) (worker, write) h in
-      let event = if_legal plan history (option_map (λ (draw : Draw). Issue start.worker draw.dir (write_of start.write) draw.piece) (draw_of plan (write_of start.write))) in
-      ap (λ (b : Bool). cond b event None) got.0
-      ∙ issue_is_step plan history start.worker (write_of start.write)
-      ∙ ap (λ (p : ℕ × WriteId). issue_in p.0 p.1 (step_at plan history p.0 p.1)) got.1
+-- a line that names a draw, where its numbers are fit
+named_where : (plan : Plan) (history : List Event) (line : Entry) (fits : Bool) (x : ℕ × WriteId) (event : Option Event) → event ≡ event_in line x.0 x.1 (step_at plan history x.0 x.1) → event_named plan history line (cond fits (Some x) None) ≡ cond fits event None
+named_where plan history line true x event same = sym same
+named_where plan history line false x event same = refl
 
-  pub legal_probe_is : legal_event plan history (entry.Probe start) ≡ probe_in worker write (step_at plan history worker write)
-  legal_probe_is =
-      let got = from_begun _ (start.worker, write_of start.write) (worker, write) h in
-      let event = if_legal plan history (option_map (λ (draw : Draw). Probe start.worker (write_of start.write) draw.piece) (draw_of plan (write_of start.write))) in
-      ap (λ (b : Bool). cond b event None) got.0
-      ∙ probe_is_step plan history start.worker (write_of start.write)
-      ∙ ap (λ (p : ℕ × WriteId). probe_in p.0 p.1 (step_at plan history p.0 p.1)) got.1
+-- the line's event is found by the step of the draw that it names
+abbrev pub IsFound : Plan → List Event → Entry → Type 0
+IsFound plan history line = event_named plan history line (named history line) ≡ legal_event plan history line
+
+-- so it is of a line that starts an I/O or a check, or skips a write
+pub legal_issue_is : (plan : Plan) (history : List Event) (start : Start) → IsFound plan history (entry.Issue start)
+legal_issue_is plan history start =
+    named_where plan history (entry.Issue start) _ (start.worker, write_of start.write) _ (issue_is_step plan history start.worker (write_of start.write))
+
+pub legal_probe_is : (plan : Plan) (history : List Event) (start : Start) → IsFound plan history (entry.Probe start)
+legal_probe_is plan history start =
+    named_where plan history (entry.Probe start) _ (start.worker, write_of start.write) _ (probe_is_step plan history start.worker (write_of start.write))
+
+pub legal_skip_is : (plan : Plan) (history : List Event) (worker : ℕ) (write : Name) → IsFound plan history (entry.Skip worker write)
+legal_skip_is plan history worker write =
+    named_where plan history (entry.Skip worker write) _ (worker, write_of write) _ (skip_is_step plan history worker (write_of write))
+    ∙ ap (λ (b : Bool). cond b (if_legal plan history (Some (Skip worker (write_of write)))) None) (and_true (is_small worker && name_fits write))
+  where
+    and_true : (b : Bool) → b ≡ (b && true)
+    and_true true = refl
+    and_true false = refl
 
 -- two tests, one after another, and as one
 two_tests : {X : Type 0} (a b : Bool) (x : X) → cond (a && b) (Some x) None ≡ cond (a && true) (cond b (Some x) None) None

@@ -4,9 +4,11 @@ use Rattle.jr_model.specs.declared.events.Event.{Event}
 use Rattle.jr_model.specs.declared.events.Event.TheVariants.{Issue, Probe, Skip, End, Verdict}
 use Rattle.jr_model.specs.declared.events.WriteId.{WriteId}
 use Rattle.jr_model.specs.History.{started, flies, outcome_of as how_ended, is_judged, ended_whole, same_write}
-use Rattle.jr_model.specs.Legal.{end_fits, verdict_fits}
+use Rattle.jr_model.specs.Legal.{end_fits, step_at, verdict_fits}
 use Rattle.jr_model.specs.Plan.{Plan}
 use Rattle.jr_stats.specs.declared.entries.Ending.{Ending}
+use Rattle.jr_stats.specs.declared.entries.Entry.{Entry}
+use Rattle.jr_stats.specs.declared.entries.Entry.TheVariants as entry
 use Rattle.jr_stats.specs.declared.entries.Finding.{Finding}
 use Rattle.jr_stats.specs.declared.entries.Start.{Start}
 use Rattle.jr_stats.specs.TraceChecks.{is_small, name_fits, ending_fits, finding_fits, write_of, outcome_of, verdict_of}
@@ -16,6 +18,14 @@ abbrev pub begun : List Event → Start → Option (ℕ × WriteId)
 begun history start =
     if is_small start.worker && is_small start.io && name_fits start.write && (start.io == length (started history))
     then Some (start.worker, write_of start.write) else None
+
+-- the worker and the draw of a line that starts what has the next number, or skips a write
+abbrev pub named : List Event → Entry → Option (ℕ × WriteId)
+named history (entry.Issue start) = begun history start
+named history (entry.Probe start) = begun history start
+named history (entry.Skip worker write) = if is_small worker && name_fits write then Some (worker, write_of write) else None
+named history (entry.End worker io ending) = None
+named history (entry.Verdict by io finding) = None
 
 -- the end of an I/O, where it may end so
 abbrev pub ended : List Event → ℕ → ℕ → Ending → Option Event
@@ -60,3 +70,16 @@ skip_in worker write (Some (Probe w probed piece)) = None
 skip_in worker write (Some (End w io outcome)) = None
 skip_in worker write (Some (Verdict w io verdict)) = None
 skip_in worker write None = None
+
+-- the event of a line that starts or skips, where the step is one
+abbrev pub event_in : Entry → ℕ → WriteId → Option Event → Option Event
+event_in (entry.Issue start) worker write step = issue_in worker write step
+event_in (entry.Probe start) worker write step = probe_in worker write step
+event_in (entry.Skip w skipped) worker write step = skip_in worker write step
+event_in (entry.End w io ending) worker write step = None
+event_in (entry.Verdict by io finding) worker write step = None
+
+-- the same by the step that may happen with the draw that the line names
+abbrev pub event_named : Plan → List Event → Entry → Option (ℕ × WriteId) → Option Event
+event_named plan history entry None = None
+event_named plan history entry (Some x) = event_in entry x.0 x.1 (step_at plan history x.0 x.1)

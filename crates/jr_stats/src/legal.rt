@@ -1,7 +1,7 @@
 ghost use Rattle.std.specs.Prelude.{◌≡◌, IfOk, Some, None, true, if◌then◌else◌};
 ghost use Rattle.jr_model.specs.Legal.{is_legal};
 ghost use Rattle.jr_stats.specs.TraceChecks.{is_small, name_fits, ending_fits, finding_fits, write_of, outcome_of, verdict_of, legal_event};
-ghost use Rattle.jr_stats.specs.TraceSteps.{begun, ended, judged, issue_in, probe_in, skip_in};
+ghost use Rattle.jr_stats.specs.TraceSteps.{begun, named, ended, judged, issue_in, probe_in, skip_in, event_in, event_named};
 
 use crate::entries::{Ending, Entry, Finding, Name, Start};
 use jr_agenda::Agenda;
@@ -22,62 +22,53 @@ pub fn legal_event(
     ensures { IfOk result (λ event. event ≡ legal_event work.now past.now entry.now) }
 {
     match entry {
-        Entry::Issue(start) => legal_issue(alloc, work, past, start),
-        Entry::Probe(start) => legal_probe(alloc, work, past, start),
-        Entry::Skip { worker, write } => legal_skip(alloc, work, past, *worker, write),
+        Entry::Issue(_) | Entry::Probe(_) | Entry::Skip { .. } => {
+            legal_start(alloc, work, past, entry)
+        }
         Entry::End { worker, io, ending } => Ok(ended(past, *worker, *io, ending)),
         Entry::Verdict { by, io, finding } => Ok(judged(work.plan(), past, *by, *io, finding)),
     }
 }
 
-fn legal_issue(
+// The event of a line that starts an I/O or a check, or skips a write, where it may happen.
+fn legal_start(
     alloc: Global,
     work: &Agenda<'_>,
     past: &Past,
-    start: &Start,
-) -> Result<Option<Event>, Memory>
-    requires { is_legal work.now past.now ≡ true }
-    ensures { IfOk result (λ event. event ≡ legal_event work.now past.now (Entry.Issue start.now)) }
-{
-    let Some((worker, write)) = begun(past, start) else {
-        return Ok(None);
-    };
-    let step = legal_step_at(alloc, work, past, worker, &write)?;
-    Ok(issue_in(worker, &write, &step))
-}
-
-fn legal_probe(
-    alloc: Global,
-    work: &Agenda<'_>,
-    past: &Past,
-    start: &Start,
-) -> Result<Option<Event>, Memory>
-    requires { is_legal work.now past.now ≡ true }
-    ensures { IfOk result (λ event. event ≡ legal_event work.now past.now (Entry.Probe start.now)) }
-{
-    let Some((worker, write)) = begun(past, start) else {
-        return Ok(None);
-    };
-    let step = legal_step_at(alloc, work, past, worker, &write)?;
-    Ok(probe_in(worker, &write, &step))
-}
-
-fn legal_skip(
-    alloc: Global,
-    work: &Agenda<'_>,
-    past: &Past,
-    worker: u64,
-    write: &Name,
+    entry: &Entry,
 ) -> Result<Option<Event>, Memory>
     requires { is_legal work.now past.now ≡ true }
     ensures { IfOk result
-        (λ event. event ≡ legal_event work.now past.now (Entry.Skip worker write.now)) }
+        (λ event. event ≡ event_named work.now past.now entry.now (named past.now entry.now)) }
 {
-    let (Some(worker), Some(write)) = (small(worker), write_of(write)) else {
+    let Some((worker, write)) = named(past, entry) else {
         return Ok(None);
     };
     let step = legal_step_at(alloc, work, past, worker, &write)?;
-    Ok(skip_in(worker, &write, &step))
+    Ok(event_in(entry, worker, &write, &step))
+}
+
+// The worker and the draw of a line that starts what has the next number, or skips a write.
+fn named(past: &Past, entry: &Entry) -> Option<(u32, WriteId)>
+    ensures { result ≡ named past.now entry.now }
+{
+    match entry {
+        Entry::Issue(start) | Entry::Probe(start) => begun(past, start),
+        Entry::Skip { worker, write } => Some((small(*worker)?, write_of(write)?)),
+        Entry::End { .. } | Entry::Verdict { .. } => None,
+    }
+}
+
+// The event of such a line, where the step is one.
+fn event_in(entry: &Entry, worker: u32, write: &WriteId, step: &Option<Event>) -> Option<Event>
+    ensures { result ≡ event_in entry.now worker write.now step.now }
+{
+    match entry {
+        Entry::Issue(_) => issue_in(worker, write, step),
+        Entry::Probe(_) => probe_in(worker, write, step),
+        Entry::Skip { .. } => skip_in(worker, write, step),
+        Entry::End { .. } | Entry::Verdict { .. } => None,
+    }
 }
 
 // The worker and the draw of a start that has the next number.
