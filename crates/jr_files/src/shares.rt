@@ -1,4 +1,4 @@
-ghost use Rattle.std.specs.Prelude.{length, IfOk, IfErr};
+ghost use Rattle.std.specs.Prelude.{◌≡◌, length, IfOk, IfErr};
 ghost use Rattle.jr_files.specs.Engines.{IsFresh, IsOpenFault};
 
 use crate::faults::FileFault;
@@ -55,7 +55,8 @@ impl FileEngine<SharedFile> {
 
     /// One more engine over the same open files, with counts of its own.
     pub fn share(&self, alloc: Global) -> Result<FileEngine<SharedFile>, FileFault>
-        ensures { IfOk result (λ engine. IsFresh engine (length self.now.files)) }
+        ensures ok { IfOk result (λ engine. IsFresh engine (length self.now.files)) }
+        ensures err { IfErr result (λ fault. fault ≡ FileFault.Memory) }
     {
         let mut files = Vec::new(alloc);
         for shared in self.files() {

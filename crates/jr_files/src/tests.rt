@@ -128,6 +128,10 @@ fn refused_files_are_named(rt: HostRuntime) -> Result<(), Fail> {
         FileEngine::new(&rt, alloc, &plan).err(),
         Some(FileFault::File(1))
     );
+    assert_eq!(rt;
+        FileEngine::shared(&rt, alloc, &plan).err(),
+        Some(FileFault::File(1))
+    );
     let first = path_in(alloc, folder.as_str(), "a.0.0")?;
     assert_eq!(rt; fs::metadata(&rt, first.as_str())?.len(), 1024);
     let third = path_in(alloc, folder.as_str(), "c.0.0")?;
@@ -462,6 +466,11 @@ fn engines_side_by_side(rt: HostRuntime) -> Result<(), Fail> {
     assert_side_by_side(&rt, first, second)?;
     let shared = SharedMemory::new(rt.clone()?, alloc, &plan)?;
     let second = Box::new(alloc, shared.share()?)?;
+    assert_side_by_side(&rt, Box::new(alloc, shared)?, second)?;
+    let plan = planned(alloc, folder.as_str(), &[("b.0.0", 0, 2)])?;
+    lay_out(&rt, &plan)?;
+    let shared = FileEngine::shared(&rt, alloc, &plan)?;
+    let second = Box::new(alloc, shared.share(alloc)?)?;
     assert_side_by_side(&rt, Box::new(alloc, shared)?, second)?;
     fs::remove_dir_all(&rt, folder.as_str())?;
     Ok(())
