@@ -12,4 +12,6 @@ pub use plays::{Played, play};
 #[cfg(test)]
 mod random_tests;
 #[cfg(test)]
+mod refused_tests;
+#[cfg(test)]
 mod tests;

@@ -17,7 +17,7 @@ use std::process::Abort;
 use std::test::Fail;
 
 // A number below `count`, from a generator (SplitMix64).
-fn draw(seed: &mut u64, count: u32) -> u32
+pub fn draw(seed: &mut u64, count: u32) -> u32
     requires { 0 < count }
     ensures { result < count }
 {
@@ -95,7 +95,7 @@ fn draw_workload(seed: &mut u64) -> Workload {
 }
 
 // A plan of 1 to 3 clones over one file or two, whose regions overlap.
-fn draw_plan(alloc: Global, seed: &mut u64) -> Result<Plan, Fail> {
+pub fn draw_plan(alloc: Global, seed: &mut u64) -> Result<Plan, Fail> {
     let mut draft = Draft::new(alloc);
     let files = 1 + draw(seed, 2);
     for _ in 0..1 + draw(seed, 3) {
@@ -111,7 +111,7 @@ fn draw_plan(alloc: Global, seed: &mut u64) -> Result<Plan, Fail> {
 }
 
 // Mostly the call is carried out. A fault halts a clone: there is none where `is_calm`.
-fn draw_reply(seed: &mut u64, is_calm: bool) -> Reply {
+pub fn draw_reply(seed: &mut u64, is_calm: bool) -> Reply {
     match draw(seed, 40) {
         0 if !is_calm => Reply::Fail,
         1 if !is_calm => Reply::Short(512),
