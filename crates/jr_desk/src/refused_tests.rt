@@ -125,6 +125,16 @@ impl Side {
         })
     }
 
+    // Keeps what was handed out.
+    fn keep(&mut self, answer: Option<Take>) -> Result<(), Fail> {
+        match answer {
+            Some(Take::Io(ticket)) => self.open.extend_from_slice(&[ticket])?,
+            Some(Take::Probe(ticket)) => self.open.extend_from_slice(&[ticket])?,
+            _ => {}
+        }
+        Ok(())
+    }
+
     // Carries out one of those in flight.
     fn carried_out(&mut self, alloc: Global, place: usize, reply: Reply) -> Result<Served, Fail> {
         if place >= self.open.len() || self.engine.calls() > 99_999 {
@@ -176,15 +186,9 @@ impl Pair {
         let one = asked(rt, &mut self.one.desk, &self.other.desk, &call);
         let other = asked_twice(rt, &mut self.other.desk, &call);
         assert_eq!(rt; one, other);
-        match one {
-            Some(Take::Io(ticket) | Take::Probe(ticket)) => {
-                self.one.open.push(ticket)?;
-                self.other.open.push(ticket)?;
-            }
-            Some(Take::Finished) => self.is_over = true,
-            _ => {}
-        }
-        Ok(())
+        self.is_over = one == Some(Take::Finished);
+        self.one.keep(one)?;
+        self.other.keep(other)
     }
 
     fn end(&mut self, rt: &(impl Abort + Eprint)) -> Result<(), Fail> {
@@ -212,7 +216,12 @@ impl Pair {
         let (Some(one), Some(other)) = (self.one.ended.pop(), self.other.ended.pop()) else {
             return Ok(());
         };
-        asked(rt, &mut self.one.desk, &self.other.desk, &Call::Judge(by, &one));
+        asked(
+            rt,
+            &mut self.one.desk,
+            &self.other.desk,
+            &Call::Judge(by, &one),
+        );
         asked_twice(rt, &mut self.other.desk, &Call::Judge(by, &other));
         Ok(())
     }
