@@ -12,9 +12,8 @@ use Rattle.jr_model.specs.Replies.{EngineState}
 use Rattle.jr_plan.specs.PlanFacts.{IsPlanned}
 use Rattle.jr_steps.proofs.StartedLemmas.{same_some}
 use Rattle.jr_crew.specs.declared.books.Done.{Done}
-use Rattle.jr_crew.specs.Accounts.{is_own_verdict}
 use Rattle.jr_crew.specs.Books.{dones_of}
-use Rattle.jr_crew.specs.Crews.{judges_inline, IsWorkers}
+use Rattle.jr_crew.specs.Crews.{judges_inline, is_own_verdict, IsWorkers}
 use Rattle.jr_crew.specs.Runs.{IsCovering}
 use Rattle.jr_crew.specs.Working.{AreCallsFor}
 use Rattle.jr_crew.proofs.Matching.{AreSaidOn, walk}

@@ -37,7 +37,7 @@ use Rattle.jr_handed.specs.Tickets.{ticket_of}
 use Rattle.jr_handed.proofs.OwnTickets.{got_ticket}
 use Rattle.jr_board.proofs.Serving.{content_is, verdict_is}
 use Rattle.jr_crew.specs.declared.books.Done.{Done}
-use Rattle.jr_crew.specs.Accounts.{is_workers, is_own_verdict}
+use Rattle.jr_crew.specs.Crews.{is_workers, is_own_verdict}
 use Rattle.jr_crew.specs.Books.{verdict_by, verdict_in, done_with, done_by}
 use Rattle.jr_crew.specs.Runs.{known_engine}
 use Rattle.jr_crew.specs.Working.{IsCalledFor, AreCallsFor}

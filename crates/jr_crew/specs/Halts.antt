@@ -1,4 +1,4 @@
--- Believed: why a run was ended before its time (of this project).
+-- Believed: why a run that had begun was ended before its time (of this project).
 use Rattle.std.specs.Prelude.{Option, Some, None}
 use Rattle.jr_model.specs.declared.steps.DeskFault.{DeskFault}
 use Rattle.jr_model.specs.declared.steps.DeskFault.TheVariants as desk
@@ -10,7 +10,6 @@ use Rattle.jr_crew.specs.declared.halts.Halt.TheVariants as halt
 -- what the run answers
 abbrev pub fault_of : Halt → RunFault
 fault_of halt.Memory = run.Memory
-fault_of halt.Thread = run.Thread
 fault_of halt.Books = run.Books
 
 -- a desk that refuses for another cause than memory holds other things than was done
@@ -24,7 +23,5 @@ halt_by desk.Stopped = halt.Books
 -- the first cause stays, but want of memory comes before others
 abbrev pub first_cause : Halt → Option Halt → Halt
 first_cause halt.Memory before = halt.Memory
-first_cause halt.Thread None = halt.Thread
-first_cause halt.Thread (Some first) = first
 first_cause halt.Books None = halt.Books
 first_cause halt.Books (Some first) = first

@@ -3,8 +3,9 @@ ghost use Rattle.std.specs.Option.{option_or};
 ghost use Rattle.std.specs.List.{list_all};
 ghost use Rattle.jr_model.specs.declared.events.Verdict.{Verdict as GivenVerdict};
 ghost use Rattle.jr_handed.specs.Kept.{tickets_of};
-ghost use Rattle.jr_crew.specs.Accounts.{IsTableOf, is_own_verdict, AreFollowed, AreMoved, IsMoved, AreGonePast};
+ghost use Rattle.jr_crew.specs.Accounts.{IsTableOf, AreFollowed, AreMoved, IsMoved, AreGonePast};
 ghost use Rattle.jr_crew.specs.Books.{verdict_by, verdict_in, done_by, done_with, dones_of};
+ghost use Rattle.jr_crew.specs.Crews.{is_own_verdict, is_worker_number, is_verifier_number, is_numbered};
 
 use crate::books::Done;
 use crate::halts::Halt;
@@ -64,6 +65,46 @@ fn is_own_verdict(desk: &Desk, event: &Event) -> bool
         },
         _ => true,
     }
+}
+
+// Whether each event has the number of one who does such: of one of so many workers, or of a verifier of the desk's plan.
+pub fn are_numbered(desk: &Desk, workers: usize) -> bool
+    ensures { result ≡ list_all (is_numbered workers desk.now.plan.verifiers) desk.now.history }
+{
+    let verifiers = desk.plan().verifiers();
+    desk.history()
+        .iter()
+        .all(|event| is_numbered(event, workers, verifiers))
+}
+
+fn is_numbered(event: &Event, workers: usize, verifiers: u32) -> bool
+    ensures { result ≡ is_numbered workers verifiers event.now }
+{
+    match *event {
+        Event::Issue { worker, .. } => is_worker_number(workers, worker),
+        Event::Probe { worker, .. } => is_worker_number(workers, worker),
+        Event::Skip { worker, .. } => is_worker_number(workers, worker),
+        Event::End { worker, .. } => is_worker_number(workers, worker),
+        Event::Verdict { worker, .. } => {
+            if verifiers == 0 {
+                is_worker_number(workers, worker)
+            } else {
+                is_verifier_number(workers, verifiers, worker)
+            }
+        }
+    }
+}
+
+fn is_worker_number(workers: usize, number: u32) -> bool
+    ensures { result ≡ is_worker_number workers number }
+{
+    (number as usize) < workers
+}
+
+fn is_verifier_number(workers: usize, verifiers: u32, number: u32) -> bool
+    ensures { result ≡ is_verifier_number workers verifiers number }
+{
+    workers <= number as usize && (number as usize) - workers < verifiers as usize
 }
 
 // Whether each book is what its worker completed, as the history of the desk has it.

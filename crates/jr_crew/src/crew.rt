@@ -1,18 +1,18 @@
-ghost use Rattle.std.specs.Prelude.{◌≡◌, ℕ, ◌+◌, ◌<◌, ◌++◌, true, [], Some, Ok, Err, IfOk, IfErr, OnOk, IsTrue, map, replicate, length, slice_get, slice_index_or};
+ghost use Rattle.std.specs.Prelude.{◌≡◌, ℕ, ◌+◌, ◌<◌, ◌++◌, true, [], Some, Ok, Err, IfOk, IfErr, OnOk, IsTrue, IsFalse, map, replicate, length, slice_get, slice_index_or};
 ghost use Rattle.std.specs.List.{list_all};
 ghost use Rattle.jr_model.specs.Legal.{is_legal, is_complete};
 ghost use Rattle.jr_handed.specs.Kept.{tickets_of};
-ghost use Rattle.jr_crew.specs.Accounts.{is_own_verdict};
 ghost use Rattle.jr_crew.specs.Books.{dones_of};
-ghost use Rattle.jr_crew.specs.Crews.{judges_inline, IsWorkers};
+ghost use Rattle.jr_crew.specs.Crews.{judges_inline, is_own_verdict, is_numbered, IsWorkers};
+ghost use Rattle.jr_crew.specs.Faults.{IsRefusal, IsUnmanned};
 ghost use Rattle.jr_handover.specs.declared.parcel.Parcel.TheVariants.{Stop};
 ghost use Rattle.jr_handover.specs.Passes.{hand_of};
 ghost use Rattle.jr_crew.specs.Working.{AreCallsFor};
 
-use crate::accounts::{are_books, are_own_verdicts};
+use crate::accounts::{are_books, are_numbered, are_own_verdicts};
 use crate::books::Done;
 use crate::faults::RunFault;
-use crate::halts::{Halt, fault_of};
+use crate::halts::Halt;
 use crate::hands::Hand;
 use crate::held::{Naming, Shared};
 use crate::staff::{Job, Judge, jobs_for, judges_for, push, room_for};
@@ -52,16 +52,21 @@ pub fn run<R: Threads + Wait + Sync>(
     ensures each { IfOk result (λ ran. (i : ℕ) (before : _) (after : _) (book : _) → slice_get engines.items i ≡ Some before
         → slice_get ran.engines.items i ≡ Some after → slice_get ran.books.items i ≡ Some book
         → IsWorkers plan ran.desk.history i (state before) (state after) book.items) }
+
+    // Each event is of a worker, but the verdicts of verifiers; where there are none, each worker judged its own checks.
+    ensures numbered { IfOk result (λ ran. list_all (is_numbered (length engines.items) plan.verifiers) ran.desk.history ≡ true) }
+    ensures own { judges_inline plan ≡ true
+        → IfOk result (λ ran. list_all (is_own_verdict (tickets_of plan ran.desk.history)) ran.desk.history ≡ true) }
     ensures none { engines.items ≡ [] → result ≡ Err RunFault.NoEngine }
     ensures no_engine { IfErr result (λ fault. fault ≡ RunFault.NoEngine → engines.items ≡ []) }
+
+    // All but verifiers can do without a thread of their own.
+    ensures thread { IfErr result (λ fault. fault ≡ RunFault.Thread → 0 < plan.verifiers) }
 {
     if engines.is_empty() {
         return Err(RunFault::NoEngine);
     }
-    match run_as::<Brand, R>(rt, alloc, plan, engines) {
-        Ok(ran) => Ok(ran),
-        Err(halt) => Err(fault_of(halt)),
-    }
+    run_as::<Brand, R>(rt, alloc, plan, engines)
 }
 
 // The same, where the plan has its name.
@@ -70,7 +75,7 @@ fn run_as<P: Naming + Send + Sync, R: Threads + Wait + Sync>(
     alloc: Global,
     plan: Plan,
     engines: Vec<Box<dyn Engine + Send>>,
-) -> Result<Ran, Halt>
+) -> Result<Ran, RunFault>
     requires { plan ≡ P.plan }
     ensures plan { IfOk result (λ ran. ran.desk.plan ≡ plan) }
     ensures legal { IfOk result (λ ran. is_legal plan ran.desk.history ≡ true) }
@@ -80,6 +85,10 @@ fn run_as<P: Naming + Send + Sync, R: Threads + Wait + Sync>(
     ensures each { IfOk result (λ ran. (i : ℕ) (before : _) (after : _) (book : _) → slice_get engines.items i ≡ Some before
         → slice_get ran.engines.items i ≡ Some after → slice_get ran.books.items i ≡ Some book
         → IsWorkers plan ran.desk.history i (state before) (state after) book.items) }
+    ensures numbered { IfOk result (λ ran. list_all (is_numbered (length engines.items) plan.verifiers) ran.desk.history ≡ true) }
+    ensures own { judges_inline plan ≡ true
+        → IfOk result (λ ran. list_all (is_own_verdict (tickets_of plan ran.desk.history)) ran.desk.history ≡ true) }
+    ensures failed { IfErr result (IsRefusal plan.verifiers) }
 {
     // Its contract says what holds of every plan.
     plan.facts();
@@ -93,7 +102,7 @@ fn run_as<P: Naming + Send + Sync, R: Threads + Wait + Sync>(
     let worked = man(rt, &shared, alloc, inline, jobs, judges, hand);
     let (desk, halt) = shared.into_parts();
     if let Some(halt) = halt {
-        return Err(halt);
+        return Err(RunFault::from(halt));
     }
     let (engines, books) = sorted_out(alloc, worked?)?;
     check(alloc, &desk, inline, &books)?;
@@ -118,8 +127,8 @@ pub struct Worked {
     pub book: Result<Vec<Done>, Halt>,
 }
 
-// Lets the verifiers judge and the workers work at once, and waits for them. Once the workers are back, each verifier is told to
-// stop.
+// Lets the verifiers judge and the workers work at once, and waits for them. Once the workers are back, each verifier that was
+// started is told to stop.
 fn man<'a, P: Naming + Send + Sync, R: Threads + Wait + Sync>(
     rt: &R,
     shared: &Shared<P>,
@@ -128,7 +137,8 @@ fn man<'a, P: Naming + Send + Sync, R: Threads + Wait + Sync>(
     jobs: Vec<Job<'a>>,
     judges: Vec<Judge<'a>>,
     hand: Hand<'a>,
-) -> Result<Vec<Worked>, Halt>
+) -> Result<Vec<Worked>, RunFault>
+    ensures failed { IfErr result (IsUnmanned (length judges.entry.items)) }
     ensures len { IfOk result (λ worked. length worked.items ≡ length jobs.entry.items) }
     ensures each { IfOk result (λ worked. (i : ℕ) (job : _) (one : _) → i < length jobs.entry.items
         → IfOk (slice_index_or worked.items i one).book (λ book. AreCallsFor inline (state (slice_index_or jobs.entry.items i job).engine) book.items (state (slice_index_or worked.items i one).engine))) }
@@ -136,7 +146,8 @@ fn man<'a, P: Naming + Send + Sync, R: Threads + Wait + Sync>(
     thread::scope(
         thread::scope_env(),
         rt,
-        move |scope| -> Result<Vec<Worked>, Halt>
+        move |scope| -> Result<Vec<Worked>, RunFault>
+            ensures failed { IfErr result (IsUnmanned (length judges.entry.items)) }
             ensures len { IfOk result (λ worked. length worked.items ≡ length jobs.entry.items) }
             ensures each { IfOk result (λ worked. (i : ℕ) (job : _) (one : _) → i < length jobs.entry.items
                 → IfOk (slice_index_or worked.items i one).book (λ book. AreCallsFor inline (state (slice_index_or jobs.entry.items i job).engine) book.items (state (slice_index_or worked.items i one).engine))) }
@@ -153,7 +164,9 @@ fn man<'a, P: Naming + Send + Sync, R: Threads + Wait + Sync>(
                     started = started.saturating_add(1);
                 }
             }
-            let worked = work_all(rt, shared, alloc, inline, jobs, started == wanted);
+            // (where none is wanted, none can be wanting)
+            let are_judged = wanted == 0 || started == wanted;
+            let worked = work_all(rt, shared, alloc, inline, jobs, are_judged);
             stop_all(rt, &mut hand, started);
             worked
         },
@@ -177,14 +190,15 @@ fn work_all<'a, P: Naming + Send + Sync, R: Threads + Wait + Sync>(
     inline: bool,
     jobs: Vec<Job<'a>>,
     are_judged: bool,
-) -> Result<Vec<Worked>, Halt>
+) -> Result<Vec<Worked>, RunFault>
+    ensures thread { IsFalse are_judged → result ≡ Err RunFault.Thread }
+    ensures memory { IsTrue are_judged → IfErr result (λ fault. fault ≡ RunFault.Memory) }
     ensures len { IfOk result (λ worked. length worked.items ≡ length jobs.entry.items) }
     ensures each { IfOk result (λ worked. (i : ℕ) (job : _) (one : _) → i < length jobs.entry.items
         → IfOk (slice_index_or worked.items i one).book (λ book. AreCallsFor inline (state (slice_index_or jobs.entry.items i job).engine) book.items (state (slice_index_or worked.items i one).engine))) }
 {
     if !are_judged {
-        shared.stop(rt, Halt::Thread);
-        return Err(Halt::Thread);
+        return Err(RunFault::Thread);
     }
     let worked = thread::map_vec(
         rt,
@@ -247,9 +261,13 @@ fn check(alloc: Global, desk: &Desk, inline: bool, books: &[Vec<Done>]) -> Resul
     ensures complete { OnOk result (is_complete desk.now.plan desk.now.history ≡ true) }
     ensures own { IsTrue inline → OnOk result (list_all (is_own_verdict (tickets_of desk.now.plan desk.now.history)) desk.now.history ≡ true) }
     ensures each { OnOk result ((i : ℕ) (book : _) → slice_get books.now i ≡ Some book → book.items ≡ dones_of desk.now.plan inline desk.now.history i) }
+    ensures numbered { OnOk result (list_all (is_numbered (length books.now) desk.now.plan.verifiers) desk.now.history ≡ true) }
 {
     let _legal = desk.history();
     if !desk.is_complete() || (inline && !are_own_verdicts(desk)) {
+        return Err(Halt::Books);
+    }
+    if !are_numbered(desk, books.len()) {
         return Err(Halt::Books);
     }
     if !are_books(alloc, desk, inline, books)? {

@@ -5,13 +5,11 @@ use crate::faults::RunFault;
 use jr_model::{DeskFault, Memory};
 use std::alloc::AllocError;
 
-// Why a run was ended before its time.
+// Why a run that had begun was ended before its time.
 #[derive(Clone, Copy, Debug, PartialEq, Eq)]
 pub enum Halt {
     // A request for memory was refused.
     Memory,
-    // A verifier couldn't be started.
-    Thread,
     // What was done isn't what the desk holds.
     Books,
 }
@@ -20,10 +18,10 @@ pub enum Halt {
 pub fn fault_of(halt: Halt) -> RunFault
     ensures fault { result ≡ fault_of halt }
     ensures engines { result ≡ RunFault.NoEngine → ⊥ }
+    ensures thread { result ≡ RunFault.Thread → ⊥ }
 {
     match halt {
         Halt::Memory => RunFault::Memory,
-        Halt::Thread => RunFault::Thread,
         Halt::Books => RunFault::Books,
     }
 }
@@ -61,5 +59,16 @@ impl From<DeskFault> for Halt {
             DeskFault::Memory => Halt::Memory,
             _ => Halt::Books,
         }
+    }
+}
+
+impl From<Halt> for RunFault {
+    ghost use Rattle.std.specs.Prelude.{◌≡◌};
+    ghost use Rattle.jr_crew.specs.Halts.{fault_of};
+
+    ghost from_gives = { λ halt made. made ≡ fault_of halt };
+
+    fn from(halt: Halt) -> RunFault {
+        fault_of(halt)
     }
 }

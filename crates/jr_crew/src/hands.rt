@@ -14,8 +14,8 @@ pub struct Hand<'a> {
 }
 
 impl<'a> Hand<'a> {
-    ghost use Rattle.std.specs.Prelude.{◌≡◌};
-    ghost use Rattle.jr_handover.specs.Hands.{with_put, with_taken};
+    ghost use Rattle.std.specs.Prelude.{◌≡◌, IsOkAnd};
+    ghost use Rattle.jr_handover.specs.Hands.{kept_of, given_of, with_put, with_taken};
     ghost use Rattle.jr_handover.specs.Passes.{hand_of};
 
     pub fn new(handoff: &'a Handoff, pass: Pass) -> Hand<'a>
@@ -26,7 +26,10 @@ impl<'a> Hand<'a> {
     }
 
     // A hand for another thread.
-    pub fn another(&mut self) -> Result<Hand<'a>, Halt> {
+    pub fn another(&mut self) -> Result<Hand<'a>, Halt>
+        ensures kept { hand_of self.new.pass ≡ kept_of (hand_of self.old.pass) }
+        ensures given { IsOkAnd result (λ hand. hand_of hand.pass ≡ given_of (hand_of self.old.pass)) }
+    {
         let pass = self.handoff.split(&mut self.pass)?;
         Ok(Hand::new(self.handoff, pass))
     }

@@ -1,4 +1,4 @@
-ghost use Rattle.std.specs.Prelude.{◌≡◌, ◌++◌, ◌∷◌, [], true, Some, IfOk, IfSome, OnOk};
+ghost use Rattle.std.specs.Prelude.{◌≡◌, ◌++◌, ◌∷◌, [], true, Some, IfOk, IfErr, IfSome, OnOk, OnErr};
 ghost use Rattle.jr_model.specs.Tickets.{ticket_fits};
 ghost use Rattle.jr_header.specs.Served.{answer_verdict};
 ghost use Rattle.jr_board.specs.Takes.{is_fitting};
@@ -37,21 +37,25 @@ pub struct Held<P: Naming> {
 
 impl<P: Naming> Held<P> {
     fn take(&mut self, worker: u32) -> Result<Take, DeskFault>
-        ensures { IfOk result (λ answer. is_fitting answer ≡ true) }
+        ensures fits { IfOk result (λ answer. is_fitting answer ≡ true) }
+        ensures err { OnErr result ((self.new.desk ≡ self.old.desk) × (self.new.halt ≡ self.old.halt)) }
+        ensures memory { IfErr result (λ fault. fault ≡ DeskFault.Memory) }
     {
         self.desk.take(worker)
     }
 
     fn end(&mut self, served: &Served) -> Result<(), DeskFault>
-        ensures { OnOk result (self.new.desk.history
+        ensures ok { OnOk result (self.new.desk.history
             ≡ self.old.desk.history ++ Event.End served.now.ticket.worker served.now.ticket.id served.now.outcome ∷ []) }
+        ensures err { OnErr result ((self.new.desk ≡ self.old.desk) × (self.new.halt ≡ self.old.halt)) }
     {
         self.desk.end(served)
     }
 
     fn judge(&mut self, by: u32, ruling: &Ruling<'_>) -> Result<(), DeskFault>
-        ensures { OnOk result (self.new.desk.history
+        ensures ok { OnOk result (self.new.desk.history
             ≡ self.old.desk.history ++ Event.Verdict by ruling.now.ticket.id (answer_verdict ruling.now) ∷ []) }
+        ensures err { OnErr result ((self.new.desk ≡ self.old.desk) × (self.new.halt ≡ self.old.halt)) }
     {
         self.desk.judge(by, ruling)
     }
@@ -80,8 +84,6 @@ fn first_cause(halt: Halt, before: Option<Halt>) -> Halt
 {
     match (halt, before) {
         (Halt::Memory, _) => Halt::Memory,
-        (Halt::Thread, None) => Halt::Thread,
-        (Halt::Thread, Some(first)) => first,
         (Halt::Books, None) => Halt::Books,
         (Halt::Books, Some(first)) => first,
     }
@@ -135,7 +137,8 @@ impl<P: Naming> Shared<P> {
     // The ticket of what this worker is to carry out next; none where the run has ended. It waits while nothing may be
     // started: nothing but an end, a verdict or a stop lets anything start again.
     pub fn next<R: Wait>(&self, rt: &R, worker: u32) -> Result<Option<Ticket>, Halt>
-        ensures { IfOk result (λ ticket. IfSome ticket (λ t. ticket_fits t ≡ true)) }
+        ensures fits { IfOk result (λ ticket. IfSome ticket (λ t. ticket_fits t ≡ true)) }
+        ensures memory { IfErr result (λ halt. halt ≡ Halt.Memory) }
     {
         let mut held = self.enter(rt);
         for _ in rt.forever() {

@@ -19,6 +19,8 @@ pub use faults::RunFault;
 pub use serial::run_serial;
 
 #[cfg(test)]
+mod drop_tests;
+#[cfg(test)]
 mod run_tests;
 #[cfg(test)]
 mod tests;

@@ -3,7 +3,7 @@ use jr_board::Bad;
 use jr_engines::{
     Engine, EngineFault, MemoryEngine, NullEngine, Reply, ScriptedEngine, SharedMemory, Tally,
 };
-use jr_model::{EngineKind, IoType, MOST_VERIFIERS, Method, Totals, VerifyKind, What};
+use jr_model::{EngineKind, Event, IoType, MOST_VERIFIERS, Method, Totals, VerifyKind, What};
 use jr_plan::{Draft, Plan, Workload};
 use std::alloc::Global;
 use std::sync::atomic::{AtomicU64, Ordering};
@@ -101,6 +101,57 @@ fn who_judges_changes_no_total(rt: HostRuntime) -> Result<(), Fail> {
             ..NOTHING
         };
         assert!(rt; ran.desk.totals() == [want].as_slice());
+    }
+    Ok(())
+}
+
+// The worker that ended this I/O or check.
+fn ended_by(history: &[Event], id: u32) -> Option<u32> {
+    for event in history {
+        if let Event::End { worker, io, .. } = *event {
+            if io == id {
+                return Some(worker);
+            }
+        }
+    }
+    None
+}
+
+// A verdict is of one of the verifiers, which are numbered from 3 on, or where there are none of the worker that ended the check;
+// all else is of one of three workers.
+fn is_of_one_of(history: &[Event], event: &Event, verifiers: u32) -> bool {
+    match *event {
+        Event::Verdict { worker, io, .. } if verifiers == 0 => {
+            worker < 3 && ended_by(history, io) == Some(worker)
+        }
+        Event::Verdict { worker, .. } => 3 <= worker && worker - 3 < verifiers,
+        Event::Issue { worker, .. } => worker < 3,
+        Event::Probe { worker, .. } => worker < 3,
+        Event::Skip { worker, .. } => worker < 3,
+        Event::End { worker, .. } => worker < 3,
+    }
+}
+
+#[test]
+fn each_event_has_the_number_of_who_did_it(rt: HostRuntime) -> Result<(), Fail> {
+    for verifiers in 0..5 {
+        let plan = clones_of_one_file(rt.alloc(), 2, 32, verifiers)?;
+        let mut engines: Vec<Box<dyn Engine + Send>> = Vec::new(rt.alloc());
+        for _ in 0..3 {
+            engines.push(Box::new(rt.alloc(), NullEngine::new())?)?;
+        }
+        let ran = run(&rt, rt.alloc(), plan, engines)?;
+        let mut verdicts: u64 = 0;
+        for event in ran.desk.history() {
+            assert!(rt;
+                is_of_one_of(ran.desk.history(), event, verifiers),
+                "{event:?} of {verifiers}"
+            );
+            if let Event::Verdict { .. } = *event {
+                verdicts = verdicts.saturating_add(1);
+            }
+        }
+        assert!(rt; verdicts > 0);
     }
     Ok(())
 }

@@ -1,4 +1,4 @@
-ghost use Rattle.std.specs.Prelude.{◌≡◌, ◌+◌, ◌≤◌, ◌++◌, ◌∷◌, [], IfOk, OnOk, map, length};
+ghost use Rattle.std.specs.Prelude.{◌≡◌, ◌+◌, ◌*◌, ◌^◌, ◌<◌, ◌≤◌, ◌++◌, ◌∷◌, [], IfOk, IfErr, OnOk, OnErr, map, length};
 
 use crate::halts::Halt;
 use crate::hands::Hand;
@@ -26,7 +26,8 @@ pub fn jobs_for<'a>(
     engines: Vec<Box<dyn Engine + Send>>,
     hand: &mut Hand<'a>,
 ) -> Result<Vec<Job<'a>>, Halt>
-    ensures { IfOk result (λ jobs. map (λ job. job.engine) jobs.items ≡ engines.items) }
+    ensures ok { IfOk result (λ jobs. map (λ job. job.engine) jobs.items ≡ engines.items) }
+    ensures books { IfErr result (λ halt. halt ≡ Halt.Books → 2 ^ 32 < length engines.items) }
 {
     let mut jobs = Vec::new(alloc);
     for engine in engines {
@@ -51,7 +52,8 @@ pub fn judges_for<'a>(
     verifiers: u32,
     hand: &mut Hand<'a>,
 ) -> Result<Vec<Judge<'a>>, Halt>
-    ensures { IfOk result (λ judges. length judges.items ≡ verifiers) }
+    ensures ok { IfOk result (λ judges. length judges.items ≡ verifiers) }
+    ensures books { IfErr result (λ halt. halt ≡ Halt.Books → 2 ^ 32 ≤ workers + verifiers) }
 {
     let first = number_of(workers)?;
     let mut judges = Vec::new(alloc);
@@ -65,13 +67,15 @@ pub fn judges_for<'a>(
 
 // How many parcels the hand-over holds: four for each verifier.
 pub fn room_for(verifiers: u32) -> usize
-    ensures { 1 ≤ result }
+    ensures least { 1 ≤ result }
+    ensures room { 1 ≤ verifiers → result ≡ 4 * verifiers }
 {
     (4 * verifiers as usize).max(1)
 }
 
 fn number_of(place: usize) -> Result<u32, Halt>
-    ensures { IfOk result (λ number. number ≡ place) }
+    ensures ok { IfOk result (λ number. number ≡ place) }
+    ensures books { IfErr result (λ halt. (halt ≡ Halt.Books) × (2 ^ 32 ≤ place)) }
 {
     match u32::try_from(place) {
         Ok(number) => Ok(number),
@@ -80,7 +84,8 @@ fn number_of(place: usize) -> Result<u32, Halt>
 }
 
 fn number_behind(first: u32, place: u32) -> Result<u32, Halt>
-    ensures { IfOk result (λ number. number ≡ first + place) }
+    ensures ok { IfOk result (λ number. number ≡ first + place) }
+    ensures books { IfErr result (λ halt. (halt ≡ Halt.Books) × (2 ^ 32 ≤ first + place)) }
 {
     match first.checked_add(place) {
         Some(number) => Ok(number),
@@ -90,7 +95,9 @@ fn number_behind(first: u32, place: u32) -> Result<u32, Halt>
 
 // Puts it behind the last one.
 pub fn push<X: Drop>(all: &mut Vec<X>, one: X) -> Result<(), Halt>
-    ensures { OnOk result (all.new.items ≡ all.old.items ++ one ∷ []) }
+    ensures ok { OnOk result (all.new.items ≡ all.old.items ++ one ∷ []) }
+    ensures err { OnErr result (all.new.items ≡ all.old.items) }
+    ensures memory { IfErr result (λ halt. halt ≡ Halt.Memory) }
 {
     match all.push(one) {
         Ok(()) => Ok(()),

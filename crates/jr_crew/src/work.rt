@@ -1,4 +1,4 @@
-ghost use Rattle.std.specs.Prelude.{◌≡◌, ◌&&◌, true, replicate, vec_len, IfOk, OnOk, Some, None, if◌then◌else◌};
+ghost use Rattle.std.specs.Prelude.{◌≡◌, ◌&&◌, true, replicate, vec_len, IfOk, OnOk, Some, None, IfErr, if◌then◌else◌};
 ghost use Rattle.jr_model.specs.Tickets.{ticket_fits};
 ghost use Rattle.jr_handover.specs.Passes.{hand_of};
 ghost use Rattle.jr_header.specs.Served.{is_to_judge, answer_verdict};
@@ -103,6 +103,7 @@ fn carry_out<P: Naming, R: Wait>(
 fn clear(buffer: &mut Vec<u8>, ticket: &Ticket) -> Result<(), Halt>
     ensures zeros { OnOk result (buffer.new.items ≡ replicate ticket.now.piece.len 0) }
     ensures len { OnOk result (vec_len buffer.new ≡ ticket.now.piece.len) }
+    ensures memory { IfErr result (λ halt. halt ≡ Halt.Memory) }
 {
     let len = ticket.piece.len;
     buffer.clear();
