@@ -117,8 +117,6 @@ starts_at (Verdict worker id verdict ∷ history) (suc io) s h =
       split = ap (λ (all : List Event). Verdict worker id verdict ∷ all) later.split;
     }
 
--- the draw of the plan that an event names
-
 -- draw k of a pass of this clone, over this piece
 pub record IsDrawOf (plan : Plan) (write : WriteId) (piece : Piece) (job : SubJob) (draw : Draw) : Type 0 where
   pub planned : clone_of plan write.clone ≡ Some job
