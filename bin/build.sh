@@ -61,26 +61,44 @@ build_crates() {
 
 # Starts the crates whose turn it is: all that they stand on is built. Where a crate needs no proof, it is built already.
 start_ready() {
-  local name left=()
+  local name ready=() left=()
   for name in "${order[@]}"; do
-    if ! is_ready "$name" || [ ${#runs[@]} -ge "$(nproc)" ]; then
+    if is_ready "$name" && [ $((${#runs[@]} + ${#ready[@]})) -lt "$(nproc)" ]; then
+      ready+=("$name")
+    else
       left+=("$name")
-      continue
     fi
-    count=$((count + 1))
-    if [ "$name" != fiorun ] && ! needs_proof "$name"; then
-      built+="$name "
-      continue
-    fi
-    changed+="$name "
-    say "$what: proving $name ($count of $total), $((SECONDS / 60)) min"
-    # (in a process group of its own, so that all of it can be ended)
-    set -m
-    prove "$name" &
-    set +m
-    runs[$!]=$name
   done
   order=("${left[@]}")
+  # One that runs alone gets all processors that memory is free for; several get what rt chooses.
+  jobs=()
+  [ $((${#runs[@]} + ${#ready[@]})) -ne 1 ] || jobs=(--jobs "$(provers)")
+  for name in "${ready[@]}"; do start_one "$name"; done
+}
+
+start_one() {
+  count=$((count + 1))
+  if [ "$1" != fiorun ] && ! needs_proof "$1"; then
+    built+="$1 "
+    return 0
+  fi
+  changed+="$1 "
+  say "$what: proving $1 ($count of $total), $((SECONDS / 60)) min"
+  # (in a process group of its own, so that all of it can be ended)
+  set -m
+  prove "$1" &
+  set +m
+  runs[$!]=$1
+}
+
+# How many provers there is room for: one a processor, of some 3 GB each.
+provers() {
+  local free=0
+  free=$(sed -n 's/^MemAvailable: *\([0-9]*\) kB/\1/p' /proc/meminfo 2>/dev/null || true)
+  free=$((${free:-0} / 3000000))
+  [ "$free" -ge 1 ] || free=1
+  [ "$free" -le "$(nproc)" ] || free=$(nproc)
+  printf '%s' "$free"
 }
 
 # Is all built that the crate stands on?
@@ -113,10 +131,10 @@ end_all() {
 prove() {
   local log=$out/build.$1.log status=0
   if [ "$1" = fiorun ]; then
-    (cd "$top/crates/fiorun" && rt run -- --help) </dev/null >"$log" 2>&1 || status=1
+    (cd "$top/crates/fiorun" && rt run "${jobs[@]}" -- --help) </dev/null >"$log" 2>&1 || status=1
   else
     lay_lane "$1"
-    (cd "$lanes/$1/crates/$1" && rt lib) </dev/null >"$log" 2>&1 || status=1
+    (cd "$lanes/$1/crates/$1" && rt lib "${jobs[@]}") </dev/null >"$log" 2>&1 || status=1
     end_lane "$1"
   fi
   [ "$status" -eq 0 ] || {

@@ -22,12 +22,12 @@ use Rattle.jr_standing.specs.Deferred.{is_settled}
 use Rattle.jr_steps.proofs.DrawnLaws.{all_at}
 use Rattle.jr_steps.proofs.PlaceLemmas.{got_dropped, made_at}
 use Rattle.jr_steps.proofs.StartedLemmas.{same_some}
-use Rattle.jr_tally_laws.specs.Tallies.{flying_issues, flying_checks}
-use Rattle.jr_tally_laws.proofs.Compared.{tests_compared}
-use Rattle.jr_tally_laws.proofs.Few.{counts_few}
+use Rattle.jr_tallies.specs.Tallies.{flying_issues, flying_checks}
+use Rattle.jr_tallies.proofs.Compared.{tests_compared}
+use Rattle.jr_tallies.proofs.Few.{counts_few}
 use Rattle.jr_round_laws.specs.Standing.{is_under_way, next_issue, take_up_write, step_in_pass}
 use Rattle.jr_round_laws.proofs.StandingPasses.{done_parts}
-use Rattle.jr_tally_laws.proofs.StartedFew.{started_small}
+use Rattle.jr_steps.proofs.StartedFew.{started_small}
 use Rattle.jr_tallies.specs.declared.tallies.Counts.{Counts}
 use Rattle.jr_tallies.specs.Tallying.{counts_of}
 use Rattle.jr_board.specs.declared.board.Board.{Board}

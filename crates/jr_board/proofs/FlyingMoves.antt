@@ -44,7 +44,7 @@ use Rattle.jr_log_laws.proofs.DrawLaws.{log_is_intact_of_draws}
 use Rattle.jr_log_laws.proofs.FlyingLaws.{next_is_free, clear_is_clear, next_flies, others_fly_on, ended_flies_no_more, flight-skips}
 use Rattle.jr_log_laws.proofs.IntactLaws.{fresh_at_end}
 use Rattle.jr_log_laws.proofs.LogGrowth.{log-same, log-read, log-whole, log-failed}
-use Rattle.jr_tally_laws.specs.Nexts.{IsNext, grown}
+use Rattle.jr_steps.specs.Nexts.{IsNext, grown}
 use Rattle.jr_handed.specs.Kept.{IsOwn}
 use Rattle.jr_handed.proofs.OwnTickets.{own_started}
 use Rattle.jr_board.specs.declared.flying.Flying.{Flying}

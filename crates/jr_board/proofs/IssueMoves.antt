@@ -46,7 +46,7 @@ use Rattle.jr_round_laws.proofs.KeptSettled.{or_false, ran_before, taken_issued}
 use Rattle.jr_round_laws.proofs.StandingPasses.{done_parts, issue_in}
 use Rattle.jr_round_laws.proofs.StandingSteps.{starts_in_pass, issue_keeps_pass, next_in_pass, issue_of_pass}
 use Rattle.jr_standing.specs.Deferred.{Deferred, is_settled, round_now, settled_round, with_draw, with_waiting}
-use Rattle.jr_tally_laws.specs.Nexts.{IsNext, grown}
+use Rattle.jr_steps.specs.Nexts.{IsNext, grown}
 use Rattle.jr_board.specs.declared.standings.Issued.{Issued}
 use Rattle.jr_board.specs.declared.standings.Standing.{Standing}
 use Rattle.jr_board.specs.Standings.{IsStanding, WasIssued, name_of}

@@ -10,7 +10,7 @@ use Rattle.jr_model.specs.Plan.{Plan, SubJob, clone_of}
 use Rattle.jr_steps.proofs.PlaceLemmas.{item_at}
 use Rattle.jr_steps.proofs.StartedLemmas.{got_more, same_some}
 use Rattle.jr_standing.specs.Deferred.{is_settled}
-use Rattle.jr_tally_laws.proofs.Lists.{got_set, got_set_other}
+use Rattle.jr_steps.proofs.Lists.{got_set, got_set_other}
 use Rattle.jr_board.specs.declared.standings.Standing.{Standing}
 use Rattle.jr_board.specs.Boards.{left_of}
 use Rattle.jr_board.specs.Standings.{ArePrepared, AreStanding, IsPrepared, IsStanding}

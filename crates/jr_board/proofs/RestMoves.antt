@@ -22,8 +22,8 @@ use Rattle.jr_quiet.proofs.Issues.{all_at}
 use Rattle.jr_round_laws.proofs.CurrentLaws.{closed_at_end-law}
 use Rattle.jr_round_laws.proofs.StandingFinished.{finished_by_standing-law, clone_finished_by_standing-law}
 use Rattle.jr_round_laws.proofs.StandingLists.{same_test}
-use Rattle.jr_tally_laws.specs.Tallies.{flying_issues, flying_checks, awaited}
-use Rattle.jr_tally_laws.proofs.Compared.{nothing_flies_of-counts, is_at_rest-counts, is_complete-counts}
+use Rattle.jr_tallies.specs.Tallies.{flying_issues, flying_checks, awaited}
+use Rattle.jr_tallies.proofs.Compared.{nothing_flies_of-counts, is_at_rest-counts, is_complete-counts}
 use Rattle.jr_tallies.specs.declared.tallies.Counts.{Counts}
 use Rattle.jr_tallies.specs.Tallying.{counts_of}
 use Rattle.jr_board.specs.declared.board.Board.{Board}

@@ -40,8 +40,8 @@ use Rattle.jr_round_laws.proofs.StandingFlights.{FliesOf}
 use Rattle.jr_round_laws.proofs.StandingPasses.{TakeIn, take_in}
 use Rattle.jr_round_laws.proofs.StandingSteps.{other_clone, other_keeps_pass}
 use Rattle.jr_standing.specs.Deferred.{Deferred, is_settled, round_now, settled_round}
-use Rattle.jr_tally_laws.specs.Nexts.{IsNext, grown}
-use Rattle.jr_tally_laws.proofs.Lists.{got_set}
+use Rattle.jr_steps.specs.Nexts.{IsNext, grown}
+use Rattle.jr_steps.proofs.Lists.{got_set}
 use Rattle.jr_board.specs.declared.standings.Issued.{Issued}
 use Rattle.jr_board.specs.declared.standings.Standing.{Standing}
 use Rattle.jr_board.specs.Standings.{IsStanding, WasIssued, name_of}

@@ -6,7 +6,7 @@ use Rattle.jr_model.specs.declared.events.Event.{Event}
 use Rattle.jr_model.specs.Legal.{is_legal, may_happen}
 use Rattle.jr_model.specs.Plan.{Plan, SubJob, clone_of}
 use Rattle.jr_model.proofs.LegalLaws.{is_legal-more}
-use Rattle.jr_tally_laws.specs.Nexts.{IsNext, grown}
+use Rattle.jr_steps.specs.Nexts.{IsNext, grown}
 use Rattle.jr_tallies.specs.Tallying.{IsTallied}
 use Rattle.jr_handed.specs.Handing.{IsHanded}
 use Rattle.jr_board.specs.declared.board.Board.{Board}

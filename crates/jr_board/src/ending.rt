@@ -11,7 +11,7 @@ ghost use Rattle.jr_backlog.specs.Rounds.{is_to_check};
 ghost use Rattle.jr_standing.specs.Deferred.{is_settled};
 ghost use Rattle.jr_board.specs.Boards.{IsBoard};
 ghost use Rattle.jr_handed.specs.Kept.{IsOwn};
-ghost use Rattle.jr_tally_laws.specs.Nexts.{IsNext, grown};
+ghost use Rattle.jr_steps.specs.Nexts.{IsNext, grown};
 ghost use Rattle.jr_board.specs.Standings.{IsStanding};
 
 use crate::board::Board;

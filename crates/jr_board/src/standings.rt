@@ -15,7 +15,7 @@ ghost use Rattle.jr_model.specs.Rounds.{has_rounds};
 ghost use Rattle.jr_plan.specs.PlanFacts.{IsPlanned};
 ghost use Rattle.jr_backlog.specs.Rounds.{comes_last, is_to_check, takes_writes};
 ghost use Rattle.jr_standing.specs.Deferred.{is_settled};
-ghost use Rattle.jr_tally_laws.specs.Nexts.{IsNext, grown};
+ghost use Rattle.jr_steps.specs.Nexts.{IsNext, grown};
 ghost use Rattle.jr_board.specs.Standings.{IsPrepared, IsStanding};
 
 use jr_model::{Dir, IoId, Memory, VerifyKind, WriteId};

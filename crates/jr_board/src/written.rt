@@ -7,7 +7,7 @@ ghost use Rattle.jr_model.specs.Tickets.{piece_fits};
 ghost use Rattle.jr_header.specs.Served.{ticket_expected};
 ghost use Rattle.jr_writes.specs.LoggedWrites.{logged};
 ghost use Rattle.jr_handed.specs.Kept.{IsOwn};
-ghost use Rattle.jr_tally_laws.specs.Nexts.{IsNext, grown};
+ghost use Rattle.jr_steps.specs.Nexts.{IsNext, grown};
 ghost use Rattle.jr_board.specs.WriteLogs.{log_of_run};
 
 use jr_model::{Expected, Memory, Outcome, Ticket, TicketKind};

@@ -9,7 +9,7 @@ use Rattle.std.proofs.lemmas.List.Elements.{filter_map-append}
 use Rattle.std.proofs.lemmas.Option.{slice_get_within, slice_get-get_or, get_or_from_slice_get}
 use Rattle.jr_model.specs.declared.events.Event.{Event}
 use Rattle.jr_steps.proofs.StartedLemmas.{same_some}
-use Rattle.jr_tally_laws.proofs.Lists.{got_set_other}
+use Rattle.jr_steps.proofs.Lists.{got_set_other}
 use Rattle.jr_crew.specs.declared.books.Done.{Done}
 use Rattle.jr_crew.specs.Accounts.{AreFollowed, AreMoved, IsMoved, AreGonePast}
 

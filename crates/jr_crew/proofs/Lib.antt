@@ -8,6 +8,7 @@ pub mod Following
 pub mod Going
 pub mod Handing
 pub mod Matching
+pub mod Numbering
 pub mod Running
 pub mod Serially
 pub mod Settling

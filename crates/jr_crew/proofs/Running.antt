@@ -8,7 +8,7 @@ use Rattle.jr_model.specs.Plan.{Plan}
 use Rattle.jr_model.specs.Replies.{EngineState}
 use Rattle.jr_plan.specs.PlanFacts.{IsPlanned}
 use Rattle.jr_steps.proofs.CountLaws.{started_few}
-use Rattle.jr_tally_laws.proofs.StartedFew.{started_small}
+use Rattle.jr_steps.proofs.StartedFew.{started_small}
 use Rattle.jr_board.specs.DeskState.{DeskState}
 use Rattle.jr_crew.specs.Runs.{IsCovering}
 use Rattle.jr_crew.specs.Turns.{IsBetweenTurns, IsTurn, IsLastTurn}

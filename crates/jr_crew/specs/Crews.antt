@@ -61,3 +61,7 @@ pub record IsWorkers (plan : Plan) (history : List Event) (worker : ℕ) (before
   pub calls : after.calls ≡ before.calls + length dones
   pub failures : after.failures ≡ before.failures + count_by is_failed_done dones
   pub tied : IsCovering plan before → IsTiedTo plan history worker before after
+
+-- numbers that count up from this one
+abbrev pub IsCountedFrom : ℕ → List ℕ → Type 0
+IsCountedFrom first numbers = (i n : ℕ) → slice_get numbers i ≡ Some n → n ≡ first + i

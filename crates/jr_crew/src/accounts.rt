@@ -1,4 +1,4 @@
-ghost use Rattle.std.specs.Prelude.{◌≡◌, ℕ, [], IsTrue, IfOk, Option, Some, None, slice_get, if◌then◌else◌};
+ghost use Rattle.std.specs.Prelude.{◌≡◌, ℕ, [], IsTrue, IfOk, Option, Some, None, length, slice_get, if◌then◌else◌};
 ghost use Rattle.std.specs.Option.{option_or};
 ghost use Rattle.std.specs.List.{list_all};
 ghost use Rattle.jr_model.specs.declared.events.Verdict.{Verdict as GivenVerdict};
@@ -15,7 +15,8 @@ use std::alloc::Global;
 
 // The verdict on each check, at its number.
 pub fn verdicts_of(alloc: Global, history: &[Event]) -> Result<Vec<Option<Verdict>>, Memory>
-    ensures { IfOk result (λ table. IsTableOf table.items history.now) }
+    ensures table { IfOk result (λ table. IsTableOf table.items history.now) }
+    ensures len { IfOk result (λ table. length table.items ≡ length history.now) }
 {
     let mut table = vec![in alloc; None; history.len()]?;
     note_verdicts(table.as_mut_slice(), history);
@@ -26,7 +27,8 @@ pub fn verdicts_of(alloc: Global, history: &[Event]) -> Result<Vec<Option<Verdic
 #[tactic(auto, using(crate::proofs::Tables::table_on))]
 fn note_verdicts(table: &mut [Option<Verdict>], history: &[Event])
     requires { IsTableOf table.old [] }
-    ensures { IsTableOf table.new history.now }
+    ensures table { IsTableOf table.new history.now }
+    ensures len { length table.new ≡ length table.old }
 {
     for event in history {
         note_verdict(table, event);
@@ -35,7 +37,8 @@ fn note_verdicts(table: &mut [Option<Verdict>], history: &[Event])
 
 // Where the event is a verdict, and the check has none yet, it is noted.
 fn note_verdict(table: &mut [Option<Verdict>], event: &Event)
-    ensures { (io : ℕ) (said : Option GivenVerdict) → slice_get table.new io ≡ Some said
+    ensures len { length table.new ≡ length table.old }
+    ensures noted { (io : ℕ) (said : Option GivenVerdict) → slice_get table.new io ≡ Some said
         → (before : Option GivenVerdict) × (slice_get table.old io ≡ Some before) × (said ≡ option_or before (verdict_by io event.now)) }
 {
     if let Event::Verdict { io, verdict, .. } = *event {

@@ -8,9 +8,9 @@ use crate::halts::Halt;
 use jr_board::{Desk, DeskFault, Take};
 use jr_header::{Ruling, Served};
 use jr_model::{Event, Ticket};
-use std::hint;
 use std::marker::{Brand, PhantomData};
 use std::sync::{Condvar, Mutex, MutexGuard, Wait};
+use std::thread;
 
 // The plan of a run. Each run picks its own.
 pub trait Naming {
@@ -89,9 +89,11 @@ fn first_cause(halt: Halt, before: Option<Halt>) -> Halt
     }
 }
 
-// How often a thread looks whether the lock is free before it sleeps until it is. A call of the desk takes about a microsecond, and
-// to sleep and be woken takes several.
-const LOOKS: u32 = 400;
+// How often a thread looks whether the lock is free before it sleeps until it is; and how often before it lets others run between two
+// looks. A call of the desk takes about a microsecond, and to sleep and be woken takes several.
+const LOOKS: u32 = 1000;
+
+const EAGER_LOOKS: u32 = 10;
 
 // The desk under its lock, and what those wait on that can't go on.
 #[derive(Drop)]
@@ -125,11 +127,13 @@ impl<P: Naming> Shared<P> {
 
     // Takes the lock, and looks for a while whether it is free before it waits for it.
     fn enter<R: Wait>(&self, rt: &R) -> MutexGuard<'_, Held<P>> {
-        for _ in 0..LOOKS {
+        for look in 0..LOOKS {
             if let Some(held) = self.held.try_lock() {
                 return held;
             }
-            hint::spin_loop();
+            if look >= EAGER_LOOKS {
+                thread::yield_now();
+            }
         }
         self.held.lock(rt)
     }
@@ -140,7 +144,21 @@ impl<P: Naming> Shared<P> {
         ensures fits { IfOk result (λ ticket. IfSome ticket (λ t. ticket_fits t ≡ true)) }
         ensures memory { IfErr result (λ halt. halt ≡ Halt.Memory) }
     {
-        let mut held = self.enter(rt);
+        let held = self.enter(rt);
+        self.next_under(rt, worker, held)
+    }
+
+    // The same, where the lock is taken already.
+    fn next_under<R: Wait>(
+        &self,
+        rt: &R,
+        worker: u32,
+        held: MutexGuard<'_, Held<P>>,
+    ) -> Result<Option<Ticket>, Halt>
+        ensures fits { IfOk result (λ ticket. IfSome ticket (λ t. ticket_fits t ≡ true)) }
+        ensures memory { IfErr result (λ halt. halt ≡ Halt.Memory) }
+    {
+        let mut held = held;
         for _ in rt.forever() {
             match held.take(worker) {
                 Ok(Take::Io(ticket)) => return Ok(Some(ticket)),
@@ -158,6 +176,26 @@ impl<P: Naming> Shared<P> {
         self.enter(rt).end(served)?;
         self.changed.notify_all();
         Ok(())
+    }
+
+    // Takes in how a worker's ticket ended, and its verdict where there is one already; and gives what is next for the worker. The
+    // lock is taken once for all of it.
+    pub fn next_after<R: Wait>(
+        &self,
+        rt: &R,
+        worker: u32,
+        served: &Served,
+        ruling: Option<&Ruling<'_>>,
+    ) -> Result<Option<Ticket>, Halt>
+        ensures { IfOk result (λ ticket. IfSome ticket (λ t. ticket_fits t ≡ true)) }
+    {
+        let mut held = self.enter(rt);
+        held.end(served)?;
+        if let Some(ruling) = ruling {
+            held.judge(worker, ruling)?;
+        }
+        self.changed.notify_all();
+        self.next_under(rt, worker, held)
     }
 
     // Takes in a verdict.

@@ -1,4 +1,5 @@
 ghost use Rattle.std.specs.Prelude.{◌≡◌, ◌+◌, ◌*◌, ◌^◌, ◌<◌, ◌≤◌, ◌++◌, ◌∷◌, [], IfOk, IfErr, OnOk, OnErr, map, length};
+ghost use Rattle.jr_crew.specs.Crews.{IsCountedFrom};
 
 use crate::halts::Halt;
 use crate::hands::Hand;
@@ -27,6 +28,7 @@ pub fn jobs_for<'a>(
     hand: &mut Hand<'a>,
 ) -> Result<Vec<Job<'a>>, Halt>
     ensures ok { IfOk result (λ jobs. map (λ job. job.engine) jobs.items ≡ engines.items) }
+    ensures numbers { IfOk result (λ jobs. IsCountedFrom 0 (map (λ job. job.number) jobs.items)) }
     ensures books { IfErr result (λ halt. halt ≡ Halt.Books → 2 ^ 32 < length engines.items) }
 {
     let mut jobs = Vec::new(alloc);
@@ -53,6 +55,7 @@ pub fn judges_for<'a>(
     hand: &mut Hand<'a>,
 ) -> Result<Vec<Judge<'a>>, Halt>
     ensures ok { IfOk result (λ judges. length judges.items ≡ verifiers) }
+    ensures numbers { IfOk result (λ judges. IsCountedFrom workers (map (λ judge. judge.number) judges.items)) }
     ensures books { IfErr result (λ halt. halt ≡ Halt.Books → 2 ^ 32 ≤ workers + verifiers) }
 {
     let first = number_of(workers)?;

@@ -1,4 +1,4 @@
-ghost use Rattle.std.specs.Prelude.{◌≡◌, ◌&&◌, true, replicate, vec_len, IfOk, OnOk, Some, None, IfErr, if◌then◌else◌};
+ghost use Rattle.std.specs.Prelude.{◌≡◌, ◌&&◌, true, replicate, vec_len, IfOk, IfSome, OnOk, Some, None, IfErr, if◌then◌else◌};
 ghost use Rattle.jr_model.specs.Tickets.{ticket_fits};
 ghost use Rattle.jr_handover.specs.Passes.{hand_of};
 ghost use Rattle.jr_header.specs.Served.{is_to_judge, answer_verdict};
@@ -51,21 +51,32 @@ fn work_on<P: Naming, R: Wait>(
 {
     let mut book = Vec::new(post.alloc);
     let mut buffer = Vec::new(post.alloc);
+    let mut next = post.shared.next(rt, post.number)?;
     for _ in rt.forever() {
-        let Some(ticket) = post.shared.next(rt, post.number)? else {
+        let Some(ticket) = next else {
             return Ok(book);
         };
-        let Settled { done, buffer: left } = carry_out(rt, post, hand, engine, ticket, buffer)?;
-        buffer = left;
-        book.extend_from_slice(&[done])?;
+        let turn = carry_out(rt, post, hand, engine, ticket, buffer)?;
+        book.extend_from_slice(&[turn.done])?;
+        next = turn.next;
+        buffer = turn.buffer;
     }
     unreachable!()
 }
 
-// What a worker completed, and a buffer for what it does next.
+// What a worker completed, what is next for it (nothing where the run has ended), and a buffer for that.
+#[derive(Drop)]
+pub struct Turn {
+    pub done: Done,
+    pub next: Option<Ticket>,
+    pub buffer: Vec<u8>,
+}
+
+// What there is to say once a ticket is settled: the verdict where the worker judged, what is next for it, and a buffer for that.
 #[derive(Drop)]
 pub struct Settled {
-    pub done: Done,
+    pub verdict: Option<Verdict>,
+    pub next: Option<Ticket>,
     pub buffer: Vec<u8>,
 }
 
@@ -77,9 +88,10 @@ fn carry_out<P: Naming, R: Wait>(
     engine: &mut dyn Engine,
     ticket: Ticket,
     buffer: Vec<u8>,
-) -> Result<Settled, Halt>
+) -> Result<Turn, Halt>
     requires { ticket_fits ticket ≡ true }
-    ensures { IfOk result (λ settled. IsCalledFor post.now.inline (state engine.old) settled.done (state engine.new)) }
+    ensures called { IfOk result (λ turn. IsCalledFor post.now.inline (state engine.old) turn.done (state engine.new)) }
+    ensures fits { IfOk result (λ turn. IfSome turn.next (λ t. ticket_fits t ≡ true)) }
 {
     if engine.calls() == u64::MAX {
         return Err(Halt::Books);
@@ -87,15 +99,18 @@ fn carry_out<P: Naming, R: Wait>(
     let mut buffer = buffer;
     clear(&mut buffer, &ticket)?;
     let served = serve(engine, ticket, buffer);
-    post.shared.end(rt, &served)?;
     let outcome = served.outcome();
-    let (verdict, buffer) = settle(rt, post, hand, served)?;
+    let Settled {
+        verdict,
+        next,
+        buffer,
+    } = settle(rt, post, hand, served)?;
     let done = Done {
         ticket,
         outcome,
         verdict,
     };
-    Ok(Settled { done, buffer })
+    Ok(Turn { done, next, buffer })
 }
 
 // Makes room for the ticket's piece: as many zeros as it has bytes.
@@ -111,34 +126,53 @@ fn clear(buffer: &mut Vec<u8>, ticket: &Ticket) -> Result<(), Halt>
     Ok(())
 }
 
-// Judges a check that ended whole, or hands it over with its buffer. All else is settled by its end. Gives the verdict where the
-// worker judged, and a buffer for what comes next.
+// Tells the desk how a ticket ended, and takes what is next. A check that ended whole is judged before, or handed over with its
+// buffer before the worker may wait for what is next.
 fn settle<P: Naming, R: Wait>(
     rt: &R,
     post: &Post<'_, P>,
     hand: &mut Hand<'_>,
     served: Served,
-) -> Result<(Option<Verdict>, Vec<u8>), Halt>
-    ensures said { IfOk result (λ both. both.0 ≡ (if post.now.inline && is_to_judge served then Some (answer_verdict served) else None)) }
+) -> Result<Settled, Halt>
+    ensures said { IfOk result (λ settled. settled.verdict ≡ (if post.now.inline && is_to_judge served then Some (answer_verdict served) else None)) }
+    ensures fits { IfOk result (λ settled. IfSome settled.next (λ t. ticket_fits t ≡ true)) }
     ensures handed { OnOk result (hand_of hand.new.pass ≡ handed_on post.now.inline served (hand_of hand.old.pass)) }
 {
     if !served.to_judge() {
-        return Ok((None, served.into_buf()));
+        let next = post.shared.next_after(rt, post.number, &served, None)?;
+        return Ok(Settled {
+            verdict: None,
+            next,
+            buffer: served.into_buf(),
+        });
     }
-    if !post.inline {
-        hand.put(rt, served);
-        return Ok((None, Vec::new(post.alloc)));
+    if post.inline {
+        return judge(rt, post, served);
     }
-    let verdict = judge(rt, post, &served)?;
-    Ok((Some(verdict), served.into_buf()))
+    post.shared.end(rt, &served)?;
+    hand.put(rt, served);
+    let next = post.shared.next(rt, post.number)?;
+    Ok(Settled {
+        verdict: None,
+        next,
+        buffer: Vec::new(post.alloc),
+    })
 }
 
-// The verdict on a check that ended whole, once the desk has it.
-fn judge<P: Naming, R: Wait>(rt: &R, post: &Post<'_, P>, served: &Served) -> Result<Verdict, Halt>
-    requires { is_to_judge served.now ≡ true }
-    ensures { IfOk result (λ verdict. verdict ≡ answer_verdict served.now) }
+// Judges a check that ended whole, and tells the desk both at once.
+fn judge<P: Naming, R: Wait>(rt: &R, post: &Post<'_, P>, served: Served) -> Result<Settled, Halt>
+    requires { is_to_judge served ≡ true }
+    ensures said { IfOk result (λ settled. settled.verdict ≡ Some (answer_verdict served)) }
+    ensures fits { IfOk result (λ settled. IfSome settled.next (λ t. ticket_fits t ≡ true)) }
 {
-    let ruling = rule(served);
-    post.shared.judge(rt, post.number, &ruling)?;
-    Ok(ruling.verdict())
+    let ruling = rule(&served);
+    let verdict = ruling.verdict();
+    let next = post
+        .shared
+        .next_after(rt, post.number, &served, Some(&ruling))?;
+    Ok(Settled {
+        verdict: Some(verdict),
+        next,
+        buffer: served.into_buf(),
+    })
 }

@@ -18,10 +18,10 @@ use Rattle.jr_model.specs.History.{started, started_by, end_of, outcome_of, is_v
 use Rattle.jr_model.specs.Legal.{is_legal, may_happen}
 use Rattle.jr_model.specs.Plan.{Plan}
 use Rattle.jr_steps.proofs.StartedLemmas.{started-starts, started-other, length-started-starts, length-started-other, started_below}
-use Rattle.jr_tally_laws.specs.Nexts.{IsNext, grown}
-use Rattle.jr_tally_laws.proofs.Counted.{flying_unjudged}
-use Rattle.jr_tally_laws.proofs.Grown.{outcome_of-stays, outcome_of-other, outcome_of-end, is_judged-stays, is_judged-other, is_judged-verdict, not_ended_yet, not_judged_yet, end_names, verdict_names}
-use Rattle.jr_tally_laws.proofs.Lists.{map_same}
+use Rattle.jr_steps.specs.Nexts.{IsNext, grown}
+use Rattle.jr_steps.proofs.JudgedEnded.{flying_unjudged}
+use Rattle.jr_steps.proofs.Grown.{outcome_of-stays, outcome_of-other, outcome_of-end, is_judged-stays, is_judged-other, is_judged-verdict, not_ended_yet, not_judged_yet, end_names, verdict_names}
+use Rattle.jr_steps.proofs.Lists.{map_same}
 use Rattle.jr_handed.specs.declared.handed.Handed.{Handed}
 use Rattle.jr_handed.specs.declared.handed.Progress.{Progress}
 use Rattle.jr_handed.specs.declared.handed.Progress.TheVariants as progress

@@ -9,7 +9,7 @@ ghost use Rattle.jr_model.specs.Legal.{is_legal};
 ghost use Rattle.jr_model.specs.Plan.{Plan as Planned};
 ghost use Rattle.jr_handed.specs.Handing.{IsHanded, header_in};
 ghost use Rattle.jr_handed.specs.Kept.{tickets_of};
-ghost use Rattle.jr_tally_laws.specs.Nexts.{IsNext, grown};
+ghost use Rattle.jr_steps.specs.Nexts.{IsNext, grown};
 ghost use Rattle.jr_handed.specs.Tickets.{ticket_of};
 
 use crate::launches::Launch;

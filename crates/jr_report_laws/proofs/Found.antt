@@ -17,9 +17,9 @@ use Rattle.jr_plan.specs.PlanFacts.{IsPlanned}
 use Rattle.jr_steps.proofs.StartedLemmas.{same_some, by_events, started_stays}
 use Rattle.jr_steps.proofs.DrawnLaws.{started_are_drawn-law}
 use Rattle.jr_steps.proofs.OnceLaws.{started_once-law}
-use Rattle.jr_tally_laws.specs.Tallies.{named_in, miscompare_in}
-use Rattle.jr_tally_laws.proofs.Bads.{miscompares-more}
-use Rattle.jr_tally_laws.proofs.Grown.{verdict_names, is_judged-more, is_judged-verdict}
+use Rattle.jr_tallies.specs.Tallies.{named_in, miscompare_in}
+use Rattle.jr_tallies.proofs.Bads.{miscompares-more}
+use Rattle.jr_steps.proofs.Grown.{verdict_names, is_judged-more, is_judged-verdict}
 use Rattle.jr_report_laws.proofs.FlatMaps.{all_weaker, all_append, all_filter_map}
 use Rattle.jr_report_laws.proofs.Named.{IsNamed}
 use Rattle.jr_report_laws.proofs.Writes.{AreDistinct}

@@ -30,7 +30,7 @@ use Rattle.jr_steps.proofs.DrawnLaws.{current_pass, issuable, started_fit-law, t
 use Rattle.jr_steps.proofs.StepLaws.{may_issue_of, may_probe_of, may_skip_of}
 use Rattle.jr_stats.specs.TraceChecks.{ending_fits, entry_fits, finding_fits, is_small, name_fits}
 use Rattle.jr_stats.specs.TraceLaws.{NumbersFit, ending_of, entry_of, finding_of, lines_fit, name_of, worker_of, workers_fit}
-use Rattle.jr_tally_laws.proofs.StartedFew.{started_small}
+use Rattle.jr_steps.proofs.StartedFew.{started_small}
 
 -- where the rest holds
 both : (a b : Bool) → b ≡ true → (a && b) ≡ a

@@ -5,10 +5,14 @@ pub mod CountSteps
 pub mod DoneLaws
 pub mod DrawnLaws
 pub mod GroupLaws
+pub mod Grown
 pub mod IdleLaws
 pub mod IssueLaws
+pub mod JudgedEnded
+pub mod Lists
 pub mod OnceLaws
 pub mod PlaceLemmas
 pub mod RestLaws
+pub mod StartedFew
 pub mod StartedLemmas
 pub mod StepLaws

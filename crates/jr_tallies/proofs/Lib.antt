@@ -1,1 +1,7 @@
+pub mod Bads
+pub mod Compared
+pub mod Counted
+pub mod Few
+pub mod Moved
+pub mod Tallied
 pub mod TallyMoves

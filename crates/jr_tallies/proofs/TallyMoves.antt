@@ -27,14 +27,14 @@ use Rattle.jr_model.specs.Totals.{totals_of}
 use Rattle.jr_plan.specs.PlanFacts.{IsPlanned}
 use Rattle.jr_steps.proofs.CountLaws.{numbered_of}
 use Rattle.jr_steps.proofs.StartedLemmas.{same_some}
-use Rattle.jr_tally_laws.specs.Tallies.{Tally, flying_issues, flying_checks, awaited, tally_of, named_in, concerns, tally_ended, tally_after, totals_ended, totals_judged, totals_after, halted_by, miscompare_in}
-use Rattle.jr_tally_laws.proofs.Bads.{miscompares-more, ends_counted, verdicts_counted}
-use Rattle.jr_tally_laws.proofs.Counted.{tally-more}
-use Rattle.jr_tally_laws.proofs.Few.{counts_few}
-use Rattle.jr_tally_laws.proofs.Lists.{map_set}
-use Rattle.jr_tally_laws.proofs.Moved.{is_halted-more, concerns_one, all_totals-more}
-use Rattle.jr_tally_laws.specs.Nexts.{IsNext, grown}
-use Rattle.jr_tally_laws.proofs.StartedFew.{started_small, work-same}
+use Rattle.jr_tallies.specs.Tallies.{Tally, flying_issues, flying_checks, awaited, tally_of, named_in, concerns, tally_ended, tally_after, totals_ended, totals_judged, totals_after, halted_by, miscompare_in}
+use Rattle.jr_tallies.proofs.Bads.{miscompares-more, ends_counted, verdicts_counted}
+use Rattle.jr_tallies.proofs.Counted.{tally-more}
+use Rattle.jr_tallies.proofs.Few.{counts_few}
+use Rattle.jr_steps.proofs.Lists.{map_set}
+use Rattle.jr_tallies.proofs.Moved.{is_halted-more, concerns_one, all_totals-more}
+use Rattle.jr_steps.specs.Nexts.{IsNext, grown}
+use Rattle.jr_steps.proofs.StartedFew.{started_small, work-same}
 use Rattle.jr_tallies.specs.declared.tallies.Bad.{Bad}
 use Rattle.jr_tallies.specs.declared.tallies.Counts.{Counts}
 use Rattle.jr_tallies.specs.declared.tallies.Tallies.{Tallies}

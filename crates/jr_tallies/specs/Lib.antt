@@ -1,1 +1,3 @@
+pub mod After
+pub mod Tallies
 pub mod Tallying

@@ -7,7 +7,7 @@ use Rattle.jr_model.specs.declared.totals.Totals.{Totals}
 use Rattle.jr_model.specs.Legal.{is_halted}
 use Rattle.jr_model.specs.Plan.{Plan, SubJob}
 use Rattle.jr_model.specs.Report.{Miscompare, miscompares, all_totals}
-use Rattle.jr_tally_laws.specs.Tallies.{Tally, flying_issues, flying_checks, awaited}
+use Rattle.jr_tallies.specs.Tallies.{Tally, flying_issues, flying_checks, awaited}
 use Rattle.jr_tallies.specs.declared.tallies.Bad.{Bad}
 use Rattle.jr_tallies.specs.declared.tallies.Counts.{Counts}
 use Rattle.jr_tallies.specs.declared.tallies.Tallies.{Tallies}

@@ -11,7 +11,7 @@ use Rattle.jr_model.specs.Legal.{is_halted}
 use Rattle.jr_model.specs.Plan.{Plan, SubJob, clone_of}
 use Rattle.jr_model.specs.declared.blocks.Piece.{Piece}
 use Rattle.jr_writes.specs.LoggedWrites.{logged}
-use Rattle.jr_tally_laws.specs.Nexts.{IsNext, grown}
+use Rattle.jr_steps.specs.Nexts.{IsNext, grown}
 use Rattle.jr_tallies.specs.declared.tallies.Counts.{Counts}
 use Rattle.jr_tallies.proofs.TallyMoves.{can_count, can_end, counts_are}
 use Rattle.jr_board.specs.declared.board.Board.{Board}

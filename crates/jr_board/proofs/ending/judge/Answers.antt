@@ -5,7 +5,7 @@ use Rattle.jr_model.specs.declared.events.Event.{Event}
 use Rattle.jr_model.specs.declared.events.Event.TheVariants.{Verdict as Judged}
 use Rattle.jr_model.specs.Plan.{SubJob}
 use Rattle.jr_steps.proofs.StartedLemmas.{same_some}
-use Rattle.jr_tally_laws.specs.Nexts.{grown}
+use Rattle.jr_steps.specs.Nexts.{grown}
 use Rattle.jr_tallies.proofs.TallyMoves.{can_count, can_judge, tallied_same}
 use Rattle.jr_board.proofs.EndingBoards.{board_stays, own_below, parts_of}
 use Rattle.jr_board.proofs.FlyingMoves.{flying_verdict, log_verdict}

@@ -6,8 +6,8 @@ use Rattle.jr_model.specs.declared.events.Started.{Started}
 use Rattle.jr_model.specs.History.{kind_for, started}
 use Rattle.jr_model.specs.Rounds.{has_rounds}
 use Rattle.jr_backlog.specs.Rounds.{comes_last, takes_writes}
-use Rattle.jr_tally_laws.specs.Nexts.{IsNext, grown}
-use Rattle.jr_tally_laws.proofs.StartedFew.{started_small}
+use Rattle.jr_steps.specs.Nexts.{IsNext, grown}
+use Rattle.jr_steps.proofs.StartedFew.{started_small}
 use Rattle.jr_tallies.proofs.TallyMoves.{can_count}
 use Rattle.jr_handed.proofs.HandingMoves.{headers_within}
 use Rattle.jr_board.proofs.FlyingMoves.{log_issue}

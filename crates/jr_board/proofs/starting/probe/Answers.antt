@@ -11,8 +11,8 @@ use Rattle.jr_model.specs.Plan.{SubJob}
 use Rattle.jr_log_laws.specs.Flying.{io_of}
 use Rattle.jr_steps.proofs.StartedLemmas.{same_some}
 use Rattle.jr_steps.proofs.StepLaws.{may_probe_of}
-use Rattle.jr_tally_laws.specs.Nexts.{grown}
-use Rattle.jr_tally_laws.proofs.StartedFew.{started_small}
+use Rattle.jr_steps.specs.Nexts.{grown}
+use Rattle.jr_steps.proofs.StartedFew.{started_small}
 use Rattle.jr_tallies.proofs.TallyMoves.{can_count}
 use Rattle.jr_handed.proofs.HandingMoves.{headers_within}
 use Rattle.jr_board.proofs.FlyingMoves.{log_probe}

@@ -1,7 +1,7 @@
 use Rattle.std.proofs.Common.{◌≡◌, refl, sym, ◌∙◌, arith}
 use Rattle.jr_model.specs.declared.events.Event.TheVariants.{Skip}
 use Rattle.jr_steps.proofs.StepLaws.{may_skip_of}
-use Rattle.jr_tally_laws.specs.Nexts.{grown}
+use Rattle.jr_steps.specs.Nexts.{grown}
 use Rattle.jr_tallies.proofs.TallyMoves.{can_count}
 use Rattle.jr_handed.proofs.HandingMoves.{handed_skip}
 use Rattle.jr_board.proofs.FlyingMoves.{flying_skip, log_skip}

@@ -4,7 +4,7 @@ use Rattle.std.specs.Prelude.{Option, Some, None}
 use Rattle.jr_model.specs.declared.events.Outcome.{Outcome}
 use Rattle.jr_model.specs.declared.events.Outcome.TheVariants.{Whole, Failed, Short}
 use Rattle.jr_model.specs.History.{outcome_of, is_judged}
-use Rattle.jr_tally_laws.proofs.Grown.{not_judged_yet}
+use Rattle.jr_steps.proofs.Grown.{not_judged_yet}
 use Rattle.jr_handed.specs.contracts.handed.Progress.{the_type}
 use Rattle.jr_handed.specs.declared.handed.Progress.{Progress}
 use Rattle.jr_handed.specs.declared.handed.Progress.TheVariants as progress

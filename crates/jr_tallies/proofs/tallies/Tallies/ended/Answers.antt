@@ -1,7 +1,7 @@
 use Rattle.std.proofs.Common.{refl, sym, ap, ◌∙◌, ℕ, ◌||◌}
 use Rattle.jr_model.specs.declared.tickets.TicketKind.{TicketKind}
 use Rattle.jr_model.specs.Legal.{is_fault}
-use Rattle.jr_tally_laws.specs.Tallies.{tally_ended, totals_ended}
+use Rattle.jr_tallies.specs.Tallies.{tally_ended, totals_ended}
 use Rattle.jr_tallies.specs.Tallying.{counts_with, tally_in}
 use Rattle.jr_tallies.proofs.TallyMoves.{ended_tallied}
 use Rattle.jr_tallies.proofs.tallies.Tallies.ended.Goals as goal

@@ -1,9 +1,0 @@
-pub mod Bads
-pub mod Compared
-pub mod Counted
-pub mod Few
-pub mod Grown
-pub mod Lists
-pub mod Moved
-pub mod StartedFew
-pub mod Tallied
