@@ -4,13 +4,14 @@
 ghost use Rattle.std.specs.Prelude.{◌≡◌, ◌≤◌, ◌^◌, IfOk};
 
 use jr_cli::{
-    Choice, CliFault, answer_words, choose, execute, execute_serial, memory_or, print_check,
-    print_plan, read_job, read_text, read_trace, workers_of,
+    Choice, CliFault, answer_words, choose, execute_serial_watched, execute_watched, memory_or,
+    print_check, print_plan, read_job, read_text, read_trace, workers_of,
 };
 use jr_engines::{Engine, MemoryEngine, NullEngine, SharedMemory};
 use jr_files::{FileEngine, FileFault, SharedFile, lay_out};
 use jr_model::EngineKind;
 use jr_plan::Plan;
+use show::{Extent, Screen, shown};
 use std::alloc::Global;
 use std::env::Env;
 use std::fs::{File, Files};
@@ -18,8 +19,12 @@ use std::io::BufWriter;
 use std::process::ExitCode;
 use std::sync::Wait;
 use std::thread::Threads;
+use std::time::Clock;
 use std::{env, fs, io};
 
+mod show;
+#[cfg(test)]
+mod show_tests;
 #[cfg(test)]
 mod tests;
 
@@ -72,7 +77,16 @@ struct SharedRun {
 
 // Does what the words ask for, but for a run over a shared memory.
 fn begin<
-    R: Env + Files<File = File> + Input + Print + Eprint + AllocGlobal + Threads + Wait + Sync,
+    R: Env
+        + Files<File = File>
+        + Input
+        + Print
+        + Screen
+        + AllocGlobal
+        + Clock
+        + Threads
+        + Wait
+        + Sync,
 >(rt: &R) -> Result<Turn, CliFault> {
     let words = words_of(rt)?;
     match choose(rt.alloc(), words.as_slice()) {
@@ -88,10 +102,9 @@ fn words_of<R: Env + AllocGlobal>(rt: &R) -> Result<Vec<String>, CliFault> {
     }
 }
 
-fn perform<R: Files<File = File> + Input + Print + AllocGlobal + Threads + Wait + Sync>(
-    rt: &R,
-    choice: &Choice<'_>,
-) -> Result<Turn, CliFault> {
+fn perform<
+    R: Files<File = File> + Input + Print + Screen + AllocGlobal + Clock + Threads + Wait + Sync,
+>(rt: &R, choice: &Choice<'_>) -> Result<Turn, CliFault> {
     let text = job_text(rt, choice.job)?;
     let plan = read_job(rt.alloc(), text.as_slice(), choice.section)?;
     let Ok(mut out) = BufWriter::new(rt.alloc(), io::writer(rt)) else {
@@ -150,13 +163,10 @@ fn job_text<R: Files + Input + AllocGlobal>(
 }
 
 // Runs the plan over its kind of engine, but for one over a memory that several workers share.
-fn run_plan<R: Files<File = File> + AllocGlobal + Threads + Wait + Sync, V: io::Write>(
-    rt: &R,
-    trace: Option<&str>,
-    plan: Plan,
-    workers: u32,
-    out: &mut V,
-) -> Result<Turn, CliFault> {
+fn run_plan<
+    R: Files<File = File> + Screen + AllocGlobal + Clock + Threads + Wait + Sync,
+    V: io::Write,
+>(rt: &R, trace: Option<&str>, plan: Plan, workers: u32, out: &mut V) -> Result<Turn, CliFault> {
     if workers == 1 && plan.verifiers() == 0 {
         return Ok(Turn::Ended(run_alone(rt, trace, plan, out)?));
     }
@@ -182,12 +192,10 @@ fn run_plan<R: Files<File = File> + AllocGlobal + Threads + Wait + Sync, V: io::
 }
 
 // Runs the plan with one worker, which judges its own checks.
-fn run_alone<R: Files<File = File> + AllocGlobal, V: io::Write>(
-    rt: &R,
-    trace: Option<&str>,
-    plan: Plan,
-    out: &mut V,
-) -> Result<u8, CliFault> {
+fn run_alone<
+    R: Files<File = File> + Screen + AllocGlobal + Clock + Threads + Wait + Sync,
+    V: io::Write,
+>(rt: &R, trace: Option<&str>, plan: Plan, out: &mut V) -> Result<u8, CliFault> {
     match plan.engine() {
         EngineKind::File => {
             let mut engine = opened(rt, &plan)?;
@@ -275,7 +283,7 @@ fn add<X: Drop>(all: &mut Vec<X>, one: X) -> Result<(), CliFault> {
 }
 
 // Runs the plan over this engine with one worker, and writes the report and then the trace where one is asked for.
-fn run_over<R: Files + AllocGlobal, V: io::Write>(
+fn run_over<R: Files + Screen + AllocGlobal + Clock + Threads + Wait + Sync, V: io::Write>(
     rt: &R,
     trace: Option<&str>,
     plan: Plan,
@@ -284,14 +292,29 @@ fn run_over<R: Files + AllocGlobal, V: io::Write>(
 ) -> Result<u8, CliFault>
     requires { (state engine.old).calls ≤ 2 ^ 63 }
 {
-    match trace_file(rt, trace)? {
-        None => execute_serial(rt.alloc(), plan, engine, None::<&mut Vec<u8>>, out),
-        Some(mut events) => execute_serial(rt.alloc(), plan, engine, Some(&mut events), out),
-    }
+    let events = trace_file(rt, trace)?;
+    let alloc = rt.alloc();
+    shown(
+        rt,
+        Extent::of(&plan),
+        move |progress| -> Result<u8, CliFault>
+            requires { (state engine.now).calls ≤ 2 ^ 63 }
+        {
+            match events {
+                None => {
+                    let none = None::<&mut Vec<u8>>;
+                    execute_serial_watched(alloc, plan, engine, progress, none, out)
+                }
+                Some(mut events) => {
+                    execute_serial_watched(alloc, plan, engine, progress, Some(&mut events), out)
+                }
+            }
+        },
+    )
 }
 
 // Runs the plan over the system's files, with a worker for each of these engines.
-fn run_files<R: AllocGlobal + Threads + Wait + Sync, V: io::Write>(
+fn run_files<R: Screen + AllocGlobal + Clock + Threads + Wait + Sync, V: io::Write>(
     rt: &R,
     plan: Plan,
     shares: Vec<FileEngine<SharedFile>>,
@@ -306,7 +329,7 @@ fn run_files<R: AllocGlobal + Threads + Wait + Sync, V: io::Write>(
 }
 
 // Runs the plan over nothing, with so many workers.
-fn run_nulls<R: AllocGlobal + Threads + Wait + Sync, V: io::Write>(
+fn run_nulls<R: Screen + AllocGlobal + Clock + Threads + Wait + Sync, V: io::Write>(
     rt: &R,
     plan: Plan,
     workers: u32,
@@ -337,7 +360,7 @@ fn shares<R: Wait + Clone + Drop>(
 }
 
 // Runs the job over the shares of a memory, and writes its report to standard output.
-fn run_memory<R: Print + AllocGlobal + Threads + Wait + Sync>(
+fn run_memory<R: Print + Screen + AllocGlobal + Clock + Threads + Wait + Sync>(
     rt: &R,
     job: SharedRun,
     engines: Vec<Box<dyn Engine + Send>>,
@@ -354,15 +377,21 @@ fn run_memory<R: Print + AllocGlobal + Threads + Wait + Sync>(
 }
 
 // Runs the plan with a worker for each engine, and writes the report and then the trace where one is asked for.
-fn run_with<R: AllocGlobal + Threads + Wait + Sync, V: io::Write>(
+fn run_with<R: Screen + AllocGlobal + Clock + Threads + Wait + Sync, V: io::Write>(
     rt: &R,
     plan: Plan,
     engines: Vec<Box<dyn Engine + Send>>,
     events: Option<BufWriter<File>>,
     out: &mut V,
 ) -> Result<u8, CliFault> {
-    match events {
-        None => execute(rt, rt.alloc(), plan, engines, None::<&mut Vec<u8>>, out),
-        Some(mut events) => execute(rt, rt.alloc(), plan, engines, Some(&mut events), out),
-    }
+    let alloc = rt.alloc();
+    shown(rt, Extent::of(&plan), move |progress| match events {
+        None => {
+            let none = None::<&mut Vec<u8>>;
+            execute_watched(rt, alloc, plan, engines, progress, none, out)
+        }
+        Some(mut events) => {
+            execute_watched(rt, alloc, plan, engines, progress, Some(&mut events), out)
+        }
+    })
 }

@@ -1,5 +1,6 @@
 ghost use Rattle.jr_files.specs.Engines.{files_state};
 
+use crate::show::Screen;
 use crate::{Turn, run_over, run_plan};
 use jr_cli::{CliFault, read_job};
 use jr_engines::{Engine, EngineFault};
@@ -12,6 +13,7 @@ use std::rt::{Env, Files};
 use std::sync::Wait;
 use std::test::Fail;
 use std::thread::Threads;
+use std::time::Clock;
 use std::{env, fs, io, process};
 
 // A folder of this test's own, below the system's folder for such.
@@ -29,7 +31,7 @@ fn text_in(alloc: Global, folder: &str, jobs: &str) -> Result<String, Fail> {
 }
 
 // What the program writes for the jobs of a folder with so many workers, and its status.
-fn run_in<R: Files<File = File> + AllocGlobal + Threads + Wait + Sync>(
+fn run_in<R: Files<File = File> + Screen + AllocGlobal + Clock + Threads + Wait + Sync>(
     rt: &R,
     folder: &str,
     jobs: &str,
@@ -74,11 +76,9 @@ fn a_real_file_holds_what_its_job_wrote(rt: HostRuntime) -> Result<(), Fail> {
 }
 
 // One job writes one file with so many workers.
-fn one_file_is_written<R: Files<File = File> + Env + AllocGlobal + Threads + Wait + Sync + Abort>(
-    rt: &R,
-    id: u32,
-    workers: u32,
-) -> Result<(), Fail> {
+fn one_file_is_written<
+    R: Files<File = File> + Env + Screen + AllocGlobal + Clock + Threads + Wait + Sync + Abort,
+>(rt: &R, id: u32, workers: u32) -> Result<(), Fail> {
     let folder = fresh_folder(rt, id, "first")?;
     let (out, status) = run_in(
         rt,

@@ -1,5 +1,5 @@
 -- Internal: what is compared once all threads have ended (of this project).
-use Rattle.std.specs.Prelude.{◌≡◌, ℕ, ◌+◌, List, [], ◌++◌, length, take, filter_map, slice_get, slice_set, Option, Some, None}
+use Rattle.std.specs.Prelude.{◌≡◌, ℕ, ◌+◌, List, [], ◌++◌, length, take, filter_map, slice_get, slice_set, Option, Some}
 use Rattle.std.specs.List.{cons_option}
 use Rattle.jr_model.specs.declared.events.Event.{Event}
 use Rattle.jr_model.specs.declared.events.Verdict.{Verdict as GivenVerdict}

@@ -15,6 +15,7 @@ use crate::faults::RunFault;
 use crate::halts::Halt;
 use crate::hands::Hand;
 use crate::held::{Naming, Shared};
+use crate::progress::Progress;
 use crate::staff::{Job, Judge, jobs_for, judges_for, push, room_for};
 use crate::verifier::verify;
 use crate::work::{Post, work};
@@ -63,10 +64,40 @@ pub fn run<R: Threads + Wait + Sync>(
     // All but verifiers can do without a thread of their own.
     ensures thread { IfErr result (λ fault. fault ≡ RunFault.Thread → 0 < plan.verifiers) }
 {
+    run_watched(rt, alloc, plan, engines, None)
+}
+
+/// The same, where another thread may look at how far the run is.
+pub fn run_watched<R: Threads + Wait + Sync>(
+    rt: &R,
+    alloc: Global,
+    plan: Plan,
+    engines: Vec<Box<dyn Engine + Send>>,
+    progress: Option<&Progress>,
+) -> Result<Ran, RunFault>
+    ensures plan { IfOk result (λ ran. ran.desk.plan ≡ plan) }
+    ensures legal { IfOk result (λ ran. is_legal plan ran.desk.history ≡ true) }
+    ensures complete { IfOk result (λ ran. is_complete plan ran.desk.history ≡ true) }
+    ensures engines { IfOk result (λ ran. length ran.engines.items ≡ length engines.items) }
+    ensures books { IfOk result (λ ran. length ran.books.items ≡ length engines.items) }
+    ensures each { IfOk result (λ ran. (i : ℕ) (before : _) (after : _) (book : _) → slice_get engines.items i ≡ Some before
+        → slice_get ran.engines.items i ≡ Some after → slice_get ran.books.items i ≡ Some book
+        → IsWorkers plan ran.desk.history i (state before) (state after) book.items) }
+
+    // Each event is of a worker, but the verdicts of verifiers; where there are none, each worker judged its own checks.
+    ensures numbered { IfOk result (λ ran. list_all (is_numbered (length engines.items) plan.verifiers) ran.desk.history ≡ true) }
+    ensures own { judges_inline plan ≡ true
+        → IfOk result (λ ran. list_all (is_own_verdict (tickets_of plan ran.desk.history)) ran.desk.history ≡ true) }
+    ensures none { engines.items ≡ [] → result ≡ Err RunFault.NoEngine }
+    ensures no_engine { IfErr result (λ fault. fault ≡ RunFault.NoEngine → engines.items ≡ []) }
+
+    // All but verifiers can do without a thread of their own.
+    ensures thread { IfErr result (λ fault. fault ≡ RunFault.Thread → 0 < plan.verifiers) }
+{
     if engines.is_empty() {
         return Err(RunFault::NoEngine);
     }
-    run_as::<Brand, R>(rt, alloc, plan, engines)
+    run_as::<Brand, R>(rt, alloc, plan, engines, progress)
 }
 
 // The same, where the plan has its name.
@@ -75,6 +106,7 @@ fn run_as<P: Naming + Send + Sync, R: Threads + Wait + Sync>(
     alloc: Global,
     plan: Plan,
     engines: Vec<Box<dyn Engine + Send>>,
+    progress: Option<&Progress>,
 ) -> Result<Ran, RunFault>
     requires { plan ≡ P.plan }
     ensures plan { IfOk result (λ ran. ran.desk.plan ≡ plan) }
@@ -98,7 +130,7 @@ fn run_as<P: Naming + Send + Sync, R: Threads + Wait + Sync>(
     let mut hand = Hand::new(&handoff, pass);
     let judges = judges_for(alloc, engines.len(), verifiers, &mut hand)?;
     let jobs = jobs_for(alloc, engines, &mut hand)?;
-    let shared = Shared::<P>::new(Desk::new(alloc, plan)?);
+    let shared = Shared::<P>::new(Desk::new(alloc, plan)?, progress);
     let worked = man(rt, &shared, alloc, inline, jobs, judges, hand);
     let (desk, halt) = shared.into_parts();
     if let Some(halt) = halt {
@@ -131,7 +163,7 @@ pub struct Worked {
 // started is told to stop.
 fn man<'a, P: Naming + Send + Sync, R: Threads + Wait + Sync>(
     rt: &R,
-    shared: &Shared<P>,
+    shared: &Shared<'_, P>,
     alloc: Global,
     inline: bool,
     jobs: Vec<Job<'a>>,
@@ -185,7 +217,7 @@ fn stop_all<R: Wait>(rt: &R, hand: &mut Hand<'_>, verifiers: usize)
 // Lets all workers work at once, and waits for them. None begins where a verifier couldn't be started.
 fn work_all<'a, P: Naming + Send + Sync, R: Threads + Wait + Sync>(
     rt: &R,
-    shared: &Shared<P>,
+    shared: &Shared<'_, P>,
     alloc: Global,
     inline: bool,
     jobs: Vec<Job<'a>>,
@@ -213,7 +245,7 @@ fn work_all<'a, P: Naming + Send + Sync, R: Threads + Wait + Sync>(
 // Lets one worker work.
 fn worked_by<'a, P: Naming, R: Wait>(
     rt: &R,
-    shared: &Shared<P>,
+    shared: &Shared<'_, P>,
     alloc: Global,
     inline: bool,
     job: Job<'a>,

@@ -5,6 +5,7 @@ ghost use Rattle.jr_board.specs.Takes.{is_fitting};
 ghost use Rattle.jr_crew.specs.Halts.{first_cause};
 
 use crate::halts::Halt;
+use crate::progress::{Progress, note_start, note_verdict};
 use jr_board::{Desk, DeskFault, Take};
 use jr_header::{Ruling, Served};
 use jr_model::{Event, Ticket};
@@ -95,15 +96,16 @@ const LOOKS: u32 = 1000;
 
 const EAGER_LOOKS: u32 = 10;
 
-// The desk under its lock, and what those wait on that can't go on.
+// The desk under its lock, what those wait on that can't go on, and where it is noted how far the run is, if anywhere.
 #[derive(Drop)]
-pub struct Shared<P: Naming> {
+pub struct Shared<'p, P: Naming> {
     held: Mutex<Held<P>>,
     changed: Condvar,
+    progress: Option<&'p Progress>,
 }
 
-impl<P: Naming> Shared<P> {
-    pub fn new(desk: Desk) -> Shared<P>
+impl<'p, P: Naming> Shared<'p, P> {
+    pub fn new(desk: Desk, progress: Option<&'p Progress>) -> Shared<'p, P>
         requires { desk.plan ≡ P.plan }
     {
         let held = Held {
@@ -114,6 +116,7 @@ impl<P: Naming> Shared<P> {
         Shared {
             held: Mutex::new(held),
             changed: Condvar::new(),
+            progress,
         }
     }
 
@@ -121,7 +124,11 @@ impl<P: Naming> Shared<P> {
     pub fn into_parts(self) -> (Desk, Option<Halt>)
         ensures { result.0.plan ≡ P.plan }
     {
-        let Shared { held, changed: _ } = self;
+        let Shared {
+            held,
+            changed: _,
+            progress: _,
+        } = self;
         held.into_inner().into_parts()
     }
 
@@ -161,7 +168,10 @@ impl<P: Naming> Shared<P> {
         let mut held = held;
         for _ in rt.forever() {
             match held.take(worker) {
-                Ok(Take::Io(ticket)) => return Ok(Some(ticket)),
+                Ok(Take::Io(ticket)) => {
+                    note_start(self.progress, &ticket);
+                    return Ok(Some(ticket));
+                }
                 Ok(Take::Probe(ticket)) => return Ok(Some(ticket)),
                 Ok(Take::Finished) => return Ok(None),
                 Ok(Take::Wait) => held = self.changed.wait(rt, held),
@@ -193,6 +203,7 @@ impl<P: Naming> Shared<P> {
         held.end(served)?;
         if let Some(ruling) = ruling {
             held.judge(worker, ruling)?;
+            note_verdict(self.progress, ruling);
         }
         self.changed.notify_all();
         self.next_under(rt, worker, held)
@@ -201,6 +212,7 @@ impl<P: Naming> Shared<P> {
     // Takes in a verdict.
     pub fn judge<R: Wait>(&self, rt: &R, by: u32, ruling: &Ruling<'_>) -> Result<(), Halt> {
         self.enter(rt).judge(by, ruling)?;
+        note_verdict(self.progress, ruling);
         self.changed.notify_all();
         Ok(())
     }

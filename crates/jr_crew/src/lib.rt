@@ -8,18 +8,22 @@ mod faults;
 mod halts;
 mod hands;
 mod held;
+mod progress;
 mod serial;
 mod staff;
 mod verifier;
 mod work;
 
 pub use books::Done;
-pub use crew::{Ran, run};
+pub use crew::{Ran, run, run_watched};
 pub use faults::RunFault;
-pub use serial::run_serial;
+pub use progress::Progress;
+pub use serial::{run_serial, run_serial_watched};
 
 #[cfg(test)]
 mod drop_tests;
+#[cfg(test)]
+mod progress_tests;
 #[cfg(test)]
 mod run_tests;
 #[cfg(test)]

@@ -9,6 +9,7 @@ ghost use Rattle.jr_crew.specs.Runs.{IsCovering, IsFresh, IsTiedRun};
 ghost use Rattle.jr_crew.specs.Turns.{IsBetweenTurns, IsOpen, IsNext, IsCarriedOut, IsTurn, IsLastTurn, judged_by};
 
 use crate::faults::RunFault;
+use crate::progress::{Progress, note_start, note_verdict};
 use jr_board::{Desk, Take};
 use jr_engines::Engine;
 use jr_header::{Served, room_for, rule, serve};
@@ -31,18 +32,46 @@ pub fn run_serial(alloc: Global, plan: Plan, engine: &mut dyn Engine) -> Result<
     ensures serial { IsFresh plan (state engine.old) → IfOk result (λ desk. desk.history ≡ serial_history plan) }
     ensures memory { IfErr result (λ fault. fault ≡ RunFault.Memory) }
 {
+    run_serial_watched(alloc, plan, engine, None)
+}
+
+/// The same, where another thread may look at how far the run is.
+pub fn run_serial_watched(
+    alloc: Global,
+    plan: Plan,
+    engine: &mut dyn Engine,
+    progress: Option<&Progress>,
+) -> Result<Desk, RunFault>
+    requires { (state engine.old).calls ≤ 2 ^ 63 }
+    ensures plan { IfOk result (λ desk. desk.plan ≡ plan) }
+    ensures legal { IfOk result (λ desk. is_legal plan desk.history ≡ true) }
+    ensures complete { IfOk result (λ desk. is_complete plan desk.history ≡ true) }
+    ensures going { IfOk result (λ desk. IsFalse desk.is_stopped) }
+    ensures calls { IfOk result (λ desk. (state engine.new).calls ≡ (state engine.old).calls + ends_of desk.history) }
+    ensures failures { IfOk result (λ desk. (state engine.new).failures ≡ (state engine.old).failures + failed_ends_of desk.history) }
+
+    // Where the engine's memory is known, its calls are what the worker completed.
+    ensures tied { IsCovering plan (state engine.old) → IfOk result (λ desk. IsTiedRun plan desk.history (state engine.old) (state engine.new)) }
+    ensures serial { IsFresh plan (state engine.old) → IfOk result (λ desk. desk.history ≡ serial_history plan) }
+    ensures memory { IfErr result (λ fault. fault ≡ RunFault.Memory) }
+{
     // Its contract says what holds of every plan.
     plan.facts();
     let mut desk = Desk::new(alloc, plan)?;
     loop {
-        if !turn(alloc, &mut desk, engine)? {
+        if !turn(alloc, &mut desk, engine, progress)? {
             return Ok(desk);
         }
     }
 }
 
 // Starts what is next, if anything is, and carries it out.
-fn turn(alloc: Global, desk: &mut Desk, engine: &mut dyn Engine) -> Result<bool, RunFault>
+fn turn(
+    alloc: Global,
+    desk: &mut Desk,
+    engine: &mut dyn Engine,
+    progress: Option<&Progress>,
+) -> Result<bool, RunFault>
     requires between { IsBetweenTurns desk.old }
     requires calls { (state engine.old).calls < 2 ^ 64 - 1 }
     ensures turn { IfOk result (λ goes_on. MatchBool goes_on
@@ -52,9 +81,9 @@ fn turn(alloc: Global, desk: &mut Desk, engine: &mut dyn Engine) -> Result<bool,
     ensures stop { desk.new.is_stopped ≡ desk.old.is_stopped }
     ensures memory { IfErr result (λ fault. fault ≡ RunFault.Memory) }
 {
-    match next_ticket(desk) {
+    match next_ticket(desk, progress) {
         Ok(Some(ticket)) => {
-            carry_out(alloc, desk, engine, ticket)?;
+            carry_out(alloc, desk, engine, ticket, progress)?;
             Ok(true)
         }
         Ok(None) => Ok(false),
@@ -63,7 +92,7 @@ fn turn(alloc: Global, desk: &mut Desk, engine: &mut dyn Engine) -> Result<bool,
 }
 
 // The ticket of what is started next; none where the run is complete.
-fn next_ticket(desk: &mut Desk) -> Result<Option<Ticket>, RunFault>
+fn next_ticket(desk: &mut Desk, progress: Option<&Progress>) -> Result<Option<Ticket>, RunFault>
     requires { IsBetweenTurns desk.old }
     ensures next { IfOk result (IsNext desk.old.plan desk.old.history desk.new.history) }
     ensures open { IfOk result (λ ticket. IfSome ticket (IsOpen desk.new)) }
@@ -72,7 +101,10 @@ fn next_ticket(desk: &mut Desk) -> Result<Option<Ticket>, RunFault>
     ensures memory { IfErr result (λ fault. fault ≡ RunFault.Memory) }
 {
     match desk.take(0) {
-        Ok(Take::Io(ticket)) => Ok(Some(ticket)),
+        Ok(Take::Io(ticket)) => {
+            note_start(progress, &ticket);
+            Ok(Some(ticket))
+        }
         Ok(Take::Probe(ticket)) => Ok(Some(ticket)),
         Ok(Take::Finished) => Ok(None),
         Ok(Take::Wait) => unreachable!(),
@@ -86,6 +118,7 @@ fn carry_out(
     desk: &mut Desk,
     engine: &mut dyn Engine,
     ticket: Ticket,
+    progress: Option<&Progress>,
 ) -> Result<(), RunFault>
     requires open { IsOpen desk.old ticket }
     requires calls { (state engine.old).calls < 2 ^ 64 - 1 }
@@ -97,7 +130,7 @@ fn carry_out(
     let buffer = room_for(alloc, &ticket)?;
     let served = serve(engine, ticket, buffer);
     end(desk, &served)?;
-    judge(desk, &served)
+    judge(desk, &served, progress)
 }
 
 // Takes in how a ticket ended.
@@ -114,7 +147,7 @@ fn end(desk: &mut Desk, served: &Served) -> Result<(), RunFault>
 }
 
 // Judges a check that ended whole.
-fn judge(desk: &mut Desk, served: &Served) -> Result<(), RunFault>
+fn judge(desk: &mut Desk, served: &Served, progress: Option<&Progress>) -> Result<(), RunFault>
     requires own { IsOwn desk.old.plan desk.old.history served.now.ticket }
     requires unjudged { is_judged desk.old.history served.now.ticket.id ≡ false }
     requires ended { outcome_of desk.old.history served.now.ticket.id ≡ Some served.now.outcome }
@@ -126,8 +159,12 @@ fn judge(desk: &mut Desk, served: &Served) -> Result<(), RunFault>
     if !served.to_judge() {
         return Ok(());
     }
-    match desk.judge(0, &rule(served)) {
-        Ok(()) => Ok(()),
+    let ruling = rule(served);
+    match desk.judge(0, &ruling) {
+        Ok(()) => {
+            note_verdict(progress, &ruling);
+            Ok(())
+        }
         Err(_) => Err(RunFault::Memory),
     }
 }

@@ -7,7 +7,7 @@ use std::sync::Wait;
 
 // Judges what is handed over until a stop comes. Where it can't go on it ends the run for all, and drops what still comes, so
 // that no worker waits for room.
-pub fn verify<P: Naming, R: Wait>(rt: &R, shared: &Shared<P>, number: u32, hand: Hand<'_>) {
+pub fn verify<P: Naming, R: Wait>(rt: &R, shared: &Shared<'_, P>, number: u32, hand: Hand<'_>) {
     let mut hand = hand;
     if let Err(halt) = judge_all(rt, shared, number, &mut hand) {
         shared.stop(rt, halt);
@@ -17,7 +17,7 @@ pub fn verify<P: Naming, R: Wait>(rt: &R, shared: &Shared<P>, number: u32, hand:
 
 fn judge_all<P: Naming, R: Wait>(
     rt: &R,
-    shared: &Shared<P>,
+    shared: &Shared<'_, P>,
     number: u32,
     hand: &mut Hand<'_>,
 ) -> Result<(), Halt> {
@@ -33,7 +33,7 @@ fn judge_all<P: Naming, R: Wait>(
 // Judges a check with no lock held, and notes the verdict.
 fn judge<P: Naming, R: Wait>(
     rt: &R,
-    shared: &Shared<P>,
+    shared: &Shared<'_, P>,
     number: u32,
     served: &Served,
 ) -> Result<(), Halt> {

@@ -18,7 +18,7 @@ use std::sync::Wait;
 #[derive(Drop)]
 pub struct Post<'a, P: Naming> {
     pub alloc: Global,
-    pub shared: &'a Shared<P>,
+    pub shared: &'a Shared<'a, P>,
     pub inline: bool,
     pub number: u32,
 }

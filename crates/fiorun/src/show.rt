@@ -1,0 +1,154 @@
+// The line that a terminal shows of a run that goes on: how much was started, what was checked, and how much of that was bad.
+use jr_cli::Progress;
+use jr_plan::{Plan, SubJob};
+use std::io::IsTerminal;
+use std::sync::{Condvar, CondvarTimeouts, Mutex, Wait};
+use std::thread::Threads;
+use std::time::{Clock, Duration};
+use std::{fmt, io, thread};
+
+// What knows where standard error goes.
+pub trait Screen: Eprint {
+    // Whether that is a terminal.
+    fn is_shown(&self) -> bool;
+}
+
+impl Screen for HostRuntime {
+    fn is_shown(&self) -> bool {
+        self.stderr().is_terminal()
+    }
+}
+
+// Back to the line's begin, and nothing on it.
+const WIPED: &str = "\r\x1b[K";
+
+// Calls `f`. Where standard error is a terminal, that shows meanwhile how far the run of this plan is, a line once a second, and
+// the line is wiped at the end.
+pub fn shown<
+    R: Screen + Clock + Threads + Wait + Sync,
+    T,
+    F: for<'p> FnOnce(Option<&'p Progress>) -> T,
+>(rt: &R, plan: Extent, f: F) -> T
+    requires { F.IsAlwaysCallable f }
+{
+    if !rt.is_shown() {
+        return f(None);
+    }
+    let progress = Progress::new();
+    let bell = Bell::new();
+    let (progress, bell) = (&progress, &bell);
+    thread::scope(
+        thread::scope_env(),
+        rt,
+        move |scope| -> T
+            requires { F.IsAlwaysCallable f }
+        {
+            // (a run that can't be shown goes on)
+            let _shown = scope.spawn(move || show(rt, plan, progress, bell));
+            let ended = f(Some(progress));
+            bell.ring(rt);
+            ended
+        },
+    )
+}
+
+// How many bytes a plan's jobs read and write of themselves, without checks.
+#[derive(Clone, Copy)]
+pub struct Extent {
+    bytes: u64,
+}
+
+impl Extent {
+    pub fn of(plan: &Plan) -> Extent {
+        let mut bytes: u64 = 0;
+        for place in 0..plan.clones() {
+            bytes = bytes.saturating_add(bytes_of(plan.clone_at(place)));
+        }
+        Extent { bytes }
+    }
+
+    // How many hundredths of them so many are.
+    pub fn percent(self, bytes: u64) -> u64 {
+        bytes.saturating_mul(100) / self.bytes.max(1)
+    }
+}
+
+fn bytes_of(clone: &SubJob) -> u64 {
+    let pass = u64::from(clone.cells()).saturating_mul(u64::from(clone.cell()));
+    pass.saturating_mul(u64::from(clone.passes()))
+}
+
+// What is shown of a run.
+#[derive(Clone, Copy)]
+pub struct Line {
+    pub percent: u64,
+    pub ios: u64,
+    pub checks: u64,
+    pub bad: u64,
+}
+
+impl Line {
+    fn of(plan: Extent, progress: &Progress) -> Line {
+        // (what counts fewer is read first, so that no number of a line is above one that it can't be above)
+        let bad = progress.bad();
+        let checks = progress.checks();
+        let percent = plan.percent(progress.bytes());
+        Line {
+            percent,
+            ios: progress.ios(),
+            checks,
+            bad,
+        }
+    }
+}
+
+impl fmt::Display for Line {
+    fn fmt<W: fmt::Write>(&self, f: &mut fmt::Formatter<W>) -> fmt::Result {
+        write!(
+            f,
+            "fiorun: {} % started, {} I/Os, {} checked, {} bad",
+            self.percent, self.ios, self.checks, self.bad
+        )
+    }
+}
+
+// Prints the line once a second until the bell rings, and then wipes it.
+fn show<R: Screen + Clock + Wait>(rt: &R, plan: Extent, progress: &Progress, bell: &Bell) {
+    for _ in rt.forever() {
+        if bell.rings_within(rt, Duration::from_secs(1)) {
+            let _ = eprint!(rt; "{WIPED}");
+            return;
+        }
+        let _ = eprint!(rt; "{WIPED}{}", Line::of(plan, progress));
+    }
+}
+
+// What says that a run has ended.
+#[derive(Drop)]
+struct Bell {
+    rung: Mutex<bool>,
+    changed: Condvar,
+}
+
+impl Bell {
+    fn new() -> Bell {
+        Bell {
+            rung: Mutex::new(false),
+            changed: Condvar::new(),
+        }
+    }
+
+    fn ring<R: Wait>(&self, rt: &R) {
+        *self.rung.lock(rt) = true;
+        self.changed.notify_all();
+    }
+
+    // Waits until it rings, but no longer than this, and says whether it has rung.
+    fn rings_within<R: Wait + Clock>(&self, rt: &R, limit: Duration) -> bool {
+        let rung = self.rung.lock(rt);
+        let waited = self
+            .changed
+            .wait_timeout_while(rt, rung, limit, |rung| !*rung);
+        *waited.0
+    }
+}

@@ -1,0 +1,74 @@
+use jr_header::Ruling;
+use jr_model::{Ticket, Verdict};
+use std::sync::atomic::{AtomicU64, Ordering};
+
+/// How far a run is, for a thread beside it to read while the run goes on: what was started of the jobs' own reads and writes, and
+/// what was said of checks. Each number is right when it is read; they aren't read at one moment.
+#[derive(Drop)]
+pub struct Progress {
+    ios: AtomicU64,
+    bytes: AtomicU64,
+    checks: AtomicU64,
+    bad: AtomicU64,
+}
+
+impl Progress {
+    /// Of a run that has yet to begin.
+    pub fn new() -> Progress {
+        Progress {
+            ios: AtomicU64::new(0),
+            bytes: AtomicU64::new(0),
+            checks: AtomicU64::new(0),
+            bad: AtomicU64::new(0),
+        }
+    }
+
+    /// How many reads and writes of the jobs were started; checks aren't among them.
+    pub fn ios(&self) -> u64 {
+        self.ios.load(Ordering::Relaxed)
+    }
+
+    /// How many bytes these are.
+    pub fn bytes(&self) -> u64 {
+        self.bytes.load(Ordering::Relaxed)
+    }
+
+    /// How many checks were judged.
+    pub fn checks(&self) -> u64 {
+        self.checks.load(Ordering::Relaxed)
+    }
+
+    /// How many of them were bad.
+    pub fn bad(&self) -> u64 {
+        self.bad.load(Ordering::Relaxed)
+    }
+
+    // One of the jobs' reads or writes is started.
+    fn start(&self, ticket: &Ticket) {
+        self.ios.fetch_add(1, Ordering::Relaxed);
+        self.bytes
+            .fetch_add(u64::from(ticket.piece.len), Ordering::Relaxed);
+    }
+
+    // A check is judged.
+    fn judge(&self, verdict: Verdict) {
+        self.checks.fetch_add(1, Ordering::Relaxed);
+        if let Verdict::Bad(_) = verdict {
+            self.bad.fetch_add(1, Ordering::Relaxed);
+        }
+    }
+}
+
+// Notes that one of the jobs' reads or writes is started, where anybody wants to know.
+pub fn note_start(progress: Option<&Progress>, ticket: &Ticket) {
+    if let Some(progress) = progress {
+        progress.start(ticket);
+    }
+}
+
+// Notes that a check is judged, where anybody wants to know.
+pub fn note_verdict(progress: Option<&Progress>, ruling: &Ruling<'_>) {
+    if let Some(progress) = progress {
+        progress.judge(ruling.verdict());
+    }
+}
