@@ -56,8 +56,14 @@ fn main(rt: HostRuntime) -> ExitCode {
 }
 
 // Holds the numbers of standard input, output and error where they are closed, so that no file of a job gets one of them.
-fn held<R: Files>(rt: &R) -> [io::Result<R::File>; 3] {
-    [fs::open(rt, "/"), fs::open(rt, "/"), fs::open(rt, "/")]
+fn held<R: Files>(
+    rt: &R,
+) -> (
+    io::Result<R::File>,
+    io::Result<R::File>,
+    io::Result<R::File>,
+) {
+    (fs::open(rt, "/"), fs::open(rt, "/"), fs::open(rt, "/"))
 }
 
 // How far the program gets by itself: to its end with this status, or to a run whose workers share a memory.

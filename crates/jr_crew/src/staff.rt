@@ -73,7 +73,10 @@ pub fn room_for(verifiers: u32) -> usize
     ensures least { 1 ≤ result }
     ensures room { 1 ≤ verifiers → result ≡ 4 * verifiers }
 {
-    (4 * verifiers as usize).max(1)
+    if verifiers == 0 {
+        return 1;
+    }
+    4 * verifiers as usize
 }
 
 fn number_of(place: usize) -> Result<u32, Halt>
