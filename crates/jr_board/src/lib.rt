@@ -20,4 +20,6 @@ pub use jr_tallies::Bad;
 pub use takes::Take;
 
 #[cfg(test)]
+mod law_tests;
+#[cfg(test)]
 mod tests;

@@ -9,6 +9,3 @@ pub use checks::{
     checks_stay_intact, honest_is_good, keeps_last_writes, miscompares_exactly, quiet_play,
 };
 pub use clean::{serial_is_clean, serial_is_quiet};
-
-#[cfg(test)]
-mod tests;

@@ -13,6 +13,3 @@ pub use intact::{
     log_grows, log_is_by_started, log_is_intact, log_is_intact_of_draws, logged_is_intact,
     unended_is_unlogged,
 };
-
-#[cfg(test)]
-mod tests;

@@ -5,6 +5,3 @@
 mod quiet;
 
 pub use quiet::{checks_stay_last, last_is_latest, quiet_report, write_waits};
-
-#[cfg(test)]
-mod tests;

@@ -5,6 +5,3 @@
 mod lines;
 
 pub use lines::{each_has_one_line, lines_are_in_order, lines_are_sorted};
-
-#[cfg(test)]
-mod tests;

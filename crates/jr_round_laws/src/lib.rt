@@ -11,6 +11,3 @@ pub use rounds::{
     closed_at_end, kept_is_current, left_are_unsettled, left_in_pass, waits_under_way,
 };
 pub use standing::{choice_by_standing, clone_finished_by_standing, finished_by_standing};
-
-#[cfg(test)]
-mod tests;

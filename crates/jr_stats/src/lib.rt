@@ -20,4 +20,6 @@ pub use totals::totals_text;
 pub use traces::trace;
 
 #[cfg(test)]
+mod law_tests;
+#[cfg(test)]
 mod tests;

@@ -11,6 +11,3 @@ pub use choosing::{choice_is_least, nothing_without_choice};
 pub use counts::{appends_one, serial_ends, started_are_few, taken_is_all};
 pub use drawn::{no_block_twice, started_are_drawn, started_fit, started_once};
 pub use idle::{idle_is_complete, serial_is_complete};
-
-#[cfg(test)]
-mod tests;
