@@ -136,13 +136,33 @@ fn run_as<P: Naming + Send + Sync, R: Threads + Wait + Sync>(
     if let Some(halt) = halt {
         return Err(RunFault::from(halt));
     }
-    let (engines, books) = sorted_out(alloc, worked?)?;
-    check(alloc, &desk, inline, &books)?;
+    let (engines, books) = gathered(alloc, &desk, inline, worked?)?;
     Ok(Ran {
         desk,
         engines,
         books,
     })
+}
+
+// The engines and the books, where what the workers say that they completed is what the desk holds.
+fn gathered(
+    alloc: Global,
+    desk: &Desk,
+    inline: bool,
+    worked: Vec<Worked>,
+) -> Result<(Vec<Box<dyn Engine + Send>>, Vec<Vec<Done>>), Halt>
+    ensures engines { IfOk result (λ both. both.0.items ≡ map (λ one. one.engine) worked.items) }
+    ensures books { IfOk result (λ both. map Ok both.1.items ≡ map (λ one. one.book) worked.items) }
+    ensures legal { OnOk result (is_legal desk.now.plan desk.now.history ≡ true) }
+    ensures complete { OnOk result (is_complete desk.now.plan desk.now.history ≡ true) }
+    ensures own { IsTrue inline → OnOk result (list_all (is_own_verdict (tickets_of desk.now.plan desk.now.history)) desk.now.history ≡ true) }
+    ensures each { IfOk result (λ both. (i : ℕ) (book : _) → slice_get both.1.items i ≡ Some book
+        → book.items ≡ dones_of desk.now.plan inline desk.now.history i) }
+    ensures numbered { IfOk result (λ both. list_all (is_numbered (length both.1.items) desk.now.plan.verifiers) desk.now.history ≡ true) }
+{
+    let (engines, books) = sorted_out(alloc, worked)?;
+    check(alloc, desk, inline, &books)?;
+    Ok((engines, books))
 }
 
 // Whether workers judge their own checks.

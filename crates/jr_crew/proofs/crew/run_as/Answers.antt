@@ -1,5 +1,4 @@
 use Rattle.std.proofs.Common.{◌≡◌, ℕ, length, true, sym, ◌∙◌, ap, subst}
-use Rattle.std.specs.Prelude.{slice_get}
 use Rattle.std.specs.List.{list_all}
 use Rattle.jr_model.specs.Plan.{Plan}
 use Rattle.jr_model.specs.Legal.{is_legal}
@@ -26,22 +25,22 @@ returns-clause-each g c =
     each_part (λ e. (g.dyn-1.0.entry e.vtable).1.state e.value) (λ job. job.engine) (λ one. one.engine) (λ one. one.book) (λ book. book.items)
     c.args.engines.items c.in_ok-engines.engines.items c.in_ok-jobs.jobs.items c.in_ok-worked.field-0.items c.in_ok-engines.books.items
     c.args.plan c.judges_inline-inline.result desk.history c.judges_inline-inline.ensures c.facts.ensures
-    (subst (λ (p : Plan). is_legal p desk.history ≡ true) same c.in_ok-check.ensures.legal)
-    (λ so. subst (λ (p : Plan). list_all (is_own_verdict (tickets_of p desk.history)) desk.history ≡ true) same (c.in_ok-check.ensures.own so))
+    (subst (λ (p : Plan). is_legal p desk.history ≡ true) same c.in_ok-engines.ensures.legal)
+    (λ so. subst (λ (p : Plan). list_all (is_own_verdict (tickets_of p desk.history)) desk.history ≡ true) same (c.in_ok-engines.ensures.own so))
     c.in_ok-jobs.ensures.ok c.in_ok-worked.ensures.each c.in_ok-engines.ensures.engines c.in_ok-engines.ensures.books
-    (λ i book at. c.in_ok-check.ensures.each i book (ap (λ books. slice_get books i) c.deref.ensures.value ∙ at) ∙ ap (λ (p : Plan). dones_of p c.judges_inline-inline.result desk.history i) same)
+    (λ i book at. c.in_ok-engines.ensures.each i book at ∙ ap (λ (p : Plan). dones_of p c.judges_inline-inline.result desk.history i) same)
 
 pub returns-clause-numbered : goal.returns-clause-numbered
 returns-clause-numbered g c =
     let desk = c.into_parts-desk.result.0 in
     let same : desk.plan ≡ c.args.plan = c.into_parts-desk.ensures ∙ sym c.requires in
-    let count = ap length c.deref.ensures.value ∙ returns-clause-books g c in
+    let count = returns-clause-books g c in
     subst (λ (p : Plan). list_all (is_numbered (length c.args.engines.items) p.verifiers) desk.history ≡ true) same
-    (subst (λ (n : ℕ). list_all (is_numbered n desk.plan.verifiers) desk.history ≡ true) count c.in_ok-check.ensures.numbered)
+    (subst (λ (n : ℕ). list_all (is_numbered n desk.plan.verifiers) desk.history ≡ true) count c.in_ok-engines.ensures.numbered)
 
 pub returns-clause-own : goal.returns-clause-own
 returns-clause-own g c inline =
     let desk = c.into_parts-desk.result.0 in
     let same : desk.plan ≡ c.args.plan = c.into_parts-desk.ensures ∙ sym c.requires in
     subst (λ (p : Plan). list_all (is_own_verdict (tickets_of p desk.history)) desk.history ≡ true) same
-    (c.in_ok-check.ensures.own (c.judges_inline-inline.ensures ∙ inline))
+    (c.in_ok-engines.ensures.own (c.judges_inline-inline.ensures ∙ inline))
