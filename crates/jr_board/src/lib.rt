@@ -18,8 +18,3 @@ pub use desk::Desk;
 pub use jr_model::{DeskFault, Totals};
 pub use jr_tallies::Bad;
 pub use takes::Take;
-
-#[cfg(test)]
-mod law_tests;
-#[cfg(test)]
-mod tests;

@@ -10,6 +10,8 @@ pub use jr_model::{DeskFault, Step, StepReply, Totals, is_same};
 pub use plays::{Played, play};
 
 #[cfg(test)]
+mod board_tests;
+#[cfg(test)]
 mod law_tests;
 #[cfg(test)]
 mod random_tests;
