@@ -9,6 +9,7 @@ use jr_board::Desk;
 use jr_model::{EngineKind, IoType, Method, Pattern, Totals, VerifyKind};
 use jr_plan::{Draft, Plan, Workload};
 use std::alloc::Global;
+use std::process::Abort;
 use std::test::Fail;
 
 const LINES: [&str; 10] = [
@@ -88,7 +89,17 @@ fn accepts_a_whole_run_and_writes_it_again(rt: HostRuntime) -> Result<(), Fail> 
     let text = with_line(alloc, 0, None)?;
     let totals = check_trace(alloc, &plan, text.as_bytes())?;
     assert_eq!(rt; totals.as_slice(), [done(2, 0)].as_slice());
-    let work = Agenda::new(alloc, &plan)?;
+    assert_written_again(&rt, alloc, &plan, &text)
+}
+
+// The text, read as a trace of a run of the plan, is what is written of that run.
+fn assert_written_again(
+    rt: &impl Abort,
+    alloc: Global,
+    plan: &Plan,
+    text: &str,
+) -> Result<(), Fail> {
+    let work = Agenda::new(alloc, plan)?;
     let past = past_in(alloc, &work, text.as_bytes())?;
     let again = trace_text(alloc, past.events())?;
     assert_eq!(rt; again.as_slice(), text.as_bytes());
@@ -215,18 +226,19 @@ fn names_every_cut(rt: HostRuntime) -> Result<(), Fail> {
 fn accepts_a_run_that_a_fault_halts(rt: HostRuntime) -> Result<(), Fail> {
     let alloc = rt.alloc();
     let plan = planned(alloc)?;
-    let endings = ["failed", "short 0", "short 4095"];
-    for ending in endings {
-        let text = format!(in alloc; "I 7 0 0 0 0\nE 7 0 {ending}\n")?;
-        let totals = check_trace(alloc, &plan, text.as_bytes())?;
-        assert_eq!(rt; totals.len(), 1);
-        assert_eq!(rt; totals[0].faults, 1, "at {ending}");
-        let work = Agenda::new(alloc, &plan)?;
-        let past = past_in(alloc, &work, text.as_bytes())?;
-        let again = trace_text(alloc, past.events())?;
-        assert_eq!(rt; again.as_slice(), text.as_bytes());
+    for ending in ["failed", "short 0", "short 4095"] {
+        assert_halted(&rt, alloc, &plan, ending)?;
     }
     Ok(())
+}
+
+// A run whose first write ends so has one fault, and is written again.
+fn assert_halted(rt: &impl Abort, alloc: Global, plan: &Plan, ending: &str) -> Result<(), Fail> {
+    let text = format!(in alloc; "I 7 0 0 0 0\nE 7 0 {ending}\n")?;
+    let totals = check_trace(alloc, plan, text.as_bytes())?;
+    assert_eq!(rt; totals.len(), 1);
+    assert_eq!(rt; totals[0].faults, 1, "at {ending}");
+    assert_written_again(rt, alloc, plan, &text)
 }
 
 const NOTHING: &[u8] =
