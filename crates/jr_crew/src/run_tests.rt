@@ -1,11 +1,12 @@
 use crate::{RunFault, run};
-use jr_board::Bad;
+use jr_board::{Bad, Desk};
 use jr_engines::{
     Engine, EngineFault, MemoryEngine, NullEngine, Reply, ScriptedEngine, SharedMemory, Tally,
 };
 use jr_model::{EngineKind, Event, IoType, MOST_VERIFIERS, Method, Totals, VerifyKind, What};
 use jr_plan::{Draft, Plan, Workload};
 use std::alloc::Global;
+use std::process::Abort;
 use std::sync::atomic::{AtomicU64, Ordering};
 use std::sync::{Arc, Wait};
 use std::test::Fail;
@@ -100,9 +101,13 @@ fn who_judges_changes_no_total(rt: HostRuntime) -> Result<(), Fail> {
             good: 100,
             ..NOTHING
         };
-        assert!(rt; ran.desk.totals() == [want].as_slice());
+        assert_totals(&rt, &ran.desk, want);
     }
     Ok(())
+}
+
+fn assert_totals(rt: &impl Abort, desk: &Desk, want: Totals) {
+    assert!(rt; desk.totals() == [want].as_slice());
 }
 
 // The worker that ended this I/O or check.
@@ -247,39 +252,40 @@ impl Engine for Gate {
     }
 }
 
-#[test]
-fn two_are_inside_their_engines_at_once(rt: HostRuntime) -> Result<(), Fail> {
-    let mut draft = Draft::new(rt.alloc());
+// A plan of two writes that may be in flight at once.
+fn two_at_once(alloc: Global) -> Result<Plan, Fail> {
     let two = Workload {
         depth: 2,
         ..Workload::plain(IoType::Write, 4096, 2)
     };
-    draft.add(
-        rt.alloc(),
-        &two,
-        "g",
-        String::from_str(rt.alloc(), "g.0.0")?,
-        0,
-    )?;
+    let mut draft = Draft::new(alloc);
+    draft.add(alloc, &two, "g", String::from_str(alloc, "g.0.0")?, 0)?;
     if draft.clones() == 0 {
         return Err(Fail::from("no clones"));
     }
-    let inside = Arc::new(rt.alloc(), AtomicU64::new(0))?;
-    let mut engines: Vec<Box<dyn Engine + Send>> = Vec::new(rt.alloc());
-    engines.push(Box::new(rt.alloc(), Gate::new(Arc::try_clone(&inside)?))?)?;
-    engines.push(Box::new(rt.alloc(), Gate::new(inside))?)?;
-    let ran = run(
-        &rt,
-        rt.alloc(),
-        draft.finish(EngineKind::Memory, 0),
-        engines,
-    )?;
+    Ok(draft.finish(EngineKind::Memory, 0))
+}
+
+// Two engines with one gate: a write stays inside until the other is inside too.
+fn two_gates(alloc: Global) -> Result<Vec<Box<dyn Engine + Send>>, Fail> {
+    let inside = Arc::new(alloc, AtomicU64::new(0))?;
+    let mut engines: Vec<Box<dyn Engine + Send>> = Vec::new(alloc);
+    engines.push(Box::new(alloc, Gate::new(Arc::try_clone(&inside)?))?)?;
+    engines.push(Box::new(alloc, Gate::new(inside))?)?;
+    Ok(engines)
+}
+
+#[test]
+fn two_are_inside_their_engines_at_once(rt: HostRuntime) -> Result<(), Fail> {
+    let plan = two_at_once(rt.alloc())?;
+    let engines = two_gates(rt.alloc())?;
+    let ran = run(&rt, rt.alloc(), plan, engines)?;
     let want = Totals {
         writes: 2,
         wbytes: 8192,
         ..NOTHING
     };
-    assert!(rt; ran.desk.totals() == [want].as_slice());
+    assert_totals(&rt, &ran.desk, want);
     Ok(())
 }
 
@@ -318,19 +324,29 @@ fn faults_are_what_the_engines_failed(rt: HostRuntime) -> Result<(), Fail> {
     Ok(())
 }
 
+fn two_of_zeros(alloc: Global) -> Result<Vec<Box<dyn Engine + Send>>, Fail> {
+    let mut engines: Vec<Box<dyn Engine + Send>> = Vec::new(alloc);
+    engines.push(Box::new(alloc, NullEngine::new())?)?;
+    engines.push(Box::new(alloc, NullEngine::new())?)?;
+    Ok(engines)
+}
+
+// All 16 checks were bad.
+fn assert_all_bad(rt: &impl Abort, desk: &Desk) {
+    assert_eq!(rt; desk.bads().len(), 16);
+    for totals in desk.totals() {
+        assert_eq!(rt; totals.checks, 16);
+        assert_eq!(rt; totals.bad, 16);
+    }
+}
+
 #[test]
 fn zeros_are_found_bad_whoever_judges(rt: HostRuntime) -> Result<(), Fail> {
     for verifiers in 0..3 {
         let plan = clones_of_one_file(rt.alloc(), 1, 16, verifiers)?;
-        let mut engines: Vec<Box<dyn Engine + Send>> = Vec::new(rt.alloc());
-        engines.push(Box::new(rt.alloc(), NullEngine::new())?)?;
-        engines.push(Box::new(rt.alloc(), NullEngine::new())?)?;
+        let engines = two_of_zeros(rt.alloc())?;
         let ran = run(&rt, rt.alloc(), plan, engines)?;
-        assert_eq!(rt; ran.desk.bads().len(), 16);
-        for totals in ran.desk.totals() {
-            assert_eq!(rt; totals.checks, 16);
-            assert_eq!(rt; totals.bad, 16);
-        }
+        assert_all_bad(&rt, &ran.desk);
     }
     Ok(())
 }

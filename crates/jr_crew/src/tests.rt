@@ -1,8 +1,10 @@
 use crate::run_serial;
+use jr_board::Desk;
 use jr_engines::{Engine, MemoryEngine, NullEngine, Reply, ScriptedEngine};
 use jr_model::{EngineKind, IoType, Method, Pattern, Totals, VerifyKind};
 use jr_plan::{Draft, Plan, Workload};
 use std::alloc::Global;
+use std::process::Abort;
 use std::test::Fail;
 
 const NOTHING: Totals = Totals {
@@ -44,16 +46,24 @@ fn null_run(alloc: Global, byte: u8) -> Result<Totals, Fail> {
     }
 }
 
+// The run of one clone is complete, with so many events and these totals.
+fn assert_ran(rt: &impl Abort, desk: &Desk, events: usize, want: Totals) {
+    assert_eq!(rt; desk.history().len(), events);
+    assert!(rt; desk.is_complete());
+    assert!(rt; desk.totals() == [want].as_slice());
+}
+
+// The engine was called so often, and failed so often.
+fn assert_called<E: Engine>(rt: &impl Abort, engine: &E, calls: u64, failures: u64) {
+    assert_eq!(rt; engine.calls(), calls);
+    assert_eq!(rt; engine.failures(), failures);
+}
+
 #[test]
 fn each_write_is_checked_behind_the_last(rt: HostRuntime) -> Result<(), Fail> {
     let plan = writes(rt.alloc(), 4, 0xab)?;
     let mut engine = MemoryEngine::new(rt.alloc(), &plan)?;
     let desk = run_serial(rt.alloc(), plan, &mut engine)?;
-    // Four writes with their ends, and four checks with their ends and verdicts.
-    assert_eq!(rt; desk.history().len(), 20);
-    assert!(rt; desk.is_complete());
-    assert_eq!(rt; engine.calls(), 8);
-    assert_eq!(rt; engine.failures(), 0);
     let want = Totals {
         writes: 4,
         wbytes: 16384,
@@ -61,7 +71,9 @@ fn each_write_is_checked_behind_the_last(rt: HostRuntime) -> Result<(), Fail> {
         good: 4,
         ..NOTHING
     };
-    assert!(rt; desk.totals() == [want].as_slice());
+    // Four writes with their ends, and four checks with their ends and verdicts.
+    assert_ran(&rt, &desk, 20, want);
+    assert_called(&rt, &engine, 8, 0);
     Ok(())
 }
 
@@ -72,17 +84,14 @@ fn a_failed_write_ends_its_clone(rt: HostRuntime) -> Result<(), Fail> {
     let script = Vec::from_array(rt.alloc(), [(1, Reply::Fail)])?;
     let mut engine = ScriptedEngine::new(memory, script);
     let desk = run_serial(rt.alloc(), plan, &mut engine)?;
-    assert_eq!(rt; desk.history().len(), 4);
-    assert!(rt; desk.is_complete());
-    assert_eq!(rt; engine.calls(), 2);
-    assert_eq!(rt; engine.failures(), 1);
     let want = Totals {
         writes: 1,
         wbytes: 4096,
         faults: 1,
         ..NOTHING
     };
-    assert!(rt; desk.totals() == [want].as_slice());
+    assert_ran(&rt, &desk, 4, want);
+    assert_called(&rt, &engine, 2, 1);
     Ok(())
 }
 
