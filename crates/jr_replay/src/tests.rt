@@ -9,6 +9,7 @@ use jr_model::{
 use jr_past::{Past, is_intact, last_write, started};
 use jr_plan::{Draft, Plan, Workload};
 use std::alloc::Global;
+use std::process::Abort;
 use std::test::Fail;
 
 // A plan over memory: of clones with these files and starts.
@@ -238,9 +239,22 @@ fn shared() -> [Event; 6] {
 fn a_write_that_another_clone_overwrote_is_skipped(rt: HostRuntime) -> Result<(), Fail> {
     let plan = plan_of(rt.alloc(), &[(checked(2), "f", 0), (checked(2), "f", 0)])?;
     let history = shared();
-    assert_eq!(rt; legal_front(rt.alloc(), &plan, &history)?, 6);
+    assert_skipped(&rt, rt.alloc(), &plan, &history)?;
+    let past = Past::new(rt.alloc(), &history)?;
+    assert_overwritten(&rt, &past);
+    Ok(())
+}
+
+// The first write of the first clone can only be skipped.
+fn assert_skipped(
+    rt: &impl Abort,
+    alloc: Global,
+    plan: &Plan,
+    history: &[Event; 6],
+) -> Result<(), Fail> {
+    assert_eq!(rt; legal_front(alloc, plan, history)?, 6);
     assert_eq!(rt;
-        choice(rt.alloc(), &plan, &history[..1], 1)?,
+        choice(alloc, plan, &history[..1], 1)?,
         None,
         "it would overlap"
     );
@@ -248,23 +262,20 @@ fn a_write_that_another_clone_overwrote_is_skipped(rt: HostRuntime) -> Result<()
         worker: 0,
         write: write(0, 0),
     };
-    assert_eq!(rt; choice(rt.alloc(), &plan, &history, 0)?, Some(skip));
-    assert!(rt; allowed(rt.alloc(), &plan, &history, &skip)?);
-    assert!(rt;
-        !allowed(
-            rt.alloc(),
-            &plan,
-            &history,
-            &probe(0, write(0, 0), block(0))
-        )?
-    );
-    let past = Past::new(rt.alloc(), &history)?;
-    assert_eq!(rt; last_write(&past, 0, 7), Some(write(1, 0)));
-    assert_eq!(rt; last_write(&past, 0, 8), Some(write(0, 1)));
-    assert_eq!(rt; last_write(&past, 0, 16), None);
-    assert!(rt; !is_intact(&past, &write(0, 0), &block(0)));
-    assert!(rt; is_intact(&past, &write(1, 0), &block(0)));
+    assert_eq!(rt; choice(alloc, plan, history, 0)?, Some(skip));
+    assert!(rt; allowed(alloc, plan, history, &skip)?);
+    let check = probe(0, write(0, 0), block(0));
+    assert!(rt; !allowed(alloc, plan, history, &check)?);
     Ok(())
+}
+
+// The second clone's write is the last one of the piece.
+fn assert_overwritten(rt: &impl Abort, past: &Past) {
+    assert_eq!(rt; last_write(past, 0, 7), Some(write(1, 0)));
+    assert_eq!(rt; last_write(past, 0, 8), Some(write(0, 1)));
+    assert_eq!(rt; last_write(past, 0, 16), None);
+    assert!(rt; !is_intact(past, &write(0, 0), &block(0)));
+    assert!(rt; is_intact(past, &write(1, 0), &block(0)));
 }
 
 #[test]
@@ -297,10 +308,20 @@ fn the_steps_of_an_empty_history(rt: HostRuntime) -> Result<(), Fail> {
     let plan = plan_of(rt.alloc(), &[(checked(7), "f", 0)])?;
     let work = Agenda::new(rt.alloc(), &plan)?;
     let past = Past::new(rt.alloc(), &[])?;
+    assert_first(&rt, rt.alloc(), &work, &past)
+}
+
+// The first write can be issued, and nothing else.
+fn assert_first(
+    rt: &impl Abort,
+    alloc: Global,
+    work: &Agenda<'_>,
+    past: &Past,
+) -> Result<(), Fail> {
     let first = Some(issue(3, write(0, 0), block(0)));
-    assert_eq!(rt; choice_among(&work, &past, 3), first);
-    assert_eq!(rt; step_at(rt.alloc(), &work, &past, 3, &write(0, 0))?, first);
-    assert_eq!(rt; step_at(rt.alloc(), &work, &past, 3, &write(0, 1))?, None);
+    assert_eq!(rt; choice_among(work, past, 3), first);
+    assert_eq!(rt; step_at(alloc, work, past, 3, &write(0, 0))?, first);
+    assert_eq!(rt; step_at(alloc, work, past, 3, &write(0, 1))?, None);
     Ok(())
 }
 
