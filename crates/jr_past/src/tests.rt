@@ -1,6 +1,7 @@
 use crate::{PART, Past, is_intact, last_write, part_of};
 use jr_model::{Dir, Event, Outcome, Piece, Verdict, What, WriteId};
 use std::alloc::Global;
+use std::process::Abort;
 use std::test::Fail;
 
 // Write k of clone 1's pass 2.
@@ -89,17 +90,27 @@ fn a_run_event_by_event(rt: HostRuntime) -> Result<(), Fail> {
     let mut past = Past::new(rt.alloc(), &[])?;
     for ((event, flies), waits) in events.iter().zip(flying).zip(waiting) {
         past = past.followed_by(rt.alloc(), *event)?;
-        assert_eq!(rt; past.in_flight().len(), flies);
-        assert_eq!(rt; past.awaiting().len(), waits);
+        assert_under_way(&rt, &past, flies, waits);
     }
-    assert_eq!(rt; past.events(), events.as_slice());
+    assert_ran(&rt, &past, &events);
+    Ok(())
+}
+
+// So many I/Os fly, and so many checks wait for their verdict.
+fn assert_under_way(rt: &impl Abort, past: &Past, flies: usize, waits: usize) {
+    assert_eq!(rt; past.in_flight().len(), flies);
+    assert_eq!(rt; past.awaiting().len(), waits);
+}
+
+// What was started in the run, and what flies at its end.
+fn assert_ran(rt: &impl Abort, past: &Past, events: &[Event]) {
+    assert_eq!(rt; past.events(), events);
     assert_eq!(rt; past.started().len(), 4);
     assert_eq!(rt; past.in_flight().first().map(|io| io.write), Some(write(2)));
     assert!(rt; past.flies(3));
     assert!(rt; !past.flies(2));
     assert!(rt; !past.flies(4));
     assert_eq!(rt; past.started_at(2).map(|io| io.piece), Some(block(0)));
-    Ok(())
 }
 
 #[test]
@@ -178,16 +189,20 @@ fn the_last_write_of_a_block_is_the_one_that_ended_last(rt: HostRuntime) -> Resu
         end(1, Outcome::Whole),
         end(0, Outcome::Whole),
     ];
-    let past = past_of(rt.alloc(), &events[..3])?;
-    assert_eq!(rt; last_write(&past, 0, 1), Some(write(1)));
-    assert!(rt; is_intact(&past, &write(1), &block(0)));
+    let before = past_of(rt.alloc(), &events[..3])?;
+    assert_last(&rt, &before, write(1));
     let past = past_of(rt.alloc(), &events)?;
-    assert_eq!(rt; last_write(&past, 0, 1), Some(write(0)));
-    assert_eq!(rt; last_write(&past, 0, 2), None);
-    assert_eq!(rt; last_write(&past, 1, 1), None);
-    assert!(rt; is_intact(&past, &write(0), &block(0)));
+    assert_last(&rt, &past, write(0));
     assert!(rt; !is_intact(&past, &write(1), &block(0)));
     Ok(())
+}
+
+// The first piece has this last write, which is intact, and nothing else is written.
+fn assert_last(rt: &impl Abort, past: &Past, last: WriteId) {
+    assert_eq!(rt; last_write(past, 0, 1), Some(last));
+    assert_eq!(rt; last_write(past, 0, 2), None);
+    assert_eq!(rt; last_write(past, 1, 1), None);
+    assert!(rt; is_intact(past, &last, &block(0)));
 }
 
 // So many bytes of the first file, from an offset on.
@@ -210,16 +225,27 @@ fn a_piece_over_a_border_lies_over_both_parts(rt: HostRuntime) -> Result<(), Fai
         issue(1, behind),
         end(1, Outcome::Whole),
     ];
+    let before = past_of(rt.alloc(), &events[..2])?;
+    let past = past_of(rt.alloc(), &events)?;
+    assert_parts(&rt, &past);
+    assert_border(&rt, &past);
+    assert_overwritten(&rt, &before, &past, &over, &behind);
+    Ok(())
+}
+
+// A part is 64 KiB, and what ended over one is known of each part.
+fn assert_parts(rt: &impl Abort, past: &Past) {
     assert_eq!(rt; PART, 65_536);
     assert_eq!(rt; part_of(127), 0);
     assert_eq!(rt; part_of(128), 1);
-    let past = past_of(rt.alloc(), &events[..2])?;
-    assert!(rt; is_intact(&past, &write(0), &over));
-    let past = past_of(rt.alloc(), &events)?;
     assert_eq!(rt; past.ledger().ends_over(0, 0).len(), 1);
     assert_eq!(rt; past.ledger().ends_over(0, 1).len(), 2);
     assert_eq!(rt; past.ledger().ends_over(0, 2).len(), 0);
     assert_eq!(rt; past.ledger().ends_over(1, 0).len(), 0);
+}
+
+// The last writes of the blocks before and behind the border.
+fn assert_border(rt: &impl Abort, past: &Past) {
     let last = [
         None,
         Some(write(0)),
@@ -229,11 +255,15 @@ fn a_piece_over_a_border_lies_over_both_parts(rt: HostRuntime) -> Result<(), Fai
         None,
     ];
     for (block, wanted) in (125..131).zip(last) {
-        assert_eq!(rt; last_write(&past, 0, block), wanted, "at {block}");
+        assert_eq!(rt; last_write(past, 0, block), wanted, "at {block}");
     }
-    assert!(rt; !is_intact(&past, &write(0), &over));
-    assert!(rt; is_intact(&past, &write(1), &behind));
-    Ok(())
+}
+
+// The first write is intact before the second alone.
+fn assert_overwritten(rt: &impl Abort, before: &Past, past: &Past, over: &Piece, behind: &Piece) {
+    assert!(rt; is_intact(before, &write(0), over));
+    assert!(rt; !is_intact(past, &write(0), over));
+    assert!(rt; is_intact(past, &write(1), behind));
 }
 
 // A piece of four parts, of which a later write covers the third.
