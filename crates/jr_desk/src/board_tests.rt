@@ -6,6 +6,7 @@ use jr_model::{
 };
 use jr_plan::{Draft, Plan, Workload};
 use std::alloc::Global;
+use std::process::Abort;
 use std::test::Fail;
 
 // A plan over memory for two writes of 4096 bytes, and their checks by a pattern that an engine of zeros never reads.
@@ -74,17 +75,36 @@ fn bad_checks_are_told_in_their_order(rt: HostRuntime) -> Result<(), Fail> {
     let mut engine = NullEngine::new();
     let mut desk = Desk::new(alloc, two_writes(alloc)?)?;
     for number in 0..4u32 {
-        assert!(rt; desk.ticket_at(number).is_none());
-        let ticket = next_ticket(&mut desk, number)?;
-        assert!(rt; !desk.has_ended(number));
-        let served = carried_out(alloc, &mut engine, ticket)?;
-        assert_eq!(rt; desk.end(&served), Ok(()));
-        assert!(rt; desk.has_ended(number));
-        assert!(rt; !desk.is_complete());
-        if served.to_judge() {
-            assert_eq!(rt; desk.judge(7, &rule(&served)), Ok(()));
-        }
+        carry_out_next(&rt, alloc, &mut engine, &mut desk, number)?;
     }
+    assert_two_bad(&rt, &desk);
+    assert_ends(&rt, &mut desk);
+    Ok(())
+}
+
+// The desk hands out what is next, and takes in how it ended, and its verdict where it is a check.
+fn carry_out_next(
+    rt: &impl Abort,
+    alloc: Global,
+    engine: &mut NullEngine,
+    desk: &mut Desk,
+    number: u32,
+) -> Result<(), Fail> {
+    assert!(rt; desk.ticket_at(number).is_none());
+    let ticket = next_ticket(desk, number)?;
+    assert!(rt; !desk.has_ended(number));
+    let served = carried_out(alloc, engine, ticket)?;
+    assert_eq!(rt; desk.end(&served), Ok(()));
+    assert!(rt; desk.has_ended(number));
+    assert!(rt; !desk.is_complete());
+    if served.to_judge() {
+        assert_eq!(rt; desk.judge(7, &rule(&served)), Ok(()));
+    }
+    Ok(())
+}
+
+// Both checks found something, in the order of their verdicts.
+fn assert_two_bad(rt: &impl Abort, desk: &Desk) {
     assert_eq!(rt; desk.bads(), [bad(0, 0), bad(1, 4096)].as_slice());
     let totals = Totals {
         reads: 0,
@@ -100,10 +120,13 @@ fn bad_checks_are_told_in_their_order(rt: HostRuntime) -> Result<(), Fail> {
     };
     assert_eq!(rt; desk.totals(), [totals].as_slice());
     assert_eq!(rt; desk.history().len(), 10);
+}
+
+// The run is over, and is stopped after that.
+fn assert_ends(rt: &impl Abort, desk: &mut Desk) {
     assert!(rt; desk.is_complete());
     assert_eq!(rt; desk.take(5), Ok(Take::Finished));
     assert!(rt; !desk.is_stopped());
     desk.stop();
     assert!(rt; desk.is_stopped());
-    Ok(())
 }
