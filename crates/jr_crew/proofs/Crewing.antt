@@ -45,8 +45,9 @@ got_mapped f (x ∷ xs) zero y at = (x, refl, same_some (f x) y at)
 got_mapped f (x ∷ xs) (suc k) y at = got_mapped f xs k y at
 
 -- the same of each place of a run's lists
-pub each_part : {E J W B F : Type 0} (state : E → EngineState) (engine_in : J → E) (engine_of : W → E) (book_of : W → Result B F) (dones : B → List Done) (engines afters : List E) (jobs : List J) (worked : List W) (books : List B) (plan : Plan) (inline : Bool) (history : List Event) → inline ≡ judges_inline plan → IsPlanned plan → is_legal plan history ≡ true → (inline ≡ true → AreOwn plan history) → map engine_in jobs ≡ engines → ((i : ℕ) (j : J) (w : W) → i < length jobs → IfOk (book_of (slice_index_or worked i w)) (λ book. AreCallsFor inline (state (engine_in (slice_index_or jobs i j))) (dones book) (state (engine_of (slice_index_or worked i w))))) → afters ≡ map engine_of worked → map Ok books ≡ map book_of worked → ((i : ℕ) (book : B) → slice_get books i ≡ Some book → dones book ≡ dones_of plan inline history i) → (i : ℕ) (before after : E) (book : B) → slice_get engines i ≡ Some before → slice_get afters i ≡ Some after → slice_get books i ≡ Some book → IsWorkers plan history i (state before) (state after) (dones book)
-each_part {E = E} {J = J} {W = W} {B = B} {F = F} state engine_in engine_of book_of dones engines afters jobs worked books plan inline history judges planned legal own jobs_are calls afters_are books_are same i before after book at_before at_after at_book =
+pub each_part : {E J W B F : Type 0} (state : E → EngineState) (engine_in : J → E) (engine_of : W → E) (book_of : W → Result B F) (dones : B → List Done) (engines afters : List E) (jobs : List J) (worked : List W) (books : List B) (plan : Plan) (history : List Event) → IsPlanned plan → is_legal plan history ≡ true → (judges_inline plan ≡ true → AreOwn plan history) → map engine_in jobs ≡ engines → ((i : ℕ) (j : J) (w : W) → i < length jobs → IfOk (book_of (slice_index_or worked i w)) (λ book. AreCallsFor (judges_inline plan) (state (engine_in (slice_index_or jobs i j))) (dones book) (state (engine_of (slice_index_or worked i w))))) → afters ≡ map engine_of worked → map Ok books ≡ map book_of worked → ((i : ℕ) (book : B) → slice_get books i ≡ Some book → dones book ≡ dones_of plan (judges_inline plan) history i) → (i : ℕ) (before after : E) (book : B) → slice_get engines i ≡ Some before → slice_get afters i ≡ Some after → slice_get books i ≡ Some book → IsWorkers plan history i (state before) (state after) (dones book)
+each_part {E = E} {J = J} {W = W} {B = B} {F = F} state engine_in engine_of book_of dones engines afters jobs worked books plan history planned legal own jobs_are calls afters_are books_are same i before after book at_before at_after at_book =
+    let inline = judges_inline plan in
     let j = got_mapped engine_in jobs i before (ap (λ (es : List E). slice_get es i) jobs_are ∙ at_before) in
     let w = got_mapped engine_of worked i after (ap (λ (es : List E). slice_get es i) (sym afters_are) ∙ at_after) in
     let its : slice_get (map book_of worked) i ≡ Some (Ok book) =
@@ -64,12 +65,10 @@ each_part {E = E} {J = J} {W = W} {B = B} {F = F} state engine_in engine_of book
     (calls i j.0 w.0 (slice_get_within jobs i j.0 j.1))) in
     let ok : AreCallsFor inline (state (engine_in j.0)) (dones book) (state (engine_of w.0)) =
     subst (λ (r : Result B F). IfOk r (λ b. AreCallsFor inline (state (engine_in j.0)) (dones b) (state (engine_of w.0)))) is_book called in
-    its_part plan history i (state before) (state after) (dones book) planned legal
-    (λ so. own (judges ∙ so))
-    (subst (λ (b : Bool). AreCallsFor b (state before) (dones book) (state after)) judges
+    its_part plan history i (state before) (state after) (dones book) planned legal own
     (subst (λ (e : E). AreCallsFor inline (state before) (dones book) (state e)) w.2
-    (subst (λ (e : E). AreCallsFor inline (state e) (dones book) (state (engine_of w.0))) j.2 ok)))
-    (same i book at_book ∙ ap (λ (b : Bool). dones_of plan b history i) judges)
+    (subst (λ (e : E). AreCallsFor inline (state e) (dones book) (state (engine_of w.0))) j.2 ok))
+    (same i book at_book)
 
 -- each of a run's lists has a place for each engine
 pub engines_size : {E J W : Type 0} (engine_in : J → E) (engine_of : W → E) (engines afters : List E) (jobs : List J) (worked : List W) → map engine_in jobs ≡ engines → length worked ≡ length jobs → afters ≡ map engine_of worked → length afters ≡ length engines

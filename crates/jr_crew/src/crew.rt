@@ -124,19 +124,13 @@ fn run_as<P: Naming + Send + Sync, R: Threads + Wait + Sync>(
 {
     // Its contract says what holds of every plan.
     plan.facts();
-    let inline = judges_inline(&plan);
     let verifiers = plan.verifiers();
     let (handoff, pass) = Handoff::new(rt, alloc, room_for(verifiers))?;
     let mut hand = Hand::new(&handoff, pass);
     let judges = judges_for(alloc, engines.len(), verifiers, &mut hand)?;
     let jobs = jobs_for(alloc, engines, &mut hand)?;
-    let shared = Shared::<P>::new(Desk::new(alloc, plan)?, progress);
-    let worked = man(rt, &shared, alloc, inline, jobs, judges, hand);
-    let (desk, halt) = shared.into_parts();
-    if let Some(halt) = halt {
-        return Err(RunFault::from(halt));
-    }
-    let (engines, books) = gathered(alloc, &desk, inline, worked?)?;
+    let (desk, worked) = run_manned::<P, R>(rt, alloc, plan, jobs, judges, hand, progress)?;
+    let (engines, books) = gathered(alloc, &desk, worked)?;
     Ok(Ran {
         desk,
         engines,
@@ -144,22 +138,51 @@ fn run_as<P: Naming + Send + Sync, R: Threads + Wait + Sync>(
     })
 }
 
+// Runs a plan that has its name with these workers and verifiers: the desk, and what the workers bring back, where nothing
+// ended the run before its time.
+fn run_manned<'a, P: Naming + Send + Sync, R: Threads + Wait + Sync>(
+    rt: &R,
+    alloc: Global,
+    plan: Plan,
+    jobs: Vec<Job<'a>>,
+    judges: Vec<Judge<'a>>,
+    hand: Hand<'a>,
+    progress: Option<&Progress>,
+) -> Result<(Desk, Vec<Worked>), RunFault>
+    requires { plan ≡ P.plan }
+    ensures plan { IfOk result (λ both. both.0.plan ≡ plan) }
+    ensures len { IfOk result (λ both. length both.1.items ≡ length jobs.entry.items) }
+    ensures each { IfOk result (λ both. (i : ℕ) (job : _) (one : _) → i < length jobs.entry.items
+        → IfOk (slice_index_or both.1.items i one).book (λ book. AreCallsFor (judges_inline plan) (state (slice_index_or jobs.entry.items i job).engine) book.items (state (slice_index_or both.1.items i one).engine))) }
+    ensures failed { IfErr result (IsRefusal (length judges.entry.items)) }
+{
+    let inline = judges_inline(&plan);
+    let shared = Shared::<P>::new(Desk::new(alloc, plan)?, progress);
+    let worked = man(rt, &shared, alloc, inline, jobs, judges, hand);
+    let (desk, halt) = shared.into_parts();
+    if let Some(halt) = halt {
+        return Err(RunFault::from(halt));
+    }
+    Ok((desk, worked?))
+}
+
 // The engines and the books, where what the workers say that they completed is what the desk holds.
 fn gathered(
     alloc: Global,
     desk: &Desk,
-    inline: bool,
     worked: Vec<Worked>,
 ) -> Result<(Vec<Box<dyn Engine + Send>>, Vec<Vec<Done>>), Halt>
     ensures engines { IfOk result (λ both. both.0.items ≡ map (λ one. one.engine) worked.items) }
     ensures books { IfOk result (λ both. map Ok both.1.items ≡ map (λ one. one.book) worked.items) }
     ensures legal { OnOk result (is_legal desk.now.plan desk.now.history ≡ true) }
     ensures complete { OnOk result (is_complete desk.now.plan desk.now.history ≡ true) }
-    ensures own { IsTrue inline → OnOk result (list_all (is_own_verdict (tickets_of desk.now.plan desk.now.history)) desk.now.history ≡ true) }
+    ensures own { judges_inline desk.now.plan ≡ true
+        → OnOk result (list_all (is_own_verdict (tickets_of desk.now.plan desk.now.history)) desk.now.history ≡ true) }
     ensures each { IfOk result (λ both. (i : ℕ) (book : _) → slice_get both.1.items i ≡ Some book
-        → book.items ≡ dones_of desk.now.plan inline desk.now.history i) }
+        → book.items ≡ dones_of desk.now.plan (judges_inline desk.now.plan) desk.now.history i) }
     ensures numbered { IfOk result (λ both. list_all (is_numbered (length both.1.items) desk.now.plan.verifiers) desk.now.history ≡ true) }
 {
+    let inline = judges_inline(desk.plan());
     let (engines, books) = sorted_out(alloc, worked)?;
     check(alloc, desk, inline, &books)?;
     Ok((engines, books))
