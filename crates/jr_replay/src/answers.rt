@@ -228,11 +228,10 @@ fn step_after(
     step_at(alloc, &work, past, worker, write)
 }
 
-/// Whether an event may happen after a history: each rule is worked out anew from the events.
-pub fn allowed(alloc: Global, plan: &Plan, history: &[Event], event: &Event) -> Result<bool, Memory>
-    ensures { IfOk result (λ yes. yes ≡ may_happen plan.now history.now event.now) }
+// Whether an event may happen after what a past says.
+fn may_follow(alloc: Global, plan: &Plan, past: &Past, event: &Event) -> Result<bool, Memory>
+    ensures { IfOk result (λ yes. yes ≡ may_happen plan.now past.now event.now) }
 {
-    let past = Past::new(alloc, history)?;
     match event {
         Event::Issue {
             worker,
@@ -240,7 +239,7 @@ pub fn allowed(alloc: Global, plan: &Plan, history: &[Event], event: &Event) -> 
             write,
             piece,
         } => {
-            let step = step_after(alloc, plan, &past, *worker, write)?;
+            let step = step_after(alloc, plan, past, *worker, write)?;
             Ok(is_this_issue(*dir, write, piece, &step))
         }
         Event::Probe {
@@ -248,20 +247,28 @@ pub fn allowed(alloc: Global, plan: &Plan, history: &[Event], event: &Event) -> 
             write,
             piece,
         } => {
-            let step = step_after(alloc, plan, &past, *worker, write)?;
+            let step = step_after(alloc, plan, past, *worker, write)?;
             Ok(is_this_probe(write, piece, &step))
         }
         Event::Skip { worker, write } => {
-            let step = step_after(alloc, plan, &past, *worker, write)?;
+            let step = step_after(alloc, plan, past, *worker, write)?;
             Ok(is_this_skip(write, &step))
         }
         Event::End {
             worker,
             io,
             outcome,
-        } => Ok(may_end(&past, *worker, *io as usize, *outcome)),
-        Event::Verdict { io, verdict, .. } => { Ok(may_judge(plan, &past, *io as usize, *verdict)) }
+        } => Ok(may_end(past, *worker, *io as usize, *outcome)),
+        Event::Verdict { io, verdict, .. } => Ok(may_judge(plan, past, *io as usize, *verdict)),
     }
+}
+
+/// Whether an event may happen after a history: each rule is worked out anew from the events.
+pub fn allowed(alloc: Global, plan: &Plan, history: &[Event], event: &Event) -> Result<bool, Memory>
+    ensures { IfOk result (λ yes. yes ≡ may_happen plan.now history.now event.now) }
+{
+    let past = Past::new(alloc, history)?;
+    may_follow(alloc, plan, &past, event)
 }
 
 // Whether each clone is finished or halted.
@@ -279,11 +286,18 @@ pub fn complete_among(work: &Agenda<'_>, past: &Past) -> bool
     past.in_flight().is_empty() && past.awaiting().is_empty() && all_over(work, past)
 }
 
+// Whether what a past says is a whole run of the plan.
+fn is_whole(alloc: Global, plan: &Plan, past: &Past) -> Result<bool, Memory>
+    ensures { IfOk result (λ yes. yes ≡ is_complete plan.now past.now) }
+{
+    let work = Agenda::new(alloc, plan)?;
+    Ok(complete_among(&work, past))
+}
+
 /// Whether a history is a whole run of the plan; as by `complete_among`.
 pub fn complete(alloc: Global, plan: &Plan, history: &[Event]) -> Result<bool, Memory>
     ensures { IfOk result (λ yes. yes ≡ is_complete plan.now history.now) }
 {
     let past = Past::new(alloc, history)?;
-    let work = Agenda::new(alloc, plan)?;
-    Ok(complete_among(&work, &past))
+    is_whole(alloc, plan, &past)
 }

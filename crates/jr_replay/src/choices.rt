@@ -59,6 +59,19 @@ pub fn choice_among(work: &Agenda<'_>, past: &Past, worker: u32) -> Option<Event
     None
 }
 
+// What a worker starts next after what a past says, if anything may be started.
+fn choice_after(
+    alloc: Global,
+    plan: &Plan,
+    past: &Past,
+    worker: u32,
+) -> Result<Option<Event>, Memory>
+    ensures { IfOk result (λ step. step ≡ choice plan.now past.now worker) }
+{
+    let work = Agenda::new(alloc, plan)?;
+    Ok(choice_among(&work, past, worker))
+}
+
 /// What a worker starts next after a history, if anything may be started.
 pub fn choice(
     alloc: Global,
@@ -69,6 +82,5 @@ pub fn choice(
     ensures { IfOk result (λ step. step ≡ choice plan.now history.now worker) }
 {
     let past = Past::new(alloc, history)?;
-    let work = Agenda::new(alloc, plan)?;
-    Ok(choice_among(&work, &past, worker))
+    choice_after(alloc, plan, &past, worker)
 }
