@@ -22,13 +22,13 @@ impl Screen for HostRuntime {
 // Back to the line's begin, and nothing on it.
 const WIPED: &str = "\r\x1b[K";
 
-// Calls `f`. Where standard error is a terminal, that shows meanwhile how far the run of this plan is, a line once a second, and
+// Calls `f`. Where standard error is a terminal, that shows meanwhile how far a run of this extent is, a line once a second, and
 // the line is wiped at the end.
 pub fn shown<
     R: Screen + Clock + Threads + Wait + Sync,
     T,
     F: for<'p> FnOnce(Option<&'p Progress>) -> T,
->(rt: &R, plan: Extent, f: F) -> T
+>(rt: &R, extent: Extent, f: F) -> T
     requires { F.IsAlwaysCallable f }
 {
     if !rt.is_shown() {
@@ -44,7 +44,7 @@ pub fn shown<
             requires { F.IsAlwaysCallable f }
         {
             // (a run that can't be shown goes on)
-            let _shown = scope.spawn(move || show(rt, plan, progress, bell));
+            let _shown = scope.spawn(move || show(rt, extent, progress, bell));
             let ended = f(Some(progress));
             bell.ring(rt);
             ended
@@ -88,11 +88,11 @@ pub struct Line {
 }
 
 impl Line {
-    fn of(plan: Extent, progress: &Progress) -> Line {
+    fn of(extent: Extent, progress: &Progress) -> Line {
         // (what counts fewer is read first, so that no number of a line is above one that it can't be above)
         let bad = progress.bad();
         let checks = progress.checks();
-        let percent = plan.percent(progress.bytes());
+        let percent = extent.percent(progress.bytes());
         Line {
             percent,
             ios: progress.ios(),
@@ -113,13 +113,13 @@ impl fmt::Display for Line {
 }
 
 // Prints the line once a second until the bell rings, and then wipes it.
-fn show<R: Screen + Clock + Wait>(rt: &R, plan: Extent, progress: &Progress, bell: &Bell) {
+fn show<R: Screen + Clock + Wait>(rt: &R, extent: Extent, progress: &Progress, bell: &Bell) {
     for _ in rt.forever() {
         if bell.rings_within(rt, Duration::from_secs(1)) {
             let _ = eprint!(rt; "{WIPED}");
             return;
         }
-        let _ = eprint!(rt; "{WIPED}{}", Line::of(plan, progress));
+        let _ = eprint!(rt; "{WIPED}{}", Line::of(extent, progress));
     }
 }
 
