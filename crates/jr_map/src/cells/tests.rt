@@ -1,4 +1,4 @@
-ghost use Rattle.std.specs.Prelude.{◌≡◌, ◌<◌, length, IfSome};
+ghost use Rattle.std.specs.Prelude.{◌≡◌, ◌<◌, ◌≤◌, length, IfSome};
 
 use super::*;
 use std::process::Abort;
@@ -15,23 +15,44 @@ fn draw(map: &mut CellMap, r: u32, want: u32) -> Option<(u32, u32)>
     Some((x, m))
 }
 
+// Takes all cells of a free map, and frees them.
+fn assert_takes_all(rt: &impl Abort, map: &mut CellMap, n: u32)
+    requires least { 1 ≤ n }
+    requires size { length map.old ≡ n }
+{
+    let most = (map.left(), draw(map, 0, n - 1), map.pick(0));
+    assert_eq!(rt; most, (n, Some((0, n - 1)), Some(n - 1)), "of {n}");
+    let last = (map.left(), draw(map, 0, n), map.pick(0));
+    assert_eq!(rt; last, (1, Some((n - 1, 1)), None), "of {n}");
+    map.clear();
+    assert_eq!(rt; (map.left(), map.pick(n - 1)), (n, Some(n - 1)));
+}
+
 // Sizes at which the levels of words change their shape.
 #[test]
 fn takes_all_cells(rt: HostRuntime) -> Result<(), Fail> {
     for n in [1, 64, 65, 4096, 4097, MOST_CELLS] {
         assert!(rt; 1 <= n && n <= MOST_CELLS);
         let mut map = CellMap::new(rt.alloc(), n)?;
-        assert_eq!(rt; map.left(), n);
-        assert_eq!(rt; draw(&mut map, 0, n - 1), Some((0, n - 1)));
-        assert_eq!(rt; map.pick(0), Some(n - 1), "of {n}");
-        assert_eq!(rt; map.left(), 1);
-        assert_eq!(rt; draw(&mut map, 0, n), Some((n - 1, 1)));
-        assert_eq!(rt; map.pick(0), None);
-        map.clear();
-        assert_eq!(rt; map.pick(n - 1), Some(n - 1));
-        assert_eq!(rt; map.left(), n);
+        assert_takes_all(&rt, &mut map, n);
     }
     Ok(())
+}
+
+// Goes on at the first cell where the cells behind are taken, in a free map.
+fn assert_goes_on(rt: &impl Abort, map: &mut CellMap, n: u32)
+    requires least { 8 ≤ n }
+    requires size { length map.old ≡ n }
+{
+    let behind = (draw(map, 1, n), map.pick(n - 1));
+    assert_eq!(rt; behind, (Some((1, n - 1)), Some(0)), "of {n}");
+    map.clear();
+    let three = (draw(map, n - 1, 1), draw(map, 0, 2), draw(map, n - 1, n));
+    assert_eq!(rt;
+        three,
+        (Some((n - 1, 1)), Some((0, 2)), Some((2, n - 3))),
+        "of {n}"
+    );
 }
 
 #[test]
@@ -39,12 +60,7 @@ fn goes_on_at_the_least_free_cell(rt: HostRuntime) -> Result<(), Fail> {
     for n in [8, 65, MOST_CELLS] {
         assert!(rt; 8 <= n && n <= MOST_CELLS);
         let mut map = CellMap::new(rt.alloc(), n)?;
-        assert_eq!(rt; draw(&mut map, 1, n), Some((1, n - 1)));
-        assert_eq!(rt; map.pick(n - 1), Some(0), "of {n}");
-        map.clear();
-        assert_eq!(rt; draw(&mut map, n - 1, 1), Some((n - 1, 1)));
-        assert_eq!(rt; draw(&mut map, 0, 2), Some((0, 2)));
-        assert_eq!(rt; draw(&mut map, n - 1, n), Some((2, n - 3)));
+        assert_goes_on(&rt, &mut map, n);
     }
     Ok(())
 }
@@ -52,12 +68,12 @@ fn goes_on_at_the_least_free_cell(rt: HostRuntime) -> Result<(), Fail> {
 #[test]
 fn cuts_a_run_at_a_taken_cell(rt: HostRuntime) -> Result<(), Fail> {
     let mut map = CellMap::new(rt.alloc(), 130)?;
-    assert_eq!(rt; draw(&mut map, 128, 1), Some((128, 1)));
-    assert_eq!(rt; draw(&mut map, 60, 100), Some((60, 68)));
+    let drawn = (draw(&mut map, 128, 1), draw(&mut map, 60, 100));
+    assert_eq!(rt; drawn, (Some((128, 1)), Some((60, 68))));
 
     let mut map = CellMap::new(rt.alloc(), 8)?;
-    assert_eq!(rt; draw(&mut map, 3, 1), Some((3, 1)));
-    assert_eq!(rt; draw(&mut map, 1, 4), Some((1, 2)));
+    let drawn = (draw(&mut map, 3, 1), draw(&mut map, 1, 4));
+    assert_eq!(rt; drawn, (Some((3, 1)), Some((1, 2))));
     Ok(())
 }
 
@@ -105,7 +121,27 @@ fn random(state: &mut u64) -> u32 {
     (*state >> 40) as u32
 }
 
-// Some draws from anywhere, with all cells freed again once none is left.
+// One draw from anywhere, of a map and of as many flags; all cells are freed again once none is left.
+fn compare_draws(rt: &impl Abort, map: &mut CellMap, taken: &mut [bool], n: u32, state: &mut u64)
+    requires least { 1 ≤ n }
+    requires size { length map.old ≡ n }
+    requires flags { length taken.old ≡ n }
+    ensures { length map.new ≡ n }
+{
+    let r = random(state) % n;
+    let want = 1 + random(state) % (1 + n / 32);
+    let drawn = draw(map, r, want);
+    let expected = draw_flags(taken, r as usize, want as usize);
+    let drawn = drawn.map(|(x, m)| (x as usize, m as usize));
+    assert_eq!(rt; drawn, expected, "of {n}, {want} from {r}");
+    assert_eq!(rt; map.left() as usize, left_flags(taken));
+    if drawn.is_none() {
+        map.clear();
+        taken.fill(false);
+    }
+}
+
+// So many draws of a map and of flags.
 fn compare(
     rt: &impl Abort,
     alloc: Global,
@@ -117,17 +153,7 @@ fn compare(
     let mut map = CellMap::new(alloc, n)?;
     let mut taken = vec![in alloc; false; n as usize]?;
     for _round in 0..rounds {
-        let r = random(state) % n;
-        let want = 1 + random(state) % (1 + n / 32);
-        let drawn = draw(&mut map, r, want);
-        let expected = draw_flags(&mut taken, r as usize, want as usize);
-        let drawn = drawn.map(|(x, m)| (x as usize, m as usize));
-        assert_eq!(rt; drawn, expected, "of {n}, {want} from {r}");
-        assert_eq!(rt; map.left() as usize, left_flags(&taken));
-        if drawn.is_none() {
-            map.clear();
-            taken.fill(false);
-        }
+        compare_draws(rt, &mut map, &mut taken, n, state);
     }
     Ok(())
 }
