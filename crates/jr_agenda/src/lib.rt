@@ -12,6 +12,3 @@ pub use agendas::{Agenda, PlannedClone};
 pub use counts::{totals, totals_among};
 pub use laws::moved_are_started;
 pub use passes::{Pass, has_rounds, is_write_draw};
-
-#[cfg(test)]
-mod tests;

@@ -16,16 +16,3 @@ pub use runs::{
 };
 pub use words::{Choice, answer_words, choose};
 pub use workers::workers_of;
-
-#[cfg(test)]
-mod crew_tests;
-#[cfg(test)]
-mod program_tests;
-#[cfg(test)]
-mod reply_tests;
-#[cfg(test)]
-mod run_tests;
-#[cfg(test)]
-mod tests;
-#[cfg(test)]
-mod words_tests;

@@ -19,7 +19,7 @@ use std::alloc::{AllocError, Global};
 use std::convert::AsStr;
 
 // The program's version, and the line of the kit that it is proved and built with.
-const VERSION: &str = "0.1.0\nrattle-kit-13b logic dac8208d650f15bf";
+const VERSION: &str = "0.1.0\nrattle-kit-13f logic dac8208d650f15bf";
 
 /// What the words of the command line ask for.
 #[derive(Clone, Copy, Debug, PartialEq, Eq)]

@@ -19,12 +19,3 @@ pub use crew::{Ran, run, run_watched};
 pub use faults::RunFault;
 pub use progress::Progress;
 pub use serial::{run_serial, run_serial_watched};
-
-#[cfg(test)]
-mod drop_tests;
-#[cfg(test)]
-mod progress_tests;
-#[cfg(test)]
-mod run_tests;
-#[cfg(test)]
-mod tests;

@@ -8,14 +8,3 @@ mod scripted;
 pub use jr_board::{Bad, Desk, Take};
 pub use jr_model::{DeskFault, Step, StepReply, Totals, is_same};
 pub use plays::{Played, play};
-
-#[cfg(test)]
-mod board_tests;
-#[cfg(test)]
-mod law_tests;
-#[cfg(test)]
-mod random_tests;
-#[cfg(test)]
-mod refused_tests;
-#[cfg(test)]
-mod tests;

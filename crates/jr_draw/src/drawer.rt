@@ -80,6 +80,3 @@ impl<W: WordSource + Drop> Drawer<W> {
         self.pass
     }
 }
-
-#[cfg(test)]
-mod tests;

@@ -14,6 +14,3 @@ pub use layouts::lay_out;
 pub use moving::{LARGEST_OFFSET, read_whole, write_whole};
 pub use positioned::Positioned;
 pub use shares::SharedFile;
-
-#[cfg(test)]
-mod tests;

@@ -3,8 +3,6 @@
 
 mod flights;
 mod ios;
-#[cfg(test)]
-mod tests;
 
 pub use flights::Flight;
 pub use ios::{FlightFault, Io};

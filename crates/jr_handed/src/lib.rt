@@ -3,8 +3,6 @@
 
 mod handed;
 mod launches;
-#[cfg(test)]
-mod tests;
 
 pub use handed::{Handed, Progress};
 pub use launches::Launch;

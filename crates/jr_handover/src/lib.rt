@@ -7,6 +7,3 @@ mod parcel;
 
 pub use handoff::{Handoff, Pass};
 pub use parcel::Parcel;
-
-#[cfg(test)]
-mod tests;

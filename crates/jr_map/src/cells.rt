@@ -95,6 +95,3 @@ impl CellMap {
         self.left = self.cells;
     }
 }
-
-#[cfg(test)]
-mod tests;

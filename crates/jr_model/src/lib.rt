@@ -11,8 +11,6 @@ mod memory;
 mod replies;
 mod sameness;
 mod steps;
-#[cfg(test)]
-mod tests;
 mod tickets;
 mod totals;
 mod workloads;

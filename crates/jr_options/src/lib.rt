@@ -4,8 +4,6 @@
 mod laws;
 mod planned;
 mod reading;
-#[cfg(test)]
-mod tests;
 
 pub use jr_plan::{Bound, EngineKind, FileSpec, Plan, SubJob, plan_text};
 pub use jr_settings::JobFault;

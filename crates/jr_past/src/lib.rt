@@ -19,6 +19,3 @@ pub use last_writes::{is_intact, last_write};
 pub use ledgers::Ledger;
 pub use marks::WriteEnd;
 pub use parts::{PART, part_of};
-
-#[cfg(test)]
-mod tests;

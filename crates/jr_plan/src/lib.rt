@@ -7,8 +7,6 @@ mod faults;
 mod files;
 mod plans;
 mod splits;
-#[cfg(test)]
-mod tests;
 mod texts;
 mod workloads;
 

@@ -11,6 +11,3 @@ mod turns;
 pub use answers::{allowed, complete, complete_among, may_end, may_judge};
 pub use choices::choice;
 pub use turns::legal_step_at;
-
-#[cfg(test)]
-mod tests;

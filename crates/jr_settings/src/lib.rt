@@ -6,8 +6,6 @@ mod keys;
 mod options;
 mod settings;
 mod shapes;
-#[cfg(test)]
-mod tests;
 mod values;
 mod words;
 

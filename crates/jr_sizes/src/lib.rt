@@ -5,8 +5,6 @@
 mod faults;
 mod reading;
 mod splits;
-#[cfg(test)]
-mod tests;
 
 pub use faults::SplitFault;
 pub use jr_plan::{Split, mix};

@@ -4,8 +4,6 @@
 
 mod deferred;
 mod draws;
-#[cfg(test)]
-mod tests;
 
 pub use deferred::DeferredRounds;
 pub use draws::DrawsLeft;

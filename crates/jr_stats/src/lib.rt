@@ -18,8 +18,3 @@ pub use laws::{accepted_is_a_trace, numbers_fit, trace_is_accepted};
 pub use reports::report;
 pub use totals::totals_text;
 pub use traces::trace;
-
-#[cfg(test)]
-mod law_tests;
-#[cfg(test)]
-mod tests;

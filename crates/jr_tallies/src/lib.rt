@@ -11,8 +11,3 @@ pub use laws::{
     tests_are_compared, verdicts_are_counted,
 };
 pub use tallies::{Bad, Counts, Tallies};
-
-#[cfg(test)]
-mod law_tests;
-#[cfg(test)]
-mod tests;

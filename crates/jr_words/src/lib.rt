@@ -8,6 +8,3 @@ mod source;
 pub use generator::Words;
 pub use seeds::pass_seed;
 pub use source::{WordList, WordSource};
-
-#[cfg(test)]
-mod tests;

@@ -6,6 +6,3 @@ mod logs;
 mod spots;
 
 pub use logs::{Logged, WriteLog};
-
-#[cfg(test)]
-mod tests;

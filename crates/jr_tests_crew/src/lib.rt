@@ -1,0 +1,13 @@
+// Tests of who runs: the hand-over, one worker, and several beside verifiers.
+#![tactic(auto)]
+
+#[cfg(test)]
+mod drops;
+#[cfg(test)]
+mod handover;
+#[cfg(test)]
+mod progress;
+#[cfg(test)]
+mod runs;
+#[cfg(test)]
+mod serial;

@@ -1,0 +1,111 @@
+use jr_board::Desk;
+use jr_crew::run_serial;
+use jr_engines::{Engine, MemoryEngine, NullEngine, Reply, ScriptedEngine};
+use jr_model::{EngineKind, IoType, Method, Pattern, Totals, VerifyKind};
+use jr_plan::{Draft, Plan, Workload};
+use std::alloc::Global;
+use std::process::Abort;
+use std::test::Fail;
+
+const NOTHING: Totals = Totals {
+    reads: 0,
+    rbytes: 0,
+    writes: 0,
+    wbytes: 0,
+    checks: 0,
+    good: 0,
+    bad: 0,
+    skipped: 0,
+    void: 0,
+    faults: 0,
+};
+
+// So many writes of 4096 bytes that are checked by a pattern of one byte.
+fn writes(alloc: Global, cells: u32, byte: u8) -> Result<Plan, Fail> {
+    let checked = Workload {
+        method: Method {
+            kind: VerifyKind::Pattern,
+            pattern: Pattern::new(&[byte]),
+        },
+        ..Workload::plain(IoType::Write, 4096, cells)
+    };
+    let mut draft = Draft::new(alloc);
+    draft.add(alloc, &checked, "w", String::from_str(alloc, "w.0.0")?, 0)?;
+    if draft.clones() == 0 {
+        return Err(Fail::from("no clones"));
+    }
+    Ok(draft.finish(EngineKind::Memory, 0))
+}
+
+// What a run of one clone over an engine of zeros counts.
+fn null_run(alloc: Global, byte: u8) -> Result<Totals, Fail> {
+    let desk = run_serial(alloc, writes(alloc, 1, byte)?, &mut NullEngine::new())?;
+    match desk.totals() {
+        [totals] => Ok(*totals),
+        _ => Err(Fail::from("one clone")),
+    }
+}
+
+// The run of one clone is complete, with so many events and these totals.
+fn assert_ran(rt: &impl Abort, desk: &Desk, events: usize, want: Totals) {
+    assert_eq!(rt; desk.history().len(), events);
+    assert!(rt; desk.is_complete());
+    assert!(rt; desk.totals() == [want].as_slice());
+}
+
+// The engine was called so often, and failed so often.
+fn assert_called<E: Engine>(rt: &impl Abort, engine: &E, calls: u64, failures: u64) {
+    assert_eq!(rt; engine.calls(), calls);
+    assert_eq!(rt; engine.failures(), failures);
+}
+
+#[test]
+fn each_write_is_checked_behind_the_last(rt: HostRuntime) -> Result<(), Fail> {
+    let plan = writes(rt.alloc(), 4, 0xab)?;
+    let mut engine = MemoryEngine::new(rt.alloc(), &plan)?;
+    let desk = run_serial(rt.alloc(), plan, &mut engine)?;
+    let want = Totals {
+        writes: 4,
+        wbytes: 16384,
+        checks: 4,
+        good: 4,
+        ..NOTHING
+    };
+    // Four writes with their ends, and four checks with their ends and verdicts.
+    assert_ran(&rt, &desk, 20, want);
+    assert_called(&rt, &engine, 8, 0);
+    Ok(())
+}
+
+#[test]
+fn a_failed_write_ends_its_clone(rt: HostRuntime) -> Result<(), Fail> {
+    let plan = writes(rt.alloc(), 4, 0xab)?;
+    let memory = MemoryEngine::new(rt.alloc(), &plan)?;
+    let script = Vec::from_array(rt.alloc(), [(1, Reply::Fail)])?;
+    let mut engine = ScriptedEngine::new(memory, script);
+    let desk = run_serial(rt.alloc(), plan, &mut engine)?;
+    let want = Totals {
+        writes: 1,
+        wbytes: 4096,
+        faults: 1,
+        ..NOTHING
+    };
+    assert_ran(&rt, &desk, 4, want);
+    assert_called(&rt, &engine, 2, 1);
+    Ok(())
+}
+
+#[test]
+fn an_engine_of_zeros_keeps_nothing(rt: HostRuntime) -> Result<(), Fail> {
+    let checked = Totals {
+        writes: 1,
+        wbytes: 4096,
+        checks: 1,
+        ..NOTHING
+    };
+    let found = null_run(rt.alloc(), 1)?;
+    assert_eq!(rt; found, Totals { bad: 1, ..checked });
+    let found = null_run(rt.alloc(), 0)?;
+    assert_eq!(rt; found, Totals { good: 1, ..checked });
+    Ok(())
+}

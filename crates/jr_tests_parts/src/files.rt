@@ -1,0 +1,486 @@
+ghost use Rattle.std.specs.Prelude.{◌+◌, ◌≤◌, IfOk};
+
+use jr_engines::{Engine, EngineFault, SharedMemory};
+use jr_files::{FileEngine, FileFault, Positioned, lay_out, read_whole, write_whole};
+use jr_model::{EngineKind, IoType, SECTOR};
+use jr_plan::{Draft, Plan, Workload};
+use std::alloc::{AllocError, Allocator, Global};
+use std::fs::{File, Metadata, OpenFile, OpenOptions};
+use std::io::{ErrorKind, Read, Seek, SeekFrom, Write};
+use std::os::unix::fs::symlink;
+use std::process::Abort;
+use std::rt::{Env, Files};
+use std::test::Fail;
+use std::{env, fs, io, process, thread};
+
+// A folder of this test's own, below the system's folder for such.
+fn fresh_folder<R: Files + Env + AllocGlobal>(rt: &R, id: u32, name: &str) -> io::Result<String> {
+    let mut folder = env::temp_dir(rt)?;
+    folder.push(format!(in rt.alloc(); "fiorun-{id}-{name}")?.as_str())?;
+    let folder = folder.into_string();
+    fs::create_dir(rt, folder.as_str())?;
+    Ok(folder)
+}
+
+// A job that writes a file of its own: its name, where it begins and how many blocks of 512 bytes it has.
+type Job<'a> = (&'a str, u64, u32);
+
+// The plan of jobs that write files of this folder.
+fn planned(alloc: Global, folder: &str, jobs: &[Job<'_>]) -> Result<Plan, Fail> {
+    let mut draft = Draft::new(alloc);
+    for (name, start, cells) in jobs {
+        let writes = Workload::plain(IoType::Write, SECTOR, *cells);
+        draft.add(alloc, &writes, name, path_in(alloc, folder, name)?, *start)?;
+    }
+    if draft.clones() == 0 {
+        return Err(Fail::from("no clones"));
+    }
+    Ok(draft.finish(EngineKind::File, 0))
+}
+
+fn path_in(alloc: Global, folder: &str, name: &str) -> Result<String, AllocError> {
+    format!(in alloc; "{folder}/{name}")
+}
+
+// What one file holds, behind the bytes that are as they were.
+fn assert_bytes(rt: &impl Abort, bytes: &[u8], old: u8, place: usize, new: &[u8]) {
+    for (i, byte) in bytes.iter().enumerate() {
+        let inside = i >= place && i - place < new.len();
+        let expected = if inside { new[i - place] } else { old };
+        assert!(rt; *byte == expected, "byte {i}");
+    }
+}
+
+#[test]
+fn files_hold_what_was_written(rt: HostRuntime) -> Result<(), Fail> {
+    let alloc = rt.alloc();
+    let folder = fresh_folder(&rt, process::id(rt.process()), "written")?;
+    let made = path_in(alloc, folder.as_str(), "a.0.0")?;
+    let longer = path_in(alloc, folder.as_str(), "b.0.0")?;
+    let linked = path_in(alloc, folder.as_str(), "linked")?;
+    let link = path_in(alloc, folder.as_str(), "c.0.0")?;
+    fs::write(&rt, longer.as_str(), &[7; 3000])?;
+    fs::write(&rt, linked.as_str(), &[8; 3])?;
+    symlink(&rt, linked.as_str(), link.as_str())?;
+    let jobs = [("a.0.0", 1024, 8), ("b.0.0", 0, 2), ("c.0.0", 0, 1)];
+    let plan = planned(alloc, folder.as_str(), &jobs)?;
+    lay_out(&rt, &plan)?;
+    lay_out(&rt, &plan)?;
+    let mut engine = FileEngine::new(&rt, alloc, &plan)?;
+    assert_eq!(rt; engine.write(0, 1500, &[1, 2, 3]), Ok(3));
+    assert_eq!(rt; engine.write(1, 600, &[4, 5]), Ok(2));
+    assert_eq!(rt; engine.write(2, 510, &[6, 6]), Ok(2));
+    let mut buf = [9; 4];
+    assert_eq!(rt; engine.read(0, 1499, &mut buf), Ok(4));
+    assert_eq!(rt; buf, [0, 1, 2, 3]);
+    assert_eq!(rt; (engine.calls(), engine.failures()), (4, 0));
+    let bytes = fs::read(&rt, made.as_str())?;
+    assert_eq!(rt; bytes.len(), 5120);
+    assert_bytes(&rt, bytes.as_slice(), 0, 1500, &[1, 2, 3]);
+    let bytes = fs::read(&rt, longer.as_str())?;
+    assert_eq!(rt; bytes.len(), 3000);
+    assert_bytes(&rt, bytes.as_slice(), 7, 600, &[4, 5]);
+    let bytes = fs::read(&rt, linked.as_str())?;
+    assert_eq!(rt; bytes.len(), 512);
+    assert_bytes(&rt, &bytes[..3], 8, 3, &[]);
+    assert_bytes(&rt, &bytes[3..], 0, 507, &[6, 6]);
+    fs::remove_dir_all(&rt, folder.as_str())?;
+    Ok(())
+}
+
+#[test]
+fn shortened_file_gives_a_short_read(rt: HostRuntime) -> Result<(), Fail> {
+    let alloc = rt.alloc();
+    let folder = fresh_folder(&rt, process::id(rt.process()), "short")?;
+    let plan = planned(alloc, folder.as_str(), &[("a.0.0", 0, 2)])?;
+    lay_out(&rt, &plan)?;
+    let mut engine = FileEngine::new(&rt, alloc, &plan)?;
+    let path = path_in(alloc, folder.as_str(), "a.0.0")?;
+    let file: File = OpenOptions::new().write(true).open(&rt, path.as_str())?;
+    file.set_len(512)?;
+    let mut buf = [9; 4];
+    assert_eq!(rt; engine.read(0, 510, &mut buf), Ok(2));
+    assert_eq!(rt; buf, [0, 0, 9, 9]);
+    assert_eq!(rt; engine.read(0, 512, &mut buf), Ok(0));
+    assert_eq!(rt; engine.read(0, 508, &mut buf), Ok(4));
+    assert_eq!(rt; (engine.calls(), engine.failures()), (3, 0));
+    fs::remove_dir_all(&rt, folder.as_str())?;
+    Ok(())
+}
+
+#[test]
+fn refused_files_are_named(rt: HostRuntime) -> Result<(), Fail> {
+    let alloc = rt.alloc();
+    let folder = fresh_folder(&rt, process::id(rt.process()), "refused")?;
+    let plan = planned(
+        alloc,
+        folder.as_str(),
+        &[("a.0.0", 0, 2), ("b.0.0", 0, 2), ("c.0.0", 0, 2)],
+    )?;
+    assert_eq!(rt;
+        FileEngine::new(&rt, alloc, &plan).err(),
+        Some(FileFault::File(0))
+    );
+    let second = path_in(alloc, folder.as_str(), "b.0.0")?;
+    fs::create_dir(&rt, second.as_str())?;
+    assert_eq!(rt; lay_out(&rt, &plan), Err(FileFault::File(1)));
+    assert_eq!(rt;
+        FileEngine::new(&rt, alloc, &plan).err(),
+        Some(FileFault::File(1))
+    );
+    assert_eq!(rt;
+        FileEngine::shared(&rt, alloc, &plan).err(),
+        Some(FileFault::File(1))
+    );
+    let first = path_in(alloc, folder.as_str(), "a.0.0")?;
+    assert_eq!(rt; fs::metadata(&rt, first.as_str())?.len(), 1024);
+    let third = path_in(alloc, folder.as_str(), "c.0.0")?;
+    assert!(rt; !fs::exists(&rt, third.as_str())?);
+    let missing = path_in(alloc, folder.as_str(), "missing")?;
+    let plan = planned(alloc, missing.as_str(), &[("a.0.0", 0, 2)])?;
+    assert_eq!(rt; lay_out(&rt, &plan), Err(FileFault::File(0)));
+    assert_eq!(rt;
+        FileEngine::new(&rt, alloc, &plan).err(),
+        Some(FileFault::File(0))
+    );
+    fs::remove_dir_all(&rt, folder.as_str())?;
+    Ok(())
+}
+
+// Where the test may write to every file the file isn't refused.
+#[test]
+fn file_without_the_right_to_write(rt: HostRuntime) -> Result<(), Fail> {
+    let alloc = rt.alloc();
+    let folder = fresh_folder(&rt, process::id(rt.process()), "unwritable")?;
+    let plan = planned(alloc, folder.as_str(), &[("a.0.0", 0, 2)])?;
+    lay_out(&rt, &plan)?;
+    let path = path_in(alloc, folder.as_str(), "a.0.0")?;
+    let mut permissions = fs::metadata(&rt, path.as_str())?.permissions();
+    permissions.set_readonly(true);
+    fs::set_permissions(&rt, path.as_str(), permissions)?;
+    let refused = OpenOptions::new()
+        .write(true)
+        .open(&rt, path.as_str())
+        .is_err();
+    let expected = refused.then_some(FileFault::File(0));
+    assert_eq!(rt; lay_out(&rt, &plan).err(), expected);
+    assert_eq!(rt; FileEngine::new(&rt, alloc, &plan).err(), expected);
+    fs::remove_dir_all(&rt, folder.as_str())?;
+    Ok(())
+}
+
+#[test]
+fn full_device_fails_its_writes(rt: HostRuntime) -> Result<(), Fail> {
+    let plan = planned(rt.alloc(), "/dev", &[("full", 0, 1)])?;
+    let mut engine = FileEngine::new(&rt, rt.alloc(), &plan)?;
+    assert_eq!(rt; engine.write(0, 0, &[1]), Err(EngineFault::Device));
+    let mut buf = [9; 2];
+    assert_eq!(rt; engine.read(0, 0, &mut buf), Ok(2));
+    assert_eq!(rt; engine.read(1, 0, &mut buf), Err(EngineFault::Outside));
+    assert_eq!(rt; engine.write(0, u64::MAX, &[1]), Err(EngineFault::Outside));
+    assert_eq!(rt; (engine.calls(), engine.failures()), (4, 3));
+    Ok(())
+}
+
+// A block device of so many bytes, which isn't to be written to. Its metadata says 0.
+#[derive(Drop)]
+struct Device {
+    len: u64,
+}
+
+impl Seek for Device {
+    fn seek(&mut self, to: SeekFrom) -> io::Result<u64> {
+        match to {
+            SeekFrom::End(0) => Ok(self.len),
+            SeekFrom::Start(place) => Ok(place),
+            _ => Err(io::Error::from(ErrorKind::InvalidInput)),
+        }
+    }
+}
+
+impl Read for Device {
+    fn read(&mut self, _buf: &mut [u8]) -> io::Result<usize> {
+        Err(io::Error::from(ErrorKind::Unsupported))
+    }
+}
+
+impl Write for Device {
+    fn write(&mut self, _buf: &[u8]) -> io::Result<usize> {
+        Err(io::Error::from(ErrorKind::StorageFull))
+    }
+
+    fn flush(&mut self) -> io::Result<()> {
+        Ok(())
+    }
+}
+
+impl OpenFile for Device {
+    fn metadata(&self) -> io::Result<Metadata> {
+        Ok(Metadata::of_file(0))
+    }
+
+    fn set_len(&self, _size: u64) -> io::Result<()> {
+        Err(io::Error::from(ErrorKind::InvalidInput))
+    }
+
+    fn sync_all(&self) -> io::Result<()> {
+        Ok(())
+    }
+
+    fn sync_data(&self) -> io::Result<()> {
+        Ok(())
+    }
+}
+
+// A system each of whose files is such a device.
+struct Devices {
+    len: u64,
+}
+
+impl Files for Devices {
+    type File = Device;
+
+    type Dir = Device;
+
+    fn open_file(&self, how: &OpenOptions, _path: &str) -> io::Result<Device> {
+        how.check()?;
+        Ok(Device { len: self.len })
+    }
+
+    fn open_dir(&self, _path: &str) -> io::Result<Device> {
+        Err(io::Error::from(ErrorKind::Unsupported))
+    }
+
+    fn metadata(&self, _path: &str) -> io::Result<Metadata> {
+        Ok(Metadata::of_file(0))
+    }
+
+    fn symlink_metadata(&self, _path: &str) -> io::Result<Metadata> {
+        Ok(Metadata::of_file(0))
+    }
+
+    fn copy(&self, _from: &str, _to: &str) -> io::Result<u64> {
+        Err(io::Error::from(ErrorKind::Unsupported))
+    }
+
+    fn rename(&self, _from: &str, _to: &str) -> io::Result<()> {
+        Err(io::Error::from(ErrorKind::Unsupported))
+    }
+
+    fn remove_file(&self, _path: &str) -> io::Result<()> {
+        Err(io::Error::from(ErrorKind::Unsupported))
+    }
+
+    fn create_dir(&self, _path: &str) -> io::Result<()> {
+        Err(io::Error::from(ErrorKind::Unsupported))
+    }
+
+    fn remove_dir(&self, _path: &str) -> io::Result<()> {
+        Err(io::Error::from(ErrorKind::Unsupported))
+    }
+
+    fn remove_dir_all<B: Allocator>(&self, _alloc: B, _path: &str) -> io::Result<()> {
+        Err(io::Error::from(ErrorKind::Unsupported))
+    }
+}
+
+#[test]
+fn block_device_is_as_long_as_a_seek_says(rt: HostRuntime) -> Result<(), Fail> {
+    let plan = planned(rt.alloc(), "/dev", &[("sda", 1024, 2)])?;
+    assert_eq!(rt; lay_out(&Devices { len: 2048 }, &plan), Ok(()));
+    let shorter = lay_out(&Devices { len: 2047 }, &plan);
+    assert_eq!(rt; shorter, Err(FileFault::File(0)));
+    Ok(())
+}
+
+// A file whose odd calls are interrupted and whose others move at most two bytes, up to its last call, which fails.
+#[derive(Drop)]
+struct Piecemeal {
+    bytes: [u8; 8],
+    calls: u64,
+    last: u64,
+}
+
+impl Piecemeal {
+    fn moves(&mut self, len: usize, offset: u64) -> io::Result<(usize, usize)>
+        ensures { IfOk result (λ (place, count). (place + count ≤ 8) × (count ≤ len)) }
+    {
+        self.calls = self.calls.saturating_add(1);
+        if self.calls >= self.last {
+            return Err(io::Error::from(ErrorKind::StorageFull));
+        }
+        if self.calls % 2 == 1 {
+            return Err(io::Error::from(ErrorKind::Interrupted));
+        }
+        let place = offset.min(8) as usize;
+        Ok((place, len.min(2).min(8 - place)))
+    }
+}
+
+impl Positioned for Piecemeal {
+    ghost use Rattle.jr_files.specs.Parts.{unknown_view};
+
+    ghost view = { λ _. unknown_view };
+
+    fn read_at(&mut self, buf: &mut [u8], offset: u64) -> io::Result<usize> {
+        let (place, count) = self.moves(buf.len(), offset)?;
+        buf[..count].copy_from_slice(&self.bytes[place..place + count]);
+        Ok(count)
+    }
+
+    fn write_at(&mut self, buf: &[u8], offset: u64) -> io::Result<usize> {
+        let (place, count) = self.moves(buf.len(), offset)?;
+        self.bytes[place..place + count].copy_from_slice(&buf[..count]);
+        Ok(count)
+    }
+}
+
+#[test]
+fn parts_are_gone_on_with(rt: HostRuntime) {
+    let bytes = [1, 2, 3, 4, 5, 6, 7, 8];
+    let calls = 0;
+    let mut file = Piecemeal {
+        bytes,
+        calls,
+        last: 99,
+    };
+    let mut buf = [9; 5];
+    assert_eq!(rt; read_whole(&mut file, 1, &mut buf), Ok(5));
+    assert_eq!(rt; (buf, file.calls), ([2, 3, 4, 5, 6], 6));
+    assert_eq!(rt; read_whole(&mut file, 5, &mut buf), Ok(3));
+    assert_eq!(rt; buf, [6, 7, 8, 5, 6]);
+    assert_eq!(rt; write_whole(&mut file, 2, &[21, 22, 23]), Ok(3));
+    assert_eq!(rt; file.bytes, [1, 2, 21, 22, 23, 6, 7, 8]);
+    assert_eq!(rt; write_whole(&mut file, 6, &[24, 25, 26]), Ok(2));
+    let mut file = Piecemeal {
+        bytes,
+        calls,
+        last: 3,
+    };
+    assert_eq!(rt;
+        read_whole(&mut file, 0, &mut buf),
+        Err(EngineFault::Device)
+    );
+    let mut file = Piecemeal {
+        bytes,
+        calls,
+        last: 3,
+    };
+    assert_eq!(rt;
+        write_whole(&mut file, 0, &[11, 12, 13]),
+        Err(EngineFault::Device)
+    );
+    assert_eq!(rt; file.bytes, [11, 12, 3, 4, 5, 6, 7, 8]);
+}
+
+// A file of bytes in memory, which are known; what is written behind them is let go.
+#[derive(Drop)]
+struct Kept {
+    bytes: Vec<u8>,
+}
+
+impl Positioned for Kept {
+    ghost use Rattle.std.specs.Prelude.{true};
+
+    ghost view = { λ a. record { is_sound = true; is_known = true; bytes = a.bytes.items } };
+
+    fn read_at(&mut self, buf: &mut [u8], offset: u64) -> io::Result<usize> {
+        let stored = self.bytes.as_slice();
+        let rest = &stored[stored.len().min(offset as usize)..];
+        let count = buf.len().min(rest.len());
+        buf[..count].copy_from_slice(&rest[..count]);
+        Ok(count)
+    }
+
+    fn write_at(&mut self, buf: &[u8], offset: u64) -> io::Result<usize> {
+        let start = self.bytes.len().min(offset as usize);
+        let count = buf.len().min(self.bytes.len() - start);
+        self.bytes[start..start + count].copy_from_slice(&buf[..count]);
+        Ok(buf.len())
+    }
+}
+
+#[test]
+fn files_of_another_kind(rt: HostRuntime) -> Result<(), Fail> {
+    let mut files = Vec::new(rt.alloc());
+    for last in [9, 4] {
+        files.push(Piecemeal {
+            bytes: [1; 8],
+            calls: 0,
+            last,
+        })?;
+    }
+    let mut engine = FileEngine::over(files);
+    assert_eq!(rt; engine.write(0, 3, &[2, 3, 4]), Ok(3));
+    let mut buf = [9; 4];
+    assert_eq!(rt; engine.read(0, 2, &mut buf), Ok(4));
+    assert_eq!(rt; buf, [1, 2, 3, 4]);
+    assert_eq!(rt; engine.write(1, 3, &[2, 3, 4]), Err(EngineFault::Device));
+    assert_eq!(rt; engine.write(2, 3, &[2]), Err(EngineFault::Outside));
+    assert_eq!(rt; (engine.calls(), engine.failures()), (4, 2));
+    let bytes = vec![in rt.alloc(); 0; 4]?;
+    let mut file = Kept { bytes };
+    assert_eq!(rt; write_whole(&mut file, 1, &[1, 2]), Ok(2));
+    assert_eq!(rt; read_whole(&mut file, 1, &mut buf), Ok(3));
+    assert_eq!(rt; buf, [1, 2, 0, 4]);
+    Ok(())
+}
+
+// Writes by an engine that has calls left, and then reads what stands before that.
+fn write_and_read(engine: &mut dyn Engine, offset: u64, byte: u8) -> Option<u8> {
+    if engine.calls() >= 9 {
+        return None;
+    }
+    let mut buf = [0];
+    let written = engine.write(0, offset, &[byte]);
+    let got = engine.read(0, offset, &mut buf);
+    (written == Ok(1) && got == Ok(1) && engine.failures() == 0).then_some(buf[0])
+}
+
+// Runs both engines side by side, each in a box of its own.
+fn assert_side_by_side(
+    rt: &(impl thread::Threads + Abort),
+    first: Box<dyn Engine + Send>,
+    second: Box<dyn Engine + Send>,
+) -> Result<(), Fail> {
+    let mut first = first;
+    let mut second = second;
+    let child = thread::spawn(rt, move || write_and_read(&mut *first, 1, 11))?;
+    assert_eq!(rt; write_and_read(&mut *second, 2, 12), Some(12));
+    assert_eq!(rt; child.join(rt), Some(11));
+    assert_eq!(rt; second.calls(), 2);
+    let mut buf = [9; 4];
+    assert_eq!(rt; second.read(0, 0, &mut buf), Ok(4));
+    assert_eq!(rt; buf, [0, 11, 12, 0]);
+    Ok(())
+}
+
+#[test]
+fn engines_side_by_side(rt: HostRuntime) -> Result<(), Fail> {
+    let alloc = rt.alloc();
+    let folder = fresh_folder(&rt, process::id(rt.process()), "boxed")?;
+    let plan = planned(alloc, folder.as_str(), &[("a.0.0", 0, 2)])?;
+    lay_out(&rt, &plan)?;
+    let first = Box::new(alloc, FileEngine::new(&rt, alloc, &plan)?)?;
+    let second = Box::new(alloc, FileEngine::new(&rt, alloc, &plan)?)?;
+    assert_side_by_side(&rt, first, second)?;
+    let shared = SharedMemory::new(rt.clone()?, alloc, &plan)?;
+    let second = Box::new(alloc, shared.share()?)?;
+    assert_side_by_side(&rt, Box::new(alloc, shared)?, second)?;
+    let plan = planned(alloc, folder.as_str(), &[("b.0.0", 0, 2)])?;
+    lay_out(&rt, &plan)?;
+    let shared = FileEngine::shared(&rt, alloc, &plan)?;
+    let second = Box::new(alloc, shared.share(alloc)?)?;
+    assert_side_by_side(&rt, Box::new(alloc, shared)?, second)?;
+    fs::remove_dir_all(&rt, folder.as_str())?;
+    Ok(())
+}
+
+#[test]
+fn faults_in_words(rt: HostRuntime) -> Result<(), Fail> {
+    let file = format!(in rt.alloc(); "{}", FileFault::File(3))?;
+    let memory = format!(in rt.alloc(); "{}", FileFault::Memory)?;
+    assert_eq!(rt; file.as_str(), "cannot open the files");
+    assert_eq!(rt; memory.as_str(), "out of memory");
+    Ok(())
+}

@@ -1,0 +1,13 @@
+// Tests of what is drawn (words, the map, the draws of a pass, a round that is put in later), and of files as an engine.
+#![tactic(auto)]
+
+#[cfg(test)]
+mod draws;
+#[cfg(test)]
+mod files;
+#[cfg(test)]
+mod map;
+#[cfg(test)]
+mod standing;
+#[cfg(test)]
+mod words;

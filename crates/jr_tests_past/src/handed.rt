@@ -1,0 +1,154 @@
+use jr_handed::{Handed, Progress};
+use jr_model::{
+    EngineKind, Expected, IoType, Method, Outcome, Pattern, Piece, Ticket, TicketKind, VerifyKind,
+    WriteId, is_same,
+};
+use jr_plan::{Draft, Plan, Workload};
+use std::alloc::Global;
+use std::process::Abort;
+use std::test::Fail;
+
+// A plan over memory: a clone whose blocks are a pattern, and one whose blocks have headers.
+fn two_clones(alloc: Global) -> Result<Plan, Fail> {
+    let pattern = Method {
+        kind: VerifyKind::Pattern,
+        pattern: Pattern::new(&[1, 2]),
+    };
+    let digest = Method {
+        kind: VerifyKind::Md5,
+        pattern: None,
+    };
+    let mut draft = Draft::new(alloc);
+    for (method, file) in [(pattern, "f"), (digest, "g")] {
+        let workload = Workload {
+            method,
+            ..Workload::plain(IoType::Write, 4096, 4)
+        };
+        draft.add(alloc, &workload, "w", String::from_str(alloc, file)?, 0)?;
+    }
+    if draft.clones() == 0 {
+        return Err(Fail::from("no clones"));
+    }
+    Ok(draft.finish(EngineKind::Memory, 0))
+}
+
+// The ticket of a clone's draw of this number.
+fn ticket_of(
+    plan: &Plan,
+    id: u32,
+    kind: TicketKind,
+    clone: u32,
+    expected: Expected,
+) -> Result<Ticket, Fail> {
+    if clone as usize >= plan.clones() {
+        return Err(Fail::from("no such clone"));
+    }
+    Ok(Ticket {
+        id,
+        worker: 3,
+        kind,
+        write: WriteId {
+            clone,
+            pass: 0,
+            number: 2,
+        },
+        piece: Piece {
+            file: clone,
+            offset: 8192,
+            len: 4096,
+        },
+        seed: 1_000_000_007,
+        method: plan.clone_at(clone as usize).method(),
+        expected,
+    })
+}
+
+// Hands the ticket out, and all that were handed out before it are as they were.
+fn hand_out(
+    rt: &impl Abort,
+    plan: &Plan,
+    handed: &mut Handed,
+    tickets: &[Ticket],
+    id: u32,
+) -> Result<(), Fail> {
+    assert_eq!(rt; handed.count(), id as usize);
+    assert!(rt; handed.ticket(plan, id).is_none());
+    assert!(rt; handed.seed(id).is_none());
+    assert!(rt; handed.piece(id).is_none());
+    let ticket = tickets.get(id as usize).ok_or("no ticket")?;
+    handed.reserve()?;
+    assert!(rt; handed.headers.len() < 9);
+    handed.hand(ticket);
+    for (number, ticket) in tickets.iter().enumerate().take(id as usize + 1) {
+        let own = handed.ticket(plan, number as u32).ok_or("not there")?;
+        assert!(rt; is_same(&own, ticket), "at {number}");
+        assert_eq!(rt; handed.seed(number as u32), Some(1_000_000_007));
+        assert_eq!(rt; handed.piece(number as u32), Some(ticket.piece));
+    }
+    Ok(())
+}
+
+#[test]
+fn tickets_come_back_as_they_were_handed_out(rt: HostRuntime) -> Result<(), Fail> {
+    let plan = two_clones(rt.alloc())?;
+    let pattern = Pattern::new(&[1, 2]).ok_or("no pattern")?;
+    let tickets = [
+        ticket_of(&plan, 0, TicketKind::Write, 1, Expected::Nothing)?,
+        ticket_of(&plan, 1, TicketKind::Probe, 1, Expected::Header([7; 64]))?,
+        ticket_of(&plan, 2, TicketKind::Read, 0, Expected::Nothing)?,
+        ticket_of(&plan, 3, TicketKind::Probe, 0, Expected::Pattern(pattern))?,
+        ticket_of(&plan, 4, TicketKind::Probe, 1, Expected::Header([9; 64]))?,
+    ];
+    let mut handed = Handed::new(rt.alloc());
+    for id in 0..5u32 {
+        hand_out(&rt, &plan, &mut handed, &tickets, id)?;
+    }
+    assert_eq!(rt; handed.headers.len(), 2);
+    Ok(())
+}
+
+fn end(rt: &impl Abort, handed: &mut Handed, id: u32, outcome: Outcome) {
+    assert!(rt; (id as usize) < handed.progress.len());
+    handed.end(id, outcome);
+}
+
+// How far the I/O of this number has come, as each call says.
+fn is_at(handed: &Handed, id: u32, ended: bool, whole: bool, judged: bool) -> bool {
+    handed.has_ended(id) == ended
+        && handed.has_ended_whole(id) == whole
+        && handed.is_judged(id) == judged
+}
+
+// Hands out a check.
+fn hand_check(rt: &impl Abort, plan: &Plan, handed: &mut Handed, id: u32) -> Result<(), Fail> {
+    let ticket = ticket_of(plan, id, TicketKind::Probe, 1, Expected::Header([7; 64]))?;
+    handed.reserve()?;
+    assert!(rt; handed.headers.len() < 9);
+    handed.hand(&ticket);
+    Ok(())
+}
+
+#[test]
+fn each_goes_its_own_way(rt: HostRuntime) -> Result<(), Fail> {
+    let plan = two_clones(rt.alloc())?;
+    let mut handed = Handed::new(rt.alloc());
+    for id in 0..3u32 {
+        assert!(rt; is_at(&handed, id, false, false, false));
+        hand_check(&rt, &plan, &mut handed, id)?;
+        assert!(rt; is_at(&handed, id, false, false, false));
+    }
+    assert_eq!(rt; handed.progress.len(), 3);
+    end(&rt, &mut handed, 2, Outcome::Short(512));
+    end(&rt, &mut handed, 1, Outcome::Whole);
+    assert!(rt; is_at(&handed, 0, false, false, false));
+    assert!(rt; is_at(&handed, 1, true, true, false));
+    assert!(rt; is_at(&handed, 2, true, false, false));
+    assert_eq!(rt; handed.progress.len(), 3);
+    handed.judge(1);
+    assert!(rt; is_at(&handed, 1, true, true, true));
+    end(&rt, &mut handed, 0, Outcome::Failed);
+    let states = [Progress::Faulty, Progress::Judged, Progress::Faulty];
+    assert_eq!(rt; handed.progress.as_slice(), states.as_slice());
+    assert!(rt; is_at(&handed, 3, false, false, false));
+    Ok(())
+}

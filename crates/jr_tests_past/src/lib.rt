@@ -1,0 +1,19 @@
+// Tests of what is kept of a run, and of the definitions as a plain program: what flies, what is intact, what a history says.
+#![tactic(auto)]
+
+#[cfg(test)]
+mod agenda;
+#[cfg(test)]
+mod flight;
+#[cfg(test)]
+mod handed;
+#[cfg(test)]
+mod laws;
+#[cfg(test)]
+mod past;
+#[cfg(test)]
+mod replay;
+#[cfg(test)]
+mod tallies;
+#[cfg(test)]
+mod writes;

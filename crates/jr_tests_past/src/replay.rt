@@ -1,0 +1,315 @@
+use jr_model::{
+    Dir, EngineKind, Event, IoType, Method, Outcome, Pattern, Piece, TicketKind, Verdict,
+    VerifyKind, What, WriteId,
+};
+use jr_past::{Past, is_intact, last_write, started};
+use jr_plan::{Draft, Plan, Workload};
+use jr_replay::{allowed, choice, complete};
+use std::alloc::Global;
+use std::process::Abort;
+use std::test::Fail;
+
+// A plan over memory: of clones with these files and starts.
+fn plan_of(alloc: Global, clones: &[(Workload, &str, u64)]) -> Result<Plan, Fail> {
+    let mut draft = Draft::new(alloc);
+    for (workload, file, start) in clones {
+        draft.add(alloc, workload, "w", String::from_str(alloc, file)?, *start)?;
+    }
+    if draft.clones() == 0 {
+        return Err(Fail::from("no clones"));
+    }
+    Ok(draft.finish(EngineKind::Memory, 0))
+}
+
+// Writes of 4096 bytes, so many, that are checked by their pattern.
+fn checked(cells: u32) -> Workload {
+    Workload {
+        method: Method {
+            kind: VerifyKind::Pattern,
+            pattern: Pattern::new(&[1]),
+        },
+        ..Workload::plain(IoType::Write, 4096, cells)
+    }
+}
+
+// Write k of a clone's first pass.
+fn write(clone: u32, number: u32) -> WriteId {
+    WriteId {
+        clone,
+        pass: 0,
+        number,
+    }
+}
+
+// Block x of 4096 bytes of the first file.
+fn block(x: u8) -> Piece {
+    Piece {
+        file: 0,
+        offset: 4096 * u64::from(x),
+        len: 4096,
+    }
+}
+
+fn issue(worker: u32, write: WriteId, piece: Piece) -> Event {
+    Event::Issue {
+        worker,
+        dir: Dir::Write,
+        write,
+        piece,
+    }
+}
+
+fn probe(worker: u32, write: WriteId, piece: Piece) -> Event {
+    Event::Probe {
+        worker,
+        write,
+        piece,
+    }
+}
+
+fn end(worker: u32, io: u32, outcome: Outcome) -> Event {
+    Event::End {
+        worker,
+        io,
+        outcome,
+    }
+}
+
+fn good(worker: u32, io: u32) -> Event {
+    Event::Verdict {
+        worker,
+        io,
+        verdict: Verdict::Good,
+    }
+}
+
+// One worker's run of two checked writes.
+fn two_checked() -> [Event; 10] {
+    [
+        issue(0, write(0, 0), block(0)),
+        end(0, 0, Outcome::Whole),
+        issue(0, write(0, 1), block(1)),
+        end(0, 1, Outcome::Whole),
+        probe(0, write(0, 0), block(0)),
+        end(0, 2, Outcome::Whole),
+        good(0, 2),
+        probe(0, write(0, 1), block(1)),
+        end(0, 3, Outcome::Whole),
+        good(0, 3),
+    ]
+}
+
+// The first events of a history, so many.
+fn front(history: &[Event], count: usize) -> &[Event] {
+    &history[..count.min(history.len())]
+}
+
+// The events up to the first that may not happen after those before it.
+fn legal_front(alloc: Global, plan: &Plan, history: &[Event]) -> Result<usize, Fail> {
+    for (i, event) in history.iter().enumerate() {
+        if !allowed(alloc, plan, &history[..i], event)? {
+            return Ok(i);
+        }
+    }
+    Ok(history.len())
+}
+
+#[test]
+fn a_checked_run_is_legal_and_complete(rt: HostRuntime) -> Result<(), Fail> {
+    let plan = plan_of(rt.alloc(), &[(checked(2), "f", 0)])?;
+    let history = two_checked();
+    assert_eq!(rt; legal_front(rt.alloc(), &plan, &history)?, 10);
+    assert!(rt; complete(rt.alloc(), &plan, &history)?);
+    assert!(rt; !complete(rt.alloc(), &plan, front(&history, 9))?);
+    Ok(())
+}
+
+#[test]
+fn a_run_with_events_exchanged_is_not_legal(rt: HostRuntime) -> Result<(), Fail> {
+    let plan = plan_of(rt.alloc(), &[(checked(2), "f", 0)])?;
+    let mut history = two_checked();
+    history.swap(0, 1);
+    assert_eq!(rt; legal_front(rt.alloc(), &plan, &history)?, 0);
+    let mut history = two_checked();
+    history.swap(3, 4);
+    assert_eq!(rt; legal_front(rt.alloc(), &plan, &history)?, 3);
+    Ok(())
+}
+
+#[test]
+fn each_start_of_a_run_is_the_choice(rt: HostRuntime) -> Result<(), Fail> {
+    let plan = plan_of(rt.alloc(), &[(checked(2), "f", 0)])?;
+    let history = two_checked();
+    for start in [0, 2, 4, 7] {
+        let step = choice(rt.alloc(), &plan, front(&history, start), 0)?;
+        assert_eq!(rt; step, history.get(start).copied());
+    }
+    for start in [1, 3, 5, 8, 9] {
+        let step = choice(rt.alloc(), &plan, front(&history, start), 0)?;
+        assert_eq!(rt; step, None, "at depth 1");
+    }
+    let step = choice(rt.alloc(), &plan, front(&history, 6), 0)?;
+    assert_eq!(rt; step, Some(history[7]), "a verdict to come bars nothing");
+    assert_eq!(rt; choice(rt.alloc(), &plan, &history, 0)?, None);
+    Ok(())
+}
+
+#[test]
+fn what_is_not_its_own_is_not_allowed(rt: HostRuntime) -> Result<(), Fail> {
+    let plan = plan_of(rt.alloc(), &[(checked(2), "f", 0)])?;
+    let history = two_checked();
+    let none = &history[..0];
+    let one = &history[..1];
+    let alloc = rt.alloc();
+    assert!(rt;
+        !allowed(alloc, &plan, none, &issue(0, write(0, 0), block(1)))?,
+        "another piece"
+    );
+    assert!(rt;
+        !allowed(alloc, &plan, none, &issue(0, write(0, 1), block(1)))?,
+        "out of turn"
+    );
+    assert!(rt;
+        !allowed(alloc, &plan, none, &issue(0, write(1, 0), block(0)))?,
+        "no such clone"
+    );
+    assert!(rt;
+        !allowed(alloc, &plan, one, &issue(0, write(0, 1), block(1)))?,
+        "depth is 1"
+    );
+    assert!(rt;
+        !allowed(alloc, &plan, one, &end(1, 0, Outcome::Whole))?,
+        "another worker"
+    );
+    assert!(rt;
+        !allowed(alloc, &plan, one, &end(0, 0, Outcome::Short(4096)))?,
+        "not short"
+    );
+    assert!(rt; allowed(alloc, &plan, one, &end(0, 0, Outcome::Short(4095)))?);
+    assert!(rt; !allowed(alloc, &plan, one, &good(0, 0))?, "no check");
+    assert!(rt;
+        !allowed(alloc, &plan, &history, &good(0, 3))?,
+        "a second verdict"
+    );
+    Ok(())
+}
+
+#[test]
+fn a_pattern_finds_a_byte_and_no_header(rt: HostRuntime) -> Result<(), Fail> {
+    let plan = plan_of(rt.alloc(), &[(checked(2), "f", 0)])?;
+    let history = two_checked();
+    let says = |what| Event::Verdict {
+        worker: 0,
+        io: 2,
+        verdict: Verdict::Bad(what),
+    };
+    assert!(rt; allowed(rt.alloc(), &plan, &history[..6], &says(What::Byte(4095)))?);
+    assert!(rt; !allowed(rt.alloc(), &plan, &history[..6], &says(What::Byte(4096)))?);
+    assert!(rt; !allowed(rt.alloc(), &plan, &history[..6], &says(What::Header))?);
+    Ok(())
+}
+
+#[test]
+fn a_fault_halts_its_clone(rt: HostRuntime) -> Result<(), Fail> {
+    let plan = plan_of(rt.alloc(), &[(checked(2), "f", 0)])?;
+    let history = [issue(0, write(0, 0), block(0)), end(0, 0, Outcome::Failed)];
+    assert_eq!(rt; choice(rt.alloc(), &plan, &history, 0)?, None);
+    assert!(rt; complete(rt.alloc(), &plan, &history)?);
+    let past = Past::new(rt.alloc(), &history)?;
+    assert_eq!(rt; last_write(&past, 0, 0), None);
+    Ok(())
+}
+
+// Two clones write the same two blocks of one file; the second clone's first write comes between.
+fn shared() -> [Event; 6] {
+    [
+        issue(0, write(0, 0), block(0)),
+        end(0, 0, Outcome::Whole),
+        issue(0, write(0, 1), block(1)),
+        issue(1, write(1, 0), block(0)),
+        end(1, 2, Outcome::Whole),
+        end(0, 1, Outcome::Whole),
+    ]
+}
+
+#[test]
+fn a_write_that_another_clone_overwrote_is_skipped(rt: HostRuntime) -> Result<(), Fail> {
+    let plan = plan_of(rt.alloc(), &[(checked(2), "f", 0), (checked(2), "f", 0)])?;
+    let history = shared();
+    assert_skipped(&rt, rt.alloc(), &plan, &history)?;
+    let past = Past::new(rt.alloc(), &history)?;
+    assert_overwritten(&rt, &past);
+    Ok(())
+}
+
+// The first write of the first clone can only be skipped.
+fn assert_skipped(
+    rt: &impl Abort,
+    alloc: Global,
+    plan: &Plan,
+    history: &[Event; 6],
+) -> Result<(), Fail> {
+    assert_eq!(rt; legal_front(alloc, plan, history)?, 6);
+    assert_eq!(rt;
+        choice(alloc, plan, &history[..1], 1)?,
+        None,
+        "it would overlap"
+    );
+    let skip = Event::Skip {
+        worker: 0,
+        write: write(0, 0),
+    };
+    assert_eq!(rt; choice(alloc, plan, history, 0)?, Some(skip));
+    assert!(rt; allowed(alloc, plan, history, &skip)?);
+    let check = probe(0, write(0, 0), block(0));
+    assert!(rt; !allowed(alloc, plan, history, &check)?);
+    Ok(())
+}
+
+// The second clone's write is the last one of the piece.
+fn assert_overwritten(rt: &impl Abort, past: &Past) {
+    assert_eq!(rt; last_write(past, 0, 7), Some(write(1, 0)));
+    assert_eq!(rt; last_write(past, 0, 8), Some(write(0, 1)));
+    assert_eq!(rt; last_write(past, 0, 16), None);
+    assert!(rt; !is_intact(past, &write(0, 0), &block(0)));
+    assert!(rt; is_intact(past, &write(1, 0), &block(0)));
+}
+
+#[test]
+fn a_later_phase_waits(rt: HostRuntime) -> Result<(), Fail> {
+    let early = Workload::plain(IoType::Write, 4096, 1);
+    let late = Workload {
+        phase: 1,
+        ..Workload::plain(IoType::Write, 4096, 1)
+    };
+    let plan = plan_of(rt.alloc(), &[(early, "a", 0), (late, "b", 0)])?;
+    let first = issue(0, write(0, 0), block(0));
+    let next = issue(
+        0,
+        write(1, 0),
+        Piece {
+            file: 1,
+            offset: 0,
+            len: 4096,
+        },
+    );
+    let history = [first, end(0, 0, Outcome::Whole), next];
+    assert_eq!(rt; choice(rt.alloc(), &plan, &history[..1], 0)?, None);
+    assert_eq!(rt; choice(rt.alloc(), &plan, &history[..2], 0)?, Some(next));
+    assert_eq!(rt; legal_front(rt.alloc(), &plan, &history)?, 3);
+    Ok(())
+}
+
+#[test]
+fn what_was_started(rt: HostRuntime) -> Result<(), Fail> {
+    let history = two_checked();
+    let ios = started(rt.alloc(), &history)?;
+    assert_eq!(rt; ios.len(), 4);
+    assert_eq!(rt; ios.get(1).map(|io| io.piece), Some(block(1)));
+    assert_eq!(rt; ios.get(2).map(|io| io.kind), Some(TicketKind::Probe));
+    assert_eq!(rt; ios.get(3).map(|io| io.write), Some(write(0, 1)));
+    let past = Past::new(rt.alloc(), front(&history, 6))?;
+    assert_eq!(rt; past.in_flight().len(), 0);
+    assert_eq!(rt; past.awaiting().len(), 1);
+    Ok(())
+}

@@ -1,0 +1,112 @@
+use jr_cli::{CliFault, execute, print_check, read_job, workers_of};
+use jr_crew::RunFault;
+use jr_engines::{Engine, MemoryEngine, Reply, ScriptedEngine, SharedMemory};
+use std::process::Abort;
+use std::test::Fail;
+
+const FLIPPED: &str = "[w]\nioengine=memory\nrw=write\nsize=16k\nverify=md5\n";
+
+const FLIPPED_REPORT: &str =
+    "w: clone=0 reads=0 rbytes=0 writes=4 wbytes=16384 checks=4 good=3 bad=1 skipped=0 void=0 faults=0\nmiscompare: clone=0 pass=0 number=2 file=w.0.0 offset=8192 length=4096 what=data\n";
+
+#[test]
+fn a_flipped_byte_is_found_by_a_crew(rt: HostRuntime) -> Result<(), Fail> {
+    let plan = read_job(rt.alloc(), FLIPPED.as_bytes(), None)?;
+    let memory = MemoryEngine::new(rt.alloc(), &plan)?;
+    let script = Vec::from_array(rt.alloc(), [(6, Reply::Flip(100))])?;
+    let mut engines: Vec<Box<dyn Engine + Send>> = Vec::new(rt.alloc());
+    engines.push(Box::new(rt.alloc(), ScriptedEngine::new(memory, script))?)?;
+    let mut out = Vec::new(rt.alloc());
+    let status = execute(
+        &rt,
+        rt.alloc(),
+        plan,
+        engines,
+        None::<&mut Vec<u8>>,
+        &mut out,
+    )?;
+    assert!(rt; status == 1);
+    assert!(rt; out.as_slice() == FLIPPED_REPORT.as_bytes());
+    Ok(())
+}
+
+const RANDOM: &str =
+    "[w]\nioengine=memory\nrw=randwrite\nsize=400k\niodepth=8\nverify=sha256\nverify_async=";
+
+const RANDOM_REPORT: &str =
+    "w: clone=0 reads=0 rbytes=0 writes=100 wbytes=409600 checks=100 good=100 bad=0 skipped=0 void=0 faults=0\n";
+
+// Is the trace that of a run with this report?
+fn assert_checked(
+    rt: &(impl AllocGlobal + Abort),
+    text: &str,
+    events: &[u8],
+    want: &str,
+) -> Result<(), Fail> {
+    let plan = read_job(rt.alloc(), text.as_bytes(), None)?;
+    let mut totals = Vec::new(rt.alloc());
+    print_check(rt.alloc(), &plan, events, &mut totals)?;
+    assert!(rt; totals.as_slice() == want.as_bytes());
+    Ok(())
+}
+
+#[test]
+fn four_workers_write_one_report(rt: HostRuntime) -> Result<(), Fail> {
+    for verifiers in ["0\n", "2\n"] {
+        let text = format!(in rt.alloc(); "{RANDOM}{verifiers}")?;
+        let plan = read_job(rt.alloc(), text.as_bytes(), None)?;
+        let shared = SharedMemory::new(rt.clone()?, rt.alloc(), &plan)?;
+        let mut engines: Vec<Box<dyn Engine + Send>> = Vec::new(rt.alloc());
+        for _ in 0..4 {
+            engines.push(Box::new(rt.alloc(), shared.share()?)?)?;
+        }
+        let mut events = Vec::new(rt.alloc());
+        let mut out = Vec::new(rt.alloc());
+        let status = execute(&rt, rt.alloc(), plan, engines, Some(&mut events), &mut out)?;
+        assert!(rt; status == 0);
+        assert!(rt; out.as_slice() == RANDOM_REPORT.as_bytes());
+        assert_checked(&rt, text.as_str(), events.as_slice(), RANDOM_REPORT)?;
+    }
+    Ok(())
+}
+
+#[test]
+fn a_crew_wants_an_engine(rt: HostRuntime) -> Result<(), Fail> {
+    let plan = read_job(rt.alloc(), FLIPPED.as_bytes(), None)?;
+    let engines: Vec<Box<dyn Engine + Send>> = Vec::new(rt.alloc());
+    let mut out = Vec::new(rt.alloc());
+    let refused = execute(
+        &rt,
+        rt.alloc(),
+        plan,
+        engines,
+        None::<&mut Vec<u8>>,
+        &mut out,
+    );
+    assert!(rt; refused == Err(CliFault::Run(RunFault::NoEngine)));
+    assert!(rt; out.is_empty());
+    Ok(())
+}
+
+// Has a run of the job text so many workers, where these are asked for?
+fn assert_workers(
+    rt: &(impl AllocGlobal + Abort),
+    text: &str,
+    asked: Option<u32>,
+    want: u32,
+) -> Result<(), Fail> {
+    let plan = read_job(rt.alloc(), text.as_bytes(), None)?;
+    assert!(rt; workers_of(&plan, asked) == want, "{text}");
+    Ok(())
+}
+
+#[test]
+fn workers_are_the_depths_up_to_16(rt: HostRuntime) -> Result<(), Fail> {
+    let many = "[a]\nsize=4k\niodepth=256\nnumjobs=64\n";
+    let eight = "[a]\nsize=4k\niodepth=3\nnumjobs=2\n[b]\nsize=4k\niodepth=2\n";
+    assert_workers(&rt, "[a]\nsize=4k\n", None, 1)?;
+    assert_workers(&rt, eight, None, 8)?;
+    assert_workers(&rt, many, None, 16)?;
+    assert_workers(&rt, many, Some(3), 3)?;
+    Ok(())
+}
