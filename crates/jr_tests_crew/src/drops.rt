@@ -1,7 +1,8 @@
-use jr_crew::{RunFault, run};
+use crate::plans::plan_of;
+use jr_crew::{Ran, RunFault, run};
 use jr_engines::{Engine, EngineFault};
-use jr_model::{EngineKind, IoType, MOST_VERIFIERS, Method, Pattern, VerifyKind};
-use jr_plan::{Draft, Plan, Workload};
+use jr_model::{EngineKind, IoType, Method, Pattern, VerifyKind};
+use jr_plan::{Plan, Workload};
 use std::alloc::Global;
 use std::sync::atomic::{AtomicU64, Ordering};
 use std::sync::{Arc, Wait};
@@ -59,12 +60,7 @@ fn plan_with(alloc: Global, verifiers: u32) -> Result<Plan, Fail> {
         },
         ..Workload::plain(IoType::Write, 512, 4)
     };
-    let mut draft = Draft::new(alloc);
-    draft.add(alloc, &checked, "w", String::from_str(alloc, "f")?, 0)?;
-    if draft.clones() == 0 || verifiers > MOST_VERIFIERS {
-        return Err(Fail::from("no such plan"));
-    }
-    Ok(draft.finish(EngineKind::Null, verifiers))
+    plan_of(alloc, &checked, 1, EngineKind::Null, verifiers)
 }
 
 // So many engines that were called so often before, and count in one place.
@@ -93,18 +89,24 @@ fn dropped_by<R: Threads + Wait + Sync>(
     verifiers: u32,
     calls: u64,
 ) -> Result<(u64, Option<RunFault>), Fail> {
-    let dropped = Arc::new(alloc, AtomicU64::new(0))?;
     let plan = plan_with(alloc, verifiers)?;
+    let dropped = Arc::new(alloc, AtomicU64::new(0))?;
     let engines = engines_for(alloc, workers, calls, &dropped)?;
-    match run(rt, alloc, plan, engines) {
-        Ok(ran) => {
-            if dropped.load(Ordering::SeqCst) != 0 {
-                return Err(Fail::from("an engine was dropped before the answer"));
-            }
-            drop(ran);
-            Ok((dropped.load(Ordering::SeqCst), None))
+    let fault = fault_of(run(rt, alloc, plan, engines), &dropped)?;
+    Ok((dropped.load(Ordering::SeqCst), fault))
+}
+
+// The fault of a run; where it has none, no engine was dropped before its answer, which is dropped here.
+fn fault_of(
+    answer: Result<Ran, RunFault>,
+    dropped: &Arc<AtomicU64, Global>,
+) -> Result<Option<RunFault>, Fail> {
+    match answer {
+        Ok(_) if dropped.load(Ordering::SeqCst) != 0 => {
+            Err(Fail::from("an engine was dropped before the answer"))
         }
-        Err(fault) => Ok((dropped.load(Ordering::SeqCst), Some(fault))),
+        Ok(_) => Ok(None),
+        Err(fault) => Ok(Some(fault)),
     }
 }
 

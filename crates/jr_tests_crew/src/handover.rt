@@ -1,6 +1,7 @@
 ghost use Rattle.std.specs.Prelude.{◌<◌};
 ghost use Rattle.jr_handover.specs.Passes.{IsPassOf};
 
+use crate::plans::plan_of;
 use jr_engines::{Engine, MemoryEngine};
 use jr_handover::{Handoff, Parcel, Pass};
 use jr_header::{Served, serve};
@@ -8,7 +9,7 @@ use jr_model::{
     EngineKind, Expected, IoType, Method, Outcome, Piece, SECTOR, Ticket, TicketKind, VerifyKind,
     WriteId,
 };
-use jr_plan::{Draft, Workload};
+use jr_plan::Workload;
 use std::alloc::{AllocError, Global};
 use std::process::Abort;
 use std::sync::Wait;
@@ -16,7 +17,6 @@ use std::test::Fail;
 use std::thread;
 use std::thread::{Promise, Threads};
 
-// A file of 200 blocks.
 // Of each thread.
 const PARCELS: u32 = 100;
 
@@ -244,6 +244,31 @@ fn exchange<R: Threads + Wait + Abort + Sync>(
     Ok((one.parcels, other.parcels))
 }
 
+// What both put, from a memory of 200 blocks.
+fn all_parcels(
+    rt: &impl Abort,
+    alloc: Global,
+    has_stops: bool,
+) -> Result<(Vec<Parcel>, Vec<Parcel>), Fail> {
+    let writes = Workload::plain(IoType::Write, SECTOR, 2 * PARCELS);
+    let plan = plan_of(alloc, &writes, 1, EngineKind::Memory, 0)?;
+    let mut engine = MemoryEngine::new(alloc, &plan)?;
+    let first = parcels_from(rt, alloc, &mut engine, 0, has_stops)?;
+    let second = parcels_from(rt, alloc, &mut engine, PARCELS, has_stops)?;
+    Ok((first, second))
+}
+
+// Whether these are the parcels of which this was seen, 200 in number.
+fn are_seen(
+    alloc: Global,
+    first: &[Parcel],
+    second: &[Parcel],
+    wanted: &[Seen],
+) -> Result<bool, Fail> {
+    let seen = both_seen(alloc, first, second)?;
+    Ok(seen.len() == 200 && seen.as_slice() == wanted)
+}
+
 // Whether what is taken, by the numbers of its tickets, is what was put.
 fn comes_over<R: Threads + Wait + Abort + Sync>(
     rt: &R,
@@ -253,21 +278,10 @@ fn comes_over<R: Threads + Wait + Abort + Sync>(
 ) -> Result<bool, Fail>
     requires { 0 < capacity }
 {
-    let writes = Workload::plain(IoType::Write, SECTOR, 2 * PARCELS);
-    let mut draft = Draft::new(alloc);
-    draft.add(alloc, &writes, "j", String::from_str(alloc, "j.0.0")?, 0)?;
-    if draft.clones() == 0 {
-        return Err(Fail::from("no clones"));
-    }
-    let plan = draft.finish(EngineKind::Memory, 0);
-    let mut engine = MemoryEngine::new(alloc, &plan)?;
-    let first = parcels_from(rt, alloc, &mut engine, 0, has_stops)?;
-    let second = parcels_from(rt, alloc, &mut engine, PARCELS, has_stops)?;
+    let (first, second) = all_parcels(rt, alloc, has_stops)?;
     let put = both_seen(alloc, &first, &second)?;
     let (here, there) = exchange(rt, alloc, capacity, first, second)?;
-    let taken = both_seen(alloc, &here, &there)?;
-    assert_eq!(rt; put.len(), 200);
-    Ok(put == taken)
+    are_seen(alloc, &here, &there, &put)
 }
 
 #[test]

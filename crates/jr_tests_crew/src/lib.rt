@@ -6,6 +6,8 @@ mod drops;
 #[cfg(test)]
 mod handover;
 #[cfg(test)]
+mod plans;
+#[cfg(test)]
 mod progress;
 #[cfg(test)]
 mod runs;

@@ -1,10 +1,11 @@
+use crate::plans::plan_of;
 use jr_board::{Bad, Desk};
 use jr_crew::{RunFault, run};
 use jr_engines::{
     Engine, EngineFault, MemoryEngine, NullEngine, Reply, ScriptedEngine, SharedMemory, Tally,
 };
-use jr_model::{EngineKind, Event, IoType, MOST_VERIFIERS, Method, Totals, VerifyKind, What};
-use jr_plan::{Draft, Plan, Workload};
+use jr_model::{EngineKind, Event, IoType, Method, Totals, VerifyKind, What};
+use jr_plan::{Plan, Workload};
 use std::alloc::Global;
 use std::process::Abort;
 use std::sync::atomic::{AtomicU64, Ordering};
@@ -42,14 +43,7 @@ fn clones_of_one_file(
         },
         ..Workload::plain(IoType::Write, 512, cells)
     };
-    let mut draft = Draft::new(alloc);
-    for _ in 0..clones {
-        draft.add(alloc, &checked, "w", String::from_str(alloc, "f")?, 0)?;
-    }
-    if draft.clones() == 0 || verifiers > MOST_VERIFIERS {
-        return Err(Fail::from("no such plan"));
-    }
-    Ok(draft.finish(EngineKind::Memory, verifiers))
+    plan_of(alloc, &checked, clones, EngineKind::Memory, verifiers)
 }
 
 // All writes were made, and all that were checked are good.
@@ -258,12 +252,7 @@ fn two_at_once(alloc: Global) -> Result<Plan, Fail> {
         depth: 2,
         ..Workload::plain(IoType::Write, 4096, 2)
     };
-    let mut draft = Draft::new(alloc);
-    draft.add(alloc, &two, "g", String::from_str(alloc, "g.0.0")?, 0)?;
-    if draft.clones() == 0 {
-        return Err(Fail::from("no clones"));
-    }
-    Ok(draft.finish(EngineKind::Memory, 0))
+    plan_of(alloc, &two, 1, EngineKind::Memory, 0)
 }
 
 // Two engines with one gate: a write stays inside until the other is inside too.

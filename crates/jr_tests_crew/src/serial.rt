@@ -1,8 +1,9 @@
+use crate::plans::{checked, plan_of};
 use jr_board::Desk;
 use jr_crew::run_serial;
 use jr_engines::{Engine, MemoryEngine, NullEngine, Reply, ScriptedEngine};
-use jr_model::{EngineKind, IoType, Method, Pattern, Totals, VerifyKind};
-use jr_plan::{Draft, Plan, Workload};
+use jr_model::{EngineKind, Totals};
+use jr_plan::Plan;
 use std::alloc::Global;
 use std::process::Abort;
 use std::test::Fail;
@@ -22,19 +23,7 @@ const NOTHING: Totals = Totals {
 
 // So many writes of 4096 bytes that are checked by a pattern of one byte.
 fn writes(alloc: Global, cells: u32, byte: u8) -> Result<Plan, Fail> {
-    let checked = Workload {
-        method: Method {
-            kind: VerifyKind::Pattern,
-            pattern: Pattern::new(&[byte]),
-        },
-        ..Workload::plain(IoType::Write, 4096, cells)
-    };
-    let mut draft = Draft::new(alloc);
-    draft.add(alloc, &checked, "w", String::from_str(alloc, "w.0.0")?, 0)?;
-    if draft.clones() == 0 {
-        return Err(Fail::from("no clones"));
-    }
-    Ok(draft.finish(EngineKind::Memory, 0))
+    plan_of(alloc, &checked(cells, byte), 1, EngineKind::Memory, 0)
 }
 
 // What a run of one clone over an engine of zeros counts.

@@ -1,29 +1,16 @@
+use crate::plans::{checked, plan_of};
 use jr_desk::{Bad, Desk, Take};
 use jr_engines::{Engine, NullEngine};
 use jr_header::{Served, rule, serve};
-use jr_model::{
-    EngineKind, IoType, Method, Pattern, Piece, Ticket, Totals, VerifyKind, What, WriteId, is_same,
-};
-use jr_plan::{Draft, Plan, Workload};
+use jr_model::{Piece, Ticket, Totals, What, WriteId, is_same};
+use jr_plan::Plan;
 use std::alloc::Global;
 use std::process::Abort;
 use std::test::Fail;
 
 // A plan over memory for two writes of 4096 bytes, and their checks by a pattern that an engine of zeros never reads.
 fn two_writes(alloc: Global) -> Result<Plan, Fail> {
-    let checked = Workload {
-        method: Method {
-            kind: VerifyKind::Pattern,
-            pattern: Pattern::new(&[1]),
-        },
-        ..Workload::plain(IoType::Write, 4096, 2)
-    };
-    let mut draft = Draft::new(alloc);
-    draft.add(alloc, &checked, "w", String::from_str(alloc, "f")?, 0)?;
-    if draft.clones() == 0 {
-        return Err(Fail::from("no clones"));
-    }
-    Ok(draft.finish(EngineKind::Memory, 0))
+    plan_of(alloc, &[(checked(2), "f", 0)])
 }
 
 // The ticket that the desk hands out next, which stands under this number from then on.

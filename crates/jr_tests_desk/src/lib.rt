@@ -6,6 +6,8 @@ mod board;
 #[cfg(test)]
 mod laws;
 #[cfg(test)]
+mod plans;
+#[cfg(test)]
 mod plays;
 #[cfg(test)]
 mod random;

@@ -1,33 +1,9 @@
+use crate::plans::{checked, plan_of};
 use jr_desk::{Played, play};
-use jr_model::{
-    DeskFault, EngineKind, IoType, Method, Pattern, Reply, Step, StepReply, Totals, VerifyKind,
-};
-use jr_plan::{Draft, Plan, Workload};
+use jr_model::{DeskFault, IoType, Reply, Step, StepReply, Totals};
+use jr_plan::Workload;
 use std::alloc::Global;
 use std::test::Fail;
-
-// A plan over memory: of clones with these files and starts.
-fn plan_of(alloc: Global, clones: &[(Workload, &str, u64)]) -> Result<Plan, Fail> {
-    let mut draft = Draft::new(alloc);
-    for (workload, file, start) in clones {
-        draft.add(alloc, workload, "w", String::from_str(alloc, file)?, *start)?;
-    }
-    if draft.clones() == 0 {
-        return Err(Fail::from("no clones"));
-    }
-    Ok(draft.finish(EngineKind::Memory, 0))
-}
-
-// So many writes of 4096 bytes that are checked by a pattern.
-fn checked(cells: u32) -> Workload {
-    Workload {
-        method: Method {
-            kind: VerifyKind::Pattern,
-            pattern: Pattern::new(&[1]),
-        },
-        ..Workload::plain(IoType::Write, 4096, cells)
-    }
-}
 
 // Plays the steps of a table, and gives what came of it beside the replies that the table has.
 fn played(

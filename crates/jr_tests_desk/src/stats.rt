@@ -1,6 +1,7 @@
+use crate::plans::{checked, plan_of};
 use jr_board::Desk;
-use jr_model::{EngineKind, IoType, Method, Pattern, Totals, VerifyKind};
-use jr_plan::{Draft, Plan, Workload};
+use jr_model::Totals;
+use jr_plan::Plan;
 use jr_stats::{
     TraceFault, accepted_is_a_trace, check_trace, numbers_fit, report, totals_text, trace,
     trace_is_accepted,
@@ -24,19 +25,7 @@ const LINES: [&str; 10] = [
 
 // Two writes of 4096 bytes that are checked by their pattern.
 fn planned(alloc: Global) -> Result<Plan, Fail> {
-    let checked = Workload {
-        method: Method {
-            kind: VerifyKind::Pattern,
-            pattern: Pattern::new(&[1]),
-        },
-        ..Workload::plain(IoType::Write, 4096, 2)
-    };
-    let mut draft = Draft::new(alloc);
-    draft.add(alloc, &checked, "w", String::from_str(alloc, "w.0.0")?, 0)?;
-    if draft.clones() == 0 {
-        return Err(Fail::from("no clones"));
-    }
-    Ok(draft.finish(EngineKind::Memory, 0))
+    plan_of(alloc, &[(checked(2), "f", 0)])
 }
 
 // The trace with another line at a place, counted from 1, or with none there.

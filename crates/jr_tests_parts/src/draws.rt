@@ -1,21 +1,9 @@
+use crate::plans::plan_of;
 use jr_draw::Drawer;
-use jr_model::{Dir, Draw, EngineKind, IoType, Piece};
-use jr_plan::{Draft, Plan, Split, Workload};
+use jr_model::{Dir, Draw, IoType, Piece};
+use jr_plan::{Split, Workload};
 use jr_words::{WordList, Words};
-use std::alloc::Global;
 use std::test::Fail;
-
-// A plan over memory: of clones with these files and starts.
-fn plan_of(alloc: Global, clones: &[(Workload, &str, u64)]) -> Result<Plan, Fail> {
-    let mut draft = Draft::new(alloc);
-    for (workload, file, start) in clones {
-        draft.add(alloc, workload, "w", String::from_str(alloc, file)?, *start)?;
-    }
-    if draft.clones() == 0 {
-        return Err(Fail::from("no clones"));
-    }
-    Ok(draft.finish(EngineKind::Memory, 0))
-}
 
 // A write of so many bytes at an offset.
 fn write(number: u32, offset: u64, len: u32, seed: u64) -> Option<Draw> {

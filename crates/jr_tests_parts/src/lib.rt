@@ -8,6 +8,8 @@ mod files;
 #[cfg(test)]
 mod map;
 #[cfg(test)]
+mod plans;
+#[cfg(test)]
 mod standing;
 #[cfg(test)]
 mod words;

@@ -4,27 +4,16 @@ ghost use Rattle.jr_model.specs.History.{same_write};
 ghost use Rattle.jr_backlog.specs.Rounds.{comes_last, is_before, takes_writes, with_exhausted, with_written};
 ghost use Rattle.jr_standing.specs.Deferred.{is_settled};
 
+use crate::plans::plan_of;
 use jr_backlog::Rounds;
 use jr_draw::Drawer;
-use jr_model::{EngineKind, IoType, Memory, WriteId};
-use jr_plan::{Draft, Plan, Split, Workload};
+use jr_model::{IoType, Memory, WriteId};
+use jr_plan::{Plan, Split, Workload};
 use jr_standing::{DeferredRounds, DrawsLeft};
 use std::alloc::Global;
 use std::marker::Model;
 use std::process::Abort;
 use std::test::Fail;
-
-// A plan over memory: of clones with these workloads, each in a file of its own, which begin at byte 8192.
-fn plan_of(alloc: Global, clones: &[(Workload, &str)]) -> Result<Plan, Fail> {
-    let mut draft = Draft::new(alloc);
-    for (workload, file) in clones {
-        draft.add(alloc, workload, "w", String::from_str(alloc, file)?, 8192)?;
-    }
-    if draft.clones() == 0 {
-        return Err(Fail::from("no clones"));
-    }
-    Ok(draft.finish(EngineKind::Memory, 0))
-}
 
 // Each draw of two passes of a clone of 16 cells.
 fn same_draws(rt: &impl Abort, alloc: Global, plan: &Plan, clone: usize) -> Result<(), Fail> {
@@ -58,7 +47,14 @@ fn gives_the_draws_of_a_drawer(rt: HostRuntime) -> Result<(), Fail> {
         has_map: false,
         ..mixed
     };
-    let plan = plan_of(rt.alloc(), &[(mapped, "f"), (mixed, "g"), (unmapped, "h")])?;
+    let plan = plan_of(
+        rt.alloc(),
+        &[
+            (mapped, "f", 8192),
+            (mixed, "g", 8192),
+            (unmapped, "h", 8192),
+        ],
+    )?;
     for clone in 0..3usize {
         same_draws(&rt, rt.alloc(), &plan, clone)?;
     }
@@ -69,7 +65,7 @@ fn gives_the_draws_of_a_drawer(rt: HostRuntime) -> Result<(), Fail> {
 fn is_over_behind_the_last_draw(rt: HostRuntime) -> Result<(), Fail> {
     let plan = plan_of(
         rt.alloc(),
-        &[(Workload::plain(IoType::Write, 4096, 3), "f")],
+        &[(Workload::plain(IoType::Write, 4096, 3), "f", 8192)],
     )?;
     assert_eq!(rt; plan.clones(), 1);
     let mut draws = DrawsLeft::of_pass(rt.alloc(), plan.clone_at(0), 0)?;

@@ -1,9 +1,9 @@
+use crate::plans::plan_of;
 use jr_agenda::{Agenda, Pass, PlannedClone, totals};
 use jr_model::{
-    Dir, EngineKind, Event, IoType, Method, Outcome, Pattern, Piece, Totals, Verdict, VerifyKind,
-    What, WriteId,
+    Dir, Event, IoType, Method, Outcome, Pattern, Piece, Totals, Verdict, VerifyKind, What, WriteId,
 };
-use jr_plan::{Draft, Workload};
+use jr_plan::Workload;
 use std::test::Fail;
 
 const WRITE_0: WriteId = WriteId {
@@ -79,13 +79,7 @@ fn in_rounds() -> Workload {
 
 #[test]
 fn the_parts_of_a_plan(rt: HostRuntime) -> Result<(), Fail> {
-    let mut draft = Draft::new(rt.alloc());
-    let file = String::from_str(rt.alloc(), "f")?;
-    draft.add(rt.alloc(), &in_rounds(), "w", file, 0)?;
-    if draft.clones() == 0 {
-        return Err(Fail::from("no clones"));
-    }
-    let plan = draft.finish(EngineKind::Memory, 0);
+    let plan = plan_of(rt.alloc(), &[(in_rounds(), "f", 0)])?;
     let work = Agenda::new(rt.alloc(), &plan)?;
     let clone = work.clones().first().ok_or("no clone")?;
     let pass = Pass::new(rt.alloc(), clone.job(), 1)?;

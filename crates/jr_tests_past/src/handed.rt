@@ -1,35 +1,31 @@
+use crate::plans::plan_of;
 use jr_handed::{Handed, Progress};
 use jr_model::{
-    EngineKind, Expected, IoType, Method, Outcome, Pattern, Piece, Ticket, TicketKind, VerifyKind,
-    WriteId, is_same,
+    Expected, IoType, Method, Outcome, Pattern, Piece, Ticket, TicketKind, VerifyKind, WriteId,
+    is_same,
 };
-use jr_plan::{Draft, Plan, Workload};
+use jr_plan::{Plan, Workload};
 use std::alloc::Global;
 use std::process::Abort;
 use std::test::Fail;
 
 // A plan over memory: a clone whose blocks are a pattern, and one whose blocks have headers.
 fn two_clones(alloc: Global) -> Result<Plan, Fail> {
-    let pattern = Method {
-        kind: VerifyKind::Pattern,
-        pattern: Pattern::new(&[1, 2]),
+    let pattern = Workload {
+        method: Method {
+            kind: VerifyKind::Pattern,
+            pattern: Pattern::new(&[1, 2]),
+        },
+        ..Workload::plain(IoType::Write, 4096, 4)
     };
-    let digest = Method {
-        kind: VerifyKind::Md5,
-        pattern: None,
+    let digest = Workload {
+        method: Method {
+            kind: VerifyKind::Md5,
+            pattern: None,
+        },
+        ..pattern
     };
-    let mut draft = Draft::new(alloc);
-    for (method, file) in [(pattern, "f"), (digest, "g")] {
-        let workload = Workload {
-            method,
-            ..Workload::plain(IoType::Write, 4096, 4)
-        };
-        draft.add(alloc, &workload, "w", String::from_str(alloc, file)?, 0)?;
-    }
-    if draft.clones() == 0 {
-        return Err(Fail::from("no clones"));
-    }
-    Ok(draft.finish(EngineKind::Memory, 0))
+    plan_of(alloc, &[(pattern, "f", 0), (digest, "g", 0)])
 }
 
 // The ticket of a clone's draw of this number.

@@ -12,6 +12,8 @@ mod laws;
 #[cfg(test)]
 mod past;
 #[cfg(test)]
+mod plans;
+#[cfg(test)]
 mod replay;
 #[cfg(test)]
 mod tallies;

@@ -139,8 +139,9 @@ fn what_a_run_says(rt: HostRuntime) -> Result<(), Fail> {
 #[test]
 fn a_check_is_taken_up_before_it_is_settled(rt: HostRuntime) -> Result<(), Fail> {
     let past = past_of(rt.alloc(), &run()[..5])?;
-    assert!(rt; past.ledger().is_taken_up(&write(0)));
-    assert!(rt; !past.ledger().is_settled(&write(0)));
+    let ledger = past.ledger();
+    let is_open = ledger.is_taken_up(&write(0)) && !ledger.is_settled(&write(0));
+    assert!(rt; is_open);
     Ok(())
 }
 
@@ -155,11 +156,16 @@ fn faults_and_bad_verdicts_are_of_their_clone(rt: HostRuntime) -> Result<(), Fai
             verdict(0, bad),
         ],
     )?;
+    assert_of_clone_1(&rt, &past);
+    Ok(())
+}
+
+// A fault and a bad verdict are of clone 1 alone.
+fn assert_of_clone_1(rt: &impl Abort, past: &Past) {
     assert!(rt; past.ledger().is_faulty(1));
     assert!(rt; !past.ledger().is_faulty(0));
     assert!(rt; past.ledger().is_condemned(1));
     assert!(rt; !past.ledger().is_condemned(0));
-    Ok(())
 }
 
 // No run has such a history: the I/O ends before it is issued, and ends twice.
@@ -190,19 +196,19 @@ fn the_last_write_of_a_block_is_the_one_that_ended_last(rt: HostRuntime) -> Resu
         end(0, Outcome::Whole),
     ];
     let before = past_of(rt.alloc(), &events[..3])?;
-    assert_last(&rt, &before, write(1));
+    assert_last(&rt, &before, write(1), write(0));
     let past = past_of(rt.alloc(), &events)?;
-    assert_last(&rt, &past, write(0));
-    assert!(rt; !is_intact(&past, &write(1), &block(0)));
+    assert_last(&rt, &past, write(0), write(1));
     Ok(())
 }
 
-// The first piece has this last write, which is intact, and nothing else is written.
-fn assert_last(rt: &impl Abort, past: &Past, last: WriteId) {
+// The first piece has this last write, which is intact as the other isn't, and nothing else is written.
+fn assert_last(rt: &impl Abort, past: &Past, last: WriteId, other: WriteId) {
     assert_eq!(rt; last_write(past, 0, 1), Some(last));
     assert_eq!(rt; last_write(past, 0, 2), None);
     assert_eq!(rt; last_write(past, 1, 1), None);
     assert!(rt; is_intact(past, &last, &block(0)));
+    assert!(rt; !is_intact(past, &other, &block(0)));
 }
 
 // So many bytes of the first file, from an offset on.

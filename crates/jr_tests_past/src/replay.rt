@@ -1,36 +1,11 @@
-use jr_model::{
-    Dir, EngineKind, Event, IoType, Method, Outcome, Pattern, Piece, TicketKind, Verdict,
-    VerifyKind, What, WriteId,
-};
+use crate::plans::{checked, plan_of};
+use jr_model::{Dir, Event, IoType, Outcome, Piece, TicketKind, Verdict, What, WriteId};
 use jr_past::{Past, is_intact, last_write, started};
-use jr_plan::{Draft, Plan, Workload};
+use jr_plan::{Plan, Workload};
 use jr_replay::{allowed, choice, complete};
 use std::alloc::Global;
 use std::process::Abort;
 use std::test::Fail;
-
-// A plan over memory: of clones with these files and starts.
-fn plan_of(alloc: Global, clones: &[(Workload, &str, u64)]) -> Result<Plan, Fail> {
-    let mut draft = Draft::new(alloc);
-    for (workload, file, start) in clones {
-        draft.add(alloc, workload, "w", String::from_str(alloc, file)?, *start)?;
-    }
-    if draft.clones() == 0 {
-        return Err(Fail::from("no clones"));
-    }
-    Ok(draft.finish(EngineKind::Memory, 0))
-}
-
-// Writes of 4096 bytes, so many, that are checked by their pattern.
-fn checked(cells: u32) -> Workload {
-    Workload {
-        method: Method {
-            kind: VerifyKind::Pattern,
-            pattern: Pattern::new(&[1]),
-        },
-        ..Workload::plain(IoType::Write, 4096, cells)
-    }
-}
 
 // Write k of a clone's first pass.
 fn write(clone: u32, number: u32) -> WriteId {

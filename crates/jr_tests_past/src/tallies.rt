@@ -2,8 +2,9 @@ ghost use Rattle.std.specs.Prelude.{◌≡◌, ◌≤◌, slice_get, Some, IsTru
 ghost use Rattle.jr_tallies.specs.Tallying.{AreLow, AreSmall, CanCount, flying_in};
 ghost use Rattle.jr_tallies.specs.declared.tallies.Counts.{Counts as Kept};
 
-use jr_model::{EngineKind, IoType, Outcome, Piece, TicketKind, Totals, Verdict, What, WriteId};
-use jr_plan::{Draft, Plan, Workload};
+use crate::plans::plan_of;
+use jr_model::{IoType, Outcome, Piece, TicketKind, Totals, Verdict, What, WriteId};
+use jr_plan::{Plan, Workload};
 use jr_tallies::{Bad, Counts, Tallies};
 use std::alloc::Global;
 use std::process::Abort;
@@ -12,14 +13,7 @@ use std::test::Fail;
 // A plan over memory of two clones.
 fn two_clones(alloc: Global) -> Result<Plan, Fail> {
     let workload = Workload::plain(IoType::Write, 4096, 4);
-    let mut draft = Draft::new(alloc);
-    for file in ["f", "g"] {
-        draft.add(alloc, &workload, "w", String::from_str(alloc, file)?, 0)?;
-    }
-    if draft.clones() == 0 {
-        return Err(Fail::from("no clones"));
-    }
-    Ok(draft.finish(EngineKind::Memory, 0))
+    plan_of(alloc, &[(workload, "f", 0), (workload, "g", 0)])
 }
 
 fn is_low(counts: &Counts) -> bool
