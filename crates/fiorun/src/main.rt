@@ -111,8 +111,7 @@ fn words_of<R: Env + AllocGlobal>(rt: &R) -> Result<Vec<String>, CliFault> {
 fn perform<
     R: Files<File = File> + Input + Print + Screen + AllocGlobal + Clock + Threads + Wait + Sync,
 >(rt: &R, choice: &Choice<'_>) -> Result<Turn, CliFault> {
-    let text = job_text(rt, choice.job)?;
-    let plan = read_job(rt.alloc(), text.as_slice(), choice.section)?;
+    let plan = plan_for(rt, choice)?;
     let Ok(mut out) = BufWriter::new(rt.alloc(), io::writer(rt)) else {
         return Err(CliFault::Memory);
     };
@@ -121,12 +120,28 @@ fn perform<
         return Ok(Turn::Ended(0));
     }
     if let Some(path) = choice.check_trace {
-        let events = trace_text(rt, path)?;
-        print_check(rt.alloc(), &plan, events.as_slice(), &mut out)?;
+        check(rt, path, &plan, &mut out)?;
         return Ok(Turn::Ended(0));
     }
     let workers = workers_of(&plan, choice.workers);
     run_plan(rt, choice.trace, plan, workers, &mut out)
+}
+
+// The plan that the job file asks for.
+fn plan_for<R: Files + Input + AllocGlobal>(rt: &R, choice: &Choice<'_>) -> Result<Plan, CliFault> {
+    let text = job_text(rt, choice.job)?;
+    read_job(rt.alloc(), text.as_slice(), choice.section)
+}
+
+// Checks the trace of this path, and prints its totals.
+fn check<R: Files + AllocGlobal, V: io::Write>(
+    rt: &R,
+    path: &str,
+    plan: &Plan,
+    out: &mut V,
+) -> Result<(), CliFault> {
+    let events = trace_text(rt, path)?;
+    print_check(rt.alloc(), plan, events.as_slice(), out)
 }
 
 // The trace that is to be checked.
@@ -177,11 +192,7 @@ fn run_plan<
         return Ok(Turn::Ended(run_alone(rt, trace, plan, out)?));
     }
     match plan.engine() {
-        EngineKind::File => {
-            let engines = opened_for(rt, &plan, workers)?;
-            let events = trace_file(rt, trace)?;
-            Ok(Turn::Ended(run_files(rt, plan, engines, events, out)?))
-        }
+        EngineKind::File => Ok(Turn::Ended(run_files(rt, trace, plan, workers, out)?)),
         EngineKind::Memory => {
             let events = trace_file(rt, trace)?;
             Ok(Turn::Shared(SharedRun {
@@ -190,10 +201,7 @@ fn run_plan<
                 events,
             }))
         }
-        EngineKind::Null => {
-            let events = trace_file(rt, trace)?;
-            Ok(Turn::Ended(run_nulls(rt, plan, workers, events, out)?))
-        }
+        EngineKind::Null => Ok(Turn::Ended(run_nulls(rt, trace, plan, workers, out)?)),
     }
 }
 
@@ -237,12 +245,12 @@ fn opened<R: Files<File = File> + AllocGlobal>(rt: &R, plan: &Plan) -> Result<Fi
     }
 }
 
-// The same for so many workers, which share the open files.
+// The same for so many workers, which share the open files: an engine for each.
 fn opened_for<R: Files<File = File> + AllocGlobal>(
     rt: &R,
     plan: &Plan,
     workers: u32,
-) -> Result<Vec<FileEngine<SharedFile>>, CliFault> {
+) -> Result<Vec<Box<dyn Engine + Send>>, CliFault> {
     laid_out(rt, plan)?;
     match FileEngine::shared(rt, rt.alloc(), plan) {
         Ok(first) => file_shares(rt.alloc(), first, workers),
@@ -254,15 +262,15 @@ fn file_shares(
     alloc: Global,
     first: FileEngine<SharedFile>,
     workers: u32,
-) -> Result<Vec<FileEngine<SharedFile>>, CliFault> {
-    let mut engines = Vec::new(alloc);
+) -> Result<Vec<Box<dyn Engine + Send>>, CliFault> {
+    let mut engines: Vec<Box<dyn Engine + Send>> = Vec::new(alloc);
     for _ in 1..workers {
         match first.share(alloc) {
-            Ok(engine) => add(&mut engines, engine)?,
+            Ok(engine) => add(&mut engines, boxed(alloc, engine)?)?,
             Err(fault) => return Err(open_fault(fault)),
         }
     }
-    add(&mut engines, first)?;
+    add(&mut engines, boxed(alloc, first)?)?;
     Ok(engines)
 }
 
@@ -319,34 +327,32 @@ fn run_over<R: Files + Screen + AllocGlobal + Clock + Threads + Wait + Sync, V: 
     )
 }
 
-// Runs the plan over the system's files, with a worker for each of these engines.
-fn run_files<R: Screen + AllocGlobal + Clock + Threads + Wait + Sync, V: io::Write>(
-    rt: &R,
-    plan: Plan,
-    shares: Vec<FileEngine<SharedFile>>,
-    events: Option<BufWriter<File>>,
-    out: &mut V,
-) -> Result<u8, CliFault> {
-    let mut engines: Vec<Box<dyn Engine + Send>> = Vec::new(rt.alloc());
-    for engine in shares {
-        add(&mut engines, boxed(rt.alloc(), engine)?)?;
-    }
+// Runs the plan over the system's files, with so many workers.
+fn run_files<
+    R: Files<File = File> + Screen + AllocGlobal + Clock + Threads + Wait + Sync,
+    V: io::Write,
+>(rt: &R, trace: Option<&str>, plan: Plan, workers: u32, out: &mut V) -> Result<u8, CliFault> {
+    let engines = opened_for(rt, &plan, workers)?;
+    let events = trace_file(rt, trace)?;
     run_with(rt, plan, engines, events, out)
 }
 
 // Runs the plan over nothing, with so many workers.
-fn run_nulls<R: Screen + AllocGlobal + Clock + Threads + Wait + Sync, V: io::Write>(
-    rt: &R,
-    plan: Plan,
-    workers: u32,
-    events: Option<BufWriter<File>>,
-    out: &mut V,
-) -> Result<u8, CliFault> {
-    let mut engines: Vec<Box<dyn Engine + Send>> = Vec::new(rt.alloc());
-    for _ in 0..workers {
-        add(&mut engines, boxed(rt.alloc(), NullEngine::new())?)?;
-    }
+fn run_nulls<
+    R: Files<File = File> + Screen + AllocGlobal + Clock + Threads + Wait + Sync,
+    V: io::Write,
+>(rt: &R, trace: Option<&str>, plan: Plan, workers: u32, out: &mut V) -> Result<u8, CliFault> {
+    let engines = null_engines(rt.alloc(), workers)?;
+    let events = trace_file(rt, trace)?;
     run_with(rt, plan, engines, events, out)
+}
+
+fn null_engines(alloc: Global, workers: u32) -> Result<Vec<Box<dyn Engine + Send>>, CliFault> {
+    let mut engines: Vec<Box<dyn Engine + Send>> = Vec::new(alloc);
+    for _ in 0..workers {
+        add(&mut engines, boxed(alloc, NullEngine::new())?)?;
+    }
+    Ok(engines)
 }
 
 // So many shares of one memory for the plan's files.
