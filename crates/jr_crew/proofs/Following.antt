@@ -42,14 +42,6 @@ module _ {B : Type 0} (books : List B) (items : B → List Done) (completed : �
       sym (take_all (length (items book)) (items book) (omega arith))
       ∙ followed i book (length (items book)) at (gone i book at)
 
-  -- nothing was completed by the event
-  pub none_moved : (places : List ℕ) (e : Event) → ((i : ℕ) → completed i e ≡ None) → AreMoved books items completed places places e
-  none_moved places e none i book place next at before after =
-      let same : next ≡ place = same_some next place (sym after ∙ before) in
-      ap (λ (k : ℕ). take k (items book)) same
-      ∙ sym (append-nil (take place (items book)))
-      ∙ ap (λ (o : Option Done). take place (items book) ++ cons_option o []) (sym (none i))
-
   -- one item was completed
   pub one_moved : (old new : List ℕ) (e : Event) (at : ℕ) (done : Done) → IsMoved books items old new at done → completed at e ≡ Some done → ((i : ℕ) → (at == i) ≡ false → completed i e ≡ None) → AreMoved books items completed old new e
   one_moved old new e at done moved mine others i book place next there before after = by (at == i) refl

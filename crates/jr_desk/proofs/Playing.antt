@@ -10,7 +10,6 @@ use Rattle.jr_model.specs.declared.events.Outcome.{Outcome}
 use Rattle.jr_model.specs.declared.events.Started.{Started}
 use Rattle.jr_model.specs.declared.events.Verdict.{Verdict as GivenVerdict}
 use Rattle.jr_model.specs.declared.memory.Memory.{Memory as OutOfMemory}
-use Rattle.jr_model.specs.declared.replies.Reply.{Reply}
 use Rattle.jr_model.specs.declared.steps.DeskFault.{DeskFault}
 use Rattle.jr_model.specs.declared.steps.DeskFault.TheVariants.{Memory, Stranger, Twice, WrongKind, Stopped}
 use Rattle.jr_model.specs.declared.steps.StepReply.{StepReply}
@@ -19,7 +18,7 @@ use Rattle.jr_model.specs.declared.tickets.Ticket.{Ticket}
 use Rattle.jr_model.specs.History.{started, kind_for, outcome_of, is_judged, is_probe, is_verdict_on, ended_whole}
 use Rattle.jr_model.specs.Honest.{IsWholeCheck}
 use Rattle.jr_model.specs.Legal.{is_legal, is_complete}
-use Rattle.jr_model.specs.Machine.{State, Stepped, taken as taken_by, take_answer, machine_take, end_refusal, judge_refusal, is_judgeable, machine_end, machine_end_by, machine_judge, machine_judge_by, bytes_read, verdict_on}
+use Rattle.jr_model.specs.Machine.{State, Stepped, taken as taken_by, take_answer, machine_take, end_refusal, judge_refusal, is_judgeable, machine_judge, machine_judge_by, bytes_read, verdict_on}
 use Rattle.jr_model.specs.Plan.{Plan}
 use Rattle.jr_model.specs.Tickets.{ticket_fits}
 use Rattle.jr_engines.specs.Answers.{AnswerParts}
@@ -241,18 +240,6 @@ judge_wrong_kind player io t ready nothing going at =
     let is = known player.desk.plan player.desk.history io t at in
     refusals_are player io (Some is.0) true false false going is.1 is.3
     (unjudged player.desk.plan player.desk.history io ready.legal nothing) (no_verdict player.desk.history io is.0 is.1 nothing)
-
--- a step that the machine refuses changes nothing
-
-pub refused_end : (player : Player) (io : ℕ) (reply : Reply) (fault : DeskFault) → IsReady player → end_refusal (state_of player) io ≡ Some fault → GoesOn player (machine_end player.desk.plan (state_of player) io reply) (answer.Refused fault) player
-refused_end player io reply fault ready refused =
-    subst (λ (o : Option DeskFault). GoesOn player (machine_end_by player.desk.plan (state_of player) io reply o (slice_get (started player.desk.history) io)) (answer.Refused fault) player) (sym refused)
-    (record { answer = refl; state = refl; plan = refl; calls = omega arith; covers = ready.covers; reads = ready.reads })
-
-pub refused_judge : (player : Player) (by io : ℕ) (fault : DeskFault) → IsReady player → judge_refusal (state_of player) io ≡ Some fault → GoesOn player (machine_judge player.desk.plan (state_of player) by io) (answer.Refused fault) player
-refused_judge player by io fault ready refused =
-    subst (λ (o : Option DeskFault). GoesOn player (machine_judge_by player.desk.plan (state_of player) by io o (slice_get (started player.desk.history) io)) (answer.Refused fault) player) (sym refused)
-    (record { answer = refl; state = refl; plan = refl; calls = omega arith; covers = ready.covers; reads = ready.reads })
 
 -- a verdict is given
 

@@ -1,11 +1,11 @@
 -- Where a text is cut at its commas, and read by pairs of digits.
-use Rattle.std.proofs.Common.{◌≡◌, ℕ, zero, suc, ◌+◌, ◌%◌, ◌<◌, ◌≤◌, List, [], ◌∷◌, length, slice_index_or, Option, Some, None, MatchOption, Bor, ap, ◌∙◌, sym, refl, arith, lit<, ◌++◌, drop, append_assoc}
+use Rattle.std.proofs.Common.{◌≡◌, ℕ, zero, suc, ◌+◌, ◌<◌, ◌≤◌, List, [], ◌∷◌, length, slice_index_or, Option, Some, None, MatchOption, Bor, ap, ◌∙◌, sym, refl, arith, lit<, ◌++◌, drop, append_assoc}
 use Rattle.std.specs.List.{slice_split, after_first}
-use Rattle.std.proofs.lemmas.Bool.{ne_eqb, eq-eqb, lt-ltb, le-leb}
-use Rattle.std.proofs.lemmas.List.{at_drop_more, at_drop_all, append-nil}
+use Rattle.std.proofs.lemmas.Bool.{ne_eqb}
+use Rattle.std.proofs.lemmas.List.{at_drop_more}
 use Rattle.std.proofs.lemmas.List.Splits.{slice_split_none, slice_split_first, length-slice_split}
 use Rattle.std.proofs.lemmas.Str.Pattern.{IsSplitOnceResult, split_parts, split_once_first}
-use Rattle.jr_settings.specs.OptionValues.{is_comma, by_direction, with_bytes, and_byte, hex_byte, hex_pairs, hex_pattern}
+use Rattle.jr_settings.specs.OptionValues.{is_comma, by_direction, with_bytes, and_byte, hex_byte, hex_pairs}
 
 -- an element within a list, whatever stands for one past it
 pub same_default : (xs : List ℕ) (i : ℕ) (d e : ℕ) → i < length xs → slice_index_or xs i d ≡ slice_index_or xs i e
@@ -50,25 +50,3 @@ pair_next front digits n a b v within here next is =
     at_pair front digits n a b within here next
     ∙ ap (λ x. with_bytes front (and_byte x (hex_pairs (drop (n + 1 + 1) digits)))) is
     ∙ moved front v (hex_pairs (drop (n + 1 + 1) digits))
-
-pub pair_refused : (front digits : List ℕ) (n a b : ℕ) → n + 1 < length digits → a ≡ slice_index_or digits n a → b ≡ slice_index_or digits (n + 1) b → hex_byte a b ≡ None → with_bytes front (hex_pairs (drop n digits)) ≡ None
-pair_refused front digits n a b within here next is =
-    at_pair front digits n a b within here next
-    ∙ ap (λ x. with_bytes front (and_byte x (hex_pairs (drop (n + 1 + 1) digits)))) is
-
-pub pairs_end : (front digits : List ℕ) (n : ℕ) → length digits ≤ n → with_bytes front (hex_pairs (drop n digits)) ≡ Some front
-pairs_end front digits n past = at_drop_all (λ rest. with_bytes front (hex_pairs rest)) digits n past ∙ ap Some (append-nil front)
-
-pub pattern_even : (digits : List ℕ) → 0 < length digits → length digits ≤ 128 → length digits % 2 ≡ 0 → hex_pattern digits ≡ hex_pairs digits
-pattern_even digits some most even =
-    let ne : length digits % 2 ≡ 1 → ⊥ = λ e. omega (arith, e, even) in
-    rw (lt-ltb 0 (length digits) some, le-leb (length digits) 128 most, ne_eqb (length digits % 2) 1 ne) refl
-
-odd_split : (digits : List ℕ) → 0 < length digits → digits ≡ slice_index_or digits 0 0 ∷ drop 1 digits
-odd_split [] some = absurd (omega arith)
-odd_split (d ∷ digits) some = refl
-
-pub pattern_odd : (digits : List ℕ) → 0 < length digits → length digits ≤ 128 → length digits % 2 ≡ 1 → hex_pattern digits ≡ hex_pairs (48 ∷ slice_index_or digits 0 0 ∷ drop 1 digits)
-pattern_odd digits some most odd =
-    let is : hex_pattern digits ≡ hex_pairs (48 ∷ digits) = rw (lt-ltb 0 (length digits) some, le-leb (length digits) 128 most, eq-eqb (length digits % 2) 1 odd) refl in
-    is ∙ ap (λ (ds : List ℕ). hex_pairs (48 ∷ ds)) (odd_split digits some)

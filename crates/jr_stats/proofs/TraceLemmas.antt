@@ -1,8 +1,8 @@
 -- The lines of a trace, one after another.
-use Rattle.std.proofs.Common.{◌≡◌, ℕ, ◌+◌, ◌<◌, ◌≤◌, List, [], ◌∷◌, ◌++◌, length, take, drop, get_or, Bool, true, false, refl, sym, ap, ◌∙◌, append_assoc, arith}
+use Rattle.std.proofs.Common.{◌≡◌, ℕ, ◌+◌, ◌<◌, List, [], ◌∷◌, ◌++◌, length, take, drop, get_or, Bool, true, false, refl, sym, ap, ◌∙◌, append_assoc, arith}
 use Rattle.std.specs.Prelude.{is_some}
 use Rattle.std.proofs.lemmas.Bool.{and_from}
-use Rattle.std.proofs.lemmas.List.{at_drop_all, at_drop_more, take_more}
+use Rattle.std.proofs.lemmas.List.{at_drop_more, take_more}
 use Rattle.std.proofs.lemmas.List.Folds.{list_all-append}
 use Rattle.jr_model.specs.declared.events.Event.{Event}
 use Rattle.jr_model.specs.declared.events.Event.TheVariants.{Issue, Probe, Skip, End, Verdict}
@@ -17,10 +17,6 @@ pub lines_more : (history : List Event) (i : ℕ) (d : Event) → i < length his
 lines_more history i d within =
     at_drop_more (λ (rest : List Event). lines_after (take i history) rest) history i d within
     ∙ ap (λ (before : List Event). event_line (length (started (take i history))) (get_or history i d) ++ lines_after before (drop (i + 1) history)) (sym (take_more history i d within))
-
--- no more lines
-pub lines_end : (history : List Event) (i : ℕ) → length history ≤ i → lines_after (take i history) (drop i history) ≡ []
-lines_end history i past = at_drop_all (λ (rest : List Event). lines_after (take i history) rest) history i past
 
 starts_one : (e : Event) → is_some (started_by e) ≡ true → length (started (e ∷ [])) ≡ 1
 starts_one (Issue worker dir write piece) h = refl
