@@ -12,8 +12,11 @@ use std::test::Fail;
 
 // A plan over memory of two clones.
 fn two_clones(alloc: Global) -> Result<Plan, Fail> {
-    let workload = Workload::plain(IoType::Write, 4096, 4);
-    plan_of(alloc, &[(workload, "f", 0), (workload, "g", 0)])
+    plan_of(alloc, &[(writes(), "f", 0), (writes(), "g", 0)])
+}
+
+fn writes() -> Workload {
+    Workload::plain(IoType::Write, 4096, 4)
 }
 
 fn is_low(counts: &Counts) -> bool
