@@ -111,7 +111,8 @@ fn words_of<R: Env + AllocGlobal>(rt: &R) -> Result<Vec<String>, CliFault> {
 fn perform<
     R: Files<File = File> + Input + Print + Screen + AllocGlobal + Clock + Threads + Wait + Sync,
 >(rt: &R, choice: &Choice<'_>) -> Result<Turn, CliFault> {
-    let plan = plan_for(rt, choice)?;
+    let text = job_text(rt, choice.job)?;
+    let plan = read_job(rt.alloc(), text.as_slice(), choice.section)?;
     let Ok(mut out) = BufWriter::new(rt.alloc(), io::writer(rt)) else {
         return Err(CliFault::Memory);
     };
@@ -120,28 +121,12 @@ fn perform<
         return Ok(Turn::Ended(0));
     }
     if let Some(path) = choice.check_trace {
-        check(rt, path, &plan, &mut out)?;
+        let events = trace_text(rt, path)?;
+        print_check(rt.alloc(), &plan, events.as_slice(), &mut out)?;
         return Ok(Turn::Ended(0));
     }
     let workers = workers_of(&plan, choice.workers);
     run_plan(rt, choice.trace, plan, workers, &mut out)
-}
-
-// The plan that the job file asks for.
-fn plan_for<R: Files + Input + AllocGlobal>(rt: &R, choice: &Choice<'_>) -> Result<Plan, CliFault> {
-    let text = job_text(rt, choice.job)?;
-    read_job(rt.alloc(), text.as_slice(), choice.section)
-}
-
-// Checks the trace of this path, and prints its totals.
-fn check<R: Files + AllocGlobal, V: io::Write>(
-    rt: &R,
-    path: &str,
-    plan: &Plan,
-    out: &mut V,
-) -> Result<(), CliFault> {
-    let events = trace_text(rt, path)?;
-    print_check(rt.alloc(), plan, events.as_slice(), out)
 }
 
 // The trace that is to be checked.
@@ -192,7 +177,11 @@ fn run_plan<
         return Ok(Turn::Ended(run_alone(rt, trace, plan, out)?));
     }
     match plan.engine() {
-        EngineKind::File => Ok(Turn::Ended(run_files(rt, trace, plan, workers, out)?)),
+        EngineKind::File => {
+            let engines = opened_for(rt, &plan, workers)?;
+            let events = trace_file(rt, trace)?;
+            Ok(Turn::Ended(run_files(rt, plan, engines, events, out)?))
+        }
         EngineKind::Memory => {
             let events = trace_file(rt, trace)?;
             Ok(Turn::Shared(SharedRun {
@@ -201,7 +190,10 @@ fn run_plan<
                 events,
             }))
         }
-        EngineKind::Null => Ok(Turn::Ended(run_nulls(rt, trace, plan, workers, out)?)),
+        EngineKind::Null => {
+            let events = trace_file(rt, trace)?;
+            Ok(Turn::Ended(run_nulls(rt, plan, workers, events, out)?))
+        }
     }
 }
 
@@ -245,12 +237,12 @@ fn opened<R: Files<File = File> + AllocGlobal>(rt: &R, plan: &Plan) -> Result<Fi
     }
 }
 
-// The same for so many workers, which share the open files: an engine for each.
+// The same for so many workers, which share the open files.
 fn opened_for<R: Files<File = File> + AllocGlobal>(
     rt: &R,
     plan: &Plan,
     workers: u32,
-) -> Result<Vec<Box<dyn Engine + Send>>, CliFault> {
+) -> Result<Vec<FileEngine<SharedFile>>, CliFault> {
     laid_out(rt, plan)?;
     match FileEngine::shared(rt, rt.alloc(), plan) {
         Ok(first) => file_shares(rt.alloc(), first, workers),
@@ -262,15 +254,15 @@ fn file_shares(
     alloc: Global,
     first: FileEngine<SharedFile>,
     workers: u32,
-) -> Result<Vec<Box<dyn Engine + Send>>, CliFault> {
-    let mut engines: Vec<Box<dyn Engine + Send>> = Vec::new(alloc);
+) -> Result<Vec<FileEngine<SharedFile>>, CliFault> {
+    let mut engines = Vec::new(alloc);
     for _ in 1..workers {
         match first.share(alloc) {
-            Ok(engine) => add(&mut engines, boxed(alloc, engine)?)?,
+            Ok(engine) => add(&mut engines, engine)?,
             Err(fault) => return Err(open_fault(fault)),
         }
     }
-    add(&mut engines, boxed(alloc, first)?)?;
+    add(&mut engines, first)?;
     Ok(engines)
 }
 
@@ -327,32 +319,34 @@ fn run_over<R: Files + Screen + AllocGlobal + Clock + Threads + Wait + Sync, V: 
     )
 }
 
-// Runs the plan over the system's files, with so many workers.
-fn run_files<
-    R: Files<File = File> + Screen + AllocGlobal + Clock + Threads + Wait + Sync,
-    V: io::Write,
->(rt: &R, trace: Option<&str>, plan: Plan, workers: u32, out: &mut V) -> Result<u8, CliFault> {
-    let engines = opened_for(rt, &plan, workers)?;
-    let events = trace_file(rt, trace)?;
+// Runs the plan over the system's files, with a worker for each of these engines.
+fn run_files<R: Screen + AllocGlobal + Clock + Threads + Wait + Sync, V: io::Write>(
+    rt: &R,
+    plan: Plan,
+    shares: Vec<FileEngine<SharedFile>>,
+    events: Option<BufWriter<File>>,
+    out: &mut V,
+) -> Result<u8, CliFault> {
+    let mut engines: Vec<Box<dyn Engine + Send>> = Vec::new(rt.alloc());
+    for engine in shares {
+        add(&mut engines, boxed(rt.alloc(), engine)?)?;
+    }
     run_with(rt, plan, engines, events, out)
 }
 
 // Runs the plan over nothing, with so many workers.
-fn run_nulls<
-    R: Files<File = File> + Screen + AllocGlobal + Clock + Threads + Wait + Sync,
-    V: io::Write,
->(rt: &R, trace: Option<&str>, plan: Plan, workers: u32, out: &mut V) -> Result<u8, CliFault> {
-    let engines = null_engines(rt.alloc(), workers)?;
-    let events = trace_file(rt, trace)?;
-    run_with(rt, plan, engines, events, out)
-}
-
-fn null_engines(alloc: Global, workers: u32) -> Result<Vec<Box<dyn Engine + Send>>, CliFault> {
-    let mut engines: Vec<Box<dyn Engine + Send>> = Vec::new(alloc);
+fn run_nulls<R: Screen + AllocGlobal + Clock + Threads + Wait + Sync, V: io::Write>(
+    rt: &R,
+    plan: Plan,
+    workers: u32,
+    events: Option<BufWriter<File>>,
+    out: &mut V,
+) -> Result<u8, CliFault> {
+    let mut engines: Vec<Box<dyn Engine + Send>> = Vec::new(rt.alloc());
     for _ in 0..workers {
-        add(&mut engines, boxed(alloc, NullEngine::new())?)?;
+        add(&mut engines, boxed(rt.alloc(), NullEngine::new())?)?;
     }
-    Ok(engines)
+    run_with(rt, plan, engines, events, out)
 }
 
 // So many shares of one memory for the plan's files.
