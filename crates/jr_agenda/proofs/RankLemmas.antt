@@ -1,14 +1,11 @@
 -- The writes of a pass are numbered in order: how many have numbers below one, and which is the last of them.
-use Rattle.std.proofs.Common.{◌≡◌, ℕ, suc, ◌+◌, ◌-◌, ◌*◌, ◌/◌, ◌<◌, ◌≤◌, List, length, take, drop, Bool, true, false, cond, ◌&&◌, refl, sym, ◌∙◌, ap, subst, arith, inl, inr, length-take}
-use Rattle.std.specs.Prelude.{◌⊎◌, Option, Some, None, MatchOption, slice_get, nat_lt, ◌==◌, count_by, filter}
-use Rattle.std.proofs.lemmas.Bool.{eq-eqb, ne_eqb, lt-ltb, le-ltb, ltb-true, ltb-false, cases_eq, cases_lt}
+use Rattle.std.proofs.Common.{◌≡◌, ℕ, ◌+◌, ◌-◌, ◌*◌, ◌/◌, ◌<◌, ◌≤◌, List, length, take, drop, Bool, true, false, cond, ◌&&◌, refl, sym, ◌∙◌, ap, subst, arith, inl, inr, length-take}
+use Rattle.std.specs.Prelude.{Option, Some, None, MatchOption, slice_get, nat_lt, ◌==◌, count_by}
+use Rattle.std.proofs.lemmas.Bool.{eq-eqb, ne_eqb, lt-ltb, le-ltb, ltb-true, ltb-false, cases_lt}
 use Rattle.std.proofs.lemmas.List.Sums.{count_by-le-length}
-use Rattle.std.proofs.lemmas.Option.{slice_get_within}
 use Rattle.jr_model.specs.declared.workloads.Draw.{Draw}
-use Rattle.jr_model.specs.Draws.{draws_of_job}
-use Rattle.jr_model.specs.Plan.{SubJob}
 use Rattle.jr_model.specs.Rounds.{Pass, pass_of, writes_of, group_of}
-use Rattle.jr_quiet.proofs.Groups.{Rising, rank, rank_at, rising_take, rising_drop, writes_rise}
+use Rattle.jr_quiet.proofs.Groups.{Rising, rank_at, rising_take, rising_drop, writes_rise}
 use Rattle.jr_quiet.proofs.Tallies.{count_by-total}
 use Rattle.jr_steps.proofs.PlaceLemmas.{item_at}
 use Rattle.jr_agenda.specs.Passes.{IsLastBelow, NoneBelow, is_below}
@@ -16,11 +13,6 @@ use Rattle.jr_agenda.specs.Passes.{IsLastBelow, NoneBelow, is_below}
 -- it is a pass of its clone
 abbrev pub IsOwn : Pass → Type 0
 IsOwn pass = pass ≡ pass_of pass.job pass.number
-
-pub own_pass : (job : SubJob) (number : ℕ) (draws : List Draw) (pass : Pass) → record { job = job; number = number; draws = draws } ≡ pass → draws ≡ draws_of_job job number → IsOwn pass
-own_pass job number draws pass view all =
-    subst (λ (q : Pass). q ≡ pass_of q.job q.number) view
-    (ap {B = Pass} (λ (ds : List Draw). record { job = job; number = number; draws = ds }) all)
 
 -- how many of these draws have lower numbers
 abbrev pub below : ℕ → List Draw → ℕ

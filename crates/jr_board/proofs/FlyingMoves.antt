@@ -1,6 +1,6 @@
 -- What each event makes of what is in flight and of the write log.
 use Rattle.std.proofs.Common.{◌≡◌, ℕ, ◌+◌, ◌<◌, List, [], ◌∷◌, ◌++◌, length, Bool, true, false, cond, refl, sym, ◌∙◌, ap, subst}
-use Rattle.std.specs.Prelude.{Option, Some, None, IfSome, nat_lt, ◌==◌, slice_get, is_some}
+use Rattle.std.specs.Prelude.{Option, Some, None, IfSome, nat_lt, ◌==◌, slice_get}
 use Rattle.std.specs.BTreeMap.{insert_entry, is_at}
 use Rattle.std.specs.Map.{keys_of, remove_entry}
 use Rattle.std.specs.List.Sorted.{IsStrictlySortedBy}
@@ -310,21 +310,3 @@ pub log_intact : (plan : Plan) (history : List Event) (c p k : ℕ) (job : SubJo
 log_intact plan history c p k job draw planned legal of_job below drawn =
     let write : WriteId = record { clone = c; pass = p; number = k } in
     log_is_intact_of_draws plan history (checked_by plan) write job draw planned legal of_job below drawn
-
--- so whether the log has it says whether it is intact
-pub log_has_intact : (plan : Plan) (history : List Event) (c p k : ℕ) (job : SubJob) (draw : Draw)
-    → IsPlanned plan
-    → is_legal plan history ≡ true
-    → clone_of plan c ≡ Some job
-    → p < job.passes
-    → slice_get (draws_of_job job p) k ≡ Some draw
-    → is_some (logged (log_of_run plan history) (record { clone = c; pass = p; number = k }))
-    ≡ is_intact history (record { clone = c; pass = p; number = k }) draw.piece
-log_has_intact plan history c p k job draw planned legal of_job below drawn =
-    let write : WriteId = record { clone = c; pass = p; number = k } in
-    ap is_some (log_intact plan history c p k job draw planned legal of_job below drawn)
-    ∙ by (record { piece = draw.piece; expected = checked_by plan write draw.piece }) (is_intact history write draw.piece)
-  where
-    by : (entry : Logged) (b : Bool) → is_some (cond b (Some entry) None) ≡ b
-    by entry true = refl
-    by entry false = refl

@@ -474,7 +474,3 @@ issue_fills plan history worker write piece = issue_fills_by plan history worker
 pub written_is : (dir : Dir) (write : WriteId) (o : Option WriteId) → (dir ≡ direction.Write → o ≡ Some write) → (dir ≡ direction.Read → o ≡ None) → o ≡ written dir write
 written_is direction.Write write o writes reads = writes refl
 written_is direction.Read write o writes reads = reads refl
-
-pub if_written : (P : WriteId → Type 0) (dir : Dir) (write : WriteId) (o : Option WriteId) → o ≡ written dir write → (dir ≡ direction.Write → P write) → IfSome o P
-if_written P direction.Write write o is holds = subst (λ (x : Option WriteId). IfSome x P) (sym is) (holds refl)
-if_written P direction.Read write o is holds = subst (λ (x : Option WriteId). IfSome x P) (sym is) tt

@@ -19,7 +19,6 @@ use Rattle.jr_model.specs.History.{started, started_by, flies, outcome_of, is_ju
 use Rattle.jr_model.specs.Judgement.{verdict_of}
 use Rattle.jr_model.specs.Legal.{is_legal, may_happen, outcome_fits, end_fits, verdict_fits, job_says, kind_says}
 use Rattle.jr_model.specs.Machine.{Appends, is_skip}
-use Rattle.jr_model.specs.Tickets.{has_pattern}
 use Rattle.jr_model.specs.declared.contents.Expected.{Expected}
 use Rattle.jr_model.specs.declared.contents.Method.{Method}
 use Rattle.jr_model.specs.declared.events.Verdict.{Verdict as GivenVerdict}
@@ -29,12 +28,11 @@ use Rattle.jr_model.proofs.LegalLaws.{is_legal-more, choice_may_happen}
 use Rattle.jr_model.proofs.MachineLaws.{verdict_of_fits}
 use Rattle.jr_plan.specs.PlanFacts.{IsPlanned}
 use Rattle.jr_header.specs.Served.{is_whole_check}
-use Rattle.jr_steps.specs.Drawn.{FitsPlan}
 use Rattle.jr_steps.proofs.CountLaws.{numbered_of}
 use Rattle.jr_steps.proofs.DrawnLaws.{started_fit-law}
 use Rattle.jr_steps.proofs.StartedLemmas.{started_below}
 use Rattle.jr_handed.specs.Kept.{IsOwn, tickets_of}
-use Rattle.jr_handed.specs.Tickets.{CanBeServed, method_of, seed_of, expected_by, ticket_of}
+use Rattle.jr_handed.specs.Tickets.{method_of, seed_of, expected_by, ticket_of}
 use Rattle.jr_handed.proofs.HandingLists.{enumerated}
 use Rattle.jr_handed.proofs.OwnTickets.{own_started}
 use Rattle.jr_board.specs.DeskState.{DeskState}
@@ -120,23 +118,6 @@ pub chosen_at : (plan : Plan) (worker : ℕ) (before history : List Event) (io :
 chosen_at plan worker before history io chosen =
     ap (λ (ios : List Started). slice_get ios (length (started before))) (chosen_started plan worker before history (Some io) chosen)
     ∙ got_added (started before) io
-
--- it can be carried out
-
-can_be : (plan : Plan) (io : Started) (job : SubJob) → FitsPlan plan io job → CanBeServed plan io
-can_be plan io job fits = record {
-  piece = fits.fits;
-  pass = fits.pass;
-  pattern =
-      subst (λ (o : Option SubJob). has_pattern (method_of o).kind (method_of o).pattern ≡ true) (sym fits.planned) fits.pattern;
-}
-
-pub chosen_served : (plan : Plan) (worker : ℕ) (before history : List Event) (io : Option Started) → IsPlanned plan → is_legal plan before ≡ true → IsChosen plan worker before history io → IfSome io (CanBeServed plan)
-chosen_served plan worker before history None planned legal chosen = tt
-chosen_served plan worker before history (Some io) planned legal chosen =
-    let fits = started_fit-law plan history (length (started before)) io planned
-    (chosen_legal plan worker before history (Some io) planned legal chosen) (chosen_at plan worker before history io chosen) in
-    can_be plan io fits.0 fits.1
 
 -- an end and a verdict
 

@@ -16,9 +16,6 @@ abbrev pub LeadsTo : Plan → ℕ → List Event → List Event → Type 0
 LeadsTo plan worker before history =
     (rest : List Event) → Appends plan worker history rest → IsChosen plan worker before (history ++ rest) (last_started rest)
 
-pub leads_first : (plan : Plan) (worker : ℕ) (before : List Event) → LeadsTo plan worker before before
-leads_first plan worker before rest appends = (rest, refl, appends, refl)
-
 pub leads_on : (plan : Plan) (worker : ℕ) (before history : List Event) (e : Event) → LeadsTo plan worker before history → choice plan history worker ≡ Some e → is_skip e ≡ true → LeadsTo plan worker before (history ++ e ∷ [])
 leads_on plan worker before history e leads chosen skip rest appends =
     subst (λ (all : List Event). IsChosen plan worker before all (last_started rest)) (sym (append_assoc history (e ∷ []) rest))

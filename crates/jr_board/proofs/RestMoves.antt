@@ -315,12 +315,6 @@ pub record IsOpenTo (history : List Event) (clones : List SubJob) (n phase : ℕ
   pub lets : (q : ℕ) → q ≤ 4294967295 → list_all (λ (other : SubJob). nat_le q other.phase || is_at_rest history other) (take n clones) ≡ nat_le q phase
   pub small : (k : ℕ) (job : SubJob) → k < n → slice_get clones k ≡ Some job → job.phase ≤ 4294967295
 
-pub opens_first : (history : List Event) (clones : List SubJob) → IsOpenTo history clones 0 4294967295
-opens_first history clones = record {
-  lets = λ q few. sym (le-leb q 4294967295 few);
-  small = λ k job below at. absurd (omega (arith, below));
-}
-
 -- with one more of them, which is at rest or keeps its phase open
 narrowed : (q a b n : ℕ) (rest : Bool) → ((rest ≡ true) × (n ≡ a)) ⊎ ((rest ≡ false) × (n ≡ min a b)) → (nat_le q a && ((nat_le q b || rest) && true)) ≡ nat_le q n
 narrowed q a b n rest (inl same) =

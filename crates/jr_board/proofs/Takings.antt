@@ -22,7 +22,7 @@ use Rattle.jr_handed.specs.Tickets.{ticket_of}
 use Rattle.jr_board.specs.declared.board.Board.{Board}
 use Rattle.jr_board.specs.Boards.{IsBoard, IsReady}
 use Rattle.jr_board.specs.Takes.{IsChosen, ticket_for}
-use Rattle.jr_board.proofs.Leading.{LeadsTo, leads_first, leads_on, chosen_none, chosen_last}
+use Rattle.jr_board.proofs.Leading.{LeadsTo, leads_on, chosen_none, chosen_last}
 
 -- so far
 pub record IsTaking (plan : Plan) (worker : ℕ) (before : List Event) (board : Board) : Type 0 where
@@ -30,14 +30,6 @@ pub record IsTaking (plan : Plan) (worker : ℕ) (before : List Event) (board : 
   pub ready : IsReady plan board
   pub leads : LeadsTo plan worker before board.history.items
   pub nothing : started board.history.items ≡ started before
-
-pub taking_first : (plan : Plan) (worker : ℕ) (board : Board) → IsBoard plan board → IsReady plan board → IsTaking plan worker board.history.items board
-taking_first plan worker board is ready = record {
-  index = is;
-  ready = ready;
-  leads = leads_first plan worker board.history.items;
-  nothing = refl;
-}
 
 -- after a skip that was the choice
 pub taking_on : (plan : Plan) (worker : ℕ) (before : List Event) (old new : Board) (write : WriteId) → IsTaking plan worker before old

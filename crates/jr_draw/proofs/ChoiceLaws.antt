@@ -110,12 +110,6 @@ places_fit unmapped cells drawn x m fits left free = omega arith
 places_fit (mapped taken) cells drawn x m fits left free =
     (length-with_cells taken x m free ∙ fits.0, omega (arith, fits.1, free_count-with_cells taken x m free))
 
--- at most all cells are drawn
-pub drawn-le : (places : Places) (cells drawn : ℕ) → PlacesFit places cells drawn → drawn ≤ cells
-drawn-le sequential cells drawn fits = fits
-drawn-le unmapped cells drawn fits = fits
-drawn-le (mapped taken) cells drawn fits = omega (arith, fits.1)
-
 -- the sizes of the direction of a draw
 sizes-mixed : (b : Bool) (cell : ℕ) (reads writes : List (ℕ × ℕ)) → SizesFit cell reads → SizesFit cell writes → SizesFit cell (by_direction (cond b Read Write) reads writes)
 sizes-mixed true cell reads writes r w = r

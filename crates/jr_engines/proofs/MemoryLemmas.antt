@@ -1,15 +1,14 @@
 -- Lemmas on memories of files.
-use Rattle.std.proofs.Common.{◌≡◌, ℕ, zero, suc, ◌+◌, ◌-◌, ◌<◌, ◌≤◌, ◌==◌, nat_le, ◌&&◌, List, [], ◌∷◌, length, slice_index_or, slice_set, slice_get, Some, refl, sym, subst, ap, arith, IsTrue}
+use Rattle.std.proofs.Common.{◌≡◌, ℕ, zero, suc, ◌+◌, ◌-◌, ◌<◌, ◌≤◌, ◌==◌, nat_le, ◌&&◌, List, [], ◌∷◌, length, slice_index_or, slice_set, refl, ap, arith, IsTrue}
 use Rattle.std.proofs.lemmas.Bool.{false≢true}
 use Rattle.std.proofs.lemmas.Bool.Decides.{nat_tests}
-use Rattle.std.proofs.lemmas.List.{length-append, length-take, length-drop, length-set, length-replicate}
+use Rattle.std.proofs.lemmas.List.{length-append, length-take, length-drop, length-set}
 use Rattle.jr_model.specs.declared.blocks.Piece.{Piece}
 use Rattle.jr_model.specs.declared.replies.Reply.{Reply}
 use Rattle.jr_model.specs.declared.replies.Reply.TheVariants.{Pass, Fail, Short, Torn, Flip, Drop, Bytes}
 use Rattle.jr_model.specs.declared.tickets.TicketKind.{TicketKind}
 use Rattle.jr_model.specs.declared.tickets.TicketKind.TheVariants as ticket
-use Rattle.jr_model.specs.Plan.{FileSpec}
-use Rattle.jr_model.specs.Replies.{FileBytes, asked, covers, covers_range, file_with, fresh_file, fresh_memory, memory_with, placed, reply_to_write}
+use Rattle.jr_model.specs.Replies.{FileBytes, asked, covers, covers_range, file_with, memory_with, placed, reply_to_write}
 
 -- a write to the memory is a write to its file
 pub memory_after_set : (memory : List FileBytes) (file offset : ℕ) («data» : List ℕ) (bytes : FileBytes) → file < length memory → bytes ≡ slice_index_or memory file bytes → slice_set memory file (file_with bytes offset «data») ≡ memory_with memory file offset «data»
@@ -60,15 +59,3 @@ covers_after_asked reply memory ticket.Read piece buffer room h f o n = refl
 covers_after_asked reply memory ticket.Probe piece buffer room h f o n = refl
 covers_after_asked reply memory ticket.Write piece buffer room h f o n =
     covers_after_write memory piece.file piece.offset (reply_to_write reply buffer).stored piece.len (omega (arith, length_stored reply buffer)) h f o n
-
--- a fresh file covers what lies between its ends
-covers_range_fresh : (spec : FileSpec) (offset n : ℕ) → spec.low ≤ offset → offset + n ≤ spec.high → IsTrue (covers_range (fresh_file spec) offset n)
-covers_range_fresh spec offset n least most = grind (arith, nat_tests, length-replicate)
-
--- a fresh memory covers what lies between the ends of a file
-pub covers_fresh : (files : List FileSpec) (file : ℕ) (spec : FileSpec) (offset n : ℕ) → slice_get files file ≡ Some spec → spec.low ≤ offset → offset + n ≤ spec.high → IsTrue (covers (fresh_memory files) file offset n)
-covers_fresh [] file spec offset n is least most = absurd (cc)
-covers_fresh (first ∷ files) zero spec offset n is least most =
-    let same : first ≡ spec = cc in
-    subst (λ (s : FileSpec). IsTrue (covers_range (fresh_file s) offset n)) (sym same) (covers_range_fresh spec offset n least most)
-covers_fresh (first ∷ files) (suc file) spec offset n is least most = covers_fresh files file spec offset n is least most

@@ -173,10 +173,6 @@ no_conflict writes piece io file block one none in_io in_piece =
 write_draw : (draw : Draw) → draw.dir ≡ Write → is_write_draw draw ≡ true
 write_draw draw way = ap (λ (d : Dir). is_write_draw (record draw { dir = d })) way
 
-or_second : (a : Bool) (b : Bool) → b ≡ true → (a || b) ≡ true
-or_second true b h = refl
-or_second false b h = h
-
 -- a check is started clear of the writes in flight
 clear_check : (plan : Plan) (history : List Event) (e : Event) (i : ℕ) (a b : Started) (file block : ℕ) → may_happen plan history e ≡ true → started_by e ≡ Some b → is_probe b.kind ≡ true → slice_get (started history) i ≡ Some a → outcome_of history i ≡ None → is_write a.kind ≡ true → covers_block a.piece file block ≡ true → covers_block b.piece file block ≡ true → ⊥
 clear_check plan history e i a b file block may starts probe at unended write in_a in_b =

@@ -1,6 +1,6 @@
 -- The log of a legal history has its intact writes.
 use Rattle.std.proofs.Common.{◌≡◌, ℕ, ◌+◌, ◌/◌, ◌<◌, ◌≤◌, List, [], ◌∷◌, ◌++◌, length, Bool, true, false, cond, ◌&&◌, not, refl, sym, ◌∙◌, ap, subst, arith, inl, inr}
-use Rattle.std.specs.Prelude.{Option, Some, None, slice_get, is_some}
+use Rattle.std.specs.Prelude.{Option, Some, None, slice_get}
 use Rattle.std.specs.List.{cons_option}
 use Rattle.std.proofs.lemmas.Bool.{and_left, and_right, cases_Bool, cases_eq, cases_lt, both_ways, false_from_ne_true}
 use Rattle.std.proofs.lemmas.Option.{none-some, cond_some}
@@ -399,17 +399,3 @@ pub fresh_at_end : (plan : Plan) (history : List Event) (checked_by : WriteId �
 fresh_at_end plan history checked_by worker id outcome io planned legal may at kind =
     unended_is_unlogged plan history checked_by id io planned legal at kind
     (ap ended_whole (flying_of plan history worker id outcome may).unended)
-
--- whether the log has a write says whether it is intact
-pub some-logged : (plan : Plan) (history : List Event) (checked_by : WriteId → Piece → Expected) (write : WriteId) (piece : Piece)
-    → IsPlanned plan
-    → is_legal plan history ≡ true
-    → WasStarted history write piece
-    → is_some (logged (log_after checked_by history) write) ≡ is_intact history write piece
-some-logged plan history checked_by write piece planned legal was =
-    ap is_some (log_is_intact plan history checked_by write piece planned legal was)
-    ∙ by (record { piece = piece; expected = checked_by write piece }) (is_intact history write piece)
-  where
-    by : (entry : Logged) (b : Bool) → is_some (cond b (Some entry) None) ≡ b
-    by entry true = refl
-    by entry false = refl

@@ -1,5 +1,5 @@
 -- The log of a history with one more event, and what an event's I/O is in it.
-use Rattle.std.proofs.Common.{◌≡◌, ℕ, ◌<◌, ◌≤◌, List, [], ◌∷◌, ◌++◌, length, Bool, true, false, cond, ◌&&◌, not, refl, sym, ◌∙◌, ap, arith, append-nil, append_assoc, length-append}
+use Rattle.std.proofs.Common.{◌≡◌, ℕ, ◌<◌, ◌≤◌, List, [], ◌∷◌, ◌++◌, length, Bool, true, false, cond, ◌&&◌, not, refl, ◌∙◌, ap, arith, append-nil, length-append}
 use Rattle.std.specs.Prelude.{Option, Some, None, slice_get, nat_lt, is_none, filter_map}
 use Rattle.std.specs.List.{list_all, cons_option}
 use Rattle.std.proofs.lemmas.Bool.{and_parts, and_from, lt-ltb, ltb-true}
@@ -16,13 +16,12 @@ use Rattle.jr_model.specs.declared.events.Started.{Started}
 use Rattle.jr_model.specs.declared.events.WriteId.{WriteId}
 use Rattle.jr_model.specs.History.{started, started_by, outcome_of, flies, is_judged, ended_whole, is_write}
 use Rattle.jr_model.specs.Legal.{is_legal, may_happen, end_fits, verdict_fits}
-use Rattle.jr_model.specs.Machine.{is_skip}
 use Rattle.jr_model.specs.Plan.{Plan}
 use Rattle.jr_model.proofs.SerialLaws.{IsWell, well-more, whole_some}
 use Rattle.jr_writes.specs.LoggedWrites.{settled, unsettled}
 use Rattle.jr_writes.specs.LogSteps.{LogStep, settle, unsettle, after_step, log_of, step_of, step_at_end, steps_of}
 use Rattle.jr_quiet.proofs.Steps.{refers, refers_more, all_weaker, started_push, got_within}
-use Rattle.jr_steps.proofs.StartedLemmas.{by_events, started-other}
+use Rattle.jr_steps.proofs.StartedLemmas.{by_events}
 use Rattle.jr_log_laws.specs.Intact.{log_after, after_if}
 
 -- what ended or was judged in a legal history was started
@@ -121,29 +120,6 @@ pub log_grows : (plan : Plan) (history : List Event) (event : Event) (checked_by
 log_grows plan history event checked_by legal may =
     ap log_of (steps_more plan history event checked_by legal may)
     ∙ log_append (steps_of checked_by history) (step_of checked_by (started history) event)
-
--- any number of skips makes none
-pub log-skips : (checked_by : WriteId → Piece → Expected) (history events : List Event)
-    → list_all is_skip events ≡ true
-    → log_after checked_by (history ++ events) ≡ log_after checked_by history
-log-skips checked_by h [] all = ap (log_after checked_by) (append-nil h)
-log-skips checked_by h (e ∷ events) all =
-    let parts = and_parts (is_skip e) (list_all is_skip events) all in
-    ap (log_after checked_by) (sym (append_assoc h (e ∷ []) events))
-    ∙ log-skips checked_by (h ++ e ∷ []) events parts.1
-    ∙ one e parts.0
-  where
-    one : (x : Event) → is_skip x ≡ true → log_after checked_by (h ++ x ∷ []) ≡ log_after checked_by h
-    one (Skip worker write) skip =
-        let e = Skip worker write in
-        ap log_of
-        (ap (λ (ios : List Started). filter_map (step_of checked_by ios) (h ++ e ∷ [])) (started-other h e refl)
-        ∙ filter_map-append (step_of checked_by (started h)) h (e ∷ [])
-        ∙ append-nil (steps_of checked_by h))
-    one (Issue worker dir write piece) skip = cc
-    one (Probe worker write piece) skip = cc
-    one (End worker id outcome) skip = cc
-    one (Verdict worker id verdict) skip = cc
 
 module _ (plan : Plan) (h : List Event) (checked_by : WriteId → Piece → Expected) (legal : is_legal plan h ≡ true) where
   -- an event that is no step

@@ -1,7 +1,7 @@
 -- What the levels of a map say of one another.
-use Rattle.std.proofs.Common.{◌≡◌, ℕ, ◌+◌, ◌*◌, ◌/◌, ◌≤◌, false, List, length, sym, ◌∙◌, inl, inr, arith}
+use Rattle.std.proofs.Common.{◌≡◌, ℕ, ◌+◌, ◌*◌, ◌/◌, ◌≤◌, List, length, sym, ◌∙◌, inl, inr, arith}
 use Rattle.std.proofs.lemmas.Bool.{cases_lt, cases_eq}
-use Rattle.jr_map.specs.Words.{is_full, Summarizes, IsLeastClear, AllSet, AllSetInWord}
+use Rattle.jr_map.specs.Words.{Summarizes, IsLeastClear, AllSet, AllSetInWord}
 use Rattle.jr_map.proofs.WordFacts.{past_is_set, full_is_set}
 
 -- nothing is clear in a word, and no later word has a clear bit
@@ -32,9 +32,6 @@ least_above lower upper from word bit summed here above least place =
                 ]
           ];
     }
-
-pub not_full_above : (lower upper : List ℕ) (from word : ℕ) → Summarizes lower upper → IsLeastClear upper from word → is_full lower word ≡ false
-not_full_above lower upper from word summed above = sym (summed.each word) ∙ above.clear
 
 -- a level of one word has no other bits
 pub none_in_top : (top : List ℕ) (from : ℕ) → length top ≤ 1 → AllSetInWord top from → AllSet top from

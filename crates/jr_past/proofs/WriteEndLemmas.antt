@@ -46,10 +46,3 @@ last_before file block ends before end are other =
     ap (λ (xs : List WriteEnd). fold (last_by file block) None xs) are
     ∙ fold_push (last_by file block) None before end
     ∙ ap (λ (b : Bool). cond b (if_whole end) (fold (last_by file block) None before)) other
-
--- by the latest, where it is
-pub last_here : (file block : ℕ) (ends before : List WriteEnd) (end : WriteEnd) → ends ≡ before ++ end ∷ [] → is_over_block file block end ≡ true → fold (last_by file block) None ends ≡ if_whole end
-last_here file block ends before end are over =
-    ap (λ (xs : List WriteEnd). fold (last_by file block) None xs) are
-    ∙ fold_push (last_by file block) None before end
-    ∙ ap (λ (b : Bool). cond b (if_whole end) (fold (last_by file block) None before)) over

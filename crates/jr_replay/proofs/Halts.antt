@@ -1,5 +1,5 @@
 -- A clone is halted by a fault, or by a bad verdict where that is fatal.
-use Rattle.std.proofs.Common.{◌≡◌, ℕ, List, [], ◌∷◌, Bool, true, false, refl, sym, ap, ◌∙◌}
+use Rattle.std.proofs.Common.{◌≡◌, ℕ, List, [], ◌∷◌, Bool, true, false, refl, ap, ◌∙◌}
 use Rattle.std.specs.Prelude.{◌&&◌, ◌||◌, slice_get}
 use Rattle.std.specs.List.{list_any}
 use Rattle.jr_model.specs.declared.events.Event.{Event}
@@ -13,12 +13,6 @@ use Rattle.jr_model.specs.Totals.{is_fault_of, is_verdict_of}
 never_both : (fatal : Bool) → (fatal && false) ≡ false
 never_both true = refl
 never_both false = refl
-
-swapped : (a b c : Bool) → (a && (b && c)) ≡ (b && (a && c))
-swapped true true c = refl
-swapped true false c = refl
-swapped false true c = refl
-swapped false false c = refl
 
 -- an event by its fault and its bad verdict
 by_parts : (ios : List Started) (job : SubJob) (e : Event) → (is_fault_of ios job.clone e || (job.is_fatal && is_verdict_of ios is_bad job.clone e)) ≡ halts ios job e

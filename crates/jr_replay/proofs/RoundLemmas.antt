@@ -1,14 +1,9 @@
 -- Groups of writes that are full and settled.
-use Rattle.std.proofs.Common.{◌≡◌, List, [], ◌∷◌, ◌++◌, Bool, true, false, not, refl, sym, ap, ◌∙◌}
+use Rattle.std.proofs.Common.{◌≡◌, List, [], ◌∷◌, Bool, true, false, refl, ap, ◌∙◌}
 use Rattle.std.specs.Prelude.{◌&&◌, reverse}
 use Rattle.std.specs.List.{list_all}
 use Rattle.std.proofs.lemmas.List.{reverse-append}
 use Rattle.std.proofs.lemmas.List.Folds.{list_all-append}
-
--- full, and not full and settled
-pub full_not_closed : (full settled : Bool) → (full && not settled) ≡ (full && not (full && settled))
-full_not_closed true settled = refl
-full_not_closed false settled = refl
 
 and_swap : (a b : Bool) → (a && (b && true)) ≡ (b && a)
 and_swap true true = refl

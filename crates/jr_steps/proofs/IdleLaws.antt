@@ -15,7 +15,7 @@ use Rattle.jr_plan.specs.PlanFacts.{IsPlanned}
 use Rattle.jr_steps.proofs.PlaceLemmas.{item_at, all_from, first_fails, any_found, any_at, none_given, got_ranged, ranged_at, got_made, made_at}
 use Rattle.jr_steps.proofs.GroupLaws.{AreNumbered, group_write}
 use Rattle.jr_steps.proofs.IssueLaws.{numbered_draws, issued_at_most}
-use Rattle.jr_steps.proofs.RestLaws.{none_by_length, length_by_none, room_at_rest, clear_at_rest, no_issue_at_rest, none_of_clone_at_rest, none_of_pass_at_rest, taken_up_settled}
+use Rattle.jr_steps.proofs.RestLaws.{length_by_none, room_at_rest, clear_at_rest, no_issue_at_rest, none_of_clone_at_rest, none_of_pass_at_rest, taken_up_settled}
 
 -- where no step may happen, neither of the two may
 neither_step : (takes may : Bool) (x y : Event) → cond takes (Some x) (cond may (Some y) None) ≡ None → (takes ≡ false) × (may ≡ false)
@@ -238,14 +238,3 @@ module _ (plan : Plan) (history : List Event) (worker : ℕ) (planned : IsPlanne
       and_from ((length (in_flight history) == 0) && (length (awaiting history) == 0)) (list_all (is_over history) plan.clones)
       (and_from (length (in_flight history) == 0) (length (awaiting history) == 0) (length_by_none (in_flight history) rests) (length_by_none (awaiting history) judged))
       (all_from (is_over history) plan.clones (λ i job at. over_below (suc job.phase) i job at (omega arith)))
-
--- after a legal history where nothing may be started the run is complete just where nothing flies and no verdict is missing
-pub complete_by_length : (plan : Plan) (history : List Event) (worker : ℕ) → IsPlanned plan → is_legal plan history ≡ true → choice plan history worker ≡ None → is_complete plan history ≡ ((length (in_flight history) == 0) && (length (awaiting history) == 0))
-complete_by_length plan history worker planned legal idle =
-    elim (cases_Bool ((length (in_flight history) == 0) && (length (awaiting history) == 0))) [
-      | inl none ↦
-          let parts = and_parts (length (in_flight history) == 0) (length (awaiting history) == 0) none in
-          idle_is_over plan history worker planned legal idle (none_by_length (in_flight history) parts.0) (none_by_length (awaiting history) parts.1)
-          ∙ sym none
-      | inr some ↦ ap (λ (b : Bool). b && list_all (is_over history) plan.clones) some ∙ sym some
-    ]

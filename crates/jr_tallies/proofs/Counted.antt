@@ -15,7 +15,7 @@ use Rattle.jr_model.specs.declared.events.WriteId.{WriteId}
 use Rattle.jr_model.specs.declared.tickets.TicketKind.{TicketKind}
 use Rattle.jr_model.specs.declared.tickets.TicketKind.TheVariants as ticket
 use Rattle.jr_model.specs.History.{started, started_by, kind_for, end_of, outcome_of, is_verdict_on, is_judged, in_flight, in_flight_of, is_of_clone, is_probe, ended_whole}
-use Rattle.jr_model.specs.Legal.{is_legal, may_happen, is_io_of}
+use Rattle.jr_model.specs.Legal.{is_legal, may_happen}
 use Rattle.jr_model.specs.Plan.{Plan}
 use Rattle.jr_steps.proofs.JudgedEnded.{flying_unjudged}
 use Rattle.jr_steps.proofs.StartedLemmas.{started-starts, started-other}
@@ -295,10 +295,6 @@ tally_after-other c (Some s) (End worker id outcome) t h = ap (λ (b : Bool). co
 tally_after-other c None (Verdict worker id verdict) t h = refl
 tally_after-other c (Some s) (Verdict worker id verdict) t h = ap (λ (b : Bool). cond b (record t { verdicts = t.verdicts - 1 }) t) h
 
-pub tally-other : (plan : Plan) (history : List Event) (e : Event) (c : ℕ) → is_legal plan history ≡ true → may_happen plan history e ≡ true → concerns c (named_in (started history) e) e ≡ false → tally_of (history ++ e ∷ []) c ≡ tally_of history c
-tally-other plan history e c legal may other =
-    tally-more plan history e c legal may ∙ tally_after-other c (named_in (started history) e) e (tally_of history c) other
-
 -- what ends was counted, without subtraction
 
 own_one : (s : Started) (b : Bool) → b ≡ true → counted (is_of_clone s.write.clone s && b) ≡ 1
@@ -316,31 +312,3 @@ pub verdict_falls : (plan : Plan) (history : List Event) (worker io : ℕ) (verd
 verdict_falls plan history worker io verdict s may there =
     let own : counted (is_of_clone s.write.clone s) ≡ 1 = ap {B = ℕ} (λ (x : Bool). counted x) (eq-eqb s.write.clone s.write.clone refl) in
     omega (arith, awaited-verdict plan history worker io verdict s.write.clone s may there, own)
-
--- an event about the clone itself
-
-pub tally-issue_own : (plan : Plan) (history : List Event) (worker : ℕ) (dir : Dir) (write : WriteId) (piece : Piece) → is_legal plan history ≡ true → tally_of (history ++ Issue worker dir write piece ∷ []) write.clone ≡ record (tally_of history write.clone) { issues = flying_issues history write.clone + 1 }
-tally-issue_own plan history worker dir write piece legal =
-    let t = tally_of history write.clone in
-    tally-issue plan history write.clone legal worker dir write piece
-    ∙ ap (λ (b : Bool). cond b (record t { issues = t.issues + 1 }) t) (eq-eqb write.clone write.clone refl)
-
-pub tally-probe_own : (plan : Plan) (history : List Event) (worker : ℕ) (write : WriteId) (piece : Piece) → is_legal plan history ≡ true → tally_of (history ++ Probe worker write piece ∷ []) write.clone ≡ record (tally_of history write.clone) { checks = flying_checks history write.clone + 1 }
-tally-probe_own plan history worker write piece legal =
-    let t = tally_of history write.clone in
-    tally-probe plan history write.clone legal worker write piece
-    ∙ ap (λ (b : Bool). cond b (record t { checks = t.checks + 1 }) t) (eq-eqb write.clone write.clone refl)
-
-pub tally-end_own : (plan : Plan) (history : List Event) (worker io : ℕ) (outcome : Outcome) (s : Started) → is_legal plan history ≡ true → may_happen plan history (End worker io outcome) ≡ true → slice_get (started history) io ≡ Some s → tally_of (history ++ End worker io outcome ∷ []) s.write.clone ≡ tally_ended s.kind outcome (tally_of history s.write.clone)
-tally-end_own plan history worker io outcome s legal may there =
-    let t = tally_of history s.write.clone in
-    tally-end plan history s.write.clone legal worker io outcome may
-    ∙ ap (λ (o : Option Started). tally_after_end s.write.clone o outcome t) there
-    ∙ ap (λ (b : Bool). cond b (tally_ended s.kind outcome t) t) (eq-eqb s.write.clone s.write.clone refl)
-
-pub tally-verdict_own : (plan : Plan) (history : List Event) (worker io : ℕ) (verdict : GivenVerdict) (s : Started) → is_legal plan history ≡ true → may_happen plan history (Verdict worker io verdict) ≡ true → slice_get (started history) io ≡ Some s → tally_of (history ++ Verdict worker io verdict ∷ []) s.write.clone ≡ record (tally_of history s.write.clone) { verdicts = awaited history s.write.clone - 1 }
-tally-verdict_own plan history worker io verdict s legal may there =
-    let t = tally_of history s.write.clone in
-    tally-verdict plan history s.write.clone legal worker io verdict may
-    ∙ ap (λ (o : Option Started). cond (is_io_of s.write.clone o) (record t { verdicts = t.verdicts - 1 }) t) there
-    ∙ ap (λ (b : Bool). cond b (record t { verdicts = t.verdicts - 1 }) t) (eq-eqb s.write.clone s.write.clone refl)

@@ -2,10 +2,8 @@
 use Rattle.std.proofs.Common.{◌≡◌, ℕ, ◌+◌, List, [], ◌∷◌, ◌++◌, length, set, Bool, true, false, cond, ◌&&◌, ◌||◌, not, refl, sym, ◌∙◌, ap, arith, length-append, add-zero}
 use Rattle.std.specs.Prelude.{Option, Some, None, slice_get, nat_lt, ◌==◌, count_by, sum_by}
 use Rattle.std.specs.List.{cons_option}
-use Rattle.std.proofs.lemmas.Bool.{ltb-true, eqb-true, eq-eqb, ne_eqb}
+use Rattle.std.proofs.lemmas.Bool.{ltb-true, eqb-true, ne_eqb}
 use Rattle.std.proofs.lemmas.List.Sums.{sum_by-cons, sum_by-append, sum_by_push, sum-map}
-use Rattle.jr_model.specs.declared.blocks.Dir.{Dir}
-use Rattle.jr_model.specs.declared.blocks.Piece.{Piece}
 use Rattle.jr_model.specs.declared.events.Event.{Event}
 use Rattle.jr_model.specs.declared.events.Event.TheVariants.{Issue, Probe, Skip, End, Verdict}
 use Rattle.jr_model.specs.declared.events.Outcome.{Outcome}
@@ -13,7 +11,6 @@ use Rattle.jr_model.specs.declared.events.Outcome.TheVariants.{Whole, Failed, Sh
 use Rattle.jr_model.specs.declared.events.Started.{Started}
 use Rattle.jr_model.specs.declared.events.Verdict.{Verdict as GivenVerdict}
 use Rattle.jr_model.specs.declared.events.Verdict.TheVariants.{Good, Bad}
-use Rattle.jr_model.specs.declared.events.WriteId.{WriteId}
 use Rattle.jr_model.specs.declared.tickets.TicketKind.{TicketKind}
 use Rattle.jr_model.specs.declared.tickets.TicketKind.TheVariants as ticket
 use Rattle.jr_model.specs.declared.totals.Totals.{Totals}
@@ -21,9 +18,7 @@ use Rattle.jr_model.specs.History.{started, is_of_clone, is_write, ended_whole}
 use Rattle.jr_model.specs.Legal.{is_legal, may_happen, is_io_of, is_fault, is_bad, halts, is_halted}
 use Rattle.jr_model.specs.Plan.{Plan, SubJob, IsNumbered, clone_of}
 use Rattle.jr_model.specs.Report.{all_totals}
-use Rattle.jr_model.specs.Rounds.{Pass, issues_of, issued_count}
 use Rattle.jr_model.specs.Totals.{is_read, if_wanted, moved_by, moved, bytes_of, is_verdict_of, is_skip_of, is_fault_of, totals_of}
-use Rattle.jr_steps.proofs.DrawnLaws.{issued_count-more}
 use Rattle.jr_tallies.specs.Tallies.{named_in, concerns, totals_ended, totals_judged, totals_after_end, totals_after, halted_by}
 use Rattle.jr_steps.proofs.Grown.{Agrees, got_longer, kept-more, found-more, counted-more}
 use Rattle.jr_steps.proofs.Lists.{map_set}
@@ -74,16 +69,6 @@ pub is_halted-more : (plan : Plan) (history : List Event) (e : Event) (job : Sub
 is_halted-more plan history e job legal may =
     found-more plan history e legal may (λ (ios : List Started). halts ios job) (halts_agrees job)
     ∙ ap {B = Bool} (λ (b : Bool). is_halted history job || b) (halts_by (started history) job e)
-
--- the draws issued
-
-pub issued_count-issue : (history : List Event) (pass : Pass) (worker : ℕ) (dir : Dir) (write : WriteId) (piece : Piece) → issued_count (history ++ Issue worker dir write piece ∷ []) pass ≡ issued_count history pass + cond ((write.clone == pass.job.clone) && (write.pass == pass.number)) 1 0
-issued_count-issue history pass worker dir write piece = issued_count-more history pass (Issue worker dir write piece)
-
-pub issued_count-stays : (history : List Event) (pass : Pass) (e : Event) → issues_of pass e ≡ false → issued_count (history ++ e ∷ []) pass ≡ issued_count history pass
-issued_count-stays history pass e none =
-    let nothing : cond (issues_of pass e) 1 0 ≡ 0 = ap {B = ℕ} (λ (b : Bool). cond b 1 0) none in
-    omega (arith, issued_count-more history pass e, nothing)
 
 -- the totals: what the event adds to each
 
@@ -398,25 +383,3 @@ all_totals-more plan history e c job numbered legal may planned about =
     totals-other plan history e other.clone legal may (concerns_one c other.clone io e about (λ same. apart (sym (numbered k other at) ∙ same))))
     ∙ ap (λ (n : ℕ). set (all_totals plan history) c (totals_of (history ++ e ∷ []) n)) number
     ∙ ap (set (all_totals plan history) c) (totals-more plan history e c legal may)
-
--- an event about the clone itself
-
-pub totals-skip_own : (plan : Plan) (history : List Event) (worker : ℕ) (write : WriteId) → is_legal plan history ≡ true → may_happen plan history (Skip worker write) ≡ true → totals_of (history ++ Skip worker write ∷ []) write.clone ≡ record (totals_of history write.clone) { skipped = (totals_of history write.clone).skipped + 1 }
-totals-skip_own plan history worker write legal may =
-    let t = totals_of history write.clone in
-    totals-more plan history (Skip worker write) write.clone legal may
-    ∙ ap (λ (b : Bool). cond b (record t { skipped = t.skipped + 1 }) t) (eq-eqb write.clone write.clone refl)
-
-pub totals-end_own : (plan : Plan) (history : List Event) (worker io : ℕ) (outcome : Outcome) (s : Started) → is_legal plan history ≡ true → may_happen plan history (End worker io outcome) ≡ true → slice_get (started history) io ≡ Some s → totals_of (history ++ End worker io outcome ∷ []) s.write.clone ≡ totals_ended s.kind s.piece.len outcome (totals_of history s.write.clone)
-totals-end_own plan history worker io outcome s legal may there =
-    let t = totals_of history s.write.clone in
-    totals-more plan history (End worker io outcome) s.write.clone legal may
-    ∙ ap (λ (o : Option Started). totals_after_end s.write.clone o outcome t) there
-    ∙ ap (λ (b : Bool). cond b (totals_ended s.kind s.piece.len outcome t) t) (eq-eqb s.write.clone s.write.clone refl)
-
-pub totals-verdict_own : (plan : Plan) (history : List Event) (worker io : ℕ) (verdict : GivenVerdict) (s : Started) → is_legal plan history ≡ true → may_happen plan history (Verdict worker io verdict) ≡ true → slice_get (started history) io ≡ Some s → totals_of (history ++ Verdict worker io verdict ∷ []) s.write.clone ≡ totals_judged verdict (totals_of history s.write.clone)
-totals-verdict_own plan history worker io verdict s legal may there =
-    let t = totals_of history s.write.clone in
-    totals-more plan history (Verdict worker io verdict) s.write.clone legal may
-    ∙ ap (λ (o : Option Started). cond (is_io_of s.write.clone o) (totals_judged verdict t) t) there
-    ∙ ap (λ (b : Bool). cond b (totals_judged verdict t) t) (eq-eqb s.write.clone s.write.clone refl)

@@ -1,6 +1,5 @@
 -- The reader's pass over the lines, which adds one line after another.
-use Rattle.std.proofs.Common.{◌≡◌, ℕ, ◌+◌, ◌<◌, ◌≤◌, List, [], ◌∷◌, length, get_or, drop, Option, Some, None, Result, Ok, Err, Bool, true, false, IsUtf8, refl, ap, ◌∙◌, sym, arith}
-use Rattle.std.specs.Result.{result_err}
+use Rattle.std.proofs.Common.{◌≡◌, ℕ, ◌+◌, ◌<◌, ◌≤◌, List, [], ◌∷◌, length, get_or, drop, Result, Ok, Err, Bool, true, false, IsUtf8, refl, ap, ◌∙◌, sym, arith}
 use Rattle.std.specs.Str.{is_utf8}
 use Rattle.std.proofs.lemmas.Bool.Decides.{nat_tests}
 use Rattle.std.proofs.lemmas.List.{at_drop_more, at_drop_all}
@@ -25,18 +24,6 @@ IsRefusal-after (OpenBracket line) r f h = ap (λ x. after x f) h
 IsRefusal-after (EmptyName line) r f h = ap (λ x. after x f) h
 IsRefusal-after (Outside line) r f h = ap (λ x. after x f) h
 IsRefusal-after Memory r f h = tt
-
-faulty : {A : Type 0} (r : Result A TextFault) (e : TextFault) → result_err r ≡ None → r ≡ Err e → ⊥
-faulty r e sound h = let found : ◌≡◌ {A = Option TextFault} (Some e) None = sym (ap result_err h) ∙ sound in absurd (cc)
-
--- where no line is faulty, only memory can be wanting
-pub IsRefusal-of_sound : {A : Type 0} (e : TextFault) (r : Result A TextFault) → result_err r ≡ None → IsRefusal e r → e ≡ Memory
-IsRefusal-of_sound TooLong r sound h = absurd (faulty r TooLong sound h)
-IsRefusal-of_sound NotUtf8 r sound h = absurd (faulty r NotUtf8 sound h)
-IsRefusal-of_sound (OpenBracket line) r sound h = absurd (faulty r (OpenBracket line) sound h)
-IsRefusal-of_sound (EmptyName line) r sound h = absurd (faulty r (EmptyName line) sound h)
-IsRefusal-of_sound (Outside line) r sound h = absurd (faulty r (Outside line) sound h)
-IsRefusal-of_sound Memory r sound h = refl
 
 -- what the lines from this number on make of a state, one after another
 abbrev pub pass_by : {S : Type 0} → (S → ℕ × List ℕ → Result S TextFault) → S → ℕ → List (List ℕ) → Result S TextFault

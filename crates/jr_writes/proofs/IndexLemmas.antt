@@ -188,17 +188,6 @@ module _ (entry_of new_of : WriteId → Option Logged) (spot_in new_in : ℕ × 
       absurd (none-some (piece_at q t) (ap (λ (o : Option Logged). option_map (λ (e : Logged). e.piece) o) (sym fresh ∙ ap entry_of one) ∙ index.leads_back q t there.1)))
       (is_in q t h)
 
--- the same at each write and place
-pub IsIndexed-same : (kept : Option WriteId) (entry_of other_of : WriteId → Option Logged) (spot_in other_in : ℕ × ℕ → Option Spot) → ((q : WriteId) → other_of q ≡ entry_of q) → ((q : ℕ × ℕ) → other_in q ≡ spot_in q) → IsIndexed kept entry_of spot_in → IsIndexed kept other_of other_in
-IsIndexed-same kept entry_of other_of spot_in other_in writes spots index = record {
-  stands = λ w e h. spots (place_of e.piece) ∙ index.stands w e (sym (writes w) ∙ h);
-  leads_back = λ q t h. ap (λ (o : Option Logged). option_map (λ (e : Logged). e.piece) o) (writes t.write) ∙ index.leads_back q t (sym (spots q) ∙ h);
-  disjoint = record {
-    sized = λ q t h. index.disjoint.sized q t (sym (spots q) ∙ h);
-    apart = λ p q s t x y other others shared. index.disjoint.apart p q s t (sym (spots p) ∙ x) (sym (spots q) ∙ y) other others shared;
-  };
-}
-
 module _ (kept : Option WriteId) (piece : Piece) (entry_of : WriteId → Option Logged) (spot_in : ℕ × ℕ → Option Spot)
     (index : IsIndexed kept entry_of spot_in) (here : StandsHere kept piece spot_in) (none : NoneOverlaps kept piece spot_in) where
   all_apart : (p q : ℕ × ℕ) (s t : Spot) → spot_in p ≡ Some s → spot_in q ≡ Some t → pieces_overlap (piece_at p s) (piece_at q t) ≡ true → p ≡ q
