@@ -1,3 +1,4 @@
+use crate::asserts::same;
 use crate::plans::plan_of;
 use jr_crew::{Ran, RunFault, run};
 use jr_engines::{Engine, EngineFault};
@@ -116,7 +117,7 @@ fn fault_of(
 fn a_refused_run_drops_its_engines(rt: HostRuntime) -> Result<(), Fail> {
     for (workers, verifiers) in [(1, 0), (3, 0), (2, 2)] {
         let (dropped, fault) = dropped_by(&rt, rt.alloc(), workers, verifiers, 0)?;
-        assert_eq!(rt; dropped, workers);
+        same(&rt, dropped, workers);
         match fault {
             None => {}
             Some(RunFault::Memory) => return Err(Fail::from("run: out of memory")),
@@ -131,8 +132,8 @@ fn a_refused_run_drops_its_engines(rt: HostRuntime) -> Result<(), Fail> {
 fn engines_that_can_count_no_further_are_dropped(rt: HostRuntime) -> Result<(), Fail> {
     for (workers, verifiers) in [(1, 0), (3, 0), (2, 2)] {
         let (dropped, fault) = dropped_by(&rt, rt.alloc(), workers, verifiers, u64::MAX)?;
-        assert_eq!(rt; dropped, workers);
-        assert_eq!(rt; fault, Some(RunFault::Books));
+        same(&rt, dropped, workers);
+        same(&rt, fault, Some(RunFault::Books));
     }
     Ok(())
 }

@@ -1,6 +1,7 @@
 ghost use Rattle.std.specs.Prelude.{◌<◌};
 ghost use Rattle.jr_handover.specs.Passes.{IsPassOf};
 
+use crate::asserts::same;
 use crate::plans::plan_of;
 use jr_engines::{Engine, MemoryEngine};
 use jr_handover::{Handoff, Parcel, Pass};
@@ -101,7 +102,7 @@ fn served_by(
 ) -> Result<Served, AllocError> {
     let buffer = vec![in alloc; 0; ticket.piece.len as usize]?;
     assert!(rt; ticket.fits() && engine.calls() < 1000);
-    assert_eq!(rt; buffer.len(), ticket.piece.len as usize);
+    same(rt, buffer.len(), ticket.piece.len as usize);
     Ok(serve(engine, ticket, buffer))
 }
 

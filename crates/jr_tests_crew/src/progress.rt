@@ -1,3 +1,4 @@
+use crate::asserts::same;
 use crate::plans::{checked, plan_of};
 use jr_crew::{Progress, run_serial_watched, run_watched};
 use jr_engines::{Engine, NullEngine};
@@ -19,10 +20,10 @@ fn one_worker_is_watched(rt: HostRuntime) -> Result<(), Fail> {
     // (what an engine of zeros gives back is right for one pattern, and wrong for the other)
     for (byte, bad) in [(0, 0), (1, 4)] {
         let progress = Progress::new();
-        assert_eq!(rt; told(&progress), (0, 0, 0, 0));
+        same(&rt, told(&progress), (0, 0, 0, 0));
         let plan = plan_of(rt.alloc(), &checked(4, byte), 1, EngineKind::Null, 0)?;
         run_serial_watched(rt.alloc(), plan, &mut NullEngine::new(), Some(&progress))?;
-        assert_eq!(rt; told(&progress), (4, 16384, 4, bad));
+        same(&rt, told(&progress), (4, 16384, 4, bad));
     }
     Ok(())
 }
@@ -37,7 +38,7 @@ fn workers_and_verifiers_are_watched(rt: HostRuntime) -> Result<(), Fail> {
             engines.push(Box::new(rt.alloc(), NullEngine::new())?)?;
         }
         run_watched(&rt, rt.alloc(), plan, engines, Some(&progress))?;
-        assert_eq!(rt; told(&progress), (4, 16384, 4, 4));
+        same(&rt, told(&progress), (4, 16384, 4, 4));
     }
     Ok(())
 }

@@ -1,6 +1,7 @@
+use crate::asserts::same;
 use crate::plans::plan_of;
 use jr_board::{Bad, Desk};
-use jr_crew::{RunFault, run};
+use jr_crew::{Ran, RunFault, run};
 use jr_engines::{
     Engine, EngineFault, MemoryEngine, NullEngine, Reply, ScriptedEngine, SharedMemory, Tally,
 };
@@ -65,17 +66,26 @@ fn four_workers_over_one_memory(rt: HostRuntime) -> Result<(), Fail> {
             engines.push(Box::new(rt.alloc(), shared.share()?)?)?;
         }
         let ran = run(&rt, rt.alloc(), plan, engines)?;
-        assert!(rt; ran.desk.is_complete());
-        assert_eq!(rt; ran.desk.totals().len(), 2);
-        assert!(rt; ran.desk.totals().iter().all(|totals| is_clean(totals)));
-        assert_eq!(rt; ran.engines.len(), 4);
-        assert_eq!(rt; ran.books.len(), 4);
-        for (engine, book) in ran.engines.iter().zip(ran.books.iter()) {
-            assert_eq!(rt; engine.calls(), book.len() as u64);
-            assert_eq!(rt; engine.failures(), 0);
-        }
+        assert_clean(&rt, &ran.desk);
+        assert_calls(&rt, &ran);
     }
     Ok(())
+}
+
+fn assert_clean(rt: &impl Abort, desk: &Desk) {
+    assert!(rt; desk.is_complete());
+    same(rt, desk.totals().len(), 2);
+    assert!(rt; desk.totals().iter().all(|totals| is_clean(totals)));
+}
+
+// Each engine was called once for each entry of its worker's book.
+fn assert_calls(rt: &impl Abort, ran: &Ran) {
+    same(rt, ran.engines.len(), 4);
+    same(rt, ran.books.len(), 4);
+    for (engine, book) in ran.engines.iter().zip(ran.books.iter()) {
+        same(rt, engine.calls(), book.len() as u64);
+        same(rt, engine.failures(), 0);
+    }
 }
 
 #[test]
@@ -178,12 +188,12 @@ fn bads_of_flipped<R: Threads + Wait + Sync>(
 fn a_verifier_finds_a_byte_that_was_inverted(rt: HostRuntime) -> Result<(), Fail> {
     for verifiers in 0..3 {
         let (bad, first) = bads_of_flipped(&rt, rt.alloc(), verifiers)?;
-        assert_eq!(rt; bad, 1);
+        same(&rt, bad, 1);
         let Some(found) = first else {
             return Err(Fail::from("nothing bad"));
         };
-        assert_eq!(rt; found.write.number, 2);
-        assert_eq!(rt; found.what, What::DataArea);
+        same(&rt, found.write.number, 2);
+        same(&rt, found.what, What::DataArea);
     }
     Ok(())
 }
@@ -290,27 +300,39 @@ fn a_run_wants_an_engine(rt: HostRuntime) -> Result<(), Fail> {
 fn faults_are_what_the_engines_failed(rt: HostRuntime) -> Result<(), Fail> {
     for n in 0..8 {
         let plan = clones_of_one_file(rt.alloc(), 4, 16, (n % 3) as u32)?;
-        let mut engines: Vec<Box<dyn Engine + Send>> = Vec::new(rt.alloc());
-        let script = Vec::from_array(rt.alloc(), [(n, Reply::Fail)])?;
-        let memory = MemoryEngine::new(rt.alloc(), &plan)?;
-        engines.push(Box::new(rt.alloc(), ScriptedEngine::new(memory, script))?)?;
-        let memory = MemoryEngine::new(rt.alloc(), &plan)?;
-        engines.push(Box::new(
-            rt.alloc(),
-            ScriptedEngine::new(memory, Vec::new(rt.alloc())),
-        )?)?;
+        let engines = one_that_fails(rt.alloc(), &plan, n)?;
         let ran = run(&rt, rt.alloc(), plan, engines)?;
-        let mut faults: u64 = 0;
-        for totals in ran.desk.totals() {
-            faults = faults.saturating_add(totals.faults);
-        }
-        let mut failures: u64 = 0;
-        for engine in ran.engines.iter() {
-            failures = failures.saturating_add(engine.failures());
-        }
-        assert_eq!(rt; faults, failures);
+        same(&rt, faults_of(&ran.desk), failures_of(&ran));
     }
     Ok(())
+}
+
+// Two engines with a memory each. Call n of the first fails.
+fn one_that_fails(alloc: Global, plan: &Plan, n: u64) -> Result<Vec<Box<dyn Engine + Send>>, Fail> {
+    let mut engines: Vec<Box<dyn Engine + Send>> = Vec::new(alloc);
+    let script = Vec::from_array(alloc, [(n, Reply::Fail)])?;
+    let memory = MemoryEngine::new(alloc, plan)?;
+    engines.push(Box::new(alloc, ScriptedEngine::new(memory, script))?)?;
+    let memory = MemoryEngine::new(alloc, plan)?;
+    let calm = ScriptedEngine::new(memory, Vec::new(alloc));
+    engines.push(Box::new(alloc, calm)?)?;
+    Ok(engines)
+}
+
+fn faults_of(desk: &Desk) -> u64 {
+    let mut faults: u64 = 0;
+    for totals in desk.totals() {
+        faults = faults.saturating_add(totals.faults);
+    }
+    faults
+}
+
+fn failures_of(ran: &Ran) -> u64 {
+    let mut failures: u64 = 0;
+    for engine in ran.engines.iter() {
+        failures = failures.saturating_add(engine.failures());
+    }
+    failures
 }
 
 fn two_of_zeros(alloc: Global) -> Result<Vec<Box<dyn Engine + Send>>, Fail> {
@@ -322,10 +344,10 @@ fn two_of_zeros(alloc: Global) -> Result<Vec<Box<dyn Engine + Send>>, Fail> {
 
 // All 16 checks were bad.
 fn assert_all_bad(rt: &impl Abort, desk: &Desk) {
-    assert_eq!(rt; desk.bads().len(), 16);
+    same(rt, desk.bads().len(), 16);
     for totals in desk.totals() {
-        assert_eq!(rt; totals.checks, 16);
-        assert_eq!(rt; totals.bad, 16);
+        same(rt, totals.checks, 16);
+        same(rt, totals.bad, 16);
     }
 }
 

@@ -1,3 +1,4 @@
+use crate::asserts::same;
 use crate::plans::{checked, plan_of};
 use jr_board::Desk;
 use jr_crew::run_serial;
@@ -37,15 +38,15 @@ fn null_run(alloc: Global, byte: u8) -> Result<Totals, Fail> {
 
 // The run of one clone is complete, with so many events and these totals.
 fn assert_ran(rt: &impl Abort, desk: &Desk, events: usize, want: Totals) {
-    assert_eq!(rt; desk.history().len(), events);
+    same(rt, desk.history().len(), events);
     assert!(rt; desk.is_complete());
     assert!(rt; desk.totals() == [want].as_slice());
 }
 
 // The engine was called so often, and failed so often.
 fn assert_called<E: Engine>(rt: &impl Abort, engine: &E, calls: u64, failures: u64) {
-    assert_eq!(rt; engine.calls(), calls);
-    assert_eq!(rt; engine.failures(), failures);
+    same(rt, engine.calls(), calls);
+    same(rt, engine.failures(), failures);
 }
 
 #[test]
@@ -93,8 +94,8 @@ fn an_engine_of_zeros_keeps_nothing(rt: HostRuntime) -> Result<(), Fail> {
         ..NOTHING
     };
     let found = null_run(rt.alloc(), 1)?;
-    assert_eq!(rt; found, Totals { bad: 1, ..checked });
+    same(&rt, found, Totals { bad: 1, ..checked });
     let found = null_run(rt.alloc(), 0)?;
-    assert_eq!(rt; found, Totals { good: 1, ..checked });
+    same(&rt, found, Totals { good: 1, ..checked });
     Ok(())
 }

@@ -1,3 +1,4 @@
+use crate::asserts::{holds, same};
 use crate::plans::{checked, plan_of};
 use jr_desk::{Bad, Desk, Take};
 use jr_engines::{Engine, NullEngine};
@@ -77,22 +78,22 @@ fn carry_out_next(
     desk: &mut Desk,
     number: u32,
 ) -> Result<(), Fail> {
-    assert!(rt; desk.ticket_at(number).is_none());
+    holds(rt, desk.ticket_at(number).is_none(), "no such ticket yet");
     let ticket = next_ticket(desk, number)?;
-    assert!(rt; !desk.has_ended(number));
+    holds(rt, !desk.has_ended(number), "it flies");
     let served = carried_out(alloc, engine, ticket)?;
-    assert_eq!(rt; desk.end(&served), Ok(()));
-    assert!(rt; desk.has_ended(number));
-    assert!(rt; !desk.is_complete());
+    same(rt, desk.end(&served), Ok(()));
+    holds(rt, desk.has_ended(number), "it ended");
+    holds(rt, !desk.is_complete(), "more to come");
     if served.to_judge() {
-        assert_eq!(rt; desk.judge(7, &rule(&served)), Ok(()));
+        same(rt, desk.judge(7, &rule(&served)), Ok(()));
     }
     Ok(())
 }
 
 // Both checks found something, in the order of their verdicts.
 fn assert_two_bad(rt: &impl Abort, desk: &Desk) {
-    assert_eq!(rt; desk.bads(), [bad(0, 0), bad(1, 4096)].as_slice());
+    same(rt, desk.bads(), [bad(0, 0), bad(1, 4096)].as_slice());
     let totals = Totals {
         reads: 0,
         rbytes: 0,
@@ -105,14 +106,14 @@ fn assert_two_bad(rt: &impl Abort, desk: &Desk) {
         void: 0,
         faults: 0,
     };
-    assert_eq!(rt; desk.totals(), [totals].as_slice());
-    assert_eq!(rt; desk.history().len(), 10);
+    same(rt, desk.totals(), [totals].as_slice());
+    same(rt, desk.history().len(), 10);
 }
 
 // The run is over, and is stopped after that.
 fn assert_ends(rt: &impl Abort, desk: &mut Desk) {
     assert!(rt; desk.is_complete());
-    assert_eq!(rt; desk.take(5), Ok(Take::Finished));
+    same(rt, desk.take(5), Ok(Take::Finished));
     assert!(rt; !desk.is_stopped());
     desk.stop();
     assert!(rt; desk.is_stopped());

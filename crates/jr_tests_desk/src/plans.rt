@@ -4,11 +4,17 @@ use jr_plan::{Draft, Plan, Workload};
 use std::alloc::Global;
 use std::test::Fail;
 
+fn add(alloc: Global, draft: &mut Draft, clone: &(Workload, &str, u64)) -> Result<(), Fail> {
+    let (workload, file, start) = clone;
+    draft.add(alloc, workload, "w", String::from_str(alloc, file)?, *start)?;
+    Ok(())
+}
+
 // A plan over memory: of clones with this work, in these files from these places on.
 pub fn plan_of(alloc: Global, clones: &[(Workload, &str, u64)]) -> Result<Plan, Fail> {
     let mut draft = Draft::new(alloc);
-    for (workload, file, start) in clones {
-        draft.add(alloc, workload, "w", String::from_str(alloc, file)?, *start)?;
+    for clone in clones {
+        add(alloc, &mut draft, clone)?;
     }
     if draft.clones() == 0 {
         return Err(Fail::from("no clones"));

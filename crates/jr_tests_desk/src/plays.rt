@@ -1,3 +1,4 @@
+use crate::asserts::same;
 use crate::plans::{checked, plan_of};
 use jr_desk::{Played, play};
 use jr_model::{DeskFault, IoType, Reply, Step, StepReply, Totals};
@@ -60,8 +61,8 @@ fn two_in_flight_and_a_flipped_read(rt: HostRuntime) -> Result<(), Fail> {
         ..checked(2)
     };
     let (played, replies) = played(alloc, &[(two_deep, "f", 0)], table)?;
-    assert_eq!(rt; played.replies.as_slice(), replies.as_slice());
-    assert_eq!(rt; played.desk.totals(), [wrote(2, 1, 1, 0)].as_slice());
+    same(&rt, played.replies.as_slice(), replies.as_slice());
+    same(&rt, played.desk.totals(), [wrote(2, 1, 1, 0)].as_slice());
     Ok(())
 }
 
@@ -91,10 +92,11 @@ fn two_clones_over_one_file(rt: HostRuntime) -> Result<(), Fail> {
         (Step::Take(0), StepReply::Finished),
     ]?;
     let (played, replies) = played(alloc, &[(checked(2), "f", 0), (checked(2), "f", 0)], table)?;
-    assert_eq!(rt; played.replies.as_slice(), replies.as_slice());
-    assert_eq!(rt;
+    same(&rt, played.replies.as_slice(), replies.as_slice());
+    same(
+        &rt,
         played.desk.totals(),
-        [wrote(1, 1, 0, 1), wrote(2, 2, 0, 0)].as_slice()
+        [wrote(1, 1, 0, 1), wrote(2, 2, 0, 0)].as_slice(),
     );
     Ok(())
 }
@@ -102,6 +104,20 @@ fn two_clones_over_one_file(rt: HostRuntime) -> Result<(), Fail> {
 #[test]
 fn a_stonewall_is_waited_for(rt: HostRuntime) -> Result<(), Fail> {
     let alloc = rt.alloc();
+    let early = Workload::plain(IoType::Write, 4096, 1);
+    let late = Workload {
+        phase: 1,
+        ..Workload::plain(IoType::Write, 4096, 1)
+    };
+    let clones = [(early, "a", 0), (late, "b", 0)];
+    let (played, replies) = played(alloc, &clones, one_after_another(alloc)?)?;
+    same(&rt, played.replies.as_slice(), replies.as_slice());
+    assert!(rt; played.desk.is_complete());
+    Ok(())
+}
+
+// A write of each of two clones, where the second waits for the first.
+fn one_after_another(alloc: Global) -> Result<Vec<(Step, StepReply)>, Fail> {
     let table = vec![in alloc;
         (Step::Take(0), StepReply::Io(0)),
         (Step::Take(1), StepReply::Wait),
@@ -110,15 +126,7 @@ fn a_stonewall_is_waited_for(rt: HostRuntime) -> Result<(), Fail> {
         (Step::End(1, Reply::Pass), StepReply::Ended),
         (Step::Take(0), StepReply::Finished),
     ]?;
-    let early = Workload::plain(IoType::Write, 4096, 1);
-    let late = Workload {
-        phase: 1,
-        ..Workload::plain(IoType::Write, 4096, 1)
-    };
-    let (played, replies) = played(alloc, &[(early, "a", 0), (late, "b", 0)], table)?;
-    assert_eq!(rt; played.replies.as_slice(), replies.as_slice());
-    assert!(rt; played.desk.is_complete());
-    Ok(())
+    Ok(table)
 }
 
 #[test]
@@ -139,8 +147,8 @@ fn refusals_by_name(rt: HostRuntime) -> Result<(), Fail> {
         ),
     ]?;
     let (played, replies) = played(alloc, &[(checked(4), "f", 0)], table)?;
-    assert_eq!(rt; played.replies.as_slice(), replies.as_slice());
-    assert_eq!(rt; played.desk.history().len(), 1);
+    same(&rt, played.replies.as_slice(), replies.as_slice());
+    same(&rt, played.desk.history().len(), 1);
     Ok(())
 }
 
@@ -156,7 +164,7 @@ fn a_second_end_is_refused(rt: HostRuntime) -> Result<(), Fail> {
         ),
     ]?;
     let (played, replies) = played(alloc, &[(checked(4), "f", 0)], table)?;
-    assert_eq!(rt; played.replies.as_slice(), replies.as_slice());
+    same(&rt, played.replies.as_slice(), replies.as_slice());
     assert!(rt;
         played
             .desk

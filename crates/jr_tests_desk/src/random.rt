@@ -1,6 +1,7 @@
 // Steps that a generator draws, made on a desk and compared with the plain program of the definitions, event by event.
 ghost use Rattle.std.specs.Prelude.{◌<◌, ◌^◌, length};
 
+use crate::asserts::same;
 use jr_agenda::totals;
 use jr_desk::{Bad, Desk, Take};
 use jr_engines::{Engine, MemoryEngine, ScriptedEngine};
@@ -196,7 +197,7 @@ fn assert_appended(rt: &impl Abort, desk: &Desk, before: &Shown, event: &Event) 
         return;
     };
     assert!(rt; older == before.history.as_slice());
-    assert_eq!(rt; last, event);
+    same(rt, last, event);
 }
 
 // May each event from this place on happen after those before it?
@@ -219,7 +220,7 @@ fn assert_chosen(
     let history = desk.history();
     for at in from..history.len() {
         let next = choice(alloc, desk.plan(), &history[..at], worker)?;
-        assert_eq!(rt; next, Some(history[at]));
+        same(rt, next, Some(history[at]));
         let is_last = history.len() - at == 1;
         assert!(rt; is_last || matches!(&history[at], Event::Skip { .. }));
     }
@@ -229,10 +230,10 @@ fn assert_chosen(
 // Does a take that handed out this ticket have its start for the last event?
 fn assert_handed(rt: &impl Abort, alloc: Global, desk: &Desk, ticket: &Ticket) -> Result<(), Fail> {
     let begun = desk.history().last().and_then(|event| started_by(event));
-    assert_eq!(rt; begun, Some(started_as(ticket)));
+    same(rt, begun, Some(started_as(ticket)));
     let count = started(alloc, desk.history())?.len();
-    assert_eq!(rt; ticket.id as usize + 1, count);
-    assert_eq!(rt; desk.ticket_at(ticket.id), Some(*ticket));
+    same(rt, ticket.id as usize + 1, count);
+    same(rt, desk.ticket_at(ticket.id), Some(*ticket));
     Ok(())
 }
 
@@ -252,8 +253,8 @@ fn assert_rests(
             .iter()
             .all(|event| started_by(event).is_none())
     );
-    assert_eq!(rt; choice(alloc, desk.plan(), history, worker)?, None);
-    assert_eq!(rt; complete(alloc, desk.plan(), history)?, is_finished);
+    same(rt, choice(alloc, desk.plan(), history, worker)?, None);
+    same(rt, complete(alloc, desk.plan(), history)?, is_finished);
     Ok(())
 }
 
@@ -266,11 +267,11 @@ fn counted(alloc: Global, history: &[Event], clone: u32) -> Result<Totals, Fail>
 
 // Are the desk's totals those of its history?
 fn assert_totals(rt: &impl Abort, alloc: Global, desk: &Desk) -> Result<(), Fail> {
-    assert_eq!(rt; desk.totals().len(), desk.plan().clones());
+    same(rt, desk.totals().len(), desk.plan().clones());
     for (clone, found) in (0u32..64).zip(desk.totals().iter()) {
         let history = desk.history();
         assert!(rt; history.len() < 99_999);
-        assert_eq!(rt; *found, counted(alloc, history, clone)?);
+        same(rt, *found, counted(alloc, history, clone)?);
     }
     Ok(())
 }
@@ -296,7 +297,7 @@ fn assert_bads(rt: &impl Abort, desk: &Desk, ios: &[Started]) {
     let mut rest = desk.bads();
     for event in desk.history() {
         if let Some(bad) = bad_by(ios, event) {
-            assert_eq!(rt; rest.first().copied(), Some(bad));
+            same(rt, rest.first().copied(), Some(bad));
             rest = rest.get(1..).unwrap_or(rest);
         }
     }
@@ -308,14 +309,14 @@ fn assert_tickets(rt: &impl Abort, desk: &Desk, ios: &[Started]) {
     for (id, io) in (0u32..99_999).zip(ios.iter()) {
         match desk.ticket_at(id) {
             Some(ticket) => {
-                assert_eq!(rt; ticket.id, id);
-                assert_eq!(rt; started_as(&ticket), *io);
+                same(rt, ticket.id, id);
+                same(rt, started_as(&ticket), *io);
             }
             None => assert!(rt; false, "no ticket {id}"),
         }
     }
     assert!(rt; ios.len() < 99_999);
-    assert_eq!(rt; desk.ticket_at(ios.len() as u32), None);
+    same(rt, desk.ticket_at(ios.len() as u32), None);
 }
 
 // Does all that the desk says follow from its history?
@@ -324,9 +325,10 @@ fn assert_same(rt: &impl Abort, alloc: Global, desk: &Desk) -> Result<(), Fail> 
     assert_tickets(rt, desk, ios.as_slice());
     assert_bads(rt, desk, ios.as_slice());
     assert_totals(rt, alloc, desk)?;
-    assert_eq!(rt;
+    same(
+        rt,
         desk.is_complete(),
-        complete(alloc, desk.plan(), desk.history())?
+        complete(alloc, desk.plan(), desk.history())?,
     );
     Ok(())
 }
@@ -404,9 +406,10 @@ impl Drill {
         let served = carried_out(self.alloc, &mut self.engine, ticket, reply)?;
         let before = shown_by(self.alloc, &self.desk)?;
         if served.to_judge() {
-            assert_eq!(rt;
+            same(
+                rt,
                 self.desk.judge(0, &rule(&served)),
-                Err(DeskFault::WrongKind)
+                Err(DeskFault::WrongKind),
             );
             assert_unchanged(rt, &self.desk, &before);
         }
@@ -444,7 +447,7 @@ impl Drill {
             return Ok(());
         };
         let before = shown_by(self.alloc, &self.desk)?;
-        assert_eq!(rt; self.desk.end(served), Err(DeskFault::Twice));
+        same(rt, self.desk.end(served), Err(DeskFault::Twice));
         assert_unchanged(rt, &self.desk, &before);
         Ok(())
     }
@@ -457,7 +460,7 @@ impl Drill {
         };
         let before = shown_by(self.alloc, &self.desk)?;
         if served.to_judge() && is_judged(self.desk.history(), served.ticket().id as usize) {
-            assert_eq!(rt; self.desk.judge(1, &rule(served)), Err(DeskFault::Twice));
+            same(rt, self.desk.judge(1, &rule(served)), Err(DeskFault::Twice));
             assert_unchanged(rt, &self.desk, &before);
         }
         Ok(())
@@ -477,7 +480,7 @@ impl Drill {
         }
         let before = shown_by(self.alloc, &self.desk)?;
         let served = carried_out(self.alloc, &mut self.engine, ticket, Reply::Fail)?;
-        assert_eq!(rt; self.desk.end(&served), Err(DeskFault::Stranger));
+        same(rt, self.desk.end(&served), Err(DeskFault::Stranger));
         assert_unchanged(rt, &self.desk, &before);
         Ok(())
     }
@@ -486,12 +489,16 @@ impl Drill {
     fn stop(&mut self, rt: &impl Abort) -> Result<(), Fail> {
         let before = shown_by(self.alloc, &self.desk)?;
         self.desk.stop();
-        assert_eq!(rt; self.desk.take(0), Ok(Take::Finished));
+        same(rt, self.desk.take(0), Ok(Take::Finished));
         assert_unchanged(rt, &self.desk, &before);
         for served in &self.ended {
-            assert_eq!(rt; self.desk.end(served), Err(DeskFault::Stopped));
+            same(rt, self.desk.end(served), Err(DeskFault::Stopped));
             if served.to_judge() {
-                assert_eq!(rt; self.desk.judge(1, &rule(served)), Err(DeskFault::Stopped));
+                same(
+                    rt,
+                    self.desk.judge(1, &rule(served)),
+                    Err(DeskFault::Stopped),
+                );
             }
         }
         assert_unchanged(rt, &self.desk, &before);
@@ -515,14 +522,19 @@ fn play(rt: &impl Abort, alloc: Global, first: u64, steps: u32) -> Result<Drill,
     Ok(drill)
 }
 
+// After so many steps and a stop they agree.
+fn assert_agrees(rt: &impl Abort, alloc: Global, seed: u64, steps: u32) -> Result<(), Fail> {
+    let mut drill = play(rt, alloc, seed, steps)?;
+    drill.stop(rt)?;
+    assert_same(rt, alloc, &drill.desk)
+}
+
 #[test]
 fn the_desk_agrees_with_the_plain_program(rt: HostRuntime) -> Result<(), Fail> {
     let mut seed = 1;
     for _ in 0..200 {
         let steps = 60 + draw(&mut seed, 141);
-        let mut drill = play(&rt, rt.alloc(), seed, steps)?;
-        drill.stop(&rt)?;
-        assert_same(&rt, rt.alloc(), &drill.desk)?;
+        assert_agrees(&rt, rt.alloc(), seed, steps)?;
     }
     Ok(())
 }

@@ -1,5 +1,6 @@
 // Two desks side by side, each with a memory of its own. Where a request for memory is refused, the call says so and changes
 // nothing, and made again it answers as the other desk does. `checks/refused` runs this with each request refused in turn.
+use crate::asserts::same;
 use crate::random::{draw, draw_plan, draw_reply};
 use jr_desk::{Desk, Take};
 use jr_engines::{Engine, MemoryEngine, ScriptedEngine};
@@ -44,12 +45,12 @@ fn assert_alike(rt: &impl Abort, desk: &Desk, other: &Desk) {
     assert!(rt; desk.history() == other.history());
     assert!(rt; desk.totals() == other.totals());
     assert!(rt; desk.bads() == other.bads());
-    assert_eq!(rt; desk.is_stopped(), other.is_stopped());
-    assert_eq!(rt; desk.is_complete(), other.is_complete());
+    same(rt, desk.is_stopped(), other.is_stopped());
+    same(rt, desk.is_complete(), other.is_complete());
     for id in 0..1000 {
         let ticket = desk.ticket_at(id);
-        assert_eq!(rt; ticket, other.ticket_at(id));
-        assert_eq!(rt; desk.has_ended(id), other.has_ended(id));
+        same(rt, ticket, other.ticket_at(id));
+        same(rt, desk.has_ended(id), other.has_ended(id));
         if ticket.is_none() {
             break;
         }
@@ -63,7 +64,7 @@ fn new_desk(rt: &(impl Abort + Eprint), alloc: Global, seed: u64) -> Result<Desk
         Ok(desk) => Ok(desk),
         Err(fault) => {
             let _ = eprintln!(rt; "refused: new");
-            assert_eq!(rt; fault, DeskFault::Memory);
+            same(rt, fault, DeskFault::Memory);
             let mut again = seed;
             Ok(Desk::new(alloc, draw_plan(alloc, &mut again)?)?)
         }
@@ -81,7 +82,7 @@ fn asked(
         Ok(answer) => answer,
         Err(fault) => {
             let _ = eprintln!(rt; "refused: {}", name_of(call));
-            assert_eq!(rt; fault, DeskFault::Memory);
+            same(rt, fault, DeskFault::Memory);
             assert_alike(rt, desk, other);
             asked_again(rt, desk, call)
         }
@@ -185,7 +186,7 @@ impl Pair {
         let call = Call::Take(draw(&mut self.seed, 4));
         let one = asked(rt, &mut self.one.desk, &self.other.desk, &call);
         let other = asked_twice(rt, &mut self.other.desk, &call);
-        assert_eq!(rt; one, other);
+        assert!(rt; one == other);
         self.is_over = one == Some(Take::Finished);
         self.one.keep(one)?;
         self.other.keep(other)
@@ -198,10 +199,10 @@ impl Pair {
         }
         let mut seed = self.seed;
         let reply = draw_reply(&mut seed, false);
-        let same = draw_reply(&mut self.seed, false);
+        let again = draw_reply(&mut self.seed, false);
         let one = self.one.carried_out(self.alloc, place, reply)?;
-        let other = self.other.carried_out(self.alloc, place, same)?;
-        assert_eq!(rt; one.outcome(), other.outcome());
+        let other = self.other.carried_out(self.alloc, place, again)?;
+        same(rt, one.outcome(), other.outcome());
         asked(rt, &mut self.one.desk, &self.other.desk, &Call::End(&one));
         asked_twice(rt, &mut self.other.desk, &Call::End(&other));
         if one.to_judge() {

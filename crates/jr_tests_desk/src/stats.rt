@@ -1,3 +1,4 @@
+use crate::asserts::same;
 use crate::plans::{checked, plan_of};
 use jr_board::Desk;
 use jr_model::Totals;
@@ -74,7 +75,7 @@ fn accepts_a_whole_run(rt: HostRuntime) -> Result<(), Fail> {
     let plan = planned(alloc)?;
     let text = with_line(alloc, 0, None)?;
     let totals = check_trace(alloc, &plan, text.as_bytes())?;
-    assert_eq!(rt; totals.as_slice(), [done(2, 0)].as_slice());
+    same(&rt, totals.as_slice(), [done(2, 0)].as_slice());
     Ok(())
 }
 
@@ -84,14 +85,14 @@ fn counts_a_byte_that_differs(rt: HostRuntime) -> Result<(), Fail> {
     let plan = planned(alloc)?;
     let text = with_line(alloc, 7, Some("V 0 2 byte 7"))?;
     let totals = check_trace(alloc, &plan, text.as_bytes())?;
-    assert_eq!(rt; totals.as_slice(), [done(1, 1)].as_slice());
+    same(&rt, totals.as_slice(), [done(1, 1)].as_slice());
     Ok(())
 }
 
 #[test]
 fn names_the_first_line_that_is_none_of_a_trace(rt: HostRuntime) -> Result<(), Fail> {
     let alloc = rt.alloc();
-    assert_eq!(rt; fault_with(alloc, 3, "Q")?, Some(TraceFault::Line(3)));
+    same(&rt, fault_with(alloc, 3, "Q")?, Some(TraceFault::Line(3)));
     let lines = [
         "",
         " I 0 0 0 0 0",
@@ -113,10 +114,10 @@ fn names_the_first_line_that_is_none_of_a_trace(rt: HostRuntime) -> Result<(), F
         "S 0 0 0 0 0",
     ];
     for line in lines {
-        assert_eq!(rt;
-            fault_with(alloc, 1, line)?,
-            Some(TraceFault::Line(1)),
-            "at {line}"
+        same(
+            &rt,
+            (line, fault_with(alloc, 1, line)?),
+            (line, Some(TraceFault::Line(1))),
         );
     }
     Ok(())
@@ -149,13 +150,18 @@ fn names_the_first_line_that_may_not_happen(rt: HostRuntime) -> Result<(), Fail>
     ];
     for (place, line) in refused {
         let fault = fault_with(alloc, place, line)?;
-        assert_eq!(rt; fault, Some(TraceFault::Illegal(place as u64)), "at {line}");
+        same(
+            &rt,
+            (line, fault),
+            (line, Some(TraceFault::Illegal(place as u64))),
+        );
     }
     let mut text = with_line(alloc, 0, None)?;
     text.push_str("V 0 3 good\n")?;
-    assert_eq!(rt;
+    same(
+        &rt,
         fault_of(alloc, text.as_bytes())?,
-        Some(TraceFault::Illegal(11))
+        Some(TraceFault::Illegal(11)),
     );
     Ok(())
 }
@@ -163,11 +169,12 @@ fn names_the_first_line_that_may_not_happen(rt: HostRuntime) -> Result<(), Fail>
 #[test]
 fn names_a_run_that_goes_on(rt: HostRuntime) -> Result<(), Fail> {
     let alloc = rt.alloc();
-    assert_eq!(rt; fault_of(alloc, b"")?, Some(TraceFault::Unfinished));
+    same(&rt, fault_of(alloc, b"")?, Some(TraceFault::Unfinished));
     let text = with_line(alloc, 10, None)?;
-    assert_eq!(rt;
+    same(
+        &rt,
         fault_of(alloc, text.as_bytes())?,
-        Some(TraceFault::Unfinished)
+        Some(TraceFault::Unfinished),
     );
     Ok(())
 }
@@ -182,9 +189,9 @@ fn names_every_cut(rt: HostRuntime) -> Result<(), Fail> {
     for byte in text.as_bytes() {
         let fault = check_trace(alloc, &plan, front.as_slice()).err();
         if front.is_empty() || front.last() == Some(&b'\n') {
-            assert_eq!(rt; fault, Some(TraceFault::Unfinished));
+            same(&rt, fault, Some(TraceFault::Unfinished));
         } else {
-            assert_eq!(rt; fault, Some(TraceFault::Line(line)));
+            same(&rt, fault, Some(TraceFault::Line(line)));
         }
         front.push(*byte)?;
         if *byte == b'\n' && line < 100 {
@@ -208,8 +215,8 @@ fn accepts_a_run_that_a_fault_halts(rt: HostRuntime) -> Result<(), Fail> {
 fn assert_halted(rt: &impl Abort, alloc: Global, plan: &Plan, ending: &str) -> Result<(), Fail> {
     let text = format!(in alloc; "I 7 0 0 0 0\nE 7 0 {ending}\n")?;
     let totals = check_trace(alloc, plan, text.as_bytes())?;
-    assert_eq!(rt; totals.len(), 1);
-    assert_eq!(rt; totals[0].faults, 1, "at {ending}");
+    same(rt, totals.len(), 1);
+    same(rt, (ending, totals[0].faults), (ending, 1));
     Ok(())
 }
 
@@ -219,22 +226,36 @@ const NOTHING: &[u8] =
 const ONE_BAD: &[u8] =
     b"w: clone=0 reads=0 rbytes=0 writes=2 wbytes=8192 checks=2 good=1 bad=1 skipped=0 void=0 faults=0\n";
 
+fn assert_one_bad(rt: &impl Abort, alloc: Global, plan: &Plan) -> Result<(), Fail> {
+    let lines = totals_text(alloc, plan, &[done(1, 1)])?;
+    assert!(rt; lines.as_slice() == ONE_BAD);
+    Ok(())
+}
+
+fn assert_traced(rt: &impl Abort, alloc: Global, desk: &Desk, text: &[u8]) -> Result<(), Fail> {
+    let events = trace(alloc, desk)?;
+    assert!(rt; events.as_slice() == text);
+    Ok(())
+}
+
+// Nothing has ended.
+fn assert_nothing_done(rt: &impl Abort, alloc: Global, desk: &Desk) -> Result<(), Fail> {
+    let lines = report(alloc, desk)?;
+    assert!(rt; lines.as_slice() == NOTHING);
+    Ok(())
+}
+
 #[test]
 fn prints_what_a_desk_has_started(rt: HostRuntime) -> Result<(), Fail> {
     let alloc = rt.alloc();
     let plan = planned(alloc)?;
-    let lines = totals_text(alloc, &plan, &[done(1, 1)])?;
-    assert!(rt; lines.as_slice() == ONE_BAD);
+    assert_one_bad(&rt, alloc, &plan)?;
     let mut desk = Desk::new(alloc, plan)?;
-    assert!(rt; trace(alloc, &desk)?.is_empty());
+    assert_traced(&rt, alloc, &desk, b"")?;
     let is_taken = desk.take(3).is_ok();
     assert!(rt; is_taken);
-    let events = trace(alloc, &desk)?;
-    assert!(rt; events.as_slice() == b"I 3 0 0 0 0\n".as_slice());
-    // Nothing has ended.
-    let lines = report(alloc, &desk)?;
-    assert!(rt; lines.as_slice() == NOTHING);
-    Ok(())
+    assert_traced(&rt, alloc, &desk, b"I 3 0 0 0 0\n")?;
+    assert_nothing_done(&rt, alloc, &desk)
 }
 
 #[test]
@@ -247,7 +268,7 @@ fn says_what_is_wrong(rt: HostRuntime) -> Result<(), Fail> {
     ];
     for (fault, text) in faults {
         let shown = format!(in rt.alloc(); "{fault}")?;
-        assert_eq!(rt; shown.as_str(), text);
+        same(&rt, shown.as_str(), text);
     }
     Ok(())
 }

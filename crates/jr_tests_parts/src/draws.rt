@@ -1,3 +1,4 @@
+use crate::asserts::same;
 use crate::plans::plan_of;
 use jr_draw::Drawer;
 use jr_model::{Dir, Draw, IoType, Piece};
@@ -25,19 +26,19 @@ fn visits_each_cell_of_a_map_once(rt: HostRuntime) -> Result<(), Fail> {
         rt.alloc(),
         &[(Workload::plain(IoType::RandWrite, 4096, 4), "f", 0)],
     )?;
-    assert_eq!(rt; plan.clones(), 1);
+    same(&rt, plan.clones(), 1);
     let words = [
         0, 0, 2, 10, 1, 1, 2, 11, 2, 2, 3, 12, 3, 3, 6, 13, 4, 4, 0, 14,
     ];
     let source = WordList { rest: &words };
     let mut drawer = Drawer::new(rt.alloc(), plan.clone_at(0), 7, source)?;
-    assert_eq!(rt; drawer.pass(), 7);
-    assert_eq!(rt; drawer.next(), write(0, 8192, 4096, 10));
-    assert_eq!(rt; drawer.next(), write(1, 12288, 4096, 11));
-    assert_eq!(rt; drawer.next(), write(2, 0, 4096, 12));
-    assert_eq!(rt; drawer.next(), write(3, 4096, 4096, 13));
-    assert_eq!(rt; drawer.next(), None);
-    assert_eq!(rt; drawer.next(), None);
+    same(&rt, drawer.pass(), 7);
+    same(&rt, drawer.next(), write(0, 8192, 4096, 10));
+    same(&rt, drawer.next(), write(1, 12288, 4096, 11));
+    same(&rt, drawer.next(), write(2, 0, 4096, 12));
+    same(&rt, drawer.next(), write(3, 4096, 4096, 13));
+    same(&rt, drawer.next(), None);
+    same(&rt, drawer.next(), None);
     Ok(())
 }
 
@@ -49,15 +50,15 @@ fn cuts_a_draw_at_a_taken_cell(rt: HostRuntime) -> Result<(), Fail> {
         ..Workload::plain(IoType::RandRw, 1024, 8)
     };
     let plan = plan_of(rt.alloc(), &[(mixed, "f", 0)])?;
-    assert_eq!(rt; plan.clones(), 1);
+    same(&rt, plan.clones(), 1);
     let words = [49, 0, 11, 1, 50, 0, 9, 2];
     let source = WordList { rest: &words };
     let mut drawer = Drawer::new(rt.alloc(), plan.clone_at(0), 0, source)?;
     let first = drawer.next().ok_or("no draw")?;
-    assert_eq!(rt; first.dir, Dir::Read);
-    assert_eq!(rt; first.piece.offset, 3072);
-    assert_eq!(rt; first.piece.len, 1024);
-    assert_eq!(rt; drawer.next(), write(1, 1024, 2048, 2));
+    same(&rt, first.dir, Dir::Read);
+    same(&rt, first.piece.offset, 3072);
+    same(&rt, first.piece.len, 1024);
+    same(&rt, drawer.next(), write(1, 1024, 2048, 2));
     Ok(())
 }
 
@@ -68,14 +69,14 @@ fn comes_back_to_a_cell_without_a_map(rt: HostRuntime) -> Result<(), Fail> {
         ..Workload::plain(IoType::RandWrite, 4096, 4)
     };
     let plan = plan_of(rt.alloc(), &[(unmapped, "f", 0)])?;
-    assert_eq!(rt; plan.clones(), 1);
+    same(&rt, plan.clones(), 1);
     let words = [0, 0, 2, 0, 0, 0, 2, 0, 0, 0, 2, 0, 0, 0, 0, 0];
     let source = WordList { rest: &words };
     let mut drawer = Drawer::new(rt.alloc(), plan.clone_at(0), 0, source)?;
     for (number, offset) in [(0, 8192), (1, 8192), (2, 8192), (3, 0)] {
-        assert_eq!(rt; drawer.next(), write(number, offset, 4096, 0));
+        same(&rt, drawer.next(), write(number, offset, 4096, 0));
     }
-    assert_eq!(rt; drawer.next(), None);
+    same(&rt, drawer.next(), None);
     Ok(())
 }
 
@@ -87,17 +88,17 @@ fn goes_on_in_order(rt: HostRuntime) -> Result<(), Fail> {
         ..Workload::plain(IoType::ReadWrite, 512, 6)
     };
     let plan = plan_of(rt.alloc(), &[(mixed, "f", 4096)])?;
-    assert_eq!(rt; plan.clones(), 1);
+    same(&rt, plan.clones(), 1);
     let words = [50, 0, 4, 0, 49, 0, 4, 0, 99, 0, 4, 0, 150, 0, 4, 0];
     let source = WordList { rest: &words };
     let mut drawer = Drawer::new(rt.alloc(), plan.clone_at(0), 0, source)?;
-    assert_eq!(rt; drawer.next(), write(0, 4096, 1024, 0));
+    same(&rt, drawer.next(), write(0, 4096, 1024, 0));
     let second = drawer.next().ok_or("no draw")?;
-    assert_eq!(rt; second.dir, Dir::Read);
-    assert_eq!(rt; second.piece.offset, 4096);
-    assert_eq!(rt; drawer.next(), write(2, 5120, 1024, 0));
-    assert_eq!(rt; drawer.next(), write(3, 6144, 512, 0));
-    assert_eq!(rt; drawer.next(), None);
+    same(&rt, second.dir, Dir::Read);
+    same(&rt, second.piece.offset, 4096);
+    same(&rt, drawer.next(), write(2, 5120, 1024, 0));
+    same(&rt, drawer.next(), write(3, 6144, 512, 0));
+    same(&rt, drawer.next(), None);
     Ok(())
 }
 
@@ -114,15 +115,15 @@ fn seeded() -> Workload {
 #[test]
 fn seeds_each_pass(rt: HostRuntime) -> Result<(), Fail> {
     let plan = plan_of(rt.alloc(), &[(seeded(), "f", 0), (seeded(), "g", 0)])?;
-    assert_eq!(rt; plan.clones(), 2);
+    same(&rt, plan.clones(), 2);
     let mut drawer = Drawer::of_pass(rt.alloc(), plan.clone_at(1), 3)?;
     let source = Words::new(1_000_011);
-    let mut same = Drawer::new(rt.alloc(), plan.clone_at(1), 3, source)?;
+    let mut other = Drawer::new(rt.alloc(), plan.clone_at(1), 3, source)?;
     for _ in 0..16 {
         let draw = drawer.next();
         assert!(rt; draw.is_some());
-        assert_eq!(rt; draw, same.next());
+        same(&rt, draw, other.next());
     }
-    assert_eq!(rt; drawer.next(), None);
+    same(&rt, drawer.next(), None);
     Ok(())
 }

@@ -1,5 +1,6 @@
 ghost use Rattle.std.specs.Prelude.{◌+◌, ◌≤◌, IfOk};
 
+use crate::asserts::same;
 use jr_engines::{Engine, EngineFault, SharedMemory};
 use jr_files::{FileEngine, FileFault, Positioned, lay_out, read_whole, write_whole};
 use jr_model::{EngineKind, IoType, SECTOR};
@@ -55,36 +56,57 @@ fn assert_bytes(rt: &impl Abort, bytes: &[u8], old: u8, place: usize, new: &[u8]
 fn files_hold_what_was_written(rt: HostRuntime) -> Result<(), Fail> {
     let alloc = rt.alloc();
     let folder = fresh_folder(&rt, process::id(rt.process()), "written")?;
-    let made = path_in(alloc, folder.as_str(), "a.0.0")?;
-    let longer = path_in(alloc, folder.as_str(), "b.0.0")?;
-    let linked = path_in(alloc, folder.as_str(), "linked")?;
-    let link = path_in(alloc, folder.as_str(), "c.0.0")?;
-    fs::write(&rt, longer.as_str(), &[7; 3000])?;
-    fs::write(&rt, linked.as_str(), &[8; 3])?;
-    symlink(&rt, linked.as_str(), link.as_str())?;
+    put_before(&rt, alloc, folder.as_str())?;
     let jobs = [("a.0.0", 1024, 8), ("b.0.0", 0, 2), ("c.0.0", 0, 1)];
     let plan = planned(alloc, folder.as_str(), &jobs)?;
     lay_out(&rt, &plan)?;
     lay_out(&rt, &plan)?;
     let mut engine = FileEngine::new(&rt, alloc, &plan)?;
-    assert_eq!(rt; engine.write(0, 1500, &[1, 2, 3]), Ok(3));
-    assert_eq!(rt; engine.write(1, 600, &[4, 5]), Ok(2));
-    assert_eq!(rt; engine.write(2, 510, &[6, 6]), Ok(2));
-    let mut buf = [9; 4];
-    assert_eq!(rt; engine.read(0, 1499, &mut buf), Ok(4));
-    assert_eq!(rt; buf, [0, 1, 2, 3]);
-    assert_eq!(rt; (engine.calls(), engine.failures()), (4, 0));
-    let bytes = fs::read(&rt, made.as_str())?;
-    assert_eq!(rt; bytes.len(), 5120);
-    assert_bytes(&rt, bytes.as_slice(), 0, 1500, &[1, 2, 3]);
-    let bytes = fs::read(&rt, longer.as_str())?;
-    assert_eq!(rt; bytes.len(), 3000);
-    assert_bytes(&rt, bytes.as_slice(), 7, 600, &[4, 5]);
-    let bytes = fs::read(&rt, linked.as_str())?;
-    assert_eq!(rt; bytes.len(), 512);
-    assert_bytes(&rt, &bytes[..3], 8, 3, &[]);
-    assert_bytes(&rt, &bytes[3..], 0, 507, &[6, 6]);
+    assert_written(&rt, &mut engine);
+    assert_kept(&rt, alloc, folder.as_str())?;
     fs::remove_dir_all(&rt, folder.as_str())?;
+    Ok(())
+}
+
+// Two files are there before: one is longer than it is to be, the other is reached by a link.
+fn put_before(rt: &impl Files, alloc: Global, folder: &str) -> Result<(), Fail> {
+    let longer = path_in(alloc, folder, "b.0.0")?;
+    fs::write(rt, longer.as_str(), &[7; 3000])?;
+    let linked = path_in(alloc, folder, "linked")?;
+    fs::write(rt, linked.as_str(), &[8; 3])?;
+    let link = path_in(alloc, folder, "c.0.0")?;
+    symlink(rt, linked.as_str(), link.as_str())?;
+    Ok(())
+}
+
+// Three writes, and a read of what one of them wrote.
+fn assert_written(rt: &impl Abort, engine: &mut impl Engine) {
+    same(rt, (engine.calls(), engine.failures()), (0, 0));
+    same(rt, engine.write(0, 1500, &[1, 2, 3]), Ok(3));
+    same(rt, engine.write(1, 600, &[4, 5]), Ok(2));
+    same(rt, engine.write(2, 510, &[6, 6]), Ok(2));
+    let mut buf = [9; 4];
+    same(rt, engine.read(0, 1499, &mut buf), Ok(4));
+    same(rt, buf, [0, 1, 2, 3]);
+    same(rt, (engine.calls(), engine.failures()), (4, 0));
+}
+
+// What the files hold then.
+fn assert_kept(
+    rt: &(impl Abort + Files + AllocGlobal),
+    alloc: Global,
+    folder: &str,
+) -> Result<(), Fail> {
+    let made = fs::read(rt, path_in(alloc, folder, "a.0.0")?.as_str())?;
+    same(rt, made.len(), 5120);
+    assert_bytes(rt, made.as_slice(), 0, 1500, &[1, 2, 3]);
+    let longer = fs::read(rt, path_in(alloc, folder, "b.0.0")?.as_str())?;
+    same(rt, longer.len(), 3000);
+    assert_bytes(rt, longer.as_slice(), 7, 600, &[4, 5]);
+    let linked = fs::read(rt, path_in(alloc, folder, "linked")?.as_str())?;
+    same(rt, linked.len(), 512);
+    assert_bytes(rt, &linked.as_slice()[..3], 8, 3, &[]);
+    assert_bytes(rt, &linked.as_slice()[3..], 0, 507, &[6, 6]);
     Ok(())
 }
 
@@ -95,17 +117,26 @@ fn shortened_file_gives_a_short_read(rt: HostRuntime) -> Result<(), Fail> {
     let plan = planned(alloc, folder.as_str(), &[("a.0.0", 0, 2)])?;
     lay_out(&rt, &plan)?;
     let mut engine = FileEngine::new(&rt, alloc, &plan)?;
-    let path = path_in(alloc, folder.as_str(), "a.0.0")?;
-    let file: File = OpenOptions::new().write(true).open(&rt, path.as_str())?;
-    file.set_len(512)?;
-    let mut buf = [9; 4];
-    assert_eq!(rt; engine.read(0, 510, &mut buf), Ok(2));
-    assert_eq!(rt; buf, [0, 0, 9, 9]);
-    assert_eq!(rt; engine.read(0, 512, &mut buf), Ok(0));
-    assert_eq!(rt; engine.read(0, 508, &mut buf), Ok(4));
-    assert_eq!(rt; (engine.calls(), engine.failures()), (3, 0));
+    shorten(&rt, path_in(alloc, folder.as_str(), "a.0.0")?.as_str())?;
+    assert_shortened(&rt, &mut engine);
     fs::remove_dir_all(&rt, folder.as_str())?;
     Ok(())
+}
+
+fn shorten(rt: &impl Files, path: &str) -> io::Result<()> {
+    let file = OpenOptions::new().write(true).open(rt, path)?;
+    file.set_len(512)
+}
+
+// A file of 512 bytes, where the plan has 1024.
+fn assert_shortened(rt: &impl Abort, engine: &mut impl Engine) {
+    same(rt, (engine.calls(), engine.failures()), (0, 0));
+    let mut buf = [9; 4];
+    same(rt, engine.read(0, 510, &mut buf), Ok(2));
+    same(rt, buf, [0, 0, 9, 9]);
+    same(rt, engine.read(0, 512, &mut buf), Ok(0));
+    same(rt, engine.read(0, 508, &mut buf), Ok(4));
+    same(rt, (engine.calls(), engine.failures()), (3, 0));
 }
 
 #[test]
@@ -117,31 +148,35 @@ fn refused_files_are_named(rt: HostRuntime) -> Result<(), Fail> {
         folder.as_str(),
         &[("a.0.0", 0, 2), ("b.0.0", 0, 2), ("c.0.0", 0, 2)],
     )?;
-    assert_eq!(rt;
+    same(
+        &rt,
         FileEngine::new(&rt, alloc, &plan).err(),
-        Some(FileFault::File(0))
+        Some(FileFault::File(0)),
     );
     let second = path_in(alloc, folder.as_str(), "b.0.0")?;
     fs::create_dir(&rt, second.as_str())?;
-    assert_eq!(rt; lay_out(&rt, &plan), Err(FileFault::File(1)));
-    assert_eq!(rt;
+    same(&rt, lay_out(&rt, &plan), Err(FileFault::File(1)));
+    same(
+        &rt,
         FileEngine::new(&rt, alloc, &plan).err(),
-        Some(FileFault::File(1))
+        Some(FileFault::File(1)),
     );
-    assert_eq!(rt;
+    same(
+        &rt,
         FileEngine::shared(&rt, alloc, &plan).err(),
-        Some(FileFault::File(1))
+        Some(FileFault::File(1)),
     );
     let first = path_in(alloc, folder.as_str(), "a.0.0")?;
-    assert_eq!(rt; fs::metadata(&rt, first.as_str())?.len(), 1024);
+    same(&rt, fs::metadata(&rt, first.as_str())?.len(), 1024);
     let third = path_in(alloc, folder.as_str(), "c.0.0")?;
     assert!(rt; !fs::exists(&rt, third.as_str())?);
     let missing = path_in(alloc, folder.as_str(), "missing")?;
     let plan = planned(alloc, missing.as_str(), &[("a.0.0", 0, 2)])?;
-    assert_eq!(rt; lay_out(&rt, &plan), Err(FileFault::File(0)));
-    assert_eq!(rt;
+    same(&rt, lay_out(&rt, &plan), Err(FileFault::File(0)));
+    same(
+        &rt,
         FileEngine::new(&rt, alloc, &plan).err(),
-        Some(FileFault::File(0))
+        Some(FileFault::File(0)),
     );
     fs::remove_dir_all(&rt, folder.as_str())?;
     Ok(())
@@ -163,8 +198,8 @@ fn file_without_the_right_to_write(rt: HostRuntime) -> Result<(), Fail> {
         .open(&rt, path.as_str())
         .is_err();
     let expected = refused.then_some(FileFault::File(0));
-    assert_eq!(rt; lay_out(&rt, &plan).err(), expected);
-    assert_eq!(rt; FileEngine::new(&rt, alloc, &plan).err(), expected);
+    same(&rt, lay_out(&rt, &plan).err(), expected);
+    same(&rt, FileEngine::new(&rt, alloc, &plan).err(), expected);
     fs::remove_dir_all(&rt, folder.as_str())?;
     Ok(())
 }
@@ -173,12 +208,16 @@ fn file_without_the_right_to_write(rt: HostRuntime) -> Result<(), Fail> {
 fn full_device_fails_its_writes(rt: HostRuntime) -> Result<(), Fail> {
     let plan = planned(rt.alloc(), "/dev", &[("full", 0, 1)])?;
     let mut engine = FileEngine::new(&rt, rt.alloc(), &plan)?;
-    assert_eq!(rt; engine.write(0, 0, &[1]), Err(EngineFault::Device));
+    same(&rt, engine.write(0, 0, &[1]), Err(EngineFault::Device));
     let mut buf = [9; 2];
-    assert_eq!(rt; engine.read(0, 0, &mut buf), Ok(2));
-    assert_eq!(rt; engine.read(1, 0, &mut buf), Err(EngineFault::Outside));
-    assert_eq!(rt; engine.write(0, u64::MAX, &[1]), Err(EngineFault::Outside));
-    assert_eq!(rt; (engine.calls(), engine.failures()), (4, 3));
+    same(&rt, engine.read(0, 0, &mut buf), Ok(2));
+    same(&rt, engine.read(1, 0, &mut buf), Err(EngineFault::Outside));
+    same(
+        &rt,
+        engine.write(0, u64::MAX, &[1]),
+        Err(EngineFault::Outside),
+    );
+    same(&rt, (engine.calls(), engine.failures()), (4, 3));
     Ok(())
 }
 
@@ -287,9 +326,9 @@ impl Files for Devices {
 #[test]
 fn block_device_is_as_long_as_a_seek_says(rt: HostRuntime) -> Result<(), Fail> {
     let plan = planned(rt.alloc(), "/dev", &[("sda", 1024, 2)])?;
-    assert_eq!(rt; lay_out(&Devices { len: 2048 }, &plan), Ok(()));
+    same(&rt, lay_out(&Devices { len: 2048 }, &plan), Ok(()));
     let shorter = lay_out(&Devices { len: 2047 }, &plan);
-    assert_eq!(rt; shorter, Err(FileFault::File(0)));
+    same(&rt, shorter, Err(FileFault::File(0)));
     Ok(())
 }
 
@@ -345,32 +384,34 @@ fn parts_are_gone_on_with(rt: HostRuntime) {
         last: 99,
     };
     let mut buf = [9; 5];
-    assert_eq!(rt; read_whole(&mut file, 1, &mut buf), Ok(5));
-    assert_eq!(rt; (buf, file.calls), ([2, 3, 4, 5, 6], 6));
-    assert_eq!(rt; read_whole(&mut file, 5, &mut buf), Ok(3));
-    assert_eq!(rt; buf, [6, 7, 8, 5, 6]);
-    assert_eq!(rt; write_whole(&mut file, 2, &[21, 22, 23]), Ok(3));
-    assert_eq!(rt; file.bytes, [1, 2, 21, 22, 23, 6, 7, 8]);
-    assert_eq!(rt; write_whole(&mut file, 6, &[24, 25, 26]), Ok(2));
+    same(&rt, read_whole(&mut file, 1, &mut buf), Ok(5));
+    same(&rt, (buf, file.calls), ([2, 3, 4, 5, 6], 6));
+    same(&rt, read_whole(&mut file, 5, &mut buf), Ok(3));
+    same(&rt, buf, [6, 7, 8, 5, 6]);
+    same(&rt, write_whole(&mut file, 2, &[21, 22, 23]), Ok(3));
+    same(&rt, file.bytes, [1, 2, 21, 22, 23, 6, 7, 8]);
+    same(&rt, write_whole(&mut file, 6, &[24, 25, 26]), Ok(2));
     let mut file = Piecemeal {
         bytes,
         calls,
         last: 3,
     };
-    assert_eq!(rt;
+    same(
+        &rt,
         read_whole(&mut file, 0, &mut buf),
-        Err(EngineFault::Device)
+        Err(EngineFault::Device),
     );
     let mut file = Piecemeal {
         bytes,
         calls,
         last: 3,
     };
-    assert_eq!(rt;
+    same(
+        &rt,
         write_whole(&mut file, 0, &[11, 12, 13]),
-        Err(EngineFault::Device)
+        Err(EngineFault::Device),
     );
-    assert_eq!(rt; file.bytes, [11, 12, 3, 4, 5, 6, 7, 8]);
+    same(&rt, file.bytes, [11, 12, 3, 4, 5, 6, 7, 8]);
 }
 
 // A file of bytes in memory, which are known; what is written behind them is let go.
@@ -411,18 +452,22 @@ fn files_of_another_kind(rt: HostRuntime) -> Result<(), Fail> {
         })?;
     }
     let mut engine = FileEngine::over(files);
-    assert_eq!(rt; engine.write(0, 3, &[2, 3, 4]), Ok(3));
+    same(&rt, engine.write(0, 3, &[2, 3, 4]), Ok(3));
     let mut buf = [9; 4];
-    assert_eq!(rt; engine.read(0, 2, &mut buf), Ok(4));
-    assert_eq!(rt; buf, [1, 2, 3, 4]);
-    assert_eq!(rt; engine.write(1, 3, &[2, 3, 4]), Err(EngineFault::Device));
-    assert_eq!(rt; engine.write(2, 3, &[2]), Err(EngineFault::Outside));
-    assert_eq!(rt; (engine.calls(), engine.failures()), (4, 2));
+    same(&rt, engine.read(0, 2, &mut buf), Ok(4));
+    same(&rt, buf, [1, 2, 3, 4]);
+    same(
+        &rt,
+        engine.write(1, 3, &[2, 3, 4]),
+        Err(EngineFault::Device),
+    );
+    same(&rt, engine.write(2, 3, &[2]), Err(EngineFault::Outside));
+    same(&rt, (engine.calls(), engine.failures()), (4, 2));
     let bytes = vec![in rt.alloc(); 0; 4]?;
     let mut file = Kept { bytes };
-    assert_eq!(rt; write_whole(&mut file, 1, &[1, 2]), Ok(2));
-    assert_eq!(rt; read_whole(&mut file, 1, &mut buf), Ok(3));
-    assert_eq!(rt; buf, [1, 2, 0, 4]);
+    same(&rt, write_whole(&mut file, 1, &[1, 2]), Ok(2));
+    same(&rt, read_whole(&mut file, 1, &mut buf), Ok(3));
+    same(&rt, buf, [1, 2, 0, 4]);
     Ok(())
 }
 
@@ -446,12 +491,12 @@ fn assert_side_by_side(
     let mut first = first;
     let mut second = second;
     let child = thread::spawn(rt, move || write_and_read(&mut *first, 1, 11))?;
-    assert_eq!(rt; write_and_read(&mut *second, 2, 12), Some(12));
-    assert_eq!(rt; child.join(rt), Some(11));
-    assert_eq!(rt; second.calls(), 2);
+    same(rt, write_and_read(&mut *second, 2, 12), Some(12));
+    same(rt, child.join(rt), Some(11));
+    same(rt, second.calls(), 2);
     let mut buf = [9; 4];
-    assert_eq!(rt; second.read(0, 0, &mut buf), Ok(4));
-    assert_eq!(rt; buf, [0, 11, 12, 0]);
+    same(rt, second.read(0, 0, &mut buf), Ok(4));
+    same(rt, buf, [0, 11, 12, 0]);
     Ok(())
 }
 
@@ -480,7 +525,7 @@ fn engines_side_by_side(rt: HostRuntime) -> Result<(), Fail> {
 fn faults_in_words(rt: HostRuntime) -> Result<(), Fail> {
     let file = format!(in rt.alloc(); "{}", FileFault::File(3))?;
     let memory = format!(in rt.alloc(); "{}", FileFault::Memory)?;
-    assert_eq!(rt; file.as_str(), "cannot open the files");
-    assert_eq!(rt; memory.as_str(), "out of memory");
+    same(&rt, file.as_str(), "cannot open the files");
+    same(&rt, memory.as_str(), "out of memory");
     Ok(())
 }

@@ -1,5 +1,6 @@
 ghost use Rattle.std.specs.Prelude.{◌≡◌, ◌<◌, ◌≤◌, length, IfSome};
 
+use crate::asserts::same;
 use jr_map::{CellMap, MOST_CELLS};
 use std::alloc::Global;
 use std::process::Abort;
@@ -22,11 +23,11 @@ fn assert_takes_all(rt: &impl Abort, map: &mut CellMap, n: u32)
     requires size { length map.old ≡ n }
 {
     let most = (map.left(), draw(map, 0, n - 1), map.pick(0));
-    assert_eq!(rt; most, (n, Some((0, n - 1)), Some(n - 1)), "of {n}");
+    same(rt, (n, most), (n, (n, Some((0, n - 1)), Some(n - 1))));
     let last = (map.left(), draw(map, 0, n), map.pick(0));
-    assert_eq!(rt; last, (1, Some((n - 1, 1)), None), "of {n}");
+    same(rt, (n, last), (n, (1, Some((n - 1, 1)), None)));
     map.clear();
-    assert_eq!(rt; (map.left(), map.pick(n - 1)), (n, Some(n - 1)));
+    same(rt, (map.left(), map.pick(n - 1)), (n, Some(n - 1)));
 }
 
 // Sizes at which the levels of words change their shape.
@@ -46,13 +47,13 @@ fn assert_goes_on(rt: &impl Abort, map: &mut CellMap, n: u32)
     requires size { length map.old ≡ n }
 {
     let behind = (draw(map, 1, n), map.pick(n - 1));
-    assert_eq!(rt; behind, (Some((1, n - 1)), Some(0)), "of {n}");
+    same(rt, (n, behind), (n, (Some((1, n - 1)), Some(0))));
     map.clear();
     let three = (draw(map, n - 1, 1), draw(map, 0, 2), draw(map, n - 1, n));
-    assert_eq!(rt;
-        three,
-        (Some((n - 1, 1)), Some((0, 2)), Some((2, n - 3))),
-        "of {n}"
+    same(
+        rt,
+        (n, three),
+        (n, (Some((n - 1, 1)), Some((0, 2)), Some((2, n - 3)))),
     );
 }
 
@@ -70,11 +71,11 @@ fn goes_on_at_the_least_free_cell(rt: HostRuntime) -> Result<(), Fail> {
 fn cuts_a_run_at_a_taken_cell(rt: HostRuntime) -> Result<(), Fail> {
     let mut map = CellMap::new(rt.alloc(), 130)?;
     let drawn = (draw(&mut map, 128, 1), draw(&mut map, 60, 100));
-    assert_eq!(rt; drawn, (Some((128, 1)), Some((60, 68))));
+    same(&rt, drawn, (Some((128, 1)), Some((60, 68))));
 
     let mut map = CellMap::new(rt.alloc(), 8)?;
     let drawn = (draw(&mut map, 3, 1), draw(&mut map, 1, 4));
-    assert_eq!(rt; drawn, (Some((3, 1)), Some((1, 2))));
+    same(&rt, drawn, (Some((3, 1)), Some((1, 2))));
     Ok(())
 }
 
@@ -134,8 +135,8 @@ fn compare_draws(rt: &impl Abort, map: &mut CellMap, taken: &mut [bool], n: u32,
     let drawn = draw(map, r, want);
     let expected = draw_flags(taken, r as usize, want as usize);
     let drawn = drawn.map(|(x, m)| (x as usize, m as usize));
-    assert_eq!(rt; drawn, expected, "of {n}, {want} from {r}");
-    assert_eq!(rt; map.left() as usize, left_flags(taken));
+    same(rt, (n, want, r, drawn), (n, want, r, expected));
+    same(rt, map.left() as usize, left_flags(taken));
     if drawn.is_none() {
         map.clear();
         taken.fill(false);

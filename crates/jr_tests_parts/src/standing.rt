@@ -4,6 +4,7 @@ ghost use Rattle.jr_model.specs.History.{same_write};
 ghost use Rattle.jr_backlog.specs.Rounds.{comes_last, is_before, takes_writes, with_exhausted, with_written};
 ghost use Rattle.jr_standing.specs.Deferred.{is_settled};
 
+use crate::asserts::same;
 use crate::plans::plan_of;
 use jr_backlog::Rounds;
 use jr_draw::Drawer;
@@ -23,8 +24,8 @@ fn same_draws(rt: &impl Abort, alloc: Global, plan: &Plan, clone: usize) -> Resu
         let mut drawer = Drawer::of_pass(alloc, plan.clone_at(clone), pass)?;
         for _ in 0..20 {
             let draw = drawer.next();
-            assert_eq!(rt; draws.is_over(), draw.is_none());
-            assert_eq!(rt; draws.next(), draw);
+            same(rt, draws.is_over(), draw.is_none());
+            same(rt, draws.next(), draw);
             draws.pass();
         }
         assert!(rt; draws.is_over());
@@ -67,19 +68,19 @@ fn is_over_behind_the_last_draw(rt: HostRuntime) -> Result<(), Fail> {
         rt.alloc(),
         &[(Workload::plain(IoType::Write, 4096, 3), "f", 8192)],
     )?;
-    assert_eq!(rt; plan.clones(), 1);
+    same(&rt, plan.clones(), 1);
     let mut draws = DrawsLeft::of_pass(rt.alloc(), plan.clone_at(0), 0)?;
     for (number, offset) in [(0, 8192), (1, 12288), (2, 16384)] {
         assert!(rt; !draws.is_over());
         let draw = draws.next().ok_or("no draw")?;
-        assert_eq!(rt; draw.number, number);
-        assert_eq!(rt; draw.piece.offset, offset);
-        assert_eq!(rt; draws.next(), Some(draw));
+        same(&rt, draw.number, number);
+        same(&rt, draw.piece.offset, offset);
+        same(&rt, draws.next(), Some(draw));
         draws.pass();
     }
     for _ in 0..2 {
         assert!(rt; draws.is_over());
-        assert_eq!(rt; draws.next(), None);
+        same(&rt, draws.next(), None);
         draws.pass();
     }
     Ok(())
@@ -172,7 +173,7 @@ impl Walked {
         ensures { OnOk result (IsTrue (is_settled self.new)) }
     {
         if self.deferred.settle().is_err() {
-            assert_eq!(rt; self.deferred.is_closed(), self.plain.closed());
+            same(rt, self.deferred.is_closed(), self.plain.closed());
             self.deferred.settle()?;
         }
         Ok(())
@@ -214,9 +215,9 @@ impl Walked {
     fn expect(&self, rt: &impl Abort, left: usize, next: Option<WriteId>)
         requires { IsTrue (is_settled self.now) }
     {
-        assert_eq!(rt; self.deferred.left(), left);
-        assert_eq!(rt; self.deferred.next_check(), next);
-        assert_eq!(rt; self.deferred.is_under_way(), next.is_some());
+        same(rt, self.deferred.left(), left);
+        same(rt, self.deferred.next_check(), next);
+        same(rt, self.deferred.is_under_way(), next.is_some());
         self.agree(rt, &write(0));
     }
 
@@ -224,13 +225,14 @@ impl Walked {
         requires { IsTrue (is_settled self.now) }
     {
         let under_way = self.plain.due() && !self.plain.closed();
-        assert_eq!(rt; self.deferred.is_under_way(), under_way);
-        assert_eq!(rt; self.deferred.is_closed(), self.plain.closed());
-        assert_eq!(rt; self.deferred.left(), self.to_check.len());
-        assert_eq!(rt; self.deferred.next_check(), self.plain.next_check());
-        assert_eq!(rt;
+        same(rt, self.deferred.is_under_way(), under_way);
+        same(rt, self.deferred.is_closed(), self.plain.closed());
+        same(rt, self.deferred.left(), self.to_check.len());
+        same(rt, self.deferred.next_check(), self.plain.next_check());
+        same(
+            rt,
             self.deferred.next_after(write),
-            self.plain.next_after(write)
+            self.plain.next_after(write),
         );
     }
 }
@@ -249,11 +251,11 @@ fn writes_and_reads_in_rounds_of_two(rt: HostRuntime) -> Result<(), Fail> {
     walked.write(&rt, write(2), false)?;
     walked.settle(&rt)?;
     walked.expect(&rt, 2, Some(write(0)));
-    assert_eq!(rt; walked.deferred.next_after(&write(0)), Some(write(2)));
-    assert_eq!(rt; walked.deferred.next_after(&write(2)), None);
+    same(&rt, walked.deferred.next_after(&write(0)), Some(write(2)));
+    same(&rt, walked.deferred.next_after(&write(2)), None);
     walked.pass(&rt, write(2));
     walked.expect(&rt, 1, Some(write(0)));
-    assert_eq!(rt; walked.deferred.next_after(&write(0)), None);
+    same(&rt, walked.deferred.next_after(&write(0)), None);
     assert!(rt; !walked.deferred.is_closed());
     walked.pass(&rt, write(0));
     walked.expect(&rt, 0, None);
@@ -332,7 +334,7 @@ fn agrees_with_a_plain_round(rt: HostRuntime) -> Result<(), Fail> {
             let other = write(next_random(&mut random, 500) as u32);
             walked.agree(&rt, &other);
             step(&rt, &mut walked, write(number), &mut random)?;
-            assert_eq!(rt; walked.deferred.is_closed(), walked.plain.closed());
+            same(&rt, walked.deferred.is_closed(), walked.plain.closed());
         }
     }
     Ok(())

@@ -1,3 +1,4 @@
+use crate::asserts::same;
 use jr_words::{WordList, WordSource, Words, pass_seed};
 
 // The first eight words of three seeds, as a program made of the authors' reference code prints them:
@@ -46,10 +47,10 @@ fn next_eight<S: WordSource>(source: &mut S) -> [u64; 8] {
 
 #[test]
 fn words_are_those_of_the_reference_code(rt: HostRuntime) {
-    assert_eq!(rt; next_eight(&mut Words::new(0)), OF_SEED_0);
-    assert_eq!(rt; next_eight(&mut Words::new(1)), OF_SEED_1);
-    assert_eq!(rt; next_eight(&mut Words::new(u64::MAX)), OF_LAST_SEED);
-    assert_eq!(rt; Words::new(1).next(), OF_SEED_1[0]);
+    same(&rt, next_eight(&mut Words::new(0)), OF_SEED_0);
+    same(&rt, next_eight(&mut Words::new(1)), OF_SEED_1);
+    same(&rt, next_eight(&mut Words::new(u64::MAX)), OF_LAST_SEED);
+    same(&rt, Words::new(1).next(), OF_SEED_1[0]);
 }
 
 #[test]
@@ -62,8 +63,8 @@ fn fill_gives_the_next_words_low_byte_first(rt: HostRuntime) {
         0xdf, 0x23, 0x0b, 0x49, 0x61, 0x5d, 0x17, 0x53, 0x07, 0xd5, 0x80, 0xc3, 0x3d, 0x6f, 0xda,
         0x61,
     ];
-    assert_eq!(rt; buffer, expected);
-    assert_eq!(rt; words.next(), OF_SEED_0[2]);
+    same(&rt, buffer, expected);
+    same(&rt, words.next(), OF_SEED_0[2]);
 }
 
 #[test]
@@ -71,15 +72,15 @@ fn a_list_gives_its_words_and_then_zeros(rt: HostRuntime) {
     let mut list = WordList {
         rest: &[7, u64::MAX],
     };
-    assert_eq!(rt; next_eight(&mut list), [7, u64::MAX, 0, 0, 0, 0, 0, 0]);
+    same(&rt, next_eight(&mut list), [7, u64::MAX, 0, 0, 0, 0, 0, 0]);
     assert!(rt; list.rest.is_empty());
 }
 
 #[test]
 fn the_seed_of_a_pass_counts_clone_and_pass(rt: HostRuntime) {
-    assert_eq!(rt; pass_seed(1, 0, 0), 1);
-    assert_eq!(rt; pass_seed(1, 0, 999), 1000);
-    assert_eq!(rt; pass_seed(1, 2, 3), 2_000_010);
+    same(&rt, pass_seed(1, 0, 0), 1);
+    same(&rt, pass_seed(1, 0, 999), 1000);
+    same(&rt, pass_seed(1, 2, 3), 2_000_010);
     // -1 + 2 * 1000003 + 3, modulo 2^64
-    assert_eq!(rt; pass_seed(u64::MAX, 2, 3), 2_000_008);
+    same(&rt, pass_seed(u64::MAX, 2, 3), 2_000_008);
 }

@@ -1,3 +1,4 @@
+use crate::asserts::same;
 use crate::plans::plan_of;
 use jr_agenda::{Agenda, Pass, PlannedClone, totals};
 use jr_model::{
@@ -60,7 +61,7 @@ fn totals_of_a_run(rt: HostRuntime) -> Result<(), Fail> {
         void: 0,
         faults: 0,
     };
-    assert_eq!(rt; totals(rt.alloc(), &history, 0)?, want);
+    same(&rt, totals(rt.alloc(), &history, 0)?, want);
     Ok(())
 }
 
@@ -87,14 +88,15 @@ fn the_parts_of_a_plan(rt: HostRuntime) -> Result<(), Fail> {
         offset: 6 * 4096,
         ..BLOCK_0
     };
-    assert_eq!(rt; pass.draws().len(), 7);
-    assert_eq!(rt; pass.draws().last().map(|draw| draw.piece), Some(last));
-    assert_eq!(rt; pass.group_count(), 3);
-    assert_eq!(rt; pass.group(2).len(), 1);
-    assert_eq!(rt; pass.group_index(5), 1);
-    assert_eq!(rt;
+    same(&rt, pass.draws().len(), 7);
+    same(&rt, pass.draws().last().map(|draw| draw.piece), Some(last));
+    same(&rt, pass.group_count(), 3);
+    same(&rt, pass.group(2).len(), 1);
+    same(&rt, pass.group_index(5), 1);
+    same(
+        &rt,
         PlannedClone::new(rt.alloc(), clone.job())?.passes().len(),
-        2
+        2,
     );
     Ok(())
 }

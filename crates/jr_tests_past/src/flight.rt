@@ -1,6 +1,7 @@
 ghost use Rattle.std.specs.Prelude.{◌≡◌, ◌≤◌, ◌<◌};
 ghost use Rattle.jr_model.specs.Pieces.{piece_end};
 
+use crate::asserts::same;
 use jr_flight::{Flight, FlightFault, Io};
 use jr_model::{Dir, IoId, Piece, overlaps};
 use std::test::Fail;
@@ -25,7 +26,7 @@ fn a_write_bars_its_bytes_alone(rt: HostRuntime) -> Result<(), Fail> {
     assert!(rt; !flight.clear(&piece(0, 4095, 1), Dir::Read));
     assert!(rt; flight.clear(&piece(0, 4096, 512), Dir::Write));
     assert!(rt; flight.clear(&piece(1, 0, 4096), Dir::Write));
-    assert_eq!(rt; flight.end(0), Ok(write));
+    same(&rt, flight.end(0), Ok(write));
     assert!(rt; flight.clear(&piece(0, 4095, 1), Dir::Read));
     Ok(())
 }
@@ -42,10 +43,10 @@ fn a_read_bars_writes_alone(rt: HostRuntime) -> Result<(), Fail> {
     flight.begin(read)?;
     assert!(rt; flight.clear(&piece(0, 8192, 4096), Dir::Read));
     assert!(rt; !flight.clear(&piece(0, 8192, 4096), Dir::Write));
-    assert_eq!(rt; flight.end(8), Err(FlightFault::Stranger));
+    same(&rt, flight.end(8), Err(FlightFault::Stranger));
     assert!(rt; !flight.flies(8));
-    assert_eq!(rt; flight.end(7), Ok(read));
-    assert_eq!(rt; flight.end(7), Err(FlightFault::Stranger));
+    same(&rt, flight.end(7), Ok(read));
+    same(&rt, flight.end(7), Err(FlightFault::Stranger));
     Ok(())
 }
 
@@ -110,11 +111,11 @@ fn agrees_with_a_plain_list(rt: HostRuntime) -> Result<(), Fail> {
         let id = draw(&mut seed, 64);
         let piece = draw_piece(&mut seed);
         let dir = draw_dir(&mut seed);
-        assert_eq!(rt; flight.flies(id), flies(&ios, id), "round {round}");
-        assert_eq!(rt;
-            flight.clear(&piece, dir),
-            clear(&ios, &piece, dir),
-            "round {round}"
+        same(&rt, (round, flight.flies(id)), (round, flies(&ios, id)));
+        same(
+            &rt,
+            (round, flight.clear(&piece, dir)),
+            (round, clear(&ios, &piece, dir)),
         );
         if flight.clear(&piece, dir) && !flight.flies(id) {
             let io = Io {
@@ -132,7 +133,7 @@ fn agrees_with_a_plain_list(rt: HostRuntime) -> Result<(), Fail> {
             }
             ios.push(io)?;
         } else {
-            assert_eq!(rt; flight.end(id), end(&mut ios, id), "round {round}");
+            same(&rt, (round, flight.end(id)), (round, end(&mut ios, id)));
         }
     }
     Ok(())

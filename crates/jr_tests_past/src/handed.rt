@@ -1,3 +1,4 @@
+use crate::asserts::{holds, same};
 use crate::plans::plan_of;
 use jr_handed::{Handed, Progress};
 use jr_model::{
@@ -67,19 +68,30 @@ fn hand_out(
     tickets: &[Ticket],
     id: u32,
 ) -> Result<(), Fail> {
-    assert_eq!(rt; handed.count(), id as usize);
-    assert!(rt; handed.ticket(plan, id).is_none());
-    assert!(rt; handed.seed(id).is_none());
-    assert!(rt; handed.piece(id).is_none());
+    same(rt, handed.count(), id as usize);
+    holds(rt, handed.ticket(plan, id).is_none(), "no ticket yet");
+    holds(rt, handed.seed(id).is_none(), "no seed yet");
+    holds(rt, handed.piece(id).is_none(), "no piece yet");
     let ticket = tickets.get(id as usize).ok_or("no ticket")?;
     handed.reserve()?;
-    assert!(rt; handed.headers.len() < 9);
+    holds(rt, handed.headers.len() < 9, "few headers");
     handed.hand(ticket);
+    assert_handed(rt, plan, handed, tickets, id)
+}
+
+// All up to this one are there.
+fn assert_handed(
+    rt: &impl Abort,
+    plan: &Plan,
+    handed: &Handed,
+    tickets: &[Ticket],
+    id: u32,
+) -> Result<(), Fail> {
     for (number, ticket) in tickets.iter().enumerate().take(id as usize + 1) {
         let own = handed.ticket(plan, number as u32).ok_or("not there")?;
-        assert!(rt; is_same(&own, ticket), "at {number}");
-        assert_eq!(rt; handed.seed(number as u32), Some(1_000_000_007));
-        assert_eq!(rt; handed.piece(number as u32), Some(ticket.piece));
+        same(rt, (number, is_same(&own, ticket)), (number, true));
+        same(rt, handed.seed(number as u32), Some(1_000_000_007));
+        same(rt, handed.piece(number as u32), Some(ticket.piece));
     }
     Ok(())
 }
@@ -99,7 +111,7 @@ fn tickets_come_back_as_they_were_handed_out(rt: HostRuntime) -> Result<(), Fail
     for id in 0..5u32 {
         hand_out(&rt, &plan, &mut handed, &tickets, id)?;
     }
-    assert_eq!(rt; handed.headers.len(), 2);
+    same(&rt, handed.headers.len(), 2);
     Ok(())
 }
 
@@ -133,18 +145,18 @@ fn each_goes_its_own_way(rt: HostRuntime) -> Result<(), Fail> {
         hand_check(&rt, &plan, &mut handed, id)?;
         assert!(rt; is_at(&handed, id, false, false, false));
     }
-    assert_eq!(rt; handed.progress.len(), 3);
+    same(&rt, handed.progress.len(), 3);
     end(&rt, &mut handed, 2, Outcome::Short(512));
     end(&rt, &mut handed, 1, Outcome::Whole);
     assert!(rt; is_at(&handed, 0, false, false, false));
     assert!(rt; is_at(&handed, 1, true, true, false));
     assert!(rt; is_at(&handed, 2, true, false, false));
-    assert_eq!(rt; handed.progress.len(), 3);
+    same(&rt, handed.progress.len(), 3);
     handed.judge(1);
     assert!(rt; is_at(&handed, 1, true, true, true));
     end(&rt, &mut handed, 0, Outcome::Failed);
     let states = [Progress::Faulty, Progress::Judged, Progress::Faulty];
-    assert_eq!(rt; handed.progress.as_slice(), states.as_slice());
+    same(&rt, handed.progress.as_slice(), states.as_slice());
     assert!(rt; is_at(&handed, 3, false, false, false));
     Ok(())
 }

@@ -4,6 +4,8 @@
 #[cfg(test)]
 mod agenda;
 #[cfg(test)]
+mod asserts;
+#[cfg(test)]
 mod flight;
 #[cfg(test)]
 mod handed;

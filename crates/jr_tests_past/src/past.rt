@@ -1,3 +1,4 @@
+use crate::asserts::same;
 use jr_model::{Dir, Event, Outcome, Piece, Verdict, What, WriteId};
 use jr_past::{PART, Past, is_intact, last_write, part_of};
 use std::alloc::Global;
@@ -98,32 +99,36 @@ fn a_run_event_by_event(rt: HostRuntime) -> Result<(), Fail> {
 
 // So many I/Os fly, and so many checks wait for their verdict.
 fn assert_under_way(rt: &impl Abort, past: &Past, flies: usize, waits: usize) {
-    assert_eq!(rt; past.in_flight().len(), flies);
-    assert_eq!(rt; past.awaiting().len(), waits);
+    same(rt, past.in_flight().len(), flies);
+    same(rt, past.awaiting().len(), waits);
 }
 
 // What was started in the run, and what flies at its end.
 fn assert_ran(rt: &impl Abort, past: &Past, events: &[Event]) {
-    assert_eq!(rt; past.events(), events);
-    assert_eq!(rt; past.started().len(), 4);
-    assert_eq!(rt; past.in_flight().first().map(|io| io.write), Some(write(2)));
+    same(rt, past.events(), events);
+    same(rt, past.started().len(), 4);
+    same(
+        rt,
+        past.in_flight().first().map(|io| io.write),
+        Some(write(2)),
+    );
     assert!(rt; past.flies(3));
     assert!(rt; !past.flies(2));
     assert!(rt; !past.flies(4));
-    assert_eq!(rt; past.started_at(2).map(|io| io.piece), Some(block(0)));
+    same(rt, past.started_at(2).map(|io| io.piece), Some(block(0)));
 }
 
 #[test]
 fn what_a_run_says(rt: HostRuntime) -> Result<(), Fail> {
     let past = past_of(rt.alloc(), &run())?;
     let ledger = past.ledger();
-    assert_eq!(rt; ledger.len(), 9);
-    assert_eq!(rt; ledger.outcome_of(2), Some(Outcome::Whole));
-    assert_eq!(rt; ledger.outcome_of(3), None);
+    same(&rt, ledger.len(), 9);
+    same(&rt, ledger.outcome_of(2), Some(Outcome::Whole));
+    same(&rt, ledger.outcome_of(3), None);
     assert!(rt; ledger.is_judged(2));
     assert!(rt; !ledger.is_judged(1));
-    assert_eq!(rt; ledger.issued_count(1, 2), 3);
-    assert_eq!(rt; ledger.issued_count(2, 1), 0);
+    same(&rt, ledger.issued_count(1, 2), 3);
+    same(&rt, ledger.issued_count(2, 1), 0);
     assert!(rt; ledger.is_taken_up(&write(0)));
     assert!(rt; ledger.is_taken_up(&write(1)));
     assert!(rt; !ledger.is_taken_up(&write(2)));
@@ -132,7 +137,7 @@ fn what_a_run_says(rt: HostRuntime) -> Result<(), Fail> {
     assert!(rt; !ledger.is_settled(&write(2)));
     assert!(rt; !ledger.is_faulty(1));
     assert!(rt; !ledger.is_condemned(1));
-    assert_eq!(rt; ledger.written().len(), 2);
+    same(&rt, ledger.written().len(), 2);
     Ok(())
 }
 
@@ -179,11 +184,11 @@ fn an_end_before_its_start_counts(rt: HostRuntime) -> Result<(), Fail> {
             issue(0, block(0)),
         ],
     )?;
-    assert_eq!(rt; past.in_flight().len(), 0);
-    assert_eq!(rt; past.ledger().outcome_of(0), Some(Outcome::Whole));
+    same(&rt, past.in_flight().len(), 0);
+    same(&rt, past.ledger().outcome_of(0), Some(Outcome::Whole));
     assert!(rt; past.ledger().is_faulty(1));
-    assert_eq!(rt; past.ledger().written().len(), 2);
-    assert_eq!(rt; last_write(&past, 0, 0), None);
+    same(&rt, past.ledger().written().len(), 2);
+    same(&rt, last_write(&past, 0, 0), None);
     Ok(())
 }
 
@@ -204,9 +209,9 @@ fn the_last_write_of_a_block_is_the_one_that_ended_last(rt: HostRuntime) -> Resu
 
 // The first piece has this last write, which is intact as the other isn't, and nothing else is written.
 fn assert_last(rt: &impl Abort, past: &Past, last: WriteId, other: WriteId) {
-    assert_eq!(rt; last_write(past, 0, 1), Some(last));
-    assert_eq!(rt; last_write(past, 0, 2), None);
-    assert_eq!(rt; last_write(past, 1, 1), None);
+    same(rt, last_write(past, 0, 1), Some(last));
+    same(rt, last_write(past, 0, 2), None);
+    same(rt, last_write(past, 1, 1), None);
     assert!(rt; is_intact(past, &last, &block(0)));
     assert!(rt; !is_intact(past, &other, &block(0)));
 }
@@ -241,13 +246,13 @@ fn a_piece_over_a_border_lies_over_both_parts(rt: HostRuntime) -> Result<(), Fai
 
 // A part is 64 KiB, and what ended over one is known of each part.
 fn assert_parts(rt: &impl Abort, past: &Past) {
-    assert_eq!(rt; PART, 65_536);
-    assert_eq!(rt; part_of(127), 0);
-    assert_eq!(rt; part_of(128), 1);
-    assert_eq!(rt; past.ledger().ends_over(0, 0).len(), 1);
-    assert_eq!(rt; past.ledger().ends_over(0, 1).len(), 2);
-    assert_eq!(rt; past.ledger().ends_over(0, 2).len(), 0);
-    assert_eq!(rt; past.ledger().ends_over(1, 0).len(), 0);
+    same(rt, PART, 65_536);
+    same(rt, part_of(127), 0);
+    same(rt, part_of(128), 1);
+    same(rt, past.ledger().ends_over(0, 0).len(), 1);
+    same(rt, past.ledger().ends_over(0, 1).len(), 2);
+    same(rt, past.ledger().ends_over(0, 2).len(), 0);
+    same(rt, past.ledger().ends_over(1, 0).len(), 0);
 }
 
 // The last writes of the blocks before and behind the border.
@@ -261,7 +266,7 @@ fn assert_border(rt: &impl Abort, past: &Past) {
         None,
     ];
     for (block, wanted) in (125..131).zip(last) {
-        assert_eq!(rt; last_write(past, 0, block), wanted, "at {block}");
+        same(rt, (block, last_write(past, 0, block)), (block, wanted));
     }
 }
 
@@ -291,9 +296,13 @@ fn a_large_piece_lies_over_each_of_its_parts(rt: HostRuntime) -> Result<(), Fail
         (384, write(0)),
     ];
     for (block, wanted) in last {
-        assert_eq!(rt; last_write(&past, 0, block), Some(wanted), "at {block}");
+        same(
+            &rt,
+            (block, last_write(&past, 0, block)),
+            (block, Some(wanted)),
+        );
     }
-    assert_eq!(rt; last_write(&past, 0, 512), None);
+    same(&rt, last_write(&past, 0, 512), None);
     assert!(rt; !is_intact(&past, &write(0), &large));
     Ok(())
 }

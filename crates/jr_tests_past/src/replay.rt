@@ -1,3 +1,4 @@
+use crate::asserts::same;
 use crate::plans::{checked, plan_of};
 use jr_model::{Dir, Event, IoType, Outcome, Piece, TicketKind, Verdict, What, WriteId};
 use jr_past::{Past, is_intact, last_write, started};
@@ -93,7 +94,7 @@ fn legal_front(alloc: Global, plan: &Plan, history: &[Event]) -> Result<usize, F
 fn a_checked_run_is_legal_and_complete(rt: HostRuntime) -> Result<(), Fail> {
     let plan = plan_of(rt.alloc(), &[(checked(2), "f", 0)])?;
     let history = two_checked();
-    assert_eq!(rt; legal_front(rt.alloc(), &plan, &history)?, 10);
+    same(&rt, legal_front(rt.alloc(), &plan, &history)?, 10);
     assert!(rt; complete(rt.alloc(), &plan, &history)?);
     assert!(rt; !complete(rt.alloc(), &plan, front(&history, 9))?);
     Ok(())
@@ -102,12 +103,11 @@ fn a_checked_run_is_legal_and_complete(rt: HostRuntime) -> Result<(), Fail> {
 #[test]
 fn a_run_with_events_exchanged_is_not_legal(rt: HostRuntime) -> Result<(), Fail> {
     let plan = plan_of(rt.alloc(), &[(checked(2), "f", 0)])?;
-    let mut history = two_checked();
-    history.swap(0, 1);
-    assert_eq!(rt; legal_front(rt.alloc(), &plan, &history)?, 0);
-    let mut history = two_checked();
-    history.swap(3, 4);
-    assert_eq!(rt; legal_front(rt.alloc(), &plan, &history)?, 3);
+    for at in [0, 3] {
+        let mut history = two_checked();
+        history.swap(at, at + 1);
+        same(&rt, legal_front(rt.alloc(), &plan, &history)?, at);
+    }
     Ok(())
 }
 
@@ -117,15 +117,16 @@ fn each_start_of_a_run_is_the_choice(rt: HostRuntime) -> Result<(), Fail> {
     let history = two_checked();
     for start in [0, 2, 4, 7] {
         let step = choice(rt.alloc(), &plan, front(&history, start), 0)?;
-        assert_eq!(rt; step, history.get(start).copied());
+        same(&rt, step, history.get(start).copied());
     }
     for start in [1, 3, 5, 8, 9] {
         let step = choice(rt.alloc(), &plan, front(&history, start), 0)?;
-        assert_eq!(rt; step, None, "at depth 1");
+        same(&rt, step, None);
     }
+    // A verdict to come bars nothing.
     let step = choice(rt.alloc(), &plan, front(&history, 6), 0)?;
-    assert_eq!(rt; step, Some(history[7]), "a verdict to come bars nothing");
-    assert_eq!(rt; choice(rt.alloc(), &plan, &history, 0)?, None);
+    same(&rt, step, Some(history[7]));
+    same(&rt, choice(rt.alloc(), &plan, &history, 0)?, None);
     Ok(())
 }
 
@@ -133,38 +134,25 @@ fn each_start_of_a_run_is_the_choice(rt: HostRuntime) -> Result<(), Fail> {
 fn what_is_not_its_own_is_not_allowed(rt: HostRuntime) -> Result<(), Fail> {
     let plan = plan_of(rt.alloc(), &[(checked(2), "f", 0)])?;
     let history = two_checked();
-    let none = &history[..0];
-    let one = &history[..1];
-    let alloc = rt.alloc();
-    assert!(rt;
-        !allowed(alloc, &plan, none, &issue(0, write(0, 0), block(1)))?,
-        "another piece"
-    );
-    assert!(rt;
-        !allowed(alloc, &plan, none, &issue(0, write(0, 1), block(1)))?,
-        "out of turn"
-    );
-    assert!(rt;
-        !allowed(alloc, &plan, none, &issue(0, write(1, 0), block(0)))?,
-        "no such clone"
-    );
-    assert!(rt;
-        !allowed(alloc, &plan, one, &issue(0, write(0, 1), block(1)))?,
-        "depth is 1"
-    );
-    assert!(rt;
-        !allowed(alloc, &plan, one, &end(1, 0, Outcome::Whole))?,
-        "another worker"
-    );
-    assert!(rt;
-        !allowed(alloc, &plan, one, &end(0, 0, Outcome::Short(4096)))?,
-        "not short"
-    );
-    assert!(rt; allowed(alloc, &plan, one, &end(0, 0, Outcome::Short(4095)))?);
-    assert!(rt; !allowed(alloc, &plan, one, &good(0, 0))?, "no check");
-    assert!(rt;
-        !allowed(alloc, &plan, &history, &good(0, 3))?,
-        "a second verdict"
+    let cases = [
+        (0, issue(0, write(0, 0), block(1)), "another piece"),
+        (0, issue(0, write(0, 1), block(1)), "out of turn"),
+        (0, issue(0, write(1, 0), block(0)), "no such clone"),
+        (1, issue(0, write(0, 1), block(1)), "depth is 1"),
+        (1, end(1, 0, Outcome::Whole), "another worker"),
+        (1, end(0, 0, Outcome::Short(4096)), "not short"),
+        (1, good(0, 0), "no check"),
+        (10, good(0, 3), "a second verdict"),
+    ];
+    for (count, event, what) in cases {
+        let found = allowed(rt.alloc(), &plan, front(&history, count), &event)?;
+        same(&rt, (what, found), (what, false));
+    }
+    let short = end(0, 0, Outcome::Short(4095));
+    same(
+        &rt,
+        allowed(rt.alloc(), &plan, front(&history, 1), &short)?,
+        true,
     );
     Ok(())
 }
@@ -188,10 +176,14 @@ fn a_pattern_finds_a_byte_and_no_header(rt: HostRuntime) -> Result<(), Fail> {
 fn a_fault_halts_its_clone(rt: HostRuntime) -> Result<(), Fail> {
     let plan = plan_of(rt.alloc(), &[(checked(2), "f", 0)])?;
     let history = [issue(0, write(0, 0), block(0)), end(0, 0, Outcome::Failed)];
-    assert_eq!(rt; choice(rt.alloc(), &plan, &history, 0)?, None);
+    same(&rt, choice(rt.alloc(), &plan, &history, 0)?, None);
     assert!(rt; complete(rt.alloc(), &plan, &history)?);
-    let past = Past::new(rt.alloc(), &history)?;
-    assert_eq!(rt; last_write(&past, 0, 0), None);
+    assert_none_written(&rt, rt.alloc(), &history)
+}
+
+fn assert_none_written(rt: &impl Abort, alloc: Global, history: &[Event]) -> Result<(), Fail> {
+    let past = Past::new(alloc, history)?;
+    same(rt, last_write(&past, 0, 0), None);
     Ok(())
 }
 
@@ -224,17 +216,14 @@ fn assert_skipped(
     plan: &Plan,
     history: &[Event; 6],
 ) -> Result<(), Fail> {
-    assert_eq!(rt; legal_front(alloc, plan, history)?, 6);
-    assert_eq!(rt;
-        choice(alloc, plan, &history[..1], 1)?,
-        None,
-        "it would overlap"
-    );
+    same(rt, legal_front(alloc, plan, history)?, 6);
+    // It would overlap.
+    same(rt, choice(alloc, plan, &history[..1], 1)?, None);
     let skip = Event::Skip {
         worker: 0,
         write: write(0, 0),
     };
-    assert_eq!(rt; choice(alloc, plan, history, 0)?, Some(skip));
+    same(rt, choice(alloc, plan, history, 0)?, Some(skip));
     assert!(rt; allowed(alloc, plan, history, &skip)?);
     let check = probe(0, write(0, 0), block(0));
     assert!(rt; !allowed(alloc, plan, history, &check)?);
@@ -243,9 +232,9 @@ fn assert_skipped(
 
 // The second clone's write is the last one of the piece.
 fn assert_overwritten(rt: &impl Abort, past: &Past) {
-    assert_eq!(rt; last_write(past, 0, 7), Some(write(1, 0)));
-    assert_eq!(rt; last_write(past, 0, 8), Some(write(0, 1)));
-    assert_eq!(rt; last_write(past, 0, 16), None);
+    same(rt, last_write(past, 0, 7), Some(write(1, 0)));
+    same(rt, last_write(past, 0, 8), Some(write(0, 1)));
+    same(rt, last_write(past, 0, 16), None);
     assert!(rt; !is_intact(past, &write(0, 0), &block(0)));
     assert!(rt; is_intact(past, &write(1, 0), &block(0)));
 }
@@ -269,9 +258,13 @@ fn a_later_phase_waits(rt: HostRuntime) -> Result<(), Fail> {
         },
     );
     let history = [first, end(0, 0, Outcome::Whole), next];
-    assert_eq!(rt; choice(rt.alloc(), &plan, &history[..1], 0)?, None);
-    assert_eq!(rt; choice(rt.alloc(), &plan, &history[..2], 0)?, Some(next));
-    assert_eq!(rt; legal_front(rt.alloc(), &plan, &history)?, 3);
+    same(&rt, choice(rt.alloc(), &plan, &history[..1], 0)?, None);
+    same(
+        &rt,
+        choice(rt.alloc(), &plan, &history[..2], 0)?,
+        Some(next),
+    );
+    same(&rt, legal_front(rt.alloc(), &plan, &history)?, 3);
     Ok(())
 }
 
@@ -279,12 +272,12 @@ fn a_later_phase_waits(rt: HostRuntime) -> Result<(), Fail> {
 fn what_was_started(rt: HostRuntime) -> Result<(), Fail> {
     let history = two_checked();
     let ios = started(rt.alloc(), &history)?;
-    assert_eq!(rt; ios.len(), 4);
-    assert_eq!(rt; ios.get(1).map(|io| io.piece), Some(block(1)));
-    assert_eq!(rt; ios.get(2).map(|io| io.kind), Some(TicketKind::Probe));
-    assert_eq!(rt; ios.get(3).map(|io| io.write), Some(write(0, 1)));
+    same(&rt, ios.len(), 4);
+    same(&rt, ios.get(1).map(|io| io.piece), Some(block(1)));
+    same(&rt, ios.get(2).map(|io| io.kind), Some(TicketKind::Probe));
+    same(&rt, ios.get(3).map(|io| io.write), Some(write(0, 1)));
     let past = Past::new(rt.alloc(), front(&history, 6))?;
-    assert_eq!(rt; past.in_flight().len(), 0);
-    assert_eq!(rt; past.awaiting().len(), 1);
+    same(&rt, past.in_flight().len(), 0);
+    same(&rt, past.awaiting().len(), 1);
     Ok(())
 }

@@ -2,6 +2,7 @@ ghost use Rattle.std.specs.Prelude.{◌≡◌, ◌≤◌, slice_get, Some, IsTru
 ghost use Rattle.jr_tallies.specs.Tallying.{AreLow, AreSmall, CanCount, flying_in};
 ghost use Rattle.jr_tallies.specs.declared.tallies.Counts.{Counts as Kept};
 
+use crate::asserts::same;
 use crate::plans::plan_of;
 use jr_model::{IoType, Outcome, Piece, TicketKind, Totals, Verdict, What, WriteId};
 use jr_plan::{Plan, Workload};
@@ -133,11 +134,11 @@ fn each_clone_has_its_own(rt: HostRuntime) -> Result<(), Fail> {
     let plan = two_clones(rt.alloc())?;
     let mut tallies = Tallies::new(rt.alloc(), &plan)?;
     let none = [counts(0, 0, 0, false), counts(0, 0, 0, false)];
-    assert_eq!(rt; tallies.counts.as_slice(), none.as_slice());
+    same(&rt, tallies.counts.as_slice(), none.as_slice());
     write_and_check(&rt, &mut tallies, 0);
     write_and_check(&rt, &mut tallies, 1);
     let awaited = [counts(0, 0, 1, false), counts(0, 0, 1, false)];
-    assert_eq!(rt; tallies.counts.as_slice(), awaited.as_slice());
+    same(&rt, tallies.counts.as_slice(), awaited.as_slice());
     judge(
         &rt,
         &mut tallies,
@@ -151,7 +152,7 @@ fn each_clone_has_its_own(rt: HostRuntime) -> Result<(), Fail> {
     assert!(rt; can_count(&tallies, 1));
     tallies.skipped(1);
     let going = [counts(1, 0, 0, false), counts(0, 0, 0, false)];
-    assert_eq!(rt; tallies.counts.as_slice(), going.as_slice());
+    same(&rt, tallies.counts.as_slice(), going.as_slice());
     end(&rt, &mut tallies, 0, TicketKind::Read, Outcome::Short(512));
     write_and_check(&rt, &mut tallies, 1);
     judge(
@@ -162,8 +163,8 @@ fn each_clone_has_its_own(rt: HostRuntime) -> Result<(), Fail> {
         Verdict::Bad(What::Byte(5)),
     )?;
     let halted = [counts(0, 0, 0, true), counts(0, 0, 0, true)];
-    assert_eq!(rt; tallies.counts.as_slice(), halted.as_slice());
-    assert_eq!(rt; tallies.bads.as_slice(), [bad(1), bad(1)].as_slice());
+    same(&rt, tallies.counts.as_slice(), halted.as_slice());
+    same(&rt, tallies.bads.as_slice(), [bad(1), bad(1)].as_slice());
     let first = Totals {
         reads: 0,
         rbytes: 0,
@@ -186,6 +187,6 @@ fn each_clone_has_its_own(rt: HostRuntime) -> Result<(), Fail> {
         faults: 0,
         ..first
     };
-    assert_eq!(rt; tallies.totals.as_slice(), [first, second].as_slice());
+    same(&rt, tallies.totals.as_slice(), [first, second].as_slice());
     Ok(())
 }

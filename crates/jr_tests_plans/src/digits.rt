@@ -1,3 +1,4 @@
+use crate::asserts::same;
 use jr_digits::{all_digits, digits_number};
 
 // (none where the text has something else than digits)
@@ -22,7 +23,11 @@ fn digits_have_their_value_where_64_bits_hold_it(rt: HostRuntime) {
     ];
     for (text, value) in numbers {
         let text = text.as_bytes();
-        assert_eq!(rt; digits_number_or_none(text), Some(value), "at {text:?}");
+        same(
+            &rt,
+            (text, digits_number_or_none(text)),
+            (text, Some(value)),
+        );
     }
 }
 
@@ -35,6 +40,6 @@ fn a_byte_that_is_no_digit_is_seen(rt: HostRuntime) {
         (":", false),
         ("1 ", false),
     ] {
-        assert_eq!(rt; all_digits(text.as_bytes()), want, "at {text}");
+        same(&rt, (text, all_digits(text.as_bytes())), (text, want));
     }
 }

@@ -1,3 +1,4 @@
+use crate::asserts::same;
 use jr_model::{
     Expected, Method, Pattern, Piece, ReplyBytes, Ticket, TicketKind, VerifyKind, WriteId, overlaps,
 };
@@ -19,8 +20,8 @@ fn pieces_overlap_where_they_share_a_byte(rt: HostRuntime) {
         (piece(0, 5000, 0), false),
         (piece(0, u64::MAX, u32::MAX), false),
     ] {
-        assert_eq!(rt; overlaps(&written, &other), want, "{other:?}");
-        assert_eq!(rt; overlaps(&other, &written), want, "{other:?}");
+        same(&rt, (other, overlaps(&written, &other)), (other, want));
+        same(&rt, (other, overlaps(&other, &written)), (other, want));
     }
 }
 
@@ -82,10 +83,10 @@ fn tickets_fit_in_whole_blocks(rt: HostRuntime) -> Result<(), Fail> {
         (1 << 50, 512, false),
         ((1 << 50) - 512, 512, true),
     ] {
-        assert_eq!(rt;
-            placed(write, offset, len).fits(),
-            want,
-            "{len} at {offset}"
+        same(
+            &rt,
+            (len, offset, placed(write, offset, len).fits()),
+            (len, offset, want),
         );
     }
     assert!(rt; in_pass(write, 999).fits());
@@ -117,15 +118,15 @@ fn patterns_have_1_to_64_bytes(rt: HostRuntime) -> Result<(), Fail> {
     assert!(rt; Pattern::new(&[]).is_none());
     assert!(rt; Pattern::new(&[1; 65]).is_none());
     let longest = Pattern::new(&[7; 64]).ok_or("64 bytes")?;
-    assert_eq!(rt; longest.as_slice(), [7; 64].as_slice());
+    same(&rt, longest.as_slice(), [7; 64].as_slice());
     Ok(())
 }
 
 #[test]
 fn reply_bytes_give_themselves_back(rt: HostRuntime) -> Result<(), Fail> {
     let bytes = ReplyBytes::new([1, 0].to_vec(rt.alloc())?);
-    assert_eq!(rt; bytes.as_slice(), [1, 0].as_slice());
-    assert_eq!(rt; bytes.into_vec().as_slice(), [1, 0].as_slice());
+    same(&rt, bytes.as_slice(), [1, 0].as_slice());
+    same(&rt, bytes.into_vec().as_slice(), [1, 0].as_slice());
     Ok(())
 }
 

@@ -1,3 +1,4 @@
+use crate::asserts::same;
 use jr_text::{NumFault, number};
 use std::test::Fail;
 
@@ -26,7 +27,7 @@ fn reads_every_unit_in_both_cases(rt: HostRuntime) {
         ("18446744073709551615", u64::MAX),
     ];
     for (text, value) in units {
-        assert_eq!(rt; number(text), Ok(value), "at {text}");
+        same(&rt, (text, number(text)), (text, Ok(value)));
     }
 }
 
@@ -52,9 +53,9 @@ fn names_what_is_no_number(rt: HostRuntime) -> Result<(), Fail> {
         ),
     ];
     for (text, fault, printed) in refused {
-        assert_eq!(rt; number(text), Err(fault), "at {text}");
+        same(&rt, (text, number(text)), (text, Err(fault)));
         let shown = format!(in rt.alloc(); "{fault}")?;
-        assert_eq!(rt; shown.as_str(), printed, "at {text}");
+        same(&rt, (text, shown.as_str()), (text, printed));
     }
     Ok(())
 }

@@ -1,3 +1,4 @@
+use crate::asserts::same;
 use jr_model::{Dir, EngineKind, IoType, Method, VerifyKind};
 use jr_plan::{Bound, Draft, Plan, PlanFault, Split, Workload, mix, plan_text};
 use std::alloc::Global;
@@ -44,20 +45,20 @@ fn clones_share_a_file(rt: HostRuntime) -> Result<(), Fail> {
     draft.add(alloc, &later, "c", name(alloc, "f")?, 512)?;
     let plan = finished(draft)?;
     plan.facts();
-    assert_eq!(rt; plan.clones(), 3);
-    assert_eq!(rt; plan.files().len(), 2);
-    assert_eq!(rt; plan.files()[0].low(), 512);
-    assert_eq!(rt; plan.files()[0].high(), 24576);
+    same(&rt, plan.clones(), 3);
+    same(&rt, plan.files().len(), 2);
+    same(&rt, plan.files()[0].low(), 512);
+    same(&rt, plan.files()[0].high(), 24576);
     assert!(rt; !plan.apart());
-    assert_eq!(rt; plan.verifiers(), 2);
-    assert_eq!(rt; plan.engine(), EngineKind::Memory);
+    same(&rt, plan.verifiers(), 2);
+    same(&rt, plan.engine(), EngineKind::Memory);
     let text = String::from_utf8(plan_text(alloc, &plan)?)?;
     let lines =
         "a: clone=0 phase=0 file=f start=8192 size=16384 cell=4096 cells=4 rw=write iodepth=1 loops=1 verify=none
 b: clone=1 phase=0 file=g start=0 size=16384 cell=4096 cells=4 rw=write iodepth=1 loops=1 verify=none
 c: clone=2 phase=1 file=f start=512 size=4096 cell=512 cells=8 rw=randread iodepth=1 loops=1 verify=none
 ";
-    assert_eq!(rt; text.as_str(), lines);
+    same(&rt, text.as_str(), lines);
     Ok(())
 }
 
@@ -151,7 +152,7 @@ fn refusals_by_name(rt: HostRuntime) -> Result<(), Fail> {
         ),
     ];
     for (workload, start, fault) in table {
-        assert_eq!(rt; refusal(alloc, &workload, start)?, fault);
+        same(&rt, refusal(alloc, &workload, start)?, fault);
     }
     Ok(())
 }
@@ -164,8 +165,8 @@ fn at_most_64_clones(rt: HostRuntime) -> Result<(), Fail> {
         draft.add(alloc, &plain(), "a", name(alloc, "f")?, 0)?;
     }
     let more = draft.add(alloc, &plain(), "a", name(alloc, "f")?, 0);
-    assert_eq!(rt; more.err(), Some(PlanFault::Limit(Bound::Clones)));
-    assert_eq!(rt; finished(draft)?.clones(), 64);
+    same(&rt, more.err(), Some(PlanFault::Limit(Bound::Clones)));
+    same(&rt, finished(draft)?.clones(), 64);
     Ok(())
 }
 
@@ -173,18 +174,18 @@ fn at_most_64_clones(rt: HostRuntime) -> Result<(), Fail> {
 fn splits_as_values(rt: HostRuntime) -> Result<(), Fail> {
     let split = Split::of_entries(&[(4096, 50), (1024, 25), (32768, 25)]).ok_or("no split")?;
     split.facts();
-    assert_eq!(rt; split.size_of(49), 4096);
-    assert_eq!(rt; split.size_of(50), 1024);
-    assert_eq!(rt; split.size_of(75), 32768);
+    same(&rt, split.size_of(49), 4096);
+    same(&rt, split.size_of(50), 1024);
+    same(&rt, split.size_of(75), 32768);
     assert!(rt; split.fits(1024));
     assert!(rt; !split.fits(4096));
-    assert_eq!(rt; Split::of_entries(&[(4096, 50), (1024, 25)]), None);
-    assert_eq!(rt; Split::of_entries(&[(4096, 50), (1024, 51)]), None);
-    assert_eq!(rt; Split::of_entries(&[]), None);
+    same(&rt, Split::of_entries(&[(4096, 50), (1024, 25)]), None);
+    same(&rt, Split::of_entries(&[(4096, 50), (1024, 51)]), None);
+    same(&rt, Split::of_entries(&[]), None);
     let single = Split::single(8192);
-    assert_eq!(rt; single.entries(), [(8192, 100)].as_slice());
-    assert_eq!(rt; single.size_of(99), 8192);
-    assert_eq!(rt; mix(59, 60), Dir::Read);
-    assert_eq!(rt; mix(60, 60), Dir::Write);
+    same(&rt, single.entries(), [(8192, 100)].as_slice());
+    same(&rt, single.size_of(99), 8192);
+    same(&rt, mix(59, 60), Dir::Read);
+    same(&rt, mix(60, 60), Dir::Write);
     Ok(())
 }

@@ -1,3 +1,4 @@
+use crate::asserts::same;
 use jr_model::LONGEST_TEXT;
 use jr_text::{Line, Section, TextFault, sections};
 use std::alloc::{AllocError, Global};
@@ -39,7 +40,7 @@ fn reads_sections_with_their_lines(rt: HostRuntime) -> Result<(), Fail> {
     for (text, want) in texts {
         let read = sections(rt.alloc(), text.as_bytes())?;
         let read = shown(rt.alloc(), read.as_slice())?;
-        assert_eq!(rt; read.as_str(), want, "at {text:?}");
+        same(&rt, (text, read.as_str()), (text, want));
     }
     Ok(())
 }
@@ -74,21 +75,22 @@ fn names_the_first_fault(rt: HostRuntime) -> Result<(), Fail> {
         ),
     ];
     for (text, fault, printed) in texts {
-        assert_eq!(rt;
-            sections(rt.alloc(), text.as_bytes()).err(),
-            Some(fault),
-            "at {text:?}"
+        same(
+            &rt,
+            (text, sections(rt.alloc(), text.as_bytes()).err()),
+            (text, Some(fault)),
         );
         let shown = format!(in rt.alloc(); "{fault}")?;
-        assert_eq!(rt; shown.as_str(), printed, "at {text:?}");
+        same(&rt, (text, shown.as_str()), (text, printed));
     }
     let not_text = b"[a\n\xff";
-    assert_eq!(rt;
+    same(
+        &rt,
         sections(rt.alloc(), not_text).err(),
-        Some(TextFault::NotUtf8)
+        Some(TextFault::NotUtf8),
     );
     let shown = format!(in rt.alloc(); "{}; {}", TextFault::NotUtf8, TextFault::Memory)?;
-    assert_eq!(rt; shown.as_str(), "job file: not UTF-8; out of memory");
+    same(&rt, shown.as_str(), "job file: not UTF-8; out of memory");
     Ok(())
 }
 
@@ -106,18 +108,18 @@ fn a_section_is_made_and_taken_apart(rt: HostRuntime) -> Result<(), Fail> {
     let section = Section::new(String::from_str(rt.alloc(), "a")?, 3, lines);
     let sections = vec![in rt.alloc(); section]?;
     let text = shown(rt.alloc(), sections.as_slice())?;
-    assert_eq!(rt; text.as_str(), "3 [a]\n4 size=1m\n6 stonewall\n");
+    same(&rt, text.as_str(), "3 [a]\n4 size=1m\n6 stonewall\n");
     for section in sections {
         let (name, line, mut lines) = section.into_parts();
-        assert_eq!(rt; name.as_str(), "a");
-        assert_eq!(rt; line, 3);
-        assert_eq!(rt; lines.len(), 2);
+        same(&rt, name.as_str(), "a");
+        same(&rt, line, 3);
+        same(&rt, lines.len(), 2);
         let Some(last) = lines.pop() else {
             panic!(rt; "no line")
         };
         let (line, key, value) = last.into_parts();
-        assert_eq!(rt; line, 6);
-        assert_eq!(rt; key.as_str(), "stonewall");
+        same(&rt, line, 6);
+        same(&rt, key.as_str(), "stonewall");
         assert!(rt; value.is_none());
     }
     Ok(())
@@ -132,10 +134,10 @@ fn names_a_fault_whatever_memory_there_is(rt: HostRuntime) {
         ("\nk=v\n[a", TextFault::Outside(2)),
     ];
     for (text, fault) in texts {
-        assert_eq!(rt;
-            sections(rt.alloc(), text.as_bytes()).err(),
-            Some(fault),
-            "at {text:?}"
+        same(
+            &rt,
+            (text, sections(rt.alloc(), text.as_bytes()).err()),
+            (text, Some(fault)),
         );
     }
 }
@@ -143,14 +145,15 @@ fn names_a_fault_whatever_memory_there_is(rt: HostRuntime) {
 #[test]
 fn tests_the_length_first(rt: HostRuntime) -> Result<(), Fail> {
     let longest = vec![in rt.alloc(); b'\n'; LONGEST_TEXT]?;
-    assert_eq!(rt; sections(rt.alloc(), longest.as_slice())?.len(), 0);
+    same(&rt, sections(rt.alloc(), longest.as_slice())?.len(), 0);
     let longer = vec![in rt.alloc(); 0xff; LONGEST_TEXT + 1]?;
-    assert_eq!(rt;
+    same(
+        &rt,
         sections(rt.alloc(), longer.as_slice()).err(),
-        Some(TextFault::TooLong)
+        Some(TextFault::TooLong),
     );
     let shown = format!(in rt.alloc(); "{}", TextFault::TooLong)?;
-    assert_eq!(rt; shown.as_str(), "job file: longer than 1048576 bytes");
+    same(&rt, shown.as_str(), "job file: longer than 1048576 bytes");
     Ok(())
 }
 
@@ -159,12 +162,12 @@ fn tests_the_length_first(rt: HostRuntime) -> Result<(), Fail> {
 fn answers_or_names_want_of_memory(rt: HostRuntime) {
     match sections(rt.alloc(), JOBS.as_bytes()) {
         Ok(read) => {
-            assert_eq!(rt; read.len(), 4);
+            same(&rt, read.len(), 4);
             if let Ok(text) = shown(rt.alloc(), read.as_slice()) {
-                assert_eq!(rt; text.as_str(), SHOWN_JOBS);
+                same(&rt, text.as_str(), SHOWN_JOBS);
             }
         }
-        Err(fault) => assert_eq!(rt; fault, TextFault::Memory),
+        Err(fault) => same(&rt, fault, TextFault::Memory),
     }
 }
 

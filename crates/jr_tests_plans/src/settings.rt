@@ -1,3 +1,4 @@
+use crate::asserts::same;
 use jr_model::{EngineKind, IoType, Pattern, VerifyKind};
 use jr_settings::{JobFault, JobOptions, Shape};
 use jr_text::sections;
@@ -81,10 +82,10 @@ fn splits_and_cells(rt: HostRuntime) -> Result<(), Fail> {
         rt.alloc(),
         "[a]\nrw=randrw\nsize=64k\nbssplit=4k/50:1k/:32k/,8k\n",
     )?;
-    assert_eq!(rt; shape.cell, 1024);
-    assert_eq!(rt; shape.cells, 64);
-    assert_eq!(rt; shape.reads.size_of(75), 32768);
-    assert_eq!(rt; shape.writes.size_of(75), 8192);
+    same(&rt, shape.cell, 1024);
+    same(&rt, shape.cells, 64);
+    same(&rt, shape.reads.size_of(75), 32768);
+    same(&rt, shape.writes.size_of(75), 8192);
     Ok(())
 }
 
@@ -100,53 +101,64 @@ fn patterns(rt: HostRuntime) -> Result<(), Fail> {
 #[test]
 fn faults_of_lines(rt: HostRuntime) {
     let alloc = rt.alloc();
-    assert_eq!(rt;
+    same(
+        &rt,
         line_fault(alloc, "[a]\nsize=4k\nfilename=a:b\n"),
-        Some(JobFault::SeveralFiles(3))
+        Some(JobFault::SeveralFiles(3)),
     );
-    assert_eq!(rt;
+    same(
+        &rt,
         line_fault(alloc, "[a]\nruntime=60\n"),
-        Some(JobFault::Unknown(2))
+        Some(JobFault::Unknown(2)),
     );
-    assert_eq!(rt;
+    same(
+        &rt,
         line_fault(alloc, "[a]\niodepth=0\niodepth=1\n"),
-        Some(JobFault::BadValue(2))
+        Some(JobFault::BadValue(2)),
     );
-    assert_eq!(rt;
+    same(
+        &rt,
         line_fault(alloc, "[a]\nbs=1,2,3,4\n"),
-        Some(JobFault::BadValue(2))
+        Some(JobFault::BadValue(2)),
     );
-    assert_eq!(rt;
+    same(
+        &rt,
         line_fault(alloc, "[a]\nsize=4k\nbssplit=4k/60\n"),
-        Some(JobFault::BadSplit(3))
+        Some(JobFault::BadSplit(3)),
     );
-    assert_eq!(rt;
+    same(
+        &rt,
         line_fault(alloc, "[w]\nsize=4k\nverify_pattern=256\n"),
-        Some(JobFault::BadValue(3))
+        Some(JobFault::BadValue(3)),
     );
-    assert_eq!(rt;
+    same(
+        &rt,
         line_fault(alloc, "[w]\nsize=4k\nverify_pattern=0x\n"),
-        Some(JobFault::BadValue(3))
+        Some(JobFault::BadValue(3)),
     );
 }
 
 #[test]
 fn faults_of_jobs(rt: HostRuntime) {
     let alloc = rt.alloc();
-    assert_eq!(rt;
+    same(
+        &rt,
         job_fault(alloc, "[a]\nrw=write\n"),
-        Some(JobFault::MissingSize(1))
+        Some(JobFault::MissingSize(1)),
     );
-    assert_eq!(rt;
+    same(
+        &rt,
         job_fault(alloc, "[a]\nsize=1k\nbs=4k\n"),
-        Some(JobFault::BadBlock(1))
+        Some(JobFault::BadBlock(1)),
     );
-    assert_eq!(rt;
+    same(
+        &rt,
         job_fault(alloc, "[w]\nrw=write\nsize=4k\nverify=pattern\n"),
-        Some(JobFault::NoPattern(1))
+        Some(JobFault::NoPattern(1)),
     );
-    assert_eq!(rt;
+    same(
+        &rt,
         job_fault(alloc, "[r]\nrw=read\nsize=4k\nverify=md5\n"),
-        Some(JobFault::VerifyNeedsWrite(1))
+        Some(JobFault::VerifyNeedsWrite(1)),
     );
 }

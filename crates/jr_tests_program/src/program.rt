@@ -1,3 +1,4 @@
+use crate::asserts::same;
 use crate::texts::assert_said;
 use jr_cli::{
     CliFault, answer_words, choose, execute_serial, print_check, print_plan, read_job, read_text,
@@ -111,7 +112,7 @@ fn a_plan_that_is_cut_is_no_plan(rt: HostRuntime) -> Result<(), Fail> {
 fn a_text_is_read_up_to_its_limit(rt: HostRuntime) -> Result<(), Fail> {
     let long = vec![in rt.alloc(); b'#'; 1_048_578]?;
     let text = read_text(rt.alloc(), long.as_slice())?;
-    assert_eq!(rt; text.len(), 1_048_577);
+    same(&rt, text.len(), 1_048_577);
     Ok(())
 }
 
@@ -143,7 +144,7 @@ fn words_end_the_program_by_their_kind(rt: HostRuntime) -> Result<(), Fail> {
     for (word, status) in [("--help", 0), ("--version", 0), ("--workers=17", 2)] {
         match choose(rt.alloc(), &["fiorun", word]) {
             Ok(_) => assert!(rt; false, "{word} is taken"),
-            Err(error) => assert_eq!(rt; answer_words(&rt, &error), Ok(status), "{word}"),
+            Err(error) => same(&rt, (word, answer_words(&rt, &error)), (word, Ok(status))),
         }
     }
     Ok(())
@@ -257,9 +258,9 @@ fn a_round_of_checks_follows_each_third_write(rt: HostRuntime) -> Result<(), Fai
     let mut events = Vec::new(rt.alloc());
     let mut out = Vec::new(rt.alloc());
     let status = execute_serial(rt.alloc(), plan, &mut engine, Some(&mut events), &mut out)?;
-    assert_eq!(rt; status, 0);
+    same(&rt, status, 0);
     let starts = starts_of(rt.alloc(), events.as_slice())?;
-    assert_eq!(rt; starts.as_str(), "IIIPPPIIIPPPIP");
+    same(&rt, starts.as_str(), "IIIPPPIIIPPPIP");
     Ok(())
 }
 

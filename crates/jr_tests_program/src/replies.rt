@@ -1,3 +1,4 @@
+use crate::asserts::same;
 use jr_cli::{execute_serial, read_job};
 use jr_engines::{MemoryEngine, Reply, ReplyBytes, ScriptedEngine};
 use std::alloc::Global;
@@ -25,7 +26,7 @@ fn a_write_that_is_not_whole_halts_its_clone(rt: HostRuntime) -> Result<(), Fail
     for reply in [Reply::Fail, Reply::Torn(100), Reply::Short(100)] {
         let (report, status) = answered(rt.alloc(), 0, reply)?;
         assert!(rt; report.as_slice() == FAILED_WRITE);
-        assert_eq!(rt; status, 1);
+        same(&rt, status, 1);
     }
     Ok(())
 }
@@ -40,7 +41,7 @@ fn a_short_reply_of_all_bytes_and_a_dropped_read_change_nothing(
     for (call, reply) in [(0, Reply::Short(4096)), (2, Reply::Drop)] {
         let (report, status) = answered(rt.alloc(), call, reply)?;
         assert!(rt; report.as_slice() == GOOD);
-        assert_eq!(rt; status, 0);
+        same(&rt, status, 0);
     }
     Ok(())
 }
@@ -56,7 +57,7 @@ fn a_write_that_is_changed_or_lost_is_found(rt: HostRuntime) -> Result<(), Fail>
     for (call, reply, want) in [(0, Reply::Flip(9), FLIPPED), (1, Reply::Drop, DROPPED)] {
         let (report, status) = answered(rt.alloc(), call, reply)?;
         assert!(rt; report.as_slice() == want);
-        assert_eq!(rt; status, 1);
+        same(&rt, status, 1);
     }
     Ok(())
 }
@@ -69,7 +70,7 @@ fn a_check_that_is_not_whole_is_a_fault(rt: HostRuntime) -> Result<(), Fail> {
     for reply in [Reply::Fail, Reply::Torn(100), Reply::Short(0)] {
         let (report, status) = answered(rt.alloc(), 2, reply)?;
         assert!(rt; report.as_slice() == UNREAD);
-        assert_eq!(rt; status, 1);
+        same(&rt, status, 1);
     }
     Ok(())
 }
@@ -87,7 +88,7 @@ fn other_bytes_are_told_and_a_later_check_may_fail(rt: HostRuntime) -> Result<()
     for (call, reply, want) in [(2, other, OTHER_BYTES), (3, Reply::Fail, LAST_UNREAD)] {
         let (report, status) = answered(rt.alloc(), call, reply)?;
         assert!(rt; report.as_slice() == want);
-        assert_eq!(rt; status, 1);
+        same(&rt, status, 1);
     }
     Ok(())
 }
