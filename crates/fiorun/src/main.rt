@@ -8,7 +8,7 @@ use jr_cli::{
     print_check, print_plan, read_job, read_text, read_trace, workers_of,
 };
 use jr_engines::{Engine, MemoryEngine, NullEngine, SharedMemory};
-use jr_files::{FileEngine, FileFault, SharedFile, lay_out};
+use jr_files::{FileEngine, FileFault, SharedFile, Source, lay_out};
 use jr_model::EngineKind;
 use jr_plan::Plan;
 use show::{Extent, Screen, shown};
@@ -126,7 +126,12 @@ fn perform<
         return Ok(Turn::Ended(0));
     }
     let workers = workers_of(&plan, choice.workers);
-    run_plan(rt, choice.trace, plan, workers, &mut out)
+    let source = if choice.cached {
+        Source::Cache
+    } else {
+        Source::Device
+    };
+    run_plan(rt, choice.trace, source, plan, workers, &mut out)
 }
 
 // The trace that is to be checked.
@@ -172,15 +177,24 @@ fn job_text<R: Files + Input + AllocGlobal>(
 fn run_plan<
     R: Files<File = File> + Screen + AllocGlobal + Clock + Threads + Wait + Sync,
     V: io::Write,
->(rt: &R, trace: Option<&str>, plan: Plan, workers: u32, out: &mut V) -> Result<Turn, CliFault> {
+>(
+    rt: &R,
+    trace: Option<&str>,
+    source: Source,
+    plan: Plan,
+    workers: u32,
+    out: &mut V,
+) -> Result<Turn, CliFault> {
     if workers == 1 && plan.verifiers() == 0 {
-        return Ok(Turn::Ended(run_alone(rt, trace, plan, out)?));
+        return Ok(Turn::Ended(run_alone(rt, trace, source, plan, out)?));
     }
     match plan.engine() {
         EngineKind::File => {
-            let engines = opened_for(rt, &plan, workers)?;
+            let files = opened(rt, &plan, source)?;
+            let engines = file_shares(rt.alloc(), &files, workers)?;
             let events = trace_file(rt, trace)?;
-            Ok(Turn::Ended(run_files(rt, plan, engines, events, out)?))
+            let status = run_files(rt, plan, engines, events, out)?;
+            Ok(Turn::Ended(settled(&files, status)?))
         }
         EngineKind::Memory => {
             let events = trace_file(rt, trace)?;
@@ -201,11 +215,18 @@ fn run_plan<
 fn run_alone<
     R: Files<File = File> + Screen + AllocGlobal + Clock + Threads + Wait + Sync,
     V: io::Write,
->(rt: &R, trace: Option<&str>, plan: Plan, out: &mut V) -> Result<u8, CliFault> {
+>(
+    rt: &R,
+    trace: Option<&str>,
+    source: Source,
+    plan: Plan,
+    out: &mut V,
+) -> Result<u8, CliFault> {
     match plan.engine() {
         EngineKind::File => {
-            let mut engine = opened(rt, &plan)?;
-            run_over(rt, trace, plan, &mut engine, out)
+            let mut files = opened(rt, &plan, source)?;
+            let status = run_over(rt, trace, plan, &mut files, out)?;
+            settled(&files, status)
         }
         EngineKind::Memory => {
             let mut engine = MemoryEngine::new(rt.alloc(), &plan)?;
@@ -226,44 +247,43 @@ fn laid_out<R: Files>(rt: &R, plan: &Plan) -> Result<(), CliFault> {
     }
 }
 
-// The plan's files, made where they are missing, long enough, and opened for one worker.
-fn opened<R: Files<File = File> + AllocGlobal>(rt: &R, plan: &Plan) -> Result<FileEngine, CliFault>
+// The plan's files, made where they are missing, long enough, and opened, to be shared by workers.
+fn opened<R: Files<File = File> + AllocGlobal>(
+    rt: &R,
+    plan: &Plan,
+    source: Source,
+) -> Result<FileEngine<SharedFile>, CliFault>
     ensures { IfOk result (λ engine. engine.calls ≡ 0) }
 {
     laid_out(rt, plan)?;
-    match FileEngine::new(rt, rt.alloc(), plan) {
-        Ok(engine) => Ok(engine),
+    match FileEngine::shared(rt, rt.alloc(), plan, source) {
+        Ok(files) => Ok(files),
         Err(fault) => Err(open_fault(fault)),
     }
 }
 
-// The same for so many workers, which share the open files.
-fn opened_for<R: Files<File = File> + AllocGlobal>(
-    rt: &R,
-    plan: &Plan,
-    workers: u32,
-) -> Result<Vec<FileEngine<SharedFile>>, CliFault> {
-    laid_out(rt, plan)?;
-    match FileEngine::shared(rt, rt.alloc(), plan) {
-        Ok(first) => file_shares(rt.alloc(), first, workers),
-        Err(fault) => Err(open_fault(fault)),
-    }
-}
-
+// So many engines over the open files.
 fn file_shares(
     alloc: Global,
-    first: FileEngine<SharedFile>,
+    files: &FileEngine<SharedFile>,
     workers: u32,
 ) -> Result<Vec<FileEngine<SharedFile>>, CliFault> {
     let mut engines = Vec::new(alloc);
-    for _ in 1..workers {
-        match first.share(alloc) {
+    for _ in 0..workers {
+        match files.share(alloc) {
             Ok(engine) => add(&mut engines, engine)?,
             Err(fault) => return Err(open_fault(fault)),
         }
     }
-    add(&mut engines, first)?;
     Ok(engines)
+}
+
+// The status of a run, once all that it wrote was synced.
+fn settled(files: &FileEngine<SharedFile>, status: u8) -> Result<u8, CliFault> {
+    match files.settle() {
+        Ok(()) => Ok(status),
+        Err(_) => Err(CliFault::Write),
+    }
 }
 
 fn open_fault(fault: FileFault) -> CliFault {

@@ -49,11 +49,15 @@ other_id e = absurd (true≢false (sym e))
 
 pub workers_parser : AllHaveParser (codes "workers") (parser.Signed (pos 1) (pos 16)) command_line.top.rules
 unfolding command_line
-workers_parser = (other_id, (other_id, (other_id, ((λ e. (refl, refl)), (other_id, (other_id, tt))))))
+workers_parser = (other_id, (other_id, (other_id, ((λ e. (refl, refl)), (other_id, (other_id, (other_id, tt)))))))
 
 pub parse_only_parser : AllHaveParser (codes "parse-only") parser.Bool command_line.top.rules
 unfolding command_line
-parse_only_parser = (other_id, (other_id, ((λ e. (refl, refl)), (other_id, (other_id, (other_id, tt))))))
+parse_only_parser = (other_id, (other_id, ((λ e. (refl, refl)), (other_id, (other_id, (other_id, (other_id, tt)))))))
+
+pub cached_parser : AllHaveParser (codes "cached") parser.Bool command_line.top.rules
+unfolding command_line
+cached_parser = (other_id, (other_id, (other_id, (other_id, (other_id, (other_id, ((λ e. (refl, refl)), tt)))))))
 
 line_is_plain : command_line.top.is_plain ≡ true
 unfolding command_line
@@ -190,15 +194,16 @@ module _ (c : Command) (m : ArgMatches) (is : app_of c ≡ command_line) (p : Is
       go (Some t) e =
           subst IsRead (sym e) (read t (value t e) (text_passes (codes "workers") (parser.Signed (pos 1) (pos 16)) workers_parser refl refl refl t e))
 
-  -- the flag is set exactly where its text says so
-  pub flag_read : (r : Bool) → (one_text (found_of m) (codes "parse-only") ≡ None → r ≡ false)
-      → (one_text (found_of m) (codes "parse-only") ≡ Some (codes "true") → r ≡ true)
-      → (one_text (found_of m) (codes "parse-only") ≡ Some (codes "false") → r ≡ false)
-      → r ≡ unwrap_or (option_map (bytes_eq (codes "true")) (one_text (found_of m) (codes "parse-only"))) false
-  flag_read r none is_true is_false = go (one_text (found_of m) (codes "parse-only")) refl
+  -- a flag is set exactly where its text says so
+  pub flag_read : (id : Text) → AllHaveParser id parser.Bool command_line.top.rules → bytes_eq id [] ≡ false → bytes_eq id (codes "help") ≡ false → bytes_eq id (codes "version") ≡ false
+      → (r : Bool) → (one_text (found_of m) id ≡ None → r ≡ false)
+      → (one_text (found_of m) id ≡ Some (codes "true") → r ≡ true)
+      → (one_text (found_of m) id ≡ Some (codes "false") → r ≡ false)
+      → r ≡ unwrap_or (option_map (bytes_eq (codes "true")) (one_text (found_of m) id)) false
+  flag_read id rules not_empty not_help not_version r none is_true is_false = go (one_text (found_of m) id) refl
     where
       says : (t : Text) (a b : Bool) → bytes_eq t (codes "true") ≡ a → bytes_eq t (codes "false") ≡ b → (a || b) ≡ true
-          → one_text (found_of m) (codes "parse-only") ≡ Some t → r ≡ bytes_eq (codes "true") t
+          → one_text (found_of m) id ≡ Some t → r ≡ bytes_eq (codes "true") t
       says t true b is_a is_b some e =
           let text : t ≡ codes "true" = (bytes_eq-Decides t (codes "true")).0 is_a in
           is_true (e ∙ ap (λ (x : Text). Some x) text) ∙ rw text refl
@@ -207,10 +212,10 @@ module _ (c : Command) (m : ArgMatches) (is : app_of c ≡ command_line) (p : Is
           is_false (e ∙ ap (λ (x : Text). Some x) text) ∙ rw text refl
       says t false false is_a is_b some e = absurd (true≢false (sym some))
 
-      go : (o : Option Text) → one_text (found_of m) (codes "parse-only") ≡ o → r ≡ unwrap_or (option_map (bytes_eq (codes "true")) (one_text (found_of m) (codes "parse-only"))) false
+      go : (o : Option Text) → one_text (found_of m) id ≡ o → r ≡ unwrap_or (option_map (bytes_eq (codes "true")) (one_text (found_of m) id)) false
       go None e = rw (e, none e) refl
       go (Some t) e =
-          let passed = text_passes (codes "parse-only") parser.Bool parse_only_parser refl refl refl t e in
+          let passed = text_passes id parser.Bool rules not_empty not_help not_version t e in
           rw e (says t _ _ refl refl (rw passed.1 passed.2) e)
 
   -- the matches, as rows

@@ -1,4 +1,3 @@
 pub mod CleanRuns
 pub mod CommandLineFacts
-pub mod CrewRuns
 pub mod QuietRuns

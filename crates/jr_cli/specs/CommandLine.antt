@@ -19,12 +19,12 @@ job_rule = record (new_rule (codes "job")) { action = Some Set; value_names = 1 
 abbrev pub section_rule : Rule
 section_rule = option_rule (codes "section")
 
+-- a flag
+abbrev pub flag_rule : Text → Rule
+flag_rule name = record (new_rule name) { long = Some name; action = Some SetTrue; parser = Some parser.Bool }
+
 abbrev pub parse_only_rule : Rule
-parse_only_rule = record (new_rule (codes "parse-only")) {
-  long = Some (codes "parse-only");
-  action = Some SetTrue;
-  parser = Some parser.Bool;
-}
+parse_only_rule = flag_rule (codes "parse-only")
 
 -- from 1 to 16
 abbrev pub workers_rule : Rule
@@ -36,13 +36,16 @@ trace_rule = option_rule (codes "trace")
 abbrev pub check_trace_rule : Rule
 check_trace_rule = option_rule (codes "check-trace")
 
+abbrev pub cached_rule : Rule
+cached_rule = flag_rule (codes "cached")
+
 -- a program that tells its version
 abbrev pub with_version : App → App
 with_version app = on_top (λ shape. record shape { has_version = true }) app
 
 unfoldable pub command_line : App
-command_line = with_rule (with_rule (with_rule (with_rule (with_rule (with_rule (with_version (new_app (codes "fiorun"))) job_rule) section_rule)
-    parse_only_rule) workers_rule) trace_rule) check_trace_rule
+command_line = with_rule (with_rule (with_rule (with_rule (with_rule (with_rule (with_rule (with_version (new_app (codes "fiorun"))) job_rule)
+    section_rule) parse_only_rule) workers_rule) trace_rule) check_trace_rule) cached_rule
 
 -- the number that a text of digits writes
 abbrev pub number_in : Text → ℕ
@@ -56,3 +59,4 @@ pub record IsChoiceOf (choice : Choice) (rows : List Row) : Type 0 where
   pub workers : choice.workers ≡ option_map number_in (one_of (codes "workers") rows)
   pub trace : option_copied choice.trace ≡ first_of (codes "trace") rows
   pub check_trace : option_copied choice.check_trace ≡ first_of (codes "check-trace") rows
+  pub cached : choice.cached ≡ unwrap_or (option_map (bytes_eq (codes "true")) (one_of (codes "cached") rows)) false

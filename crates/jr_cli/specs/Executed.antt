@@ -1,10 +1,9 @@
 -- Believed: what a run of the program is, and how it ends (of this project).
 use Rattle.std.proofs.Common.{inl, inr}
-use Rattle.std.specs.Prelude.{◌≡◌, ◌⊎◌, ℕ, ◌+◌, true, List, length, Option, Some, None, slice_get}
+use Rattle.std.specs.Prelude.{◌≡◌, ◌⊎◌, ℕ, true, List, Option, Some, None}
 use Rattle.std.specs.Borrow.{MutBor}
 use Rattle.std.specs.Io.KnownBytes.{Appends}
 use Rattle.jr_model.specs.declared.events.Event.{Event}
-use Rattle.jr_model.specs.Legal.{is_legal, is_complete}
 use Rattle.jr_model.specs.Plan.{Plan}
 use Rattle.jr_model.specs.Replies.{EngineState}
 use Rattle.jr_model.specs.Quiet.{quiet_report}
@@ -13,9 +12,7 @@ use Rattle.jr_plan.specs.Files.{are_apart}
 use Rattle.jr_stats.specs.Traces.{trace_of}
 use Rattle.jr_crew.specs.declared.faults.RunFault.TheVariants as run
 use Rattle.jr_crew.specs.declared.books.Done.{Done}
-use Rattle.jr_crew.specs.Crews.{IsWorkers}
-use Rattle.jr_crew.specs.Ends.{ends_of, failed_ends_of}
-use Rattle.jr_crew.specs.Runs.{IsCovering, IsTiedRun}
+use Rattle.jr_crew.specs.Whole.{IsRun, IsCrewRun}
 use Rattle.jr_cli.specs.declared.faults.CliFault.{CliFault}
 use Rattle.jr_cli.specs.declared.faults.CliFault.TheVariants as fault
 use Rattle.jr_cli.specs.Status.{status_of}
@@ -25,30 +22,11 @@ pub record IsReported (plan : Plan) (history : List Event) (blank written : Opti
   pub report : Appends blank written (report_of plan history)
   pub ends : status ≡ status_of (all_totals plan history)
 
--- the history is that of a run of one worker over an engine that was so before, and is so after: whole and legal, with a call
--- for each end, and where the engine's memory is known these calls are what was completed
-pub record IsRun (plan : Plan) (history : List Event) (before after : EngineState) : Type 0 where
-  pub legal : is_legal plan history ≡ true
-  pub complete : is_complete plan history ≡ true
-  pub calls : after.calls ≡ before.calls + ends_of history
-  pub failures : after.failures ≡ before.failures + failed_ends_of history
-  pub tied : IsCovering plan before → IsTiedRun plan history before after
-
--- such a run has a history of which this holds
+-- a run of one worker over an engine that was so before, and is so after, has a history of which this holds
 abbrev pub HasRun : Plan → EngineState → EngineState → (List Event → Type 0) → Type 0
 HasRun plan before after Holds = (history : List Event) × IsRun plan history before after × Holds history
 
--- the history is that of a run of many workers over engines that were so before, and are so after: whole and legal, and of each
--- worker there is a book, which is what the history says that it completed and what its engine was called for
-pub record IsCrewRun (plan : Plan) (history : List Event) (befores afters : List EngineState) (books : List (List Done)) : Type 0 where
-  pub legal : is_legal plan history ≡ true
-  pub complete : is_complete plan history ≡ true
-  pub engines_count : length afters ≡ length befores
-  pub books_count : length books ≡ length befores
-  pub each : (i : ℕ) (before after : EngineState) (dones : List Done) → slice_get befores i ≡ Some before → slice_get afters i ≡ Some after
-      → slice_get books i ≡ Some dones → IsWorkers plan history i before after dones
-
--- such a run has a history of which this holds
+-- a run of many workers over engines that were so before has a history of which this holds
 abbrev pub HasCrewRun : Plan → List EngineState → (List Event → Type 0) → Type 0
 HasCrewRun plan befores Holds =
     (history : List Event) × (afters : List EngineState) × (books : List (List Done)) × IsCrewRun plan history befores afters books × Holds history

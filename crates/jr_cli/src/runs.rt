@@ -1,4 +1,4 @@
-ghost use Rattle.std.specs.Prelude.{◌≡◌, ◌⊎◌, ◌≤◌, ◌^◌, [], map, Err, IfOk, IfErr, IfSome, IsOkAnd, OnOk};
+ghost use Rattle.std.specs.Prelude.{◌≡◌, ◌⊎◌, ◌<◌, ◌≤◌, ◌^◌, [], map, Err, IfOk, IfErr, IfSome, IsOkAnd, OnOk};
 ghost use Rattle.std.specs.List.{list_any};
 ghost use Rattle.std.specs.Option.{option_copied};
 ghost use Rattle.std.specs.Io.KnownBytes.{Appends};
@@ -127,6 +127,7 @@ pub fn execute<R: Threads + Wait + Sync, W: Write, V: Write>(
     ensures quiet { IfOk result (IsQuietlyReported plan (V.contents out.old) (V.contents out.new)) }
     ensures none { engines.items ≡ [] → result ≡ Err (CliFault.Run RunFault.NoEngine) }
     ensures no_engine { IfErr result (λ fault. fault ≡ CliFault.Run RunFault.NoEngine → engines.items ≡ []) }
+    ensures thread { IfErr result (λ fault. fault ≡ CliFault.Run RunFault.Thread → 0 < plan.verifiers) }
     ensures failed { IfErr result IsRunFault }
 {
     // Its contract says what holds of every plan.
@@ -158,6 +159,7 @@ pub fn execute_watched<R: Threads + Wait + Sync, W: Write, V: Write>(
     ensures quiet { IfOk result (IsQuietlyReported plan (V.contents out.old) (V.contents out.new)) }
     ensures none { engines.items ≡ [] → result ≡ Err (CliFault.Run RunFault.NoEngine) }
     ensures no_engine { IfErr result (λ fault. fault ≡ CliFault.Run RunFault.NoEngine → engines.items ≡ []) }
+    ensures thread { IfErr result (λ fault. fault ≡ CliFault.Run RunFault.Thread → 0 < plan.verifiers) }
     ensures failed { IfErr result IsRunFault }
 {
     // Its contract says what holds of every plan.

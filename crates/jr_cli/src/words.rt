@@ -9,6 +9,7 @@ ghost use Rattle.jr_cli.specs.CommandLine.{
   workers_rule,
   trace_rule,
   check_trace_rule,
+  cached_rule,
   IsChoiceOf,
 };
 
@@ -18,8 +19,8 @@ use clap::{Arg, ArgAction, Command, Error, value_parser};
 use std::alloc::{AllocError, Global};
 use std::convert::AsStr;
 
-// The program's version, and the line of the kit that it is proved and built with.
-const VERSION: &str = "0.1.0\nrattle-kit-13f logic dac8208d650f15bf";
+// The program's version, and the logic that it is proved in: several kits have the same.
+const VERSION: &str = "0.1.0\nlogic dac8208d650f15bf";
 
 /// What the words of the command line ask for.
 #[derive(Clone, Copy, Debug, PartialEq, Eq)]
@@ -36,6 +37,8 @@ pub struct Choice<'a> {
     pub trace: Option<&'a str>,
     /// The trace to check in place of a run.
     pub check_trace: Option<&'a str>,
+    /// Let checks read what the system keeps of the files, in place of the device.
+    pub cached: bool,
 }
 
 /// Reads the words of the command line, of which the first is the program's name. Help and the version are
@@ -55,6 +58,7 @@ pub fn choose<'a, S: AsStr>(alloc: Global, words: &'a [S]) -> Result<Choice<'a>,
         workers: matches.get_one::<u32>("workers"),
         trace: matches.get_str("trace"),
         check_trace: matches.get_str("check-trace"),
+        cached: matches.get_flag("cached"),
     })
 }
 
@@ -89,7 +93,8 @@ fn command<'a>(alloc: Global) -> Result<Command<'a>, AllocError>
         .arg(parse_only_arg(alloc))?
         .arg(workers_arg(alloc))?
         .arg(trace_arg(alloc))?
-        .arg(check_trace_arg(alloc))
+        .arg(check_trace_arg(alloc))?
+        .arg(cached_arg(alloc))
 }
 
 fn job_arg<'a>(alloc: Global) -> Arg<'a>
@@ -156,4 +161,15 @@ fn check_trace_arg<'a>(alloc: Global) -> Arg<'a>
         .value_name("FILE")
         .action(ArgAction::Set)
         .help("Check this trace of the job and run nothing")
+}
+
+fn cached_arg<'a>(alloc: Global) -> Arg<'a>
+    ensures rule { rule_of result ≡ cached_rule }
+    ensures local { result.global ≡ false }
+{
+    Arg::new(alloc, "cached")
+        .long("cached")
+        .action(ArgAction::SetTrue)
+        .value_parser(value_parser!(bool))
+        .help("Let checks read the system's cache in place of the device")
 }

@@ -39,7 +39,7 @@ its_part plan history worker before after book planned legal own calls same =
           (subst (λ (dones : List Done). AreCallsFor inline before dones after) same calls);
     }
 
-got_mapped : {X Y : Type 0} (f : X → Y) (xs : List X) (k : ℕ) (y : Y) → slice_get (map f xs) k ≡ Some y → (x : X) × (slice_get xs k ≡ Some x) × (f x ≡ y)
+pub got_mapped : {X Y : Type 0} (f : X → Y) (xs : List X) (k : ℕ) (y : Y) → slice_get (map f xs) k ≡ Some y → (x : X) × (slice_get xs k ≡ Some x) × (f x ≡ y)
 got_mapped f [] k y at = cc
 got_mapped f (x ∷ xs) zero y at = (x, refl, same_some (f x) y at)
 got_mapped f (x ∷ xs) (suc k) y at = got_mapped f xs k y at

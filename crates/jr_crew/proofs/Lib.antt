@@ -1,8 +1,10 @@
+pub mod Alone
 pub mod Calling
 pub mod Carrying
 pub mod Chosen
 pub mod Clearing
 pub mod Counting
+pub mod CrewRuns
 pub mod Crewing
 pub mod Following
 pub mod Going

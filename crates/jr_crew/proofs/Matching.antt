@@ -20,7 +20,7 @@ use Rattle.jr_model.specs.Legal.{is_legal, legal_after, may_happen, end_fits, ou
 use Rattle.jr_model.specs.Machine.{verdict_on, bytes_read}
 use Rattle.jr_model.specs.Plan.{Plan, SubJob}
 use Rattle.jr_model.specs.Replies.{EngineState, FileBytes, covers, asked, next_reply}
-use Rattle.jr_model.specs.Tied.{KnownEngine, called, TiedAlong}
+use Rattle.jr_model.specs.Tied.{KnownEngine, called, IsOnBytes, TiedAlong}
 use Rattle.jr_model.proofs.MachineLaws.{got_front}
 use Rattle.jr_model.proofs.SerialLaws.{first_given-append}
 use Rattle.jr_plan.specs.PlanFacts.{IsPlanned}
@@ -43,7 +43,7 @@ use Rattle.jr_crew.specs.Runs.{known_engine}
 use Rattle.jr_crew.specs.Working.{IsCalledFor, AreCallsFor}
 use Rattle.jr_crew.proofs.Calling.{IsCall, is_call}
 use Rattle.jr_crew.proofs.Turning.{asked_room_for}
-use Rattle.jr_crew.proofs.Tying.{IsNextCall, IsOnBytes}
+use Rattle.jr_crew.proofs.Tying.{IsNextCall}
 
 -- where workers judge, each verdict on what this worker has ended is that on the bytes that were kept
 abbrev pub AreSaidOn : Plan → Bool → List Event → ℕ → List Event → List (ℕ × List ℕ) → Type 0
@@ -135,19 +135,21 @@ module _ (plan : Plan) (inline : Bool) (history : List Event) (worker : ℕ) (pl
   Goes before events final engine kept =
       IsTrue engine.is_known → CoversFiles plan engine.memory → AreSaidOn plan inline history worker before kept → AreCallsFor inline engine (filter_map (done_by plan inline history worker) events) final → Follows events engine kept final
 
-  -- a verdict of this worker is that on the bytes of its check
-  on_bytes : (before events : List Event) (w io : ℕ) (v : GivenVerdict) (engine : EngineState) (kept : List (ℕ × List ℕ)) → before ++ Verdict w io v ∷ events ≡ history → ended_whole (outcome_of before io) ≡ true → is_judged before io ≡ false → inline ≡ true → is_workers w (slice_get (tickets_of plan history) io) ≡ true → AreSaidOn plan inline history worker before kept → (b : Bool) → (w == worker) ≡ b → MatchBool b (IsOnBytes plan (started history) (known_engine engine kept) io v) (Unit {0})
-  on_bytes before events w io v engine kept same whole unjudged so own said false is = tt
-  on_bytes before events w io v engine kept same whole unjudged so own said true is =
+  -- the verdict on a check of this worker's is that on its bytes
+  on_bytes : (before events : List Event) (w io : ℕ) (v : GivenVerdict) (engine : EngineState) (kept : List (ℕ × List ℕ)) → before ++ Verdict w io v ∷ events ≡ history → ended_whole (outcome_of before io) ≡ true → is_judged before io ≡ false → inline ≡ true → is_workers w (slice_get (tickets_of plan history) io) ≡ true → AreSaidOn plan inline history worker before kept → IsOnBytes plan worker (started history) (known_engine engine kept) io v
+  on_bytes before events w io v engine kept same whole unjudged so own said =
       let t = owner w (slice_get (tickets_of plan history) io) own in
       let s = got_ticket plan 0 (started history) io t.0 t.1 in
-      let by : s.0.worker ≡ worker = ap (λ (x : Ticket). x.worker) s.2 ∙ t.2 ∙ eqb-true w worker is in
       let given : verdict_in history io ≡ Some v =
       ap (λ (h : List Event). verdict_in h io) (sym same)
       ∙ first_given-append (verdict_by io) before (Verdict w io v ∷ events)
       ∙ ap (λ (o : Option GivenVerdict). option_or o (verdict_in (Verdict w io v ∷ events) io)) (unjudged_none before io unjudged)
-      ∙ ap (λ (b : Bool). option_or (cond b (Some v) None) (verdict_in events io)) (eq-eqb io io refl) in
-      (s.0, s.1, said so io s.0 v s.1 by whole given)
+      ∙ ap (λ (b : Bool). option_or (cond b (Some v) None) (verdict_in events io)) (eq-eqb io io refl) in (
+        s.0,
+        s.1,
+        only_if (s.0.worker == worker) (verdict_on plan s.0 (bytes_read kept io) ≡ v)
+            (λ (mine : (s.0.worker == worker) ≡ true). said so io s.0 v s.1 (eqb-true s.0.worker worker mine) whole given),
+      )
 
   -- one call of this worker's engine
   module _ (before events : List Event) (io : ℕ) (s : Started) (outcome : Outcome) (engine middle final : EngineState) (kept : List (ℕ × List ℕ)) (at : slice_get (started history) io ≡ Some s) (call : IsCalledFor inline engine (record { ticket = ticket_of plan (io, s); outcome = outcome; verdict = cond inline (verdict_in history io) None }) middle) (known : IsTrue engine.is_known) (covered : CoversFiles plan engine.memory) (said : AreSaidOn plan inline history worker before kept) where
@@ -284,8 +286,8 @@ module _ (plan : Plan) (inline : Bool) (history : List Event) (worker : ℕ) (pl
       (said_other plan inline history worker before e kept (λ id. refl) said) calls in (
         rest.0,
         (
-          only_if inline (MatchBool (w == worker) (IsOnBytes plan (started history) (known_engine engine kept) io v) (Unit {0}))
-              (λ so. on_bytes before events w io v engine kept same parts.0 parts.1 so (mine so).0 said (w == worker) refl),
+          only_if inline (IsOnBytes plan worker (started history) (known_engine engine kept) io v)
+              (λ so. on_bytes before events w io v engine kept same parts.0 parts.1 so (mine so).0 said),
           rest.1,
         ),
       )

@@ -21,6 +21,7 @@ first_sofar plan history engine none =
     let first : IsSoFar plan [] engine engine = record {
       legal = refl;
       settled = none_settled;
+      alone = refl;
       ends = refl;
       calls = omega arith;
       failures = omega arith;

@@ -14,7 +14,7 @@ use Rattle.jr_model.specs.declared.workloads.Draw.{Draw}
 use Rattle.jr_model.specs.History.{started}
 use Rattle.jr_model.specs.Judgement.{verdict_of}
 use Rattle.jr_model.specs.Legal.{is_legal}
-use Rattle.jr_model.specs.Machine.{verdict_on}
+use Rattle.jr_model.specs.Machine.{bytes_read, verdict_on}
 use Rattle.jr_model.specs.Plan.{Plan, SubJob}
 use Rattle.jr_model.specs.Replies.{EngineState, FileBytes, covers, asked, next_reply}
 use Rattle.jr_model.specs.Tied.{KnownEngine, called, TiedAlong, IsTied}
@@ -33,6 +33,7 @@ use Rattle.jr_board.proofs.Serving.{content_is, verdict_is}
 use Rattle.jr_crew.specs.Ends.{ends_of, failed_ends_of}
 use Rattle.jr_crew.specs.Runs.{known_engine, IsCovering}
 use Rattle.jr_crew.specs.Turns.{ended_by, AreSettled, IsTurn}
+use Rattle.jr_crew.proofs.Alone.{IsAlone, chosen_alone, ended_alone}
 use Rattle.jr_crew.proofs.Chosen.{IsStep, appends_by, chosen_worker, got_new}
 use Rattle.jr_crew.proofs.Counting.{chosen_ends, chosen_failed_ends, ended_ends, ended_failed_ends}
 use Rattle.jr_crew.proofs.Settling.{settled_still}
@@ -50,6 +51,7 @@ pub record IsTiedSoFar (plan : Plan) (history : List Event) (old engine : Engine
 pub record IsSoFar (plan : Plan) (history : List Event) (old engine : EngineState) : Type 0 where
   pub legal : is_legal plan history ≡ true
   pub settled : AreSettled history
+  pub alone : IsAlone history
   pub ends : ends_of history ≡ length (started history)
   pub calls : engine.calls ≡ old.calls + ends_of history
   pub failures : engine.failures ≡ old.failures + failed_ends_of history
@@ -116,17 +118,23 @@ module _ (plan : Plan) (history begun : List Event) (io : Started) (old engine n
       let said = verdict_of t.method.kind t.expected answer.bytes in
       let verdicts = judged_with t answer.outcome answer.bytes in
       let job = drawn in
+      let by_worker = eq-eqb io.worker 0 (chosen_worker plan 0 history begun io planned chosen) in
       let rest : TiedAlong plan true 0 ios after_call verdicts after =
       cond_both (is_whole_check io.kind answer.outcome) (Verdict 0 id said ∷ []) [] (λ (events : List Event). TiedAlong plan true 0 ios after_call events after)
       (λ (whole : is_whole_check io.kind answer.outcome ≡ true). (
-        (io, at, ap (verdict_on plan io) (call.bytes whole) ∙ verdict_is plan io job.0 io.kind answer.outcome answer.bytes job.2.planned whole),
+        (
+          io,
+          at,
+          match_true (io.worker == 0) (verdict_on plan io (bytes_read after_call.read_back id) ≡ said) (Unit {0}) by_worker
+              (ap (verdict_on plan io) (call.bytes whole) ∙ verdict_is plan io job.0 io.kind answer.outcome answer.bytes job.2.planned whole),
+        ),
         call.leaves,
       ))
       (λ h. call.leaves) in
       match_true (io.worker == 0)
       (IsNextCall plan ios before id answer.outcome (λ (e : KnownEngine). TiedAlong plan true 0 ios e verdicts after))
       (TiedAlong plan true 0 ios before verdicts after)
-      (eq-eqb io.worker 0 (chosen_worker plan 0 history begun io planned chosen))
+      by_worker
       (io, at, call.outcome, rest)
 
   -- the run so far and this turn
@@ -180,6 +188,8 @@ module _ (plan : Plan) (history : List Event) (old engine next : EngineState) (p
       let t = next_of plan history io in
       let events = ended_with t answer.outcome answer.bytes in
       let same : ended_by answer ≡ events = ended_by-with engine next t (buffer_for t) answer asked_so in
+      let worker : answer.ticket.worker ≡ 0 =
+      ap (λ (x : Ticket). x.worker) asked_so.ticket ∙ chosen_worker plan 0 history begun io planned chosen in
       let ended = ended_ends begun answer in
       let failed = ended_failed_ends begun answer in
       let all = turn_started plan history begun io engine next answer planned sofar.legal chosen asked_so in
@@ -195,6 +205,7 @@ module _ (plan : Plan) (history : List Event) (old engine next : EngineState) (p
             (turn_legal plan history begun io engine next answer planned sofar.legal chosen asked_so);
         settled = subst (λ (xs : List Event). AreSettled (begun ++ xs)) (sym same)
             (turn_settled plan history begun io engine next answer planned sofar.legal chosen asked_so sofar.settled);
+        alone = ended_alone begun answer worker (chosen_alone plan history begun (Some io) planned chosen sofar.alone);
         ends = ends ∙ counted ∙ ap (λ (xs : List Event). length (started (begun ++ xs))) (sym same);
         calls = omega (arith, asked_so.calls, sofar.calls, ends);
         failures =
@@ -234,6 +245,7 @@ module _ (plan : Plan) (history : List Event) (old engine next : EngineState) (p
       (record {
         legal = chosen_legal plan 0 history after None planned sofar.legal chosen;
         settled = settled_still history after chosen.0 sofar.settled chosen.1 more;
+        alone = chosen_alone plan history after None planned chosen sofar.alone;
         ends = ends ∙ sofar.ends ∙ ap length (sym more);
         calls = sofar.calls ∙ ap (λ (n : ℕ). old.calls + n) (sym ends);
         failures = sofar.failures ∙ ap (λ (n : ℕ). old.failures + n) (sym failed);

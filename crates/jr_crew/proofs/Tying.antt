@@ -6,10 +6,8 @@ use Rattle.jr_model.specs.declared.events.Event.{Event}
 use Rattle.jr_model.specs.declared.events.Event.TheVariants.{Issue, Probe, Skip, End, Verdict}
 use Rattle.jr_model.specs.declared.events.Outcome.{Outcome}
 use Rattle.jr_model.specs.declared.events.Started.{Started}
-use Rattle.jr_model.specs.declared.events.Verdict.{Verdict as GivenVerdict}
-use Rattle.jr_model.specs.Machine.{bytes_read, verdict_on}
 use Rattle.jr_model.specs.Plan.{Plan}
-use Rattle.jr_model.specs.Tied.{KnownEngine, called, TiedAlong}
+use Rattle.jr_model.specs.Tied.{KnownEngine, called, IsOnBytes, TiedAlong}
 use Rattle.jr_model.proofs.MachineLaws.{got_front}
 use Rattle.jr_crew.proofs.Chosen.{IsStep}
 
@@ -21,11 +19,6 @@ both false A B C D f g m = g m
 abbrev pub IsNextCall : Plan → List Started → KnownEngine → ℕ → Outcome → (KnownEngine → Type 0) → Type 0
 IsNextCall plan ios before io outcome After =
     (s : Started) × (slice_get ios io ≡ Some s) × ((called plan before io s.kind s).outcome ≡ outcome) × After (called plan before io s.kind s).engine
-
--- the verdict on an I/O is that on the bytes that it gave
-abbrev pub IsOnBytes : Plan → List Started → KnownEngine → ℕ → GivenVerdict → Type 0
-IsOnBytes plan ios before io verdict =
-    (s : Started) × (slice_get ios io ≡ Some s) × (verdict_on plan s (bytes_read before.read_back io) ≡ verdict)
 
 -- more I/Os may be started
 pub tied_more : (plan : Plan) (inline : Bool) (worker : ℕ) (ios more : List Started) (before : KnownEngine) (events : List Event) (after : KnownEngine) → TiedAlong plan inline worker ios before events after → TiedAlong plan inline worker (ios ++ more) before events after
@@ -44,10 +37,8 @@ tied_more plan inline worker ios more before (End w io outcome ∷ events) after
     ))
     (λ rest. tied_more plan inline worker ios more before events after rest) tied
 tied_more plan inline worker ios more before (Verdict w io verdict ∷ events) after tied = (
-  both inline (MatchBool (w == worker) (IsOnBytes plan ios before io verdict) (Unit {0})) (Unit {0})
-      (MatchBool (w == worker) (IsOnBytes plan (ios ++ more) before io verdict) (Unit {0})) (Unit {0})
-      (λ own. both (w == worker) (IsOnBytes plan ios before io verdict) (Unit {0}) (IsOnBytes plan (ios ++ more) before io verdict) (Unit {0})
-      (λ said. (said.0, got_front ios more io said.0 said.1, said.2)) (λ u. u) own)
+  both inline (IsOnBytes plan worker ios before io verdict) (Unit {0}) (IsOnBytes plan worker (ios ++ more) before io verdict) (Unit {0})
+      (λ said. (said.0, got_front ios more io said.0 said.1, said.2))
       (λ u. u) tied.0,
   tied_more plan inline worker ios more before events after tied.1,
 )

@@ -7,4 +7,5 @@ pub mod Faults
 pub mod Halts
 pub mod Runs
 pub mod Turns
+pub mod Whole
 pub mod Working

@@ -3,8 +3,9 @@ ghost use Rattle.std.specs.List.{list_all};
 ghost use Rattle.jr_model.specs.Legal.{is_legal, is_complete};
 ghost use Rattle.jr_handed.specs.Kept.{tickets_of};
 ghost use Rattle.jr_crew.specs.Books.{dones_of};
-ghost use Rattle.jr_crew.specs.Crews.{judges_inline, is_own_verdict, is_numbered, IsWorkers};
+ghost use Rattle.jr_crew.specs.Crews.{judges_inline, is_own_verdict, is_numbered};
 ghost use Rattle.jr_crew.specs.Faults.{IsRefusal, IsUnmanned};
+ghost use Rattle.jr_crew.specs.Whole.{IsCrewRun};
 ghost use Rattle.jr_handover.specs.declared.parcel.Parcel.TheVariants.{Stop};
 ghost use Rattle.jr_handover.specs.Passes.{hand_of};
 ghost use Rattle.jr_crew.specs.Working.{AreCallsFor};
@@ -46,18 +47,8 @@ pub fn run<R: Threads + Wait + Sync>(
     engines: Vec<Box<dyn Engine + Send>>,
 ) -> Result<Ran, RunFault>
     ensures plan { IfOk result (λ ran. ran.desk.plan ≡ plan) }
-    ensures legal { IfOk result (λ ran. is_legal plan ran.desk.history ≡ true) }
-    ensures complete { IfOk result (λ ran. is_complete plan ran.desk.history ≡ true) }
-    ensures engines { IfOk result (λ ran. length ran.engines.items ≡ length engines.items) }
-    ensures books { IfOk result (λ ran. length ran.books.items ≡ length engines.items) }
-    ensures each { IfOk result (λ ran. (i : ℕ) (before : _) (after : _) (book : _) → slice_get engines.items i ≡ Some before
-        → slice_get ran.engines.items i ≡ Some after → slice_get ran.books.items i ≡ Some book
-        → IsWorkers plan ran.desk.history i (state before) (state after) book.items) }
-
-    // Each event is of a worker, but the verdicts of verifiers; where there are none, each worker judged its own checks.
-    ensures numbered { IfOk result (λ ran. list_all (is_numbered (length engines.items) plan.verifiers) ran.desk.history ≡ true) }
-    ensures own { judges_inline plan ≡ true
-        → IfOk result (λ ran. list_all (is_own_verdict (tickets_of plan ran.desk.history)) ran.desk.history ≡ true) }
+    ensures run { IfOk result (λ ran. IsCrewRun plan ran.desk.history (map (λ engine. state engine) engines.items)
+        (map (λ engine. state engine) ran.engines.items) (map (λ book. book.items) ran.books.items)) }
     ensures none { engines.items ≡ [] → result ≡ Err RunFault.NoEngine }
     ensures no_engine { IfErr result (λ fault. fault ≡ RunFault.NoEngine → engines.items ≡ []) }
 
@@ -76,18 +67,8 @@ pub fn run_watched<R: Threads + Wait + Sync>(
     progress: Option<&Progress>,
 ) -> Result<Ran, RunFault>
     ensures plan { IfOk result (λ ran. ran.desk.plan ≡ plan) }
-    ensures legal { IfOk result (λ ran. is_legal plan ran.desk.history ≡ true) }
-    ensures complete { IfOk result (λ ran. is_complete plan ran.desk.history ≡ true) }
-    ensures engines { IfOk result (λ ran. length ran.engines.items ≡ length engines.items) }
-    ensures books { IfOk result (λ ran. length ran.books.items ≡ length engines.items) }
-    ensures each { IfOk result (λ ran. (i : ℕ) (before : _) (after : _) (book : _) → slice_get engines.items i ≡ Some before
-        → slice_get ran.engines.items i ≡ Some after → slice_get ran.books.items i ≡ Some book
-        → IsWorkers plan ran.desk.history i (state before) (state after) book.items) }
-
-    // Each event is of a worker, but the verdicts of verifiers; where there are none, each worker judged its own checks.
-    ensures numbered { IfOk result (λ ran. list_all (is_numbered (length engines.items) plan.verifiers) ran.desk.history ≡ true) }
-    ensures own { judges_inline plan ≡ true
-        → IfOk result (λ ran. list_all (is_own_verdict (tickets_of plan ran.desk.history)) ran.desk.history ≡ true) }
+    ensures run { IfOk result (λ ran. IsCrewRun plan ran.desk.history (map (λ engine. state engine) engines.items)
+        (map (λ engine. state engine) ran.engines.items) (map (λ book. book.items) ran.books.items)) }
     ensures none { engines.items ≡ [] → result ≡ Err RunFault.NoEngine }
     ensures no_engine { IfErr result (λ fault. fault ≡ RunFault.NoEngine → engines.items ≡ []) }
 
@@ -110,16 +91,8 @@ fn run_as<P: Naming + Send + Sync, R: Threads + Wait + Sync>(
 ) -> Result<Ran, RunFault>
     requires { plan ≡ P.plan }
     ensures plan { IfOk result (λ ran. ran.desk.plan ≡ plan) }
-    ensures legal { IfOk result (λ ran. is_legal plan ran.desk.history ≡ true) }
-    ensures complete { IfOk result (λ ran. is_complete plan ran.desk.history ≡ true) }
-    ensures engines { IfOk result (λ ran. length ran.engines.items ≡ length engines.items) }
-    ensures books { IfOk result (λ ran. length ran.books.items ≡ length engines.items) }
-    ensures each { IfOk result (λ ran. (i : ℕ) (before : _) (after : _) (book : _) → slice_get engines.items i ≡ Some before
-        → slice_get ran.engines.items i ≡ Some after → slice_get ran.books.items i ≡ Some book
-        → IsWorkers plan ran.desk.history i (state before) (state after) book.items) }
-    ensures numbered { IfOk result (λ ran. list_all (is_numbered (length engines.items) plan.verifiers) ran.desk.history ≡ true) }
-    ensures own { judges_inline plan ≡ true
-        → IfOk result (λ ran. list_all (is_own_verdict (tickets_of plan ran.desk.history)) ran.desk.history ≡ true) }
+    ensures run { IfOk result (λ ran. IsCrewRun plan ran.desk.history (map (λ engine. state engine) engines.items)
+        (map (λ engine. state engine) ran.engines.items) (map (λ book. book.items) ran.books.items)) }
     ensures failed { IfErr result (IsRefusal plan.verifiers) }
 {
     // Its contract says what holds of every plan.

@@ -1,12 +1,11 @@
-ghost use Rattle.std.specs.Prelude.{◌≡◌, ◌+◌, ◌-◌, ◌^◌, ◌<◌, ◌≤◌, ◌++◌, ◌∷◌, [], true, false, Some, IfOk, IfErr, IfSome, OnOk, OnErr, IsFalse};
+ghost use Rattle.std.specs.Prelude.{◌≡◌, ◌-◌, ◌^◌, ◌<◌, ◌≤◌, ◌++◌, ◌∷◌, [], false, Some, IfOk, IfErr, IfSome, OnOk, OnErr, IsFalse};
 ghost use Rattle.std.specs.Bool.{MatchBool};
 ghost use Rattle.jr_model.specs.History.{outcome_of, is_judged};
-ghost use Rattle.jr_model.specs.Legal.{is_legal, is_complete};
 ghost use Rattle.jr_model.specs.Serial.{serial_history};
 ghost use Rattle.jr_handed.specs.Kept.{IsOwn};
-ghost use Rattle.jr_crew.specs.Ends.{ends_of, failed_ends_of};
-ghost use Rattle.jr_crew.specs.Runs.{IsCovering, IsFresh, IsTiedRun};
+ghost use Rattle.jr_crew.specs.Runs.{IsFresh};
 ghost use Rattle.jr_crew.specs.Turns.{IsBetweenTurns, IsOpen, IsNext, IsCarriedOut, IsTurn, IsLastTurn, judged_by};
+ghost use Rattle.jr_crew.specs.Whole.{IsRun};
 
 use crate::faults::RunFault;
 use crate::progress::{Progress, note_start, note_verdict};
@@ -21,14 +20,10 @@ use std::alloc::Global;
 pub fn run_serial(alloc: Global, plan: Plan, engine: &mut dyn Engine) -> Result<Desk, RunFault>
     requires { (state engine.old).calls ≤ 2 ^ 63 }
     ensures plan { IfOk result (λ desk. desk.plan ≡ plan) }
-    ensures legal { IfOk result (λ desk. is_legal plan desk.history ≡ true) }
-    ensures complete { IfOk result (λ desk. is_complete plan desk.history ≡ true) }
+    ensures run { IfOk result (λ desk. IsRun plan desk.history (state engine.old) (state engine.new)) }
     ensures going { IfOk result (λ desk. IsFalse desk.is_stopped) }
-    ensures calls { IfOk result (λ desk. (state engine.new).calls ≡ (state engine.old).calls + ends_of desk.history) }
-    ensures failures { IfOk result (λ desk. (state engine.new).failures ≡ (state engine.old).failures + failed_ends_of desk.history) }
 
-    // Where the engine's memory is known, its calls are what the worker completed.
-    ensures tied { IsCovering plan (state engine.old) → IfOk result (λ desk. IsTiedRun plan desk.history (state engine.old) (state engine.new)) }
+    // Over a fresh memory the history is known.
     ensures serial { IsFresh plan (state engine.old) → IfOk result (λ desk. desk.history ≡ serial_history plan) }
     ensures memory { IfErr result (λ fault. fault ≡ RunFault.Memory) }
 {
@@ -44,14 +39,10 @@ pub fn run_serial_watched(
 ) -> Result<Desk, RunFault>
     requires { (state engine.old).calls ≤ 2 ^ 63 }
     ensures plan { IfOk result (λ desk. desk.plan ≡ plan) }
-    ensures legal { IfOk result (λ desk. is_legal plan desk.history ≡ true) }
-    ensures complete { IfOk result (λ desk. is_complete plan desk.history ≡ true) }
+    ensures run { IfOk result (λ desk. IsRun plan desk.history (state engine.old) (state engine.new)) }
     ensures going { IfOk result (λ desk. IsFalse desk.is_stopped) }
-    ensures calls { IfOk result (λ desk. (state engine.new).calls ≡ (state engine.old).calls + ends_of desk.history) }
-    ensures failures { IfOk result (λ desk. (state engine.new).failures ≡ (state engine.old).failures + failed_ends_of desk.history) }
 
-    // Where the engine's memory is known, its calls are what the worker completed.
-    ensures tied { IsCovering plan (state engine.old) → IfOk result (λ desk. IsTiedRun plan desk.history (state engine.old) (state engine.new)) }
+    // Over a fresh memory the history is known.
     ensures serial { IsFresh plan (state engine.old) → IfOk result (λ desk. desk.history ≡ serial_history plan) }
     ensures memory { IfErr result (λ fault. fault ≡ RunFault.Memory) }
 {

@@ -1,1 +1,2 @@
+pub mod DeskOf
 pub mod Plays

@@ -67,10 +67,6 @@ state_of player = record {
   read_back = read_back_of player.reads.items;
 }
 
--- the desk of a state
-abbrev pub desk_in : Plan → State → DeskState
-desk_in plan s = record { plan = plan; history = s.history; is_stopped = s.is_stopped }
-
 -- what is kept are answers to the desk's own tickets, which ended so, and all that is to be judged is there
 pub record KeepsReads (plan : Plan) (history : List Event) (reads : List AnswerParts) : Type 0 where
   pub ended :

@@ -5,7 +5,8 @@ ghost use Rattle.jr_model.specs.Honest.{IsWholeCheck};
 ghost use Rattle.jr_model.specs.Machine.{end_refusal, first_state, judge_refusal, machine_end, machine_judge, machine_run, machine_step, machine_take};
 ghost use Rattle.jr_header.specs.Served.{is_to_judge};
 ghost use Rattle.jr_handed.specs.Kept.{IsOwn, tickets_of};
-ghost use Rattle.jr_desk.specs.Plays.{GoesOn, IsReady, desk_in, judge_reply, judged_desk, kept_by, last_read, reply_for, state_of};
+ghost use Rattle.jr_desk.specs.DeskOf.{desk_in};
+ghost use Rattle.jr_desk.specs.Plays.{GoesOn, IsReady, judge_reply, judged_desk, kept_by, last_read, reply_for, state_of};
 ghost use Rattle.jr_board.specs.Refusals.{judge_fault};
 
 use crate::scripted::{carried_out, copy_of};

@@ -2,8 +2,10 @@
 use Rattle.std.specs.Prelude.{◌≡◌, ℕ, suc, ◌==◌, Bool, List, [], ◌∷◌, slice_get, Some}
 use Rattle.std.specs.Bool.{MatchBool}
 use Rattle.jr_model.specs.declared.events.Event.{Event}
-use Rattle.jr_model.specs.declared.events.Event.TheVariants.{Issue, Probe, Skip, End, Verdict}
+use Rattle.jr_model.specs.declared.events.Event.TheVariants.{Issue, Probe, Skip, End}
+use Rattle.jr_model.specs.declared.events.Event.TheVariants as event
 use Rattle.jr_model.specs.declared.events.Outcome.{Outcome}
+use Rattle.jr_model.specs.declared.events.Verdict.{Verdict}
 use Rattle.jr_model.specs.declared.replies.Reply.{Reply}
 use Rattle.jr_model.specs.declared.tickets.TicketKind.{TicketKind}
 use Rattle.jr_model.specs.declared.tickets.TicketKind.TheVariants as ticket
@@ -49,8 +51,14 @@ called plan engine io ticket.Write started = write_called plan engine started (s
 called plan engine io ticket.Read started = read_called engine io started (scripted_reply engine.script engine.calls)
 called plan engine io ticket.Probe started = read_called engine io started (scripted_reply engine.script engine.calls)
 
+-- the verdict on an I/O, where this worker started it, is that on the bytes that its engine gave
+abbrev pub IsOnBytes : Plan → ℕ → List Started → KnownEngine → ℕ → Verdict → Type 0
+IsOnBytes plan worker ios before io verdict =
+    (s : Started) × (slice_get ios io ≡ Some s)
+    × MatchBool (s.worker == worker) (verdict_on plan s (bytes_read before.read_back io) ≡ verdict) (Unit {0})
+
 -- the events of one worker, in order, are the engine's calls: each of its ends is the next call's, with that outcome,
--- and, where its verdicts are inline, each of its verdicts is that on the bytes so read
+-- and, where verdicts are inline, the verdict on each of its checks, whoever gave it, is that on the bytes so read
 abbrev pub TiedAlong : Plan → Bool → ℕ → List Started → KnownEngine → List Event → KnownEngine → Type 0
 TiedAlong plan inline worker ios before [] after = after ≡ before
 TiedAlong plan inline worker ios before (End w io outcome ∷ events) after =
@@ -58,13 +66,8 @@ TiedAlong plan inline worker ios before (End w io outcome ∷ events) after =
     ((s : Started) × (slice_get ios io ≡ Some s) × ((called plan before io s.kind s).outcome ≡ outcome)
     × TiedAlong plan inline worker ios (called plan before io s.kind s).engine events after)
     (TiedAlong plan inline worker ios before events after)
-TiedAlong plan inline worker ios before (Verdict w io verdict ∷ events) after =
-    MatchBool inline
-    (MatchBool (w == worker)
-    ((s : Started) × (slice_get ios io ≡ Some s) × (verdict_on plan s (bytes_read before.read_back io) ≡ verdict))
-    (Unit {0}))
-    (Unit {0})
-    × TiedAlong plan inline worker ios before events after
+TiedAlong plan inline worker ios before (event.Verdict w io verdict ∷ events) after =
+    MatchBool inline (IsOnBytes plan worker ios before io verdict) (Unit {0}) × TiedAlong plan inline worker ios before events after
 TiedAlong plan inline worker ios before (Issue w dir write piece ∷ events) after =
     TiedAlong plan inline worker ios before events after
 TiedAlong plan inline worker ios before (Probe w write piece ∷ events) after =

@@ -1,5 +1,5 @@
 use crate::asserts::same;
-use crate::plans::plan_of;
+use crate::plans::{checked, plan_of};
 use jr_board::{Bad, Desk};
 use jr_crew::{Ran, RunFault, run};
 use jr_engines::{
@@ -165,35 +165,100 @@ fn each_event_has_the_number_of_who_did_it(rt: HostRuntime) -> Result<(), Fail> 
     Ok(())
 }
 
-// Four writes, of which the third check reads a byte that was inverted on the way.
-fn bads_of_flipped<R: Threads + Wait + Sync>(
+// What a run of one clone counts, and its first bad verdict.
+fn ran_once<R: Threads + Wait + Sync>(
+    rt: &R,
+    alloc: Global,
+    plan: Plan,
+    engine: Box<dyn Engine + Send>,
+) -> Result<(Totals, Bad), Fail> {
+    let mut engines: Vec<Box<dyn Engine + Send>> = Vec::new(alloc);
+    engines.push(engine)?;
+    let ran = run(rt, alloc, plan, engines)?;
+    match (ran.desk.totals(), ran.desk.bads()) {
+        ([totals], [bad]) => Ok((*totals, *bad)),
+        _ => Err(Fail::from("one clone with one bad verdict")),
+    }
+}
+
+// Four writes of 4096 bytes with md5, of which the third check reads a byte that was inverted on the way.
+fn flipped<R: Threads + Wait + Sync>(
     rt: &R,
     alloc: Global,
     verifiers: u32,
-) -> Result<(u64, Option<Bad>), Fail> {
-    let plan = clones_of_one_file(alloc, 1, 4, verifiers)?;
-    let script = Vec::from_array(alloc, [(6, Reply::Flip(100))])?;
+    place: u32,
+) -> Result<(Totals, Bad), Fail> {
+    let four = Workload {
+        method: Method {
+            kind: VerifyKind::Md5,
+            pattern: None,
+        },
+        ..Workload::plain(IoType::Write, 4096, 4)
+    };
+    let plan = plan_of(alloc, &four, 1, EngineKind::Memory, verifiers)?;
+    let script = Vec::from_array(alloc, [(6, Reply::Flip(place))])?;
     let memory = MemoryEngine::new(alloc, &plan)?;
-    let mut engines: Vec<Box<dyn Engine + Send>> = Vec::new(alloc);
-    engines.push(Box::new(alloc, ScriptedEngine::new(memory, script))?)?;
-    let ran = run(rt, alloc, plan, engines)?;
-    let mut bad: u64 = 0;
-    for totals in ran.desk.totals() {
-        bad = bad.saturating_add(totals.bad);
-    }
-    Ok((bad, ran.desk.bads().first().copied()))
+    let engine = Box::new(alloc, ScriptedEngine::new(memory, script))?;
+    ran_once(rt, alloc, plan, engine)
+}
+
+// The third of four writes came back wrong, by this.
+fn assert_third_bad(rt: &impl Abort, found: (Totals, Bad), what: What) {
+    let want = Totals {
+        writes: 4,
+        wbytes: 16384,
+        checks: 4,
+        good: 3,
+        bad: 1,
+        ..NOTHING
+    };
+    let (totals, bad) = found;
+    same(rt, totals, want);
+    same(rt, bad.write.number, 2);
+    same(rt, bad.piece.offset, 8192);
+    same(rt, bad.what, what);
 }
 
 #[test]
-fn a_verifier_finds_a_byte_that_was_inverted(rt: HostRuntime) -> Result<(), Fail> {
+fn a_byte_that_was_inverted_is_found_whoever_judges(rt: HostRuntime) -> Result<(), Fail> {
     for verifiers in 0..3 {
-        let (bad, first) = bads_of_flipped(&rt, rt.alloc(), verifiers)?;
-        same(&rt, bad, 1);
-        let Some(found) = first else {
-            return Err(Fail::from("nothing bad"));
-        };
-        same(&rt, found.write.number, 2);
-        same(&rt, found.what, What::DataArea);
+        let parts = [
+            (100, What::DataArea),
+            (20, What::Header),
+            (40, What::Digest),
+        ];
+        for (place, what) in parts {
+            let found = flipped(&rt, rt.alloc(), verifiers, place)?;
+            assert_third_bad(&rt, found, what);
+        }
+    }
+    Ok(())
+}
+
+// One write of a pattern of ones, over one engine that keeps nothing.
+fn unkept<R: Threads + Wait + Sync>(
+    rt: &R,
+    alloc: Global,
+    verifiers: u32,
+) -> Result<(Totals, Bad), Fail> {
+    let plan = plan_of(alloc, &checked(1, 1), 1, EngineKind::Null, verifiers)?;
+    let engine = Box::new(alloc, NullEngine::new())?;
+    ran_once(rt, alloc, plan, engine)
+}
+
+#[test]
+fn a_pattern_is_not_found_among_zeros(rt: HostRuntime) -> Result<(), Fail> {
+    let want = Totals {
+        writes: 1,
+        wbytes: 4096,
+        checks: 1,
+        bad: 1,
+        ..NOTHING
+    };
+    for verifiers in 0..3 {
+        let (totals, bad) = unkept(&rt, rt.alloc(), verifiers)?;
+        same(&rt, totals, want);
+        same(&rt, bad.what, What::Byte(0));
     }
     Ok(())
 }

@@ -1,7 +1,6 @@
 use Rattle.std.proofs.Common.{◌∙◌, refl}
 use Rattle.jr_model.specs.Serial.{serial_history}
 use Rattle.jr_laws.proofs.CleanLaws.{serial_clean}
-use Rattle.jr_cli.specs.Executed.{IsRun}
 use Rattle.jr_cli.proofs.CleanRuns.{clean_status}
 use Rattle.jr_cli.proofs.QuietRuns.{reported_on, quietly_reported}
 use Rattle.jr_cli.proofs.runs.execute_serial_watched.Goals as goal
@@ -11,18 +10,11 @@ pub returns-clause-run : goal.returns-clause-run
 returns-clause-run g c =
     let history = c.in_ok-watched.watched.history in
     let done = c.in_ok-watched.ensures in
-    let whole : IsRun c.args.plan history _ _ = record {
-      legal = done.legal;
-      complete = done.complete;
-      calls = done.calls;
-      failures = done.failures;
-      tied = done.tied;
-    } in
     let reported = reported_on c.in_ok-watched.watched.plan c.args.plan history history _ _ _ done.plan refl c.in_ok-status.ensures.reported in
     elim c.match-events.branch [
       | in-Some+in_ok-print_trace w ↦
-          rw (w.events-is, w.in-Some.is) (history, whole, (reported, w.in_ok-print_trace.ensures.printed))
-      | in_default w ↦ rw w.in_default.is (history, whole, (reported, tt))
+          rw (w.events-is, w.in-Some.is) (history, done.run, (reported, w.in_ok-print_trace.ensures.printed))
+      | in_default w ↦ rw w.in_default.is (history, done.run, (reported, tt))
     ]
 
 pub returns-clause-serial : goal.returns-clause-serial
@@ -45,5 +37,5 @@ pub returns-clause-quiet : goal.returns-clause-quiet
 returns-clause-quiet g c =
     let done = c.in_ok-watched.ensures in
     let history = c.in_ok-watched.watched.history in
-    quietly_reported c.args.plan history _ _ _ c.facts.ensures done.legal done.complete
+    quietly_reported c.args.plan history _ _ _ c.facts.ensures done.run.legal done.run.complete
     (reported_on c.in_ok-watched.watched.plan c.args.plan history history _ _ _ done.plan refl c.in_ok-status.ensures.reported)

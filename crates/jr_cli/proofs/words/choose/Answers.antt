@@ -1,4 +1,4 @@
-use Rattle.std.proofs.Common.{◌≡◌, ◌∙◌, ap, subst, map, ℕ, List, [], Option, option_map, false, codes}
+use Rattle.std.proofs.Common.{◌≡◌, ◌∙◌, refl, ap, subst, map, ℕ, List, [], Option, option_map, false, codes}
 use Rattle.std.specs.Prelude.{Result, unwrap_or}
 use Rattle.std.specs.Str.{bytes_eq}
 use Rattle.std.specs.Str.Parse.{ParsesUnsigned, ExplainsUnsignedError, HasUnsignedDigitsIfOk}
@@ -6,7 +6,7 @@ use Rattle.std.specs.declared.num.ParseIntError.{ParseIntError}
 use Rattle.clap.specs.Words.{App, Text, fault_of, found_of, one_of, one_text, first_of, first_value, is_simple_and_free, matches_of, HasKind}
 use Rattle.clap.proofs.WalkLemmas.{first_value-rows, one_text-rows}
 use Rattle.jr_cli.specs.CommandLine.{command_line, number_in}
-use Rattle.jr_cli.proofs.CommandLineFacts.{line_is_free, workers_read, flag_read, rows_are, handed_on}
+use Rattle.jr_cli.proofs.CommandLineFacts.{cached_parser, parse_only_parser, line_is_free, workers_read, flag_read, rows_are, handed_on}
 use Rattle.jr_cli.proofs.words.choose.Goals as goal
 
 -- how the number of a text is read
@@ -31,14 +31,16 @@ returns-clause-fields g c =
     let first : (id : Text) → first_value (found_of m) id ≡ first_of id (matches_of command_line words) = λ id. first_value-rows (found_of m) id ∙ ap (first_of id) rows in
     let one : (id : Text) → one_text (found_of m) id ≡ one_of id (matches_of command_line words) = λ id. one_text-rows (found_of m) id ∙ ap (one_of id) rows in
     let count = workers_read c.in_ok-command.command m is parsed Reads c.get_one.result (λ u x h. h.0) c.get_one.ensures.none c.get_one.ensures.value in
-    let flag = flag_read c.in_ok-command.command m is parsed c.get_flag.result c.get_flag.ensures.none c.get_flag.ensures.value c.get_flag.ensures.other in
+    let only = flag_read c.in_ok-command.command m is parsed (codes "parse-only") parse_only_parser refl refl refl c.get_flag.result c.get_flag.ensures.none c.get_flag.ensures.value c.get_flag.ensures.other in
+    let cached = flag_read c.in_ok-command.command m is parsed (codes "cached") cached_parser refl refl refl c.get_flag-2.result c.get_flag-2.ensures.none c.get_flag-2.ensures.value c.get_flag-2.ensures.other in
     record {
       job = c.get_str.ensures ∙ first (codes "job");
       section = c.get_str-2.ensures ∙ first (codes "section");
-      parse_only = flag ∙ ap (λ (o : Option Text). unwrap_or (option_map (bytes_eq (codes "true")) o) false) (one (codes "parse-only"));
+      parse_only = only ∙ ap (λ (o : Option Text). unwrap_or (option_map (bytes_eq (codes "true")) o) false) (one (codes "parse-only"));
       workers = count.0 ∙ ap (option_map number_in) (one (codes "workers"));
       trace = c.get_str-3.ensures ∙ first (codes "trace");
       check_trace = c.get_str-4.ensures ∙ first (codes "check-trace");
+      cached = cached ∙ ap (λ (o : Option Text). unwrap_or (option_map (bytes_eq (codes "true")) o) false) (one (codes "cached"));
     }
 
 pub returns-clause-workers : goal.returns-clause-workers

@@ -15,4 +15,5 @@ returns c =
     let with_flag = c.in_ok-arg-3.ensures.shape c.parse_only_arg.ensures.local ∙ ap₂ with_rule with_section c.parse_only_arg.ensures.rule in
     let with_workers = c.in_ok-arg-4.ensures.shape c.workers_arg.ensures.local ∙ ap₂ with_rule with_flag c.workers_arg.ensures.rule in
     let with_trace = c.in_ok-arg-5.ensures.shape c.trace_arg.ensures.local ∙ ap₂ with_rule with_workers c.trace_arg.ensures.rule in
-    IfOk-weaker c.arg-6.result _ _ (λ r added. added.shape c.check_trace_arg.ensures.local ∙ ap₂ with_rule with_trace c.check_trace_arg.ensures.rule) c.arg-6.ensures
+    let with_check = c.in_ok-arg-6.ensures.shape c.check_trace_arg.ensures.local ∙ ap₂ with_rule with_trace c.check_trace_arg.ensures.rule in
+    IfOk-weaker c.arg-7.result _ _ (λ r added. added.shape c.cached_arg.ensures.local ∙ ap₂ with_rule with_check c.cached_arg.ensures.rule) c.arg-7.ensures

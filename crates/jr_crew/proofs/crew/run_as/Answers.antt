@@ -1,45 +1,38 @@
 use Rattle.std.proofs.Common.{◌≡◌, ℕ, length, true, ap, subst}
 use Rattle.std.specs.List.{list_all}
 use Rattle.jr_model.specs.Plan.{Plan}
-use Rattle.jr_model.specs.Legal.{is_legal}
+use Rattle.jr_model.specs.Legal.{is_legal, is_complete}
 use Rattle.jr_crew.specs.Crews.{is_numbered, is_own_verdict, judges_inline}
 use Rattle.jr_crew.specs.Books.{dones_of}
-use Rattle.jr_crew.proofs.Crewing.{each_part, engines_size, books_size}
+use Rattle.jr_crew.proofs.CrewRuns.{crew_run}
+use Rattle.jr_crew.proofs.Crewing.{AreOwn, each_part, engines_size, books_size}
 use Rattle.jr_crew.proofs.crew.run_as.Goals as goal
 use Rattle.jr_handed.specs.Kept.{tickets_of}
 
-pub returns-clause-engines : goal.returns-clause-engines
-returns-clause-engines g c =
-    engines_size (λ job. job.engine) (λ one. one.engine) c.args.engines.items c.in_ok-engines.engines.items c.in_ok-jobs.jobs.items c.in_ok-desk.worked.items
-    c.in_ok-jobs.ensures.ok c.in_ok-desk.ensures.len c.in_ok-engines.ensures.engines
-
-pub returns-clause-books : goal.returns-clause-books
-returns-clause-books g c =
-    books_size (λ job. job.engine) (λ one. one.book) c.args.engines.items c.in_ok-jobs.jobs.items c.in_ok-desk.worked.items c.in_ok-engines.books.items
-    c.in_ok-jobs.ensures.ok c.in_ok-desk.ensures.len c.in_ok-engines.ensures.books
-
-pub returns-clause-own : goal.returns-clause-own
-returns-clause-own g c inline =
+pub returns-clause-run : goal.returns-clause-run
+returns-clause-run g c =
     let desk = c.in_ok-desk.desk in
-    subst (λ (p : Plan). judges_inline p ≡ true → list_all (is_own_verdict (tickets_of p desk.history)) desk.history ≡ true) c.in_ok-desk.ensures.plan
-    c.in_ok-engines.ensures.own inline
-
-pub returns-clause-each : goal.returns-clause-each
-returns-clause-each g c =
-    let desk = c.in_ok-desk.desk in
+    let engines = c.args.engines.items in
+    let afters = c.in_ok-engines.engines.items in
+    let books = c.in_ok-engines.books.items in
+    let jobs = c.in_ok-jobs.jobs.items in
+    let worked = c.in_ok-desk.worked.items in
+    let done = c.in_ok-engines.ensures in
     let same : desk.plan ≡ c.args.plan = c.in_ok-desk.ensures.plan in
-    each_part (λ e. (g.dyn-1.0.entry e.vtable).1.state e.value) (λ job. job.engine) (λ one. one.engine) (λ one. one.book) (λ book. book.items)
-    c.args.engines.items c.in_ok-engines.engines.items c.in_ok-jobs.jobs.items c.in_ok-desk.worked.items c.in_ok-engines.books.items
-    c.args.plan desk.history c.facts.ensures
-    (subst (λ (p : Plan). is_legal p desk.history ≡ true) same c.in_ok-engines.ensures.legal)
-    (returns-clause-own g c)
-    c.in_ok-jobs.ensures.ok c.in_ok-desk.ensures.each c.in_ok-engines.ensures.engines c.in_ok-engines.ensures.books
+    let legal : is_legal c.args.plan desk.history ≡ true = subst (λ (p : Plan). is_legal p desk.history ≡ true) same done.legal in
+    let own : judges_inline c.args.plan ≡ true → AreOwn c.args.plan desk.history =
+    subst (λ (p : Plan). judges_inline p ≡ true → list_all (is_own_verdict (tickets_of p desk.history)) desk.history ≡ true) same done.own in
+    let books_count : length books ≡ length engines =
+    books_size (λ job. job.engine) (λ one. one.book) engines jobs worked books c.in_ok-jobs.ensures.ok c.in_ok-desk.ensures.len done.books in
+    crew_run (λ e. (g.dyn-1.0.entry e.vtable).1.state e.value) (λ book. book.items) engines afters books c.args.plan desk.history legal
+    (subst (λ (p : Plan). is_complete p desk.history ≡ true) same done.complete)
+    (subst (λ (p : Plan). list_all (is_numbered (length engines) p.verifiers) desk.history ≡ true) same
+    (subst (λ (n : ℕ). list_all (is_numbered n desk.plan.verifiers) desk.history ≡ true) books_count done.numbered))
+    own
+    (engines_size (λ job. job.engine) (λ one. one.engine) engines afters jobs worked c.in_ok-jobs.ensures.ok c.in_ok-desk.ensures.len done.engines)
+    books_count
+    (each_part (λ e. (g.dyn-1.0.entry e.vtable).1.state e.value) (λ job. job.engine) (λ one. one.engine) (λ one. one.book) (λ book. book.items)
+    engines afters jobs worked books c.args.plan desk.history c.facts.ensures legal own
+    c.in_ok-jobs.ensures.ok c.in_ok-desk.ensures.each done.engines done.books
     (λ i book at.
-    subst (λ (p : Plan). book.items ≡ dones_of p (judges_inline p) desk.history i) same (c.in_ok-engines.ensures.each i book at))
-
-pub returns-clause-numbered : goal.returns-clause-numbered
-returns-clause-numbered g c =
-    let desk = c.in_ok-desk.desk in
-    let count = returns-clause-books g c in
-    subst (λ (p : Plan). list_all (is_numbered (length c.args.engines.items) p.verifiers) desk.history ≡ true) c.in_ok-desk.ensures.plan
-    (subst (λ (n : ℕ). list_all (is_numbered n desk.plan.verifiers) desk.history ≡ true) count c.in_ok-engines.ensures.numbered)
+    subst (λ (p : Plan). book.items ≡ dones_of p (judges_inline p) desk.history i) same (done.each i book at)))

@@ -49,36 +49,19 @@ returns-then-not-branch-clause-plan g c = c.in_ok-turn.ensures.plan ∙ c.loop-d
 pub returns-then-not-branch-clause-going : goal.returns-then-not-branch-clause-going
 returns-then-not-branch-clause-going g c = c.in_ok-turn.ensures.stop ∙ c.loop-desk.invariant.going
 
-pub returns-then-not-branch-clause-legal : goal.returns-then-not-branch-clause-legal
-returns-then-not-branch-clause-legal g c =
-    let kept = c.loop-desk.invariant in
-    let last = rw c.if-not-branch.true at c.in_ok-turn.ensures.turn in
-    (comes_to_end c.args.plan c.loop-desk.desk.plan c.loop-desk.desk.history c.turn.new.desk.history _ _ _ kept.planned kept.plan kept.sofar last).legal
-
-pub returns-then-not-branch-clause-complete : goal.returns-then-not-branch-clause-complete
-returns-then-not-branch-clause-complete g c =
-    let last = rw c.if-not-branch.true at c.in_ok-turn.ensures.turn in
-    ap (λ (p : Plan). is_complete p c.turn.new.desk.history) (sym c.loop-desk.invariant.plan) ∙ last.complete
-
-pub returns-then-not-branch-clause-calls : goal.returns-then-not-branch-clause-calls
-returns-then-not-branch-clause-calls g c =
-    let kept = c.loop-desk.invariant in
-    let last = rw c.if-not-branch.true at c.in_ok-turn.ensures.turn in
-    (comes_to_end c.args.plan c.loop-desk.desk.plan c.loop-desk.desk.history c.turn.new.desk.history _ _ _ kept.planned kept.plan kept.sofar last).calls
-
-pub returns-then-not-branch-clause-failures : goal.returns-then-not-branch-clause-failures
-returns-then-not-branch-clause-failures g c =
-    let kept = c.loop-desk.invariant in
-    let last = rw c.if-not-branch.true at c.in_ok-turn.ensures.turn in
-    (comes_to_end c.args.plan c.loop-desk.desk.plan c.loop-desk.desk.history c.turn.new.desk.history _ _ _ kept.planned kept.plan kept.sofar last).failures
-
-pub returns-then-not-branch-clause-tied : goal.returns-then-not-branch-clause-tied
-returns-then-not-branch-clause-tied g c covering =
+pub returns-then-not-branch-clause-run : goal.returns-then-not-branch-clause-run
+returns-then-not-branch-clause-run g c =
     let kept = c.loop-desk.invariant in
     let last = rw c.if-not-branch.true at c.in_ok-turn.ensures.turn in
     let all = comes_to_end c.args.plan c.loop-desk.desk.plan c.loop-desk.desk.history c.turn.new.desk.history _ _ _ kept.planned kept.plan kept.sofar last in
-    let tied = all.tied covering in
-    (tied.read_back, tied.tied)
+    record {
+      legal = all.legal;
+      complete = ap (λ (p : Plan). is_complete p c.turn.new.desk.history) (sym kept.plan) ∙ last.complete;
+      alone = all.alone;
+      calls = all.calls;
+      failures = all.failures;
+      tied = λ covering. let tied = all.tied covering in (tied.read_back, tied.tied);
+    }
 
 pub returns-then-not-branch-clause-serial : goal.returns-then-not-branch-clause-serial
 returns-then-not-branch-clause-serial g c fresh =

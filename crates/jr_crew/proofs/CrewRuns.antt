@@ -1,32 +1,31 @@
--- What a run of many workers gives, by the states of its engines and by its books.
-use Rattle.std.proofs.Common.{◌≡◌, ℕ, zero, suc, List, [], ◌∷◌, length, map, true, refl, sym, ◌∙◌, subst}
+-- What a run of many workers gives, by the states of its engines and the items of its books.
+use Rattle.std.proofs.Common.{◌≡◌, ℕ, List, length, map, true, sym, ◌∙◌, subst}
 use Rattle.std.specs.Prelude.{Some, slice_get}
+use Rattle.std.specs.List.{list_all}
 use Rattle.std.proofs.lemmas.List.{length-map}
 use Rattle.jr_model.specs.declared.events.Event.{Event}
 use Rattle.jr_model.specs.Legal.{is_legal, is_complete}
 use Rattle.jr_model.specs.Plan.{Plan}
 use Rattle.jr_model.specs.Replies.{EngineState}
-use Rattle.jr_steps.proofs.StartedLemmas.{same_some}
 use Rattle.jr_crew.specs.declared.books.Done.{Done}
-use Rattle.jr_crew.specs.Crews.{IsWorkers}
-use Rattle.jr_cli.specs.Executed.{IsCrewRun}
+use Rattle.jr_crew.specs.Crews.{is_numbered, judges_inline, IsWorkers}
+use Rattle.jr_crew.specs.Whole.{IsCrewRun}
+use Rattle.jr_crew.proofs.Crewing.{AreOwn, got_mapped}
 
-got_mapped : {X Y : Type 0} (f : X → Y) (xs : List X) (k : ℕ) (y : Y) → slice_get (map f xs) k ≡ Some y → (x : X) × (slice_get xs k ≡ Some x) × (f x ≡ y)
-got_mapped f [] k y at = cc
-got_mapped f (x ∷ xs) zero y at = (x, refl, same_some (f x) y at)
-got_mapped f (x ∷ xs) (suc k) y at = got_mapped f xs k y at
-
--- the run, told by the states of engines and the items of books
 pub crew_run : {E B : Type 0} (state : E → EngineState) (dones : B → List Done) (engines afters : List E) (books : List B) (plan : Plan) (history : List Event)
     → is_legal plan history ≡ true
     → is_complete plan history ≡ true
+    → list_all (is_numbered (length engines) plan.verifiers) history ≡ true
+    → (judges_inline plan ≡ true → AreOwn plan history)
     → length afters ≡ length engines
     → length books ≡ length engines
     → ((i : ℕ) (before after : E) (book : B) → slice_get engines i ≡ Some before → slice_get afters i ≡ Some after → slice_get books i ≡ Some book → IsWorkers plan history i (state before) (state after) (dones book))
     → IsCrewRun plan history (map state engines) (map state afters) (map dones books)
-crew_run {E = E} {B = B} state dones engines afters books plan history legal complete afters_count books_count each = record {
+crew_run {E = E} {B = B} state dones engines afters books plan history legal complete numbered own afters_count books_count each = record {
   legal = legal;
   complete = complete;
+  numbered = subst (λ (n : ℕ). list_all (is_numbered n plan.verifiers) history ≡ true) (sym (length-map engines state)) numbered;
+  own = own;
   engines_count = length-map afters state ∙ afters_count ∙ sym (length-map engines state);
   books_count = length-map books dones ∙ books_count ∙ sym (length-map engines state);
   each = λ (i : ℕ) (before after : EngineState) (book : List Done) (at_before : slice_get (map state engines) i ≡ Some before) (at_after : slice_get (map state afters) i ≡ Some after) (at_book : slice_get (map dones books) i ≡ Some book).
