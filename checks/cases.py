@@ -1,7 +1,8 @@
 #!/usr/bin/env python3
-"""checks/cases.py [PROGRAM [FILE..]] runs the program over each case of checks/cases/*.cases (or of these files): a job text and words in, and
-what it must print, with its status, out. PROGRAM is the built program (bin/fiorun where none is given). Each run has a folder of its own,
-which is removed again. What is wrong is printed, and the status is 1 where something is.
+"""checks/cases.py [PROGRAM [FILE..]] runs the program over each case of checks/cases/*.cases, or of these files.
+
+A case is a job text and words, and what the program must print for them, with its status. PROGRAM is the built program (bin/fiorun where
+none is given). Each run has a folder of its own, which is removed again. What is wrong is printed, and the status is 1 where something is.
 
 A case begins with `= ` and its name. Then come its parts, each a name, a colon and its text: behind the colon, or in the lines below,
 which are indented by four spaces and end in line feeds. In quotes a text is one of Python's, which b before it makes bytes, and which
@@ -20,10 +21,9 @@ which are indented by four spaces and end in line feeds. In quotes a text is one
     bytes NAME  what a file begins with after the run, in hexadecimal digits
     again       the words of a second run in the same folder, which must print the same and end with 0
 
-Where a job is refused (status 2), no file is made or changed. Three more parts have a row a line, of which each is a run of its own:
+Where something is refused (status 2), no file is made or changed. Two more parts have a row a line, of which each is a run of its own:
 
     refused     a job text in quotes, and its fault
-    printed     a job text in quotes, and the one line that is printed
     lines       a number, another line for the file `trace` in that place (in quotes), and the fault
 """
 
@@ -39,8 +39,9 @@ from concurrent.futures import ThreadPoolExecutor
 
 HERE = os.path.dirname(os.path.realpath(__file__))
 SECONDS = 60
-PARTS = set("words job out has fault says status trace starts again refused printed lines".split())
+PARTS = set("words job out has fault says status trace starts again refused lines".split())
 NAMED = {"file", "bytes"}
+ROWS = {"refused", "lines"}
 QUOTED = re.compile(r"""(b?"(?:[^"\\]|\\.)*")(?: x (\d+))?""")
 
 
@@ -54,7 +55,7 @@ class Case:
 
     def row(self, number, **parts):
         """The case that a row of it makes."""
-        rest = {it: text for it, text in self.parts.items() if it not in ("refused", "printed", "lines")}
+        rest = {it: text for it, text in self.parts.items() if it not in ROWS}
         return Case(self.place, f"{self.name}, row {number}", {**rest, **parts})
 
     def get(self, part, default=b""):
@@ -126,23 +127,23 @@ def other_line(text, number, line):
     return b"\n".join(lines) + b"\n"
 
 
+def row_of(case, kind, number, row):
+    """The run that a row stands for."""
+    place = 0
+    if kind == "lines":
+        first, row = row.split(maxsplit=1)
+        place = int(first)
+    text, fault = quoted(row, f"{case.place}: {case.name}, row {number}")
+    if kind == "lines":
+        return case.row(number, **{"file trace": other_line(case.get("file trace"), place, text), "fault": fault.encode()})
+    return case.row(number, job=text, fault=fault.encode())
+
+
 def runs_of(case):
     """The runs that a case stands for: one, or one for each of its rows."""
-    kinds = [it for it in ("refused", "printed", "lines") if it in case.parts]
-    for kind in kinds:
-        for number, row in enumerate(case.get(kind).decode().splitlines(), 1):
-            if kind == "lines":
-                place, row = row.split(maxsplit=1)
-            text, rest = quoted(row, f"{case.place}: {case.name}, row {number}")
-            if kind == "lines":
-                given = other_line(case.get("file trace"), int(place), text)
-                yield case.row(number, **{"file trace": given, "fault": rest.encode()})
-            elif kind == "refused":
-                yield case.row(number, job=text, fault=rest.encode())
-            else:
-                yield case.row(number, job=text, out=rest.encode() + b"\n")
-    if not kinds:
-        yield case
+    kinds = [it for it in case.parts if it in ROWS]
+    rows = [(kind, number, row) for kind in kinds for number, row in enumerate(case.get(kind).decode().splitlines(), 1)]
+    return [row_of(case, *row) for row in rows] if kinds else [case]
 
 
 def held(folder):
