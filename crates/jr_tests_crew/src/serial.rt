@@ -2,7 +2,7 @@ use crate::asserts::same;
 use crate::plans::{checked, plan_of};
 use jr_board::Desk;
 use jr_crew::run_serial;
-use jr_engines::{Engine, MemoryEngine, NullEngine, Reply, ScriptedEngine};
+use jr_engines::{Engine, MemoryEngine, Reply, ScriptedEngine};
 use jr_model::{EngineKind, Totals};
 use jr_plan::Plan;
 use std::alloc::Global;
@@ -25,15 +25,6 @@ const NOTHING: Totals = Totals {
 // So many writes of 4096 bytes that are checked by a pattern of one byte.
 fn writes(alloc: Global, cells: u32, byte: u8) -> Result<Plan, Fail> {
     plan_of(alloc, &checked(cells, byte), 1, EngineKind::Memory, 0)
-}
-
-// What a run of one clone over an engine of zeros counts.
-fn null_run(alloc: Global, byte: u8) -> Result<Totals, Fail> {
-    let desk = run_serial(alloc, writes(alloc, 1, byte)?, &mut NullEngine::new())?;
-    match desk.totals() {
-        [totals] => Ok(*totals),
-        _ => Err(Fail::from("one clone")),
-    }
 }
 
 // The run of one clone is complete, with so many events and these totals.
@@ -82,20 +73,5 @@ fn a_failed_write_ends_its_clone(rt: HostRuntime) -> Result<(), Fail> {
     };
     assert_ran(&rt, &desk, 4, want);
     assert_called(&rt, &engine, 2, 1);
-    Ok(())
-}
-
-#[test]
-fn an_engine_of_zeros_keeps_nothing(rt: HostRuntime) -> Result<(), Fail> {
-    let checked = Totals {
-        writes: 1,
-        wbytes: 4096,
-        checks: 1,
-        ..NOTHING
-    };
-    let found = null_run(rt.alloc(), 1)?;
-    same(&rt, found, Totals { bad: 1, ..checked });
-    let found = null_run(rt.alloc(), 0)?;
-    same(&rt, found, Totals { good: 1, ..checked });
     Ok(())
 }

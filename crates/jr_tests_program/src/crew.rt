@@ -1,6 +1,7 @@
-use jr_cli::{CliFault, execute, print_check, read_job, workers_of};
+use crate::asserts::same;
+use jr_cli::{CliFault, execute, read_job, workers_of};
 use jr_crew::RunFault;
-use jr_engines::{Engine, MemoryEngine, Reply, ScriptedEngine, SharedMemory};
+use jr_engines::{Engine, MemoryEngine, Reply, ScriptedEngine};
 use std::process::Abort;
 use std::test::Fail;
 
@@ -25,48 +26,8 @@ fn a_flipped_byte_is_found_by_a_crew(rt: HostRuntime) -> Result<(), Fail> {
         None::<&mut Vec<u8>>,
         &mut out,
     )?;
-    assert!(rt; status == 1);
-    assert!(rt; out.as_slice() == FLIPPED_REPORT.as_bytes());
-    Ok(())
-}
-
-const RANDOM: &str =
-    "[w]\nioengine=memory\nrw=randwrite\nsize=400k\niodepth=8\nverify=sha256\nverify_async=";
-
-const RANDOM_REPORT: &str =
-    "w: clone=0 reads=0 rbytes=0 writes=100 wbytes=409600 checks=100 good=100 bad=0 skipped=0 void=0 faults=0\n";
-
-// Is the trace that of a run with this report?
-fn assert_checked(
-    rt: &(impl AllocGlobal + Abort),
-    text: &str,
-    events: &[u8],
-    want: &str,
-) -> Result<(), Fail> {
-    let plan = read_job(rt.alloc(), text.as_bytes(), None)?;
-    let mut totals = Vec::new(rt.alloc());
-    print_check(rt.alloc(), &plan, events, &mut totals)?;
-    assert!(rt; totals.as_slice() == want.as_bytes());
-    Ok(())
-}
-
-#[test]
-fn four_workers_write_one_report(rt: HostRuntime) -> Result<(), Fail> {
-    for verifiers in ["0\n", "2\n"] {
-        let text = format!(in rt.alloc(); "{RANDOM}{verifiers}")?;
-        let plan = read_job(rt.alloc(), text.as_bytes(), None)?;
-        let shared = SharedMemory::new(rt.clone()?, rt.alloc(), &plan)?;
-        let mut engines: Vec<Box<dyn Engine + Send>> = Vec::new(rt.alloc());
-        for _ in 0..4 {
-            engines.push(Box::new(rt.alloc(), shared.share()?)?)?;
-        }
-        let mut events = Vec::new(rt.alloc());
-        let mut out = Vec::new(rt.alloc());
-        let status = execute(&rt, rt.alloc(), plan, engines, Some(&mut events), &mut out)?;
-        assert!(rt; status == 0);
-        assert!(rt; out.as_slice() == RANDOM_REPORT.as_bytes());
-        assert_checked(&rt, text.as_str(), events.as_slice(), RANDOM_REPORT)?;
-    }
+    let want = FLIPPED_REPORT.as_bytes();
+    same(&rt, (status, out.as_slice()), (1, want));
     Ok(())
 }
 
@@ -83,8 +44,8 @@ fn a_crew_wants_an_engine(rt: HostRuntime) -> Result<(), Fail> {
         None::<&mut Vec<u8>>,
         &mut out,
     );
-    assert!(rt; refused == Err(CliFault::Run(RunFault::NoEngine)));
-    assert!(rt; out.is_empty());
+    same(&rt, refused, Err(CliFault::Run(RunFault::NoEngine)));
+    same(&rt, out.is_empty(), true);
     Ok(())
 }
 
@@ -96,7 +57,7 @@ fn assert_workers(
     want: u32,
 ) -> Result<(), Fail> {
     let plan = read_job(rt.alloc(), text.as_bytes(), None)?;
-    assert!(rt; workers_of(&plan, asked) == want, "{text}");
+    same(rt, (text, workers_of(&plan, asked)), (text, want));
     Ok(())
 }
 

@@ -1,4 +1,5 @@
-// Tests of the program over plain readers and writers: words, job texts, runs and traces.
+// Tests of job texts and their plans, of the types of a run, and of the program over plain readers and writers: of what no run of the
+// program shows. What it shows stands in checks/cases.
 #![tactic(auto)]
 
 #[cfg(test)]
@@ -6,11 +7,23 @@ mod asserts;
 #[cfg(test)]
 mod crew;
 #[cfg(test)]
+mod model;
+#[cfg(test)]
+mod numbers;
+#[cfg(test)]
+mod options;
+#[cfg(test)]
+mod plans;
+#[cfg(test)]
 mod program;
 #[cfg(test)]
 mod replies;
 #[cfg(test)]
-mod runs;
+mod sections;
+#[cfg(test)]
+mod settings;
+#[cfg(test)]
+mod sizes;
 #[cfg(test)]
 mod texts;
 #[cfg(test)]

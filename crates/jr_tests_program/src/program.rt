@@ -1,11 +1,7 @@
 use crate::asserts::same;
 use crate::texts::assert_said;
-use jr_cli::{
-    CliFault, answer_words, choose, execute_serial, print_check, print_plan, read_job, read_text,
-    read_trace,
-};
+use jr_cli::{CliFault, execute_serial, print_check, print_plan, read_job, read_text, read_trace};
 use jr_engines::MemoryEngine;
-use jr_stats::TraceFault;
 use std::alloc::Global;
 use std::io;
 use std::io::{ErrorKind, Read, Write};
@@ -68,44 +64,16 @@ const TWO: &str = "[global]\nrw=write\nsize=32k\nbs=8k\n[a]\n[global]\nbs=16k\n[
 const LINE_OF_A: &str =
     "a: clone=0 phase=0 file=a.0.0 start=0 size=32768 cell=8192 cells=4 rw=write iodepth=1 loops=1 verify=none\n";
 
-const LINE_OF_B: &str =
-    "b: clone=1 phase=0 file=b.0.0 start=0 size=32768 cell=16384 cells=2 rw=write iodepth=1 loops=1 verify=none\n";
-
-// Is this the plan of the job text's jobs of that name?
-fn assert_planned(
-    rt: &(impl AllocGlobal + Abort),
-    text: &str,
-    only: Option<&str>,
-    want: &str,
-) -> Result<(), Fail> {
-    let text = read_text(rt.alloc(), text.as_bytes())?;
-    let plan = read_job(rt.alloc(), text.as_slice(), only)?;
+#[test]
+fn a_plan_is_printed_whole_or_not(rt: HostRuntime) -> Result<(), Fail> {
+    let text = read_text(rt.alloc(), TWO.as_bytes())?;
+    let plan = read_job(rt.alloc(), text.as_slice(), Some("a"))?;
     let mut out = Vec::new(rt.alloc());
     print_plan(rt.alloc(), &plan, &mut out)?;
-    assert!(rt; out.as_slice() == want.as_bytes());
-    Ok(())
-}
-
-#[test]
-fn a_plan_is_printed_line_by_line(rt: HostRuntime) -> Result<(), Fail> {
-    let both = format!(in rt.alloc(); "{LINE_OF_A}{LINE_OF_B}")?;
-    assert_planned(&rt, TWO, None, both.as_str())?;
-    assert_planned(&rt, TWO, Some("a"), LINE_OF_A)?;
-    Ok(())
-}
-
-#[test]
-fn a_plan_that_is_cut_is_no_plan(rt: HostRuntime) -> Result<(), Fail> {
-    let plan = read_job(rt.alloc(), TWO.as_bytes(), None)?;
+    same(&rt, out.as_slice(), LINE_OF_A.as_bytes());
     let cut = print_plan(rt.alloc(), &plan, &mut full());
-    assert!(rt; cut == Err(CliFault::Write));
-    match read_job(rt.alloc(), TWO.as_bytes(), Some("c")) {
-        Ok(_) => Err(Fail::from("a plan of no job")),
-        Err(fault) => {
-            assert!(rt; fault.status() == 2);
-            Ok(())
-        }
-    }
+    same(&rt, cut, Err(CliFault::Write));
+    Ok(())
 }
 
 #[test]
@@ -139,17 +107,6 @@ fn what_fails_to_be_read_ends_with_3(rt: HostRuntime) -> Result<(), Fail> {
     Ok(())
 }
 
-#[test]
-fn words_end_the_program_by_their_kind(rt: HostRuntime) -> Result<(), Fail> {
-    for (word, status) in [("--help", 0), ("--version", 0), ("--workers=17", 2)] {
-        match choose(rt.alloc(), &["fiorun", word]) {
-            Ok(_) => assert!(rt; false, "{word} is taken"),
-            Err(error) => same(&rt, (word, answer_words(&rt, &error)), (word, Ok(status))),
-        }
-    }
-    Ok(())
-}
-
 const CHECKED: &str = "[w]\nioengine=memory\nrw=write\nsize=8k\nverify=pattern\nverify_pattern=1\n";
 
 const EVENTS: &str =
@@ -170,97 +127,28 @@ fn written<W: Write, V: Write>(
 }
 
 #[test]
-fn a_trace_is_written(rt: HostRuntime) -> Result<(), Fail> {
+fn a_report_and_a_trace_are_written(rt: HostRuntime) -> Result<(), Fail> {
     let mut events = Vec::new(rt.alloc());
     let mut out = Vec::new(rt.alloc());
     let status = written(rt.alloc(), Some(&mut events), &mut out)?;
-    assert!(rt; status == 0);
-    assert!(rt; out.as_slice() == TOTALS.as_bytes());
-    assert!(rt; events.as_slice() == EVENTS.as_bytes());
-    Ok(())
-}
-
-#[test]
-fn a_trace_that_is_cut_is_no_trace(rt: HostRuntime) -> Result<(), Fail> {
-    let mut out = Vec::new(rt.alloc());
-    let cut = written(rt.alloc(), Some(&mut full()), &mut out);
-    assert!(rt; cut == Err(CliFault::Write));
+    same(&rt, (status, out.as_slice()), (0, TOTALS.as_bytes()));
+    same(&rt, events.as_slice(), EVENTS.as_bytes());
     Ok(())
 }
 
 // What the check of a trace of CHECKED writes.
-fn checked(alloc: Global, events: &str, out: &mut Vec<u8>) -> Result<(), CliFault> {
+fn checked(alloc: Global, events: &str) -> Result<Vec<u8>, CliFault> {
     let plan = read_job(alloc, CHECKED.as_bytes(), None)?;
-    print_check(alloc, &plan, events.as_bytes(), out)
+    let events = read_trace(alloc, events.as_bytes())?;
+    let mut out = Vec::new(alloc);
+    print_check(alloc, &plan, events.as_slice(), &mut out)?;
+    Ok(out)
 }
 
 #[test]
 fn a_trace_is_checked(rt: HostRuntime) -> Result<(), Fail> {
-    let mut out = Vec::new(rt.alloc());
-    checked(rt.alloc(), EVENTS, &mut out)?;
-    assert!(rt; out.as_slice() == TOTALS.as_bytes());
-    let refused = checked(rt.alloc(), "I 0 0 0 0 0\nQ\n", &mut out);
-    assert!(rt; refused == Err(CliFault::Trace(TraceFault::Line(2))));
-    Ok(())
-}
-
-// The events of a run of CHECKED with its first two lines exchanged.
-const EXCHANGED: &str =
-    "E 0 0 whole\nI 0 0 0 0 0\nI 0 1 0 0 1\nE 0 1 whole\nP 0 2 0 0 0\nE 0 2 whole\nV 0 2 good\nP 0 3 0 0 1\nE 0 3 whole\nV 0 3 good\n";
-
-// The same with `Q` for its third line.
-const UNKNOWN: &str =
-    "I 0 0 0 0 0\nE 0 0 whole\nQ\nE 0 1 whole\nP 0 2 0 0 0\nE 0 2 whole\nV 0 2 good\nP 0 3 0 0 1\nE 0 3 whole\nV 0 3 good\n";
-
-// And without its last line.
-const UNENDED: &str =
-    "I 0 0 0 0 0\nE 0 0 whole\nI 0 1 0 0 1\nE 0 1 whole\nP 0 2 0 0 0\nE 0 2 whole\nV 0 2 good\nP 0 3 0 0 1\nE 0 3 whole\n";
-
-// Is the trace refused with these words, and nothing printed?
-fn assert_refused(rt: &(impl AllocGlobal + Abort), events: &str, text: &str) -> Result<(), Fail> {
-    let mut out = Vec::new(rt.alloc());
-    match checked(rt.alloc(), events, &mut out) {
-        Ok(()) => Err(Fail::from("a refused trace is accepted")),
-        Err(fault) => {
-            assert!(rt; out.is_empty());
-            assert_said(rt, fault, 2, text)
-        }
-    }
-}
-
-#[test]
-fn refused_traces_have_their_text_and_status(rt: HostRuntime) -> Result<(), Fail> {
-    assert_refused(&rt, EXCHANGED, "trace: line 1: not legal here")?;
-    assert_refused(&rt, UNKNOWN, "trace: line 3: not a trace line")?;
-    assert_refused(&rt, UNENDED, "trace: not complete")?;
-    assert_refused(&rt, "", "trace: not complete")?;
-    Ok(())
-}
-
-// What is started in a trace, in order: a letter for each line of an I/O, a check or a skip.
-fn starts_of(alloc: Global, events: &[u8]) -> Result<String, Fail> {
-    let mut starts = String::new(alloc);
-    let mut begins_line = true;
-    for byte in events {
-        if begins_line && matches!(byte, b'I' | b'P' | b'S') {
-            starts.push(*byte as char)?;
-        }
-        begins_line = *byte == b'\n';
-    }
-    Ok(starts)
-}
-
-#[test]
-fn a_round_of_checks_follows_each_third_write(rt: HostRuntime) -> Result<(), Fail> {
-    let text = "[w]\nioengine=memory\nrw=write\nsize=28k\nverify_backlog=3\nverify=md5\n";
-    let plan = read_job(rt.alloc(), text.as_bytes(), None)?;
-    let mut engine = MemoryEngine::new(rt.alloc(), &plan)?;
-    let mut events = Vec::new(rt.alloc());
-    let mut out = Vec::new(rt.alloc());
-    let status = execute_serial(rt.alloc(), plan, &mut engine, Some(&mut events), &mut out)?;
-    same(&rt, status, 0);
-    let starts = starts_of(rt.alloc(), events.as_slice())?;
-    same(&rt, starts.as_str(), "IIIPPPIIIPPPIP");
+    let out = checked(rt.alloc(), EVENTS)?;
+    same(&rt, out.as_slice(), TOTALS.as_bytes());
     Ok(())
 }
 
@@ -271,11 +159,18 @@ fn ended_over(alloc: Global, room: usize, flushes: bool) -> Result<u8, CliFault>
 }
 
 #[test]
-fn a_report_that_is_cut_is_no_report(rt: HostRuntime) -> Result<(), Fail> {
+fn what_is_cut_is_no_report_and_no_trace(rt: HostRuntime) {
     let whole = TOTALS.len();
-    assert!(rt; ended_over(rt.alloc(), 0, true) == Err(CliFault::Write));
-    assert!(rt; ended_over(rt.alloc(), whole - 1, true) == Err(CliFault::Write));
-    assert!(rt; ended_over(rt.alloc(), whole, false) == Err(CliFault::Write));
-    assert!(rt; ended_over(rt.alloc(), whole, true) == Ok(0));
-    Ok(())
+    for (room, flushes, want) in [
+        (0, true, Err(CliFault::Write)),
+        (whole - 1, true, Err(CliFault::Write)),
+        (whole, false, Err(CliFault::Write)),
+        (whole, true, Ok(0)),
+    ] {
+        let ended = ended_over(rt.alloc(), room, flushes);
+        same(&rt, (room, flushes, ended), (room, flushes, want));
+    }
+    let mut out = Vec::new(rt.alloc());
+    let cut = written(rt.alloc(), Some(&mut full()), &mut out);
+    same(&rt, cut, Err(CliFault::Write));
 }

@@ -1,6 +1,6 @@
+use crate::asserts::same;
 use clap::error::ErrorKind;
-use jr_cli::{Choice, choose};
-use std::alloc::Global;
+use jr_cli::{Choice, answer_words, choose};
 use std::process::Abort;
 use std::test::Fail;
 
@@ -32,95 +32,54 @@ fn each_word_goes_to_its_field(rt: HostRuntime) -> Result<(), Fail> {
         trace: Some("t"),
         check_trace: Some("c"),
     };
-    let choice = choose(rt.alloc(), &words)?;
-    assert!(rt; choice == want);
+    same(&rt, choose(rt.alloc(), &words)?, want);
     Ok(())
 }
 
 #[test]
 fn words_may_be_left_out(rt: HostRuntime) -> Result<(), Fail> {
-    let choice = choose(rt.alloc(), &["fiorun"])?;
-    assert!(rt; choice == NOTHING);
+    same(&rt, choose(rt.alloc(), &["fiorun"])?, NOTHING);
     let words = ["fiorun", "--workers", "1", "--section", ""];
     let want = Choice {
         section: Some(""),
         workers: Some(1),
         ..NOTHING
     };
-    let choice = choose(rt.alloc(), &words)?;
-    assert!(rt; choice == want);
+    same(&rt, choose(rt.alloc(), &words)?, want);
     Ok(())
 }
 
-// Is the word refused by this kind of error?
+// Is the word refused by this kind of error, which ends the program so?
 fn assert_refused(
-    rt: &(impl AllocGlobal + Abort),
+    rt: &(impl AllocGlobal + Abort + Print + Eprint),
     word: &str,
     kind: ErrorKind,
+    status: u8,
 ) -> Result<(), Fail> {
     match choose(rt.alloc(), &["fiorun", word]) {
         Ok(_) => Err(Fail::from("a refused word is taken")),
         Err(error) => {
-            assert!(rt; error.kind() == kind, "{word}");
+            same(rt, (word, error.kind()), (word, kind));
+            same(rt, (word, answer_words(rt, &error)), (word, Ok(status)));
             Ok(())
         }
     }
 }
 
 #[test]
-fn workers_are_1_to_16(rt: HostRuntime) -> Result<(), Fail> {
-    for word in [
-        "--workers=0",
-        "--workers=17",
-        "--workers=-1",
-        "--workers=two",
-    ] {
-        assert_refused(&rt, word, ErrorKind::ValueValidation)?;
-    }
-    Ok(())
-}
-
-#[test]
 fn words_are_refused_by_their_kind(rt: HostRuntime) -> Result<(), Fail> {
-    assert_refused(&rt, "--nosuch", ErrorKind::UnknownArgument)?;
-    assert_refused(&rt, "--workers", ErrorKind::InvalidValue)?;
-    assert_refused(&rt, "--parse-only=1", ErrorKind::TooManyValues)?;
-    assert_refused(&rt, "--help", ErrorKind::DisplayHelp)?;
-    assert_refused(&rt, "--version", ErrorKind::DisplayVersion)?;
-    Ok(())
-}
-
-// What is printed for a word in place of a run.
-fn answer_to(alloc: Global, word: &str) -> Result<String, Fail> {
-    match choose(alloc, &["/usr/bin/fiorun", word]) {
-        Ok(_) => Err(Fail::from("an answer is a choice")),
-        Err(error) => Ok(format!(in alloc; "{error}")?),
-    }
-}
-
-#[test]
-fn the_version_names_the_kit(rt: HostRuntime) -> Result<(), Fail> {
-    let version = answer_to(rt.alloc(), "--version")?;
-    assert!(rt;
-        version.as_str() == "fiorun 0.1.0\nrattle-kit-13f logic dac8208d650f15bf\n",
-        "{version}"
-    );
-    Ok(())
-}
-
-#[test]
-fn help_names_each_argument(rt: HostRuntime) -> Result<(), Fail> {
-    let help = answer_to(rt.alloc(), "--help")?;
-    for part in [
-        "Usage: fiorun [OPTIONS] [JOBFILE]",
-        "--section <NAME>",
-        "--parse-only",
-        "--workers <N>",
-        "--trace <FILE>",
-        "--check-trace <FILE>",
-        "--version",
+    for (word, kind, status) in [
+        ("--workers=0", ErrorKind::ValueValidation, 2),
+        ("--workers=17", ErrorKind::ValueValidation, 2),
+        ("--workers=-1", ErrorKind::ValueValidation, 2),
+        ("--workers=two", ErrorKind::ValueValidation, 2),
+        ("--nosuch", ErrorKind::UnknownArgument, 2),
+        ("--workers", ErrorKind::InvalidValue, 2),
+        ("--parse-only=1", ErrorKind::TooManyValues, 2),
+        ("--help", ErrorKind::DisplayHelp, 0),
+        ("--version", ErrorKind::DisplayVersion, 0),
     ] {
-        assert!(rt; help.contains(part), "{part}");
+        assert_refused(&rt, word, kind, status)?;
     }
     Ok(())
 }

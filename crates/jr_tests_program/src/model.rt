@@ -89,8 +89,8 @@ fn tickets_fit_in_whole_blocks(rt: HostRuntime) -> Result<(), Fail> {
             (len, offset, want),
         );
     }
-    assert!(rt; in_pass(write, 999).fits());
-    assert!(rt; !in_pass(write, 1000).fits());
+    same(&rt, in_pass(write, 999).fits(), true);
+    same(&rt, in_pass(write, 1000).fits(), false);
     Ok(())
 }
 
@@ -101,22 +101,29 @@ fn tickets_expect_what_their_method_is_judged_by(rt: HostRuntime) -> Result<(), 
     let header = Expected::Header([9; 64]);
     let write = write_of(Pattern::new(&[1, 2]).ok_or("a pattern")?);
     let probe = expecting(write, TicketKind::Probe, pattern);
-    assert!(rt; probe.fits());
-    assert!(rt; !expecting(write, TicketKind::Write, pattern).fits());
-    assert!(rt; !expecting(write, TicketKind::Probe, other).fits());
-    assert!(rt; !expecting(write, TicketKind::Probe, header).fits());
-    assert!(rt; !expecting(write, TicketKind::Probe, Expected::Nothing).fits());
     let headed = expecting(probe, TicketKind::Probe, header);
-    assert!(rt; verified(headed, VerifyKind::Md5).fits());
-    assert!(rt; !verified(headed, VerifyKind::Plain).fits());
-    assert!(rt; !verified(write, VerifyKind::Pattern).fits());
+    for (ticket, want) in [
+        (probe, true),
+        (expecting(write, TicketKind::Write, pattern), false),
+        (expecting(write, TicketKind::Probe, other), false),
+        (expecting(write, TicketKind::Probe, header), false),
+        (
+            expecting(write, TicketKind::Probe, Expected::Nothing),
+            false,
+        ),
+        (verified(headed, VerifyKind::Md5), true),
+        (verified(headed, VerifyKind::Plain), false),
+        (verified(write, VerifyKind::Pattern), false),
+    ] {
+        same(&rt, (ticket, ticket.fits()), (ticket, want));
+    }
     Ok(())
 }
 
 #[test]
 fn patterns_have_1_to_64_bytes(rt: HostRuntime) -> Result<(), Fail> {
-    assert!(rt; Pattern::new(&[]).is_none());
-    assert!(rt; Pattern::new(&[1; 65]).is_none());
+    same(&rt, Pattern::new(&[]).is_none(), true);
+    same(&rt, Pattern::new(&[1; 65]).is_none(), true);
     let longest = Pattern::new(&[7; 64]).ok_or("64 bytes")?;
     same(&rt, longest.as_slice(), [7; 64].as_slice());
     Ok(())
@@ -139,4 +146,7 @@ fn laws_can_be_called() {
     jr_model::every_run_is_legal();
     jr_model::serial_is_legal();
     jr_model::verdict_is_of_its_kind();
+    jr_options::files_are_asked();
+    jr_options::low_is_least();
+    jr_options::high_is_greatest();
 }

@@ -1,0 +1,233 @@
+#!/usr/bin/env python3
+"""checks/cases.py [PROGRAM [FILE..]] runs the program over each case of checks/cases/*.cases, or of these files.
+
+A case is a job text and words, and what the program must print for them, with its status. PROGRAM is the built program (bin/fiorun where
+none is given). Each run has a folder of its own, which is removed again. What is wrong is printed, and the status is 1 where something is.
+
+A case begins with `= ` and its name. Then come its parts, each a name, a colon and its text: behind the colon, or in the lines below,
+which are indented by four spaces and end in line feeds. In quotes a text is one of Python's, which b before it makes bytes, and which
+`x 9` behind it repeats. A line that begins with # is a comment.
+
+    words       the words of the command line, divided by spaces
+    job         standard input
+    file NAME   a file that is there before the run
+    out         what is printed, the whole of it; nothing is where it isn't given
+    has         a part of what is printed, where the rest of it isn't told
+    fault       what is said on standard error behind `fiorun: `, and nothing else is
+    says        the first line on standard error, where there may be more
+    status      the exit status, where it isn't 0
+    trace       the whole file `trace` after the run
+    starts      the first letters of its lines that start an I/O (I), a check (P) or a skip (S)
+    bytes NAME  what a file begins with after the run, in hexadecimal digits
+    again       the words of a second run in the same folder, which must print the same and end with 0
+
+Where something is refused (status 2), no file is made or changed. Two more parts have a row a line, of which each is a run of its own:
+
+    refused     a job text in quotes, and its fault
+    lines       a number, another line for the file `trace` in that place (in quotes), and the fault
+"""
+
+import ast
+import glob
+import os
+import re
+import subprocess
+import sys
+import tempfile
+import time
+from concurrent.futures import ThreadPoolExecutor
+
+HERE = os.path.dirname(os.path.realpath(__file__))
+SECONDS = 60
+PARTS = set("words job out has fault says status trace starts again refused lines".split())
+NAMED = {"file", "bytes"}
+ROWS = {"refused", "lines"}
+QUOTED = re.compile(r"""(b?"(?:[^"\\]|\\.)*")(?: x (\d+))?""")
+
+
+class Case:
+    """A run: where it stands, and its parts."""
+
+    def __init__(self, place, name, parts=None):
+        self.place = place
+        self.name = name
+        self.parts = dict(parts or {})
+
+    def row(self, number, **parts):
+        """The case that a row of it makes."""
+        rest = {it: text for it, text in self.parts.items() if it not in ROWS}
+        return Case(self.place, f"{self.name}, row {number}", {**rest, **parts})
+
+    def get(self, part, default=b""):
+        return self.parts.get(part, default)
+
+    def files(self):
+        return {it[5:]: text for it, text in self.parts.items() if it.startswith("file ")}
+
+
+def wrong_table(place, why):
+    sys.exit(f"cases: {place}: {why}")
+
+
+def quoted(text, place):
+    """The text in quotes that this one begins with, and what is behind it."""
+    found = QUOTED.match(text)
+    if not found:
+        wrong_table(place, f"not in quotes: {text}")
+    content = ast.literal_eval(found[1])
+    content = content if isinstance(content, bytes) else content.encode()
+    return content * int(found[2] or 1), text[found.end() :].strip()
+
+
+def text_of(behind, below, place):
+    """The text of a part: behind its colon or in the lines below."""
+    if below:
+        return "".join(it[4:] + "\n" for it in below).encode()
+    if behind.startswith(('"', 'b"')):
+        content, rest = quoted(behind, place)
+        return content if not rest else wrong_table(place, f"more than a text in quotes: {rest}")
+    return behind.encode()
+
+
+def read_part(case, lines, at):
+    """Reads the part that begins at a line, and says where the next one does."""
+    place = f"{case.place}:{at + 1}"
+    name, colon, behind = lines[at].partition(":")
+    if not colon or (name not in PARTS and name.split(" ")[0] not in NAMED) or name in case.parts:
+        wrong_table(place, f"no part of a case, or its second: {lines[at]}")
+    end = at + 1
+    while end < len(lines) and lines[end].startswith("    "):
+        end += 1
+    case.parts[name] = text_of(behind.strip(), lines[at + 1 : end], place)
+    return end
+
+
+def read(path):
+    """The cases of a file."""
+    with open(path, encoding="utf-8") as it:
+        lines = it.read().split("\n")
+    cases, at = [], 0
+    while at < len(lines):
+        if not lines[at] or lines[at].startswith("#"):
+            at += 1
+        elif lines[at].startswith("= "):
+            cases.append(Case(os.path.basename(path), lines[at][2:]))
+            at += 1
+        elif cases:
+            at = read_part(cases[-1], lines, at)
+        else:
+            wrong_table(f"{path}:{at + 1}", "before the first case")
+    return cases
+
+
+def other_line(text, number, line):
+    """The text with another line at a place, counted from 1; or behind its last."""
+    lines = text.split(b"\n")[:-1]
+    lines[number - 1 : number] = [line]
+    return b"\n".join(lines) + b"\n"
+
+
+def row_of(case, kind, number, row):
+    """The run that a row stands for."""
+    place = 0
+    if kind == "lines":
+        first, row = row.split(maxsplit=1)
+        place = int(first)
+    text, fault = quoted(row, f"{case.place}: {case.name}, row {number}")
+    if kind == "lines":
+        return case.row(number, **{"file trace": other_line(case.get("file trace"), place, text), "fault": fault.encode()})
+    return case.row(number, job=text, fault=fault.encode())
+
+
+def runs_of(case):
+    """The runs that a case stands for: one, or one for each of its rows."""
+    kinds = [it for it in case.parts if it in ROWS]
+    rows = [(kind, number, row) for kind in kinds for number, row in enumerate(case.get(kind).decode().splitlines(), 1)]
+    return [row_of(case, *row) for row in rows] if kinds else [case]
+
+
+def held(folder):
+    """The files of a folder with what is in them."""
+    content = {}
+    for name in os.listdir(folder):
+        with open(os.path.join(folder, name), "rb") as it:
+            content[name] = it.read()
+    return content
+
+
+def starts(trace):
+    """What a trace starts, a letter for each."""
+    return b"".join(it[:1] for it in trace.splitlines() if it[:1] in (b"I", b"P", b"S"))
+
+
+def differences(case, ended, before, after):
+    """What of a run isn't as the case says: pairs of what was wanted and what came."""
+    said, trace = ended.stderr.split(b"\n")[0], after.get("trace", b"")
+    fault = b"fiorun: " + case.get("fault") + b"\n" if "fault" in case.parts else b""
+    status = int(case.get("status", b"0"))
+    pairs = [(status, ended.returncode)]
+    if "has" not in case.parts:
+        pairs.append((case.get("out"), ended.stdout))
+    pairs.append((case.get("says"), said) if "says" in case.parts else (fault, ended.stderr))
+    if status == 2:
+        pairs.append((before, after))
+    if "trace" in case.parts:
+        pairs.append((case.get("trace"), trace))
+    if "starts" in case.parts:
+        pairs.append((case.get("starts"), starts(trace)))
+    for it, text in case.parts.items():
+        if it.startswith("bytes "):
+            first = bytes.fromhex(text.decode())
+            pairs.append((first, after.get(it[6:], b"")[: len(first)]))
+    lost = [(it, ended.stdout) for it in case.get("has").splitlines() if it not in ended.stdout]
+    return [it for it in pairs if it[0] != it[1]] + lost
+
+
+def run(program, words, case, folder):
+    how = {"cwd": folder, "input": case.get("job"), "capture_output": True, "timeout": SECONDS, "check": False}
+    return subprocess.run([program.encode(), *words.split()], **how)
+
+
+def run_again(program, case, folder):
+    """What of a second run isn't as the case says."""
+    ended = run(program, case.get("again"), case, folder)
+    wanted, came = (0, case.get("out"), b""), (ended.returncode, ended.stdout, ended.stderr)
+    return [(wanted, came)] if wanted != came else []
+
+
+def tried(program, case):
+    """What is wrong with a run, in words; nothing where all is right."""
+    with tempfile.TemporaryDirectory(prefix="case-") as folder:
+        for name, text in case.files().items():
+            with open(os.path.join(folder, name), "wb") as it:
+                it.write(text)
+        before = held(folder)
+        try:
+            wrong = differences(case, run(program, case.get("words"), case, folder), before, held(folder))
+            if "again" in case.parts:
+                wrong += run_again(program, case, folder)
+        except subprocess.TimeoutExpired:
+            return [f"{case.place}: {case.name}: not ended after {SECONDS} s"]
+    return [f"{case.place}: {case.name}: wanted {str(wanted)[:400]}, and got {str(came)[:400]}" for wanted, came in wrong]
+
+
+def main(words):
+    program = os.path.realpath(words[0] if words else os.path.join(HERE, "..", "bin", "fiorun"))
+    began = time.monotonic()
+    cases = [case for path in words[1:] or sorted(glob.glob(os.path.join(HERE, "cases", "*.cases"))) for case in read(path)]
+    runs = [run for case in cases for run in runs_of(case)]
+    if not words:
+        subprocess.run([program, "--help"], stdout=subprocess.DEVNULL, check=True)
+    with ThreadPoolExecutor(os.cpu_count()) as pool:
+        wrong = [it for its in pool.map(lambda run: tried(program, run), runs) for it in its]
+    for it in wrong:
+        print(f"cases: {it}")
+    if wrong or not runs:
+        print(f"cases: FAILED: {len(wrong)} differences in {len(runs)} runs")
+        return 1
+    print(f"cases: {len(cases)} cases, {len(runs)} runs, each as it must be ({time.monotonic() - began:.1f} s)")
+    return 0
+
+
+if __name__ == "__main__":
+    sys.exit(main(sys.argv[1:]))
