@@ -3,31 +3,39 @@ use jr_cli::{CliFault, execute, read_job, workers_of};
 use jr_crew::RunFault;
 use jr_engines::{Engine, MemoryEngine, Reply, ScriptedEngine};
 use std::process::Abort;
+use std::sync::Wait;
 use std::test::Fail;
+use std::thread::Threads;
 
 const FLIPPED: &str = "[w]\nioengine=memory\nrw=write\nsize=16k\nverify=md5\n";
 
 const FLIPPED_REPORT: &str =
     "w: clone=0 reads=0 rbytes=0 writes=4 wbytes=16384 checks=4 good=3 bad=1 skipped=0 void=0 faults=0\nmiscompare: clone=0 pass=0 number=2 file=w.0.0 offset=8192 length=4096 what=data\n";
 
-#[test]
-fn a_flipped_byte_is_found_by_a_crew(rt: HostRuntime) -> Result<(), Fail> {
-    let plan = read_job(rt.alloc(), FLIPPED.as_bytes(), None)?;
+// What a run of the job text over one engine prints, whose third check reads an inverted byte; and its status.
+fn flipped<R: AllocGlobal + Threads + Wait + Sync>(
+    rt: &R,
+    text: &str,
+) -> Result<(u8, Vec<u8>), Fail> {
+    let plan = read_job(rt.alloc(), text.as_bytes(), None)?;
     let memory = MemoryEngine::new(rt.alloc(), &plan)?;
     let script = Vec::from_array(rt.alloc(), [(6, Reply::Flip(100))])?;
     let mut engines: Vec<Box<dyn Engine + Send>> = Vec::new(rt.alloc());
     engines.push(Box::new(rt.alloc(), ScriptedEngine::new(memory, script))?)?;
     let mut out = Vec::new(rt.alloc());
-    let status = execute(
-        &rt,
-        rt.alloc(),
-        plan,
-        engines,
-        None::<&mut Vec<u8>>,
-        &mut out,
-    )?;
-    let want = FLIPPED_REPORT.as_bytes();
-    same(&rt, (status, out.as_slice()), (1, want));
+    let none = None::<&mut Vec<u8>>;
+    let status = execute(rt, rt.alloc(), plan, engines, none, &mut out)?;
+    Ok((status, out))
+}
+
+#[test]
+fn a_flipped_byte_is_found_by_a_crew(rt: HostRuntime) -> Result<(), Fail> {
+    for judged_by in ["", "verify_async=2\n"] {
+        let text = format!(in rt.alloc(); "{FLIPPED}{judged_by}")?;
+        let (status, out) = flipped(&rt, text.as_str())?;
+        let want = FLIPPED_REPORT.as_bytes();
+        same(&rt, (status, out.as_slice()), (1, want));
+    }
     Ok(())
 }
 

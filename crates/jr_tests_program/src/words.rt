@@ -11,6 +11,7 @@ const NOTHING: Choice<'static> = Choice {
     workers: None,
     trace: None,
     check_trace: None,
+    cached: false,
 };
 
 #[test]
@@ -23,6 +24,7 @@ fn each_word_goes_to_its_field(rt: HostRuntime) -> Result<(), Fail> {
         "--section=w",
         "--trace=t",
         "--check-trace=c",
+        "--cached",
     ];
     let want = Choice {
         job: Some("disk.fio"),
@@ -31,6 +33,7 @@ fn each_word_goes_to_its_field(rt: HostRuntime) -> Result<(), Fail> {
         workers: Some(16),
         trace: Some("t"),
         check_trace: Some("c"),
+        cached: true,
     };
     same(&rt, choose(rt.alloc(), &words)?, want);
     Ok(())
