@@ -1,14 +1,17 @@
 // Loaded before a program's own libraries (LD_PRELOAD), lets one of its calls of the system go wrong.
 //
-//   CALLS=FILE          a file of 48 bytes: how often each of the calls below was made
+//   CALLS=FILE          a file of 56 bytes: how often each of the calls below was made
 //   FAULT="CALL N HOW"  what call, which one of them (from 1), and how:
 //                       a number: it isn't made, and answers this error; zero: it isn't made, and answers 0;
 //                       drop: it isn't made, and answers as if it had been; half: it moves half of the bytes; one: it moves one;
-//                       flip:I: byte I of what it moves is another
+//                       flip:I: byte I of what it moves is another; cut:I: its file is cut to I bytes before it;
+//                       at:I: an lseek isn't made, and answers I; wait: it is made once GATE is at its end
+//   GATE=FD             an open stream
 #define _GNU_SOURCE
 #include <dlfcn.h>
 #include <errno.h>
 #include <fcntl.h>
+#include <pthread.h>
 #include <stdarg.h>
 #include <stdatomic.h>
 #include <stdio.h>
@@ -18,9 +21,9 @@
 #include <sys/types.h>
 #include <unistd.h>
 
-enum call { OPEN, LSEEK, READ, WRITE, PREAD, PWRITE, CALLS };
+enum call { OPEN, LSEEK, READ, WRITE, PREAD, PWRITE, THREAD, CALLS };
 
-static const char *const names[CALLS] = {"open", "lseek", "read", "write", "pread", "pwrite"};
+static const char *const names[CALLS] = {"open", "lseek", "read", "write", "pread", "pwrite", "pthread_create"};
 static void *real[CALLS];
 static _Atomic unsigned long *counts;
 static enum call which = CALLS;
@@ -41,11 +44,23 @@ __attribute__((constructor)) static void begin(void) {
     if (room != MAP_FAILED) counts = room;
 }
 
+// Waits until the gate is at its end.
+static void wait_for_gate(void) {
+    const char *gate = getenv("GATE");
+    char byte;
+    ssize_t got = 1;
+    while (gate && (got > 0 || (got < 0 && errno == EINTR)))
+        got = ((ssize_t (*)(int, void *, size_t))real[READ])(atoi(gate), &byte, 1);
+}
+
 // How this call is to go wrong, or nothing.
 static const char *wrong(enum call call) {
     if (!counts) return NULL;
     unsigned long it = atomic_fetch_add(&counts[call], 1) + 1;
-    return call == which && it == number ? how : NULL;
+    if (call != which || it != number) return NULL;
+    if (strcmp(how, "wait")) return how;
+    wait_for_gate();
+    return NULL;
 }
 
 int open(const char *path, int flags, ...) {
@@ -60,6 +75,7 @@ int open(const char *path, int flags, ...) {
 
 off_t lseek(int fd, off_t offset, int whence) {
     const char *it = wrong(LSEEK);
+    if (it && !strncmp(it, "at:", 3)) return atol(it + 3);
     if (it && atoi(it)) return errno = atoi(it), -1;
     return ((off_t (*)(int, off_t, int))real[LSEEK])(fd, offset, whence);
 }
@@ -78,6 +94,10 @@ static ssize_t moved(enum call call, int fd, void *bytes, size_t len, off_t at) 
     if (!strcmp(it, "drop")) return (ssize_t)len;
     if (!strcmp(it, "half")) return move(call, fd, bytes, len > 1 ? len / 2 : len, at);
     if (!strcmp(it, "one")) return move(call, fd, bytes, 1, at);
+    if (!strncmp(it, "cut:", 4)) {
+        if (ftruncate(fd, atol(it + 4))) abort();
+        return move(call, fd, bytes, len, at);
+    }
     size_t place = strtoul(it + strlen("flip:"), NULL, 10) % len;
     unsigned char *byte = (unsigned char *)bytes + place;
     if (call == READ || call == PREAD) {
@@ -109,4 +129,12 @@ ssize_t pread(int fd, void *bytes, size_t len, off_t at) {
 
 ssize_t pwrite(int fd, const void *bytes, size_t len, off_t at) {
     return moved(PWRITE, fd, (void *)bytes, len, at);
+}
+
+typedef int create(pthread_t *, const pthread_attr_t *, void *(*)(void *), void *);
+
+int pthread_create(pthread_t *made, const pthread_attr_t *attributes, void *(*run)(void *), void *with) {
+    const char *it = wrong(THREAD);
+    if (it && atoi(it)) return atoi(it);
+    return ((create *)real[THREAD])(made, attributes, run, with);
 }

@@ -23,10 +23,6 @@ use std::time::Clock;
 use std::{env, fs, io};
 
 mod show;
-#[cfg(test)]
-mod show_tests;
-#[cfg(test)]
-mod tests;
 
 fn main(rt: HostRuntime) -> ExitCode {
     let _held = held(&rt);

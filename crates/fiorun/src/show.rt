@@ -68,7 +68,7 @@ impl Extent {
     }
 
     // How many hundredths of them so many are.
-    pub fn percent(self, bytes: u64) -> u64 {
+    fn percent(self, bytes: u64) -> u64 {
         bytes.saturating_mul(100) / self.bytes.max(1)
     }
 }
@@ -80,11 +80,11 @@ fn bytes_of(clone: &SubJob) -> u64 {
 
 // What is shown of a run.
 #[derive(Clone, Copy)]
-pub struct Line {
-    pub percent: u64,
-    pub ios: u64,
-    pub checks: u64,
-    pub bad: u64,
+struct Line {
+    percent: u64,
+    ios: u64,
+    checks: u64,
+    bad: u64,
 }
 
 impl Line {

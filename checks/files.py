@@ -1,0 +1,391 @@
+#!/usr/bin/env python3
+"""checks/files.py [PROGRAM] looks at what the program makes of real files, and at the line that a terminal shows at known numbers.
+
+Each case runs PROGRAM (bin/fiorun's where none is given, which is built first where it has to be) in a folder of its own that is removed
+again. Report and status, every byte of the files, and the trace where the order of events is known, must be as they stand here. Where a
+run has to be met at one call, a library that is loaded before the program's own (checks/faulty.c, built by cc) cuts a file there, or holds
+the run until the line is there. The cases run side by side, for seconds. It ends with 0 where all are as they must be, else it says what
+differs.
+"""
+
+import os
+import re
+import select
+import shutil
+import struct
+import subprocess
+import sys
+import tempfile
+import time
+from concurrent.futures import ThreadPoolExecutor
+from typing import NamedTuple
+
+HERE = os.path.dirname(os.path.realpath(__file__))
+NOBODY = 65534
+SECONDS = 60
+FIELDS = "reads rbytes writes wbytes checks good bad skipped void faults".split()
+CALLS = "open lseek read write pread pwrite pthread_create".split()
+WIPED = "\r\x1b[K"
+LINE = re.compile(r"fiorun: (\d+) % started, (\d+) I/Os, (\d+) checked, (\d+) bad")
+
+
+class Wrong(Exception):
+    """Something isn't as it must be."""
+
+
+class Ended(NamedTuple):
+    """How a run ended: its status and what it wrote to its two streams."""
+
+    status: int
+    out: bytes
+    err: bytes
+
+
+REFUSED = Ended(3, b"", b"fiorun: cannot open the files\n")
+
+
+def same(what, got, wanted):
+    if got != wanted:
+        raise Wrong(f"{what}: {str(got)[:400]}\n    and not {str(wanted)[:400]}")
+
+
+def total(job, clone=0, **counts):
+    """A clone's line of the report."""
+    return f"{job}: clone={clone} " + " ".join(f"{it}={counts.get(it, 0)}" for it in FIELDS) + "\n"
+
+
+def said(status, *lines):
+    """The end of a run that prints these lines and nothing else."""
+    return Ended(status, "".join(lines).encode(), b"")
+
+
+def blocks(*runs):
+    """Runs of equal bytes, each a length and a byte."""
+    return b"".join(bytes([byte]) * count for count, byte in runs)
+
+
+class Place:
+    """A case's own folder, and in it the folder of its jobs."""
+
+    program = ""
+    library = ""
+
+    def __init__(self, path):
+        self.path = path
+        self.jobs = self.at("jobs")
+        os.mkdir(path)
+        os.mkdir(self.jobs)
+        os.chmod(self.jobs, 0o777)
+
+    def at(self, name):
+        return os.path.join(self.path, name)
+
+    def put(self, name, content):
+        """A file of the jobs' folder."""
+        with open(os.path.join(self.jobs, name), "wb") as it:
+            it.write(content)
+
+    def held(self):
+        """All files of the jobs' folder, and what is in them."""
+        held = {}
+        for name in os.listdir(self.jobs):
+            with open(os.path.join(self.jobs, name), "rb") as it:
+                held[name] = it.read()
+        return held
+
+    def words(self, jobs, workers, folder=None):
+        """The words of a run of jobs in this folder, theirs where no other is named."""
+        with open(self.at("job"), "w", encoding="ascii") as it:
+            it.write(f"[global]\nioengine=psync\ndirectory={folder or self.jobs}\n{jobs}")
+        return [self.program, f"--workers={workers}", self.at("job")]
+
+    def run(self, jobs, workers, folder=None, more=(), **how):
+        try:
+            words = [*self.words(jobs, workers, folder), *more]
+            it = subprocess.run(words, stdin=subprocess.DEVNULL, capture_output=True, timeout=SECONDS, check=False, **how)
+        except subprocess.TimeoutExpired:
+            raise Wrong(f"had not ended after {SECONDS} s: {jobs!r}") from None
+        return Ended(it.returncode, it.stdout, it.stderr)
+
+    def fault(self, fault):
+        """The environment in which one call goes so (checks/faulty.c)."""
+        with open(self.at("calls"), "wb") as it:
+            it.write(bytes(8 * len(CALLS)))
+        return {**os.environ, "LD_PRELOAD": self.library, "CALLS": self.at("calls"), "FAULT": fault}
+
+    def traced(self, jobs, workers, fault, folder=None):
+        """Runs jobs with this fault: how that ends, its trace, and how often it read and wrote blocks."""
+        ended = self.run(jobs, workers, folder, [f"--trace={self.at('trace')}"], env=self.fault(fault))
+        with open(self.at("trace"), encoding="ascii") as it:
+            trace = it.read()
+        with open(self.at("calls"), "rb") as it:
+            calls = dict(zip(CALLS, struct.unpack(f"{len(CALLS)}Q", it.read())))
+        return ended, trace, (calls["pread"], calls["pwrite"])
+
+
+# -- Files
+
+
+def one_file(place, workers):
+    """A real file holds what its job wrote."""
+    ended = place.run("[w]\nrw=write\nsize=16k\nverify=pattern\nverify_pattern=0xab\n", workers)
+    same("run", ended, said(0, total("w", writes=4, wbytes=16384, checks=4, good=4)))
+    same("files", place.held(), {"w.0.0": blocks((16384, 0xAB))})
+
+
+def offsets(place, workers):
+    """Jobs write where their offsets say, and nowhere else in a longer file."""
+    place.put("f", blocks((40000, 7)))
+    jobs = "filename=f\nrw=write\nsize=8k\nverify=pattern\n[a]\noffset=4k\nverify_pattern=1\n[b]\noffset=16k\nverify_pattern=2\n"
+    counts = {"writes": 2, "wbytes": 8192, "checks": 2, "good": 2}
+    same("run", place.run(jobs, workers), said(0, total("a", **counts), total("b", 1, **counts)))
+    same("files", place.held(), {"f": blocks((4096, 7), (8192, 1), (4096, 7), (8192, 2), (15424, 7))})
+
+
+def link(place, workers):
+    """A symbolic link is followed, and stays; its target is extended, and keeps what stands before the job."""
+    place.put("target", blocks((100, 7)))
+    os.symlink(os.path.join(place.jobs, "target"), os.path.join(place.jobs, "link"))
+    ended = place.run("[w]\nfilename=link\nrw=write\nsize=4k\noffset=512\nbs=512\n", workers)
+    same("run", ended, said(0, total("w", writes=8, wbytes=4096)))
+    same("is a link", os.path.islink(os.path.join(place.jobs, "link")), True)
+    held = place.held()["target"]
+    same("target's length", len(held), 4608)
+    same("before the job", held[:512], blocks((100, 7), (412, 0)))
+
+
+def no_folder(place, workers):
+    """In a folder that isn't there no file is opened, and none made; the files before it are laid out, those behind it aren't."""
+    missing = os.path.join(place.jobs, "missing")
+    same("run", place.run("[w]\nfilename=f\nrw=write\nsize=4k\n", workers, missing), REFUSED)
+    same("files", place.held(), {})
+    jobs = f"rw=write\nsize=4k\n[a]\n[b]\ndirectory={missing}\n[c]\n"
+    same("run of three", place.run(jobs, workers), REFUSED)
+    same("files of three", place.held(), {"a.0.0": bytes(4096)})
+
+
+def is_writable(path):
+    try:
+        with open(path, "r+b"):
+            return True
+    except PermissionError:
+        return False
+
+
+def read_only(place, workers):
+    """A file that may not be written is refused, and stays as it is; not so where root runs the program, who may write it."""
+    jobs, old = "[w]\nfilename=f\nrw=write\nsize=4k\n", blocks((5000, 7))
+    place.put("f", old)
+    path = os.path.join(place.jobs, "f")
+    os.chmod(path, 0o444)
+    if os.getuid() == 0:
+        same("nobody's run", place.run(jobs, workers, user=NOBODY, group=NOBODY, extra_groups=[]), REFUSED)
+        same("files", place.held(), {"f": old})
+    may = is_writable(path)
+    same("run", place.run(jobs, workers), said(0, total("w", writes=1, wbytes=4096)) if may else REFUSED)
+    held = place.held()["f"]
+    same("was written", held[:4096] != old[:4096], may)
+    same("behind the job", held[4096:], old[4096:])
+
+
+def full_device(place, workers):
+    """A device that refuses each write halts its clone at the first. (It can't be extended, so a seek to its end says that it is long.)"""
+    jobs = "[w]\nfilename=full\nrw=write\nsize=16k\nverify=pattern\nverify_pattern=1\n"
+    ended, trace, calls = place.traced(jobs, workers, "lseek 1 at:16384", "/dev")
+    same("run", ended, said(1, total("w", faults=1)))
+    same("reads and writes", calls, (0, 1))
+    same("trace", re.sub(r"(?m)^([IE]) \d+", r"\1 W", trace), "I W 0 0 0 0\nE W 0 failed\n")
+
+
+CUT_TRACE = """I 0 0 0 0 0
+E 0 0 whole
+I 0 1 0 0 1
+E 0 1 whole
+P 0 2 0 0 0
+E 0 2 whole
+V 0 2 good
+P 0 3 0 0 1
+E 0 3 short 0
+I 0 4 1 0 0
+E 0 4 whole
+I 0 5 1 0 1
+E 0 5 whole
+P 0 6 1 0 0
+E 0 6 whole
+V 0 6 good
+P 0 7 1 0 1
+E 0 7 whole
+V 0 7 good
+"""
+
+
+def cut_file(place):
+    """A file that is cut to its first block before the third call, its first read, gives one fault, and no call fails."""
+    jobs = "rw=write\nsize=8k\nverify=pattern\nverify_pattern=1\n[a]\nfilename=a\n[b]\nfilename=b\n"
+    ended, trace, calls = place.traced(jobs, 1, "pread 1 cut:4096")
+    counts = {"writes": 2, "wbytes": 8192}
+    same("run", ended, said(1, total("a", checks=1, good=1, faults=1, **counts), total("b", 1, checks=2, good=2, **counts)))
+    same("trace", trace, CUT_TRACE)
+    same("reads and writes", calls, (4, 4))
+    same("files", place.held(), {"a": blocks((4096, 1)), "b": blocks((8192, 1))})
+
+
+# -- The line
+
+
+def shown(end, wanted=None):
+    """What is said at a terminal's other end until this line stands there, nobody holds it any more, or the time is over."""
+    text, late = "", time.monotonic() + SECONDS
+    while wanted is None or wanted not in text.split(WIPED):
+        if not select.select([end], [], [], max(0, late - time.monotonic()))[0]:
+            return text
+        try:
+            text += os.read(end, 4096).decode()
+        except OSError:
+            return text
+    return text
+
+
+def ending(child):
+    """Waits for a run, and kills it where it doesn't end."""
+    try:
+        child.wait(SECONDS)
+    except subprocess.TimeoutExpired:
+        child.kill()
+
+
+def held_run(place, jobs, fault, wanted):
+    """Runs jobs at a terminal, held at a call until this line stands there: how that ends, and all that the terminal showed."""
+    gate, key = os.pipe()
+    end, terminal = os.openpty()
+    how = {"stdin": subprocess.DEVNULL, "stderr": terminal, "pass_fds": (gate,), "env": {**place.fault(fault), "GATE": str(gate)}}
+    with open(place.at("out"), "w+b") as out:
+        with subprocess.Popen(place.words(jobs, 1), stdout=out, **how) as child:
+            os.close(terminal)
+            os.close(gate)
+            text = shown(end, wanted)
+            os.close(key)
+            text += shown(end)
+            os.close(end)
+            ending(child)
+        out.seek(0)
+        return Ended(child.returncode, out.read(), b""), text
+
+
+def lines_of(text):
+    """The lines that a terminal showed, each a text and its four numbers; it was wiped before each of them, and at the end."""
+    first, *lines = text.split(WIPED)
+    if first or not lines or lines.pop() or not all(LINE.fullmatch(it) for it in lines):
+        raise Wrong(f"not the line and its end: {text[:200]!r} .. {text[-200:]!r}")
+    return [(it, tuple(int(number) for number in LINE.fullmatch(it).groups())) for it in lines]
+
+
+def stands(wanted, lines):
+    if wanted not in [it for it, _ in lines]:
+        raise Wrong(f"{wanted!r} isn't one of {len(lines)} lines: {str(lines)[:400]}")
+
+
+def line_text(place):
+    """The line says what was done: a run is held where 35 % are started, 91750 I/Os, 89120 checked, 2 bad."""
+    checked = 89120 - 2
+    jobs = f"""rw=write\nbs=512\nverify=pattern\nverify_pattern=1
+[z]\ndirectory=/dev\nfilename=zero\nsize=1k
+[w]\nsize={(91750 - 2) * 512}\nverify_backlog={checked}
+[r]\nrw=read\nverify=0\nbs=4m\nsize=80m
+"""
+    wanted = "fiorun: 35 % started, 91750 I/Os, 89120 checked, 2 bad"
+    ended, text = held_run(place, jobs, "pwrite 91750 wait", wanted)
+    stands(wanted, lines_of(text))
+    same("status", ended.status, 1)
+
+
+# Two clones of 8 MiB, twice over each, and one of 32 MiB: 64 MiB in 131072 blocks.
+EXTENT = 131072
+EXTENT_JOBS = "bs=512\n[a]\nrw=write\nsize=8m\nnumjobs=2\nloops=2\n[b]\nrw=randread\nsize=32m\n"
+HUNDREDTHS = {0: 0, 1310: 0, 1311: 1, 65536: 50, 131071: 99, 131072: 100}
+
+
+def hundredths(place, ios):
+    """The hundredths are of all passes of all clones: a run is held where so many of its blocks are started."""
+    jobs, fault = EXTENT_JOBS, f"pwrite {ios} wait" if ios <= EXTENT // 2 else f"pread {ios - EXTENT // 2} wait"
+    if ios == 0:
+        # (before the thread of a verifier is started, behind that of the line, no worker begins)
+        jobs, fault = jobs + "verify_async=1\n", "pthread_create 2 wait"
+    wanted = f"fiorun: {HUNDREDTHS[ios]} % started, {ios} I/Os, 0 checked, 0 bad"
+    ended, text = held_run(place, jobs, fault, wanted)
+    lines = lines_of(text)
+    stands(wanted, lines)
+    # (a line's hundredths are read before its I/Os, which go on meanwhile where the run isn't held)
+    for it, (percent, started, checked, bad) in lines:
+        same(it, (percent <= started * 100 // EXTENT, checked, bad), (True, 0, 0))
+    counts = {"writes": 32768, "wbytes": 32768 * 512}
+    same("run", ended, said(0, total("a", **counts), total("a", 1, **counts), total("b", 2, reads=65536, rbytes=65536 * 512)))
+
+
+CASES = [
+    *((hundredths, ios) for ios in HUNDREDTHS),
+    (line_text,),
+    *((one_file, workers) for workers in (1, 4, 16)),
+    *((offsets, workers) for workers in (1, 2, 4, 16)),
+    *((link, workers) for workers in (1, 4)),
+    *((no_folder, workers) for workers in (1, 2)),
+    *((read_only, workers) for workers in (1, 2)),
+    *((full_device, workers) for workers in (1, 4)),
+    (cut_file,),
+]
+
+
+def tried(room, case):
+    """What is wrong in a case, if anything is."""
+    function, *numbers = case
+    name = " ".join([function.__name__, *map(str, numbers)])
+    try:
+        function(Place(os.path.join(room, name.replace(" ", "-"))), *numbers)
+    except (Wrong, OSError) as why:
+        return f"{name}: {why}"
+    return None
+
+
+def find_program(path):
+    """The program itself, and not the script that builds it."""
+    if path is None:
+        subprocess.run([os.path.join(HERE, "..", "bin", "fiorun"), "--help"], stdout=subprocess.DEVNULL, check=True)
+        path = os.path.join(HERE, "..", "crates", "fiorun", "out", "fiorun")
+    with open(path, "rb") as it:
+        if it.read(4) != b"\x7fELF":
+            sys.exit(f"files: FAILED: {path} isn't a built program")
+    return path
+
+
+def built_library(room):
+    """What is loaded before the program's own libraries."""
+    library, compiler = os.path.join(room, "faulty.so"), os.environ.get("CC", "cc")
+    if not shutil.which(compiler):
+        sys.exit(f"files: FAILED: there is no C compiler {compiler}")
+    subprocess.run([compiler, "-O2", "-shared", "-fPIC", "-o", library, os.path.join(HERE, "faulty.c"), "-ldl"], check=True)
+    return library
+
+
+def main(words):
+    if len(words) > 1:
+        sys.exit("usage: checks/files.py [PROGRAM]")
+    program = find_program(words[0] if words else None)
+    with tempfile.TemporaryDirectory(prefix="files-") as room:
+        # (nobody is to run it too)
+        os.chmod(room, 0o755)
+        Place.program = shutil.copy(program, os.path.join(room, "fiorun"))
+        os.chmod(Place.program, 0o755)
+        Place.library = built_library(room)
+        with ThreadPoolExecutor(len(CASES)) as pool:
+            wrong = [it for it in pool.map(lambda case: tried(room, case), CASES) if it]
+    for it in wrong:
+        print(f"files: {it}")
+    if wrong:
+        print(f"files: FAILED: {len(wrong)} of {len(CASES)} cases")
+        return 1
+    print(f"files: {len(CASES)} cases, each as it must be")
+    return 0
+
+
+if __name__ == "__main__":
+    sys.exit(main(sys.argv[1:]))
