@@ -2,27 +2,29 @@ use crate::asserts::same;
 use jr_model::{
     Expected, Method, Pattern, Piece, ReplyBytes, Ticket, TicketKind, VerifyKind, WriteId, overlaps,
 };
+use std::process::Abort;
 use std::test::Fail;
 
 fn piece(file: u32, offset: u64, len: u32) -> Piece {
     Piece { file, offset, len }
 }
 
+// Is this whether both pieces share a byte, from either side?
+fn assert_overlap(rt: &impl Abort, a: Piece, b: Piece, want: bool) {
+    same(rt, overlaps(&a, &b), want);
+    same(rt, overlaps(&b, &a), want);
+}
+
 #[test]
 fn pieces_overlap_where_they_share_a_byte(rt: HostRuntime) {
     let written = piece(0, 4096, 4096);
-    for (other, want) in [
-        (piece(0, 0, 4096), false),
-        (piece(0, 0, 4097), true),
-        (piece(0, 8191, 1), true),
-        (piece(0, 8192, 1), false),
-        (piece(1, 4096, 4096), false),
-        (piece(0, 5000, 0), false),
-        (piece(0, u64::MAX, u32::MAX), false),
-    ] {
-        same(&rt, (other, overlaps(&written, &other)), (other, want));
-        same(&rt, (other, overlaps(&other, &written)), (other, want));
-    }
+    assert_overlap(&rt, written, piece(0, 0, 4096), false);
+    assert_overlap(&rt, written, piece(0, 0, 4097), true);
+    assert_overlap(&rt, written, piece(0, 8191, 1), true);
+    assert_overlap(&rt, written, piece(0, 8192, 1), false);
+    assert_overlap(&rt, written, piece(1, 4096, 4096), false);
+    assert_overlap(&rt, written, piece(0, 5000, 0), false);
+    assert_overlap(&rt, written, piece(0, u64::MAX, u32::MAX), false);
 }
 
 // A write of two blocks, with nothing expected.
@@ -70,27 +72,23 @@ fn in_pass(mut ticket: Ticket, pass: u32) -> Ticket {
     ticket
 }
 
+fn assert_fits(rt: &impl Abort, ticket: Ticket, want: bool) {
+    same(rt, ticket.fits(), want);
+}
+
 #[test]
 fn tickets_fit_in_whole_blocks(rt: HostRuntime) -> Result<(), Fail> {
     let write = write_of(Pattern::new(&[1, 2]).ok_or("a pattern")?);
-    for (offset, len, want) in [
-        (512, 1024, true),
-        (512, 0, false),
-        (512, 700, false),
-        (100, 512, false),
-        (0, 4_194_304, true),
-        (0, 4_194_816, false),
-        (1 << 50, 512, false),
-        ((1 << 50) - 512, 512, true),
-    ] {
-        same(
-            &rt,
-            (len, offset, placed(write, offset, len).fits()),
-            (len, offset, want),
-        );
-    }
-    same(&rt, in_pass(write, 999).fits(), true);
-    same(&rt, in_pass(write, 1000).fits(), false);
+    assert_fits(&rt, placed(write, 512, 1024), true);
+    assert_fits(&rt, placed(write, 512, 0), false);
+    assert_fits(&rt, placed(write, 512, 700), false);
+    assert_fits(&rt, placed(write, 100, 512), false);
+    assert_fits(&rt, placed(write, 0, 4_194_304), true);
+    assert_fits(&rt, placed(write, 0, 4_194_816), false);
+    assert_fits(&rt, placed(write, 1 << 50, 512), false);
+    assert_fits(&rt, placed(write, (1 << 50) - 512, 512), true);
+    assert_fits(&rt, in_pass(write, 999), true);
+    assert_fits(&rt, in_pass(write, 1000), false);
     Ok(())
 }
 
@@ -101,39 +99,39 @@ fn tickets_expect_what_their_method_is_judged_by(rt: HostRuntime) -> Result<(), 
     let header = Expected::Header([9; 64]);
     let write = write_of(Pattern::new(&[1, 2]).ok_or("a pattern")?);
     let probe = expecting(write, TicketKind::Probe, pattern);
-    let headed = expecting(probe, TicketKind::Probe, header);
-    for (ticket, want) in [
-        (probe, true),
-        (expecting(write, TicketKind::Write, pattern), false),
-        (expecting(write, TicketKind::Probe, other), false),
-        (expecting(write, TicketKind::Probe, header), false),
-        (
-            expecting(write, TicketKind::Probe, Expected::Nothing),
-            false,
-        ),
-        (verified(headed, VerifyKind::Md5), true),
-        (verified(headed, VerifyKind::Plain), false),
-        (verified(write, VerifyKind::Pattern), false),
-    ] {
-        same(&rt, (ticket, ticket.fits()), (ticket, want));
-    }
+    assert_fits(&rt, probe, true);
+    let written = expecting(write, TicketKind::Write, pattern);
+    assert_fits(&rt, written, false);
+    let wrong = expecting(write, TicketKind::Probe, other);
+    assert_fits(&rt, wrong, false);
+    let blank = expecting(write, TicketKind::Probe, Expected::Nothing);
+    assert_fits(&rt, blank, false);
+    let headed = expecting(write, TicketKind::Probe, header);
+    assert_fits(&rt, headed, false);
+    assert_fits(&rt, verified(headed, VerifyKind::Md5), true);
+    assert_fits(&rt, verified(headed, VerifyKind::Plain), false);
+    assert_fits(&rt, verified(write, VerifyKind::Pattern), false);
     Ok(())
 }
 
 #[test]
-fn patterns_have_1_to_64_bytes(rt: HostRuntime) -> Result<(), Fail> {
+fn patterns_have_a_byte_at_least(rt: HostRuntime) -> Result<(), Fail> {
+    let pattern = Pattern::new(&[1, 2]).ok_or("a pattern")?;
+    same(&rt, pattern.as_slice(), [1, 2].as_slice());
     same(&rt, Pattern::new(&[]).is_none(), true);
-    same(&rt, Pattern::new(&[1; 65]).is_none(), true);
-    let longest = Pattern::new(&[7; 64]).ok_or("64 bytes")?;
-    same(&rt, longest.as_slice(), [7; 64].as_slice());
     Ok(())
+}
+
+// Do the bytes give themselves back?
+fn assert_bytes(rt: &impl Abort, bytes: ReplyBytes, want: &[u8]) {
+    same(rt, bytes.as_slice(), want);
+    same(rt, bytes.into_vec().as_slice(), want);
 }
 
 #[test]
 fn reply_bytes_give_themselves_back(rt: HostRuntime) -> Result<(), Fail> {
-    let bytes = ReplyBytes::new([1, 0].to_vec(rt.alloc())?);
-    same(&rt, bytes.as_slice(), [1, 0].as_slice());
-    same(&rt, bytes.into_vec().as_slice(), [1, 0].as_slice());
+    let bytes = Vec::from_array(rt.alloc(), [1, 0])?;
+    assert_bytes(&rt, ReplyBytes::new(bytes), &[1, 0]);
     Ok(())
 }
 

@@ -5,8 +5,17 @@ use std::alloc::Global;
 use std::process::Abort;
 use std::test::Fail;
 
-fn name(alloc: Global, text: &str) -> Result<String, Fail> {
-    Ok(String::from_str(alloc, text)?)
+// The draft with one more clone.
+fn added(
+    alloc: Global,
+    mut draft: Draft,
+    workload: &Workload,
+    file: &str,
+    start: u64,
+) -> Result<Draft, Fail> {
+    let file = String::from_str(alloc, file)?;
+    draft.add(alloc, workload, "w", file, start)?;
+    Ok(draft)
 }
 
 // The plan of a draft that has clones.
@@ -21,35 +30,35 @@ fn plain() -> Workload {
     Workload::plain(IoType::Write, 4096, 4)
 }
 
-// Why a draft of one clone doesn't take another.
-fn refusal(alloc: Global, workload: &Workload, start: u64) -> Result<Option<PlanFault>, Fail> {
-    let mut draft = Draft::new(alloc);
-    draft.add(alloc, &plain(), "a", name(alloc, "f")?, 0)?;
+// What a draft of one clone says of another before it is added and when it is, and how many it has then.
+fn refusal(
+    alloc: Global,
+    workload: &Workload,
+    start: u64,
+) -> Result<(Option<PlanFault>, Option<PlanFault>, usize), Fail> {
+    let file = String::from_str(alloc, "g")?;
+    let mut draft = added(alloc, Draft::new(alloc), &plain(), "f", 0)?;
     let fault = draft.fault(workload, start);
-    let added = draft.add(alloc, workload, "b", name(alloc, "g")?, start);
-    if draft.clones() != 1 + usize::from(added.is_ok()) {
-        return Err(Fail::from("a refused clone is in the draft"));
-    }
-    Ok(if added.err() == fault { fault } else { None })
+    let refused = draft.add(alloc, workload, "w", file, start).err();
+    Ok((fault, refused, draft.clones()))
 }
 
 // Three clones, the last of which has the first one's file.
 fn shared(alloc: Global) -> Result<Plan, Fail> {
-    let mut draft = Draft::new(alloc);
-    draft.add(alloc, &plain(), "a", name(alloc, "f")?, 8192)?;
-    draft.add(alloc, &plain(), "b", name(alloc, "g")?, 0)?;
     let later = Workload {
         phase: 1,
         ..Workload::plain(IoType::RandRead, 512, 8)
     };
-    draft.add(alloc, &later, "c", name(alloc, "f")?, 512)?;
+    let draft = added(alloc, Draft::new(alloc), &plain(), "f", 8192)?;
+    let draft = added(alloc, draft, &plain(), "g", 0)?;
+    let draft = added(alloc, draft, &later, "f", 512)?;
     finished(draft)
 }
 
 const SHARED: &str =
-    "a: clone=0 phase=0 file=f start=8192 size=16384 cell=4096 cells=4 rw=write iodepth=1 loops=1 verify=none
-b: clone=1 phase=0 file=g start=0 size=16384 cell=4096 cells=4 rw=write iodepth=1 loops=1 verify=none
-c: clone=2 phase=1 file=f start=512 size=4096 cell=512 cells=8 rw=randread iodepth=1 loops=1 verify=none
+    "w: clone=0 phase=0 file=f start=8192 size=16384 cell=4096 cells=4 rw=write iodepth=1 loops=1 verify=none
+w: clone=1 phase=0 file=g start=0 size=16384 cell=4096 cells=4 rw=write iodepth=1 loops=1 verify=none
+w: clone=2 phase=1 file=f start=512 size=4096 cell=512 cells=8 rw=randread iodepth=1 loops=1 verify=none
 ";
 
 #[test]
@@ -84,13 +93,11 @@ fn drafts_refuse_by_name(rt: HostRuntime) -> Result<(), Fail> {
         passes: 0,
         ..plain()
     };
-    for (workload, start, fault) in [
-        (plain(), 512, None),
-        (plain(), 100, Some(PlanFault::Block)),
-        (deep, 0, Some(PlanFault::Number)),
-        (idle, 0, Some(PlanFault::Number)),
-    ] {
-        same(&rt, refusal(rt.alloc(), &workload, start)?, fault);
-    }
+    same(&rt, refusal(rt.alloc(), &plain(), 512)?, (None, None, 2));
+    let block = Some(PlanFault::Block);
+    same(&rt, refusal(rt.alloc(), &plain(), 100)?, (block, block, 1));
+    let number = Some(PlanFault::Number);
+    same(&rt, refusal(rt.alloc(), &deep, 0)?, (number, number, 1));
+    same(&rt, refusal(rt.alloc(), &idle, 0)?, (number, number, 1));
     Ok(())
 }

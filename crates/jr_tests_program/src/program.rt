@@ -159,17 +159,17 @@ fn ended_over(alloc: Global, room: usize, flushes: bool) -> Result<u8, CliFault>
 }
 
 #[test]
-fn what_is_cut_is_no_report_and_no_trace(rt: HostRuntime) {
-    let whole = TOTALS.len();
-    for (room, flushes, want) in [
-        (0, true, Err(CliFault::Write)),
-        (whole - 1, true, Err(CliFault::Write)),
-        (whole, false, Err(CliFault::Write)),
-        (whole, true, Ok(0)),
-    ] {
-        let ended = ended_over(rt.alloc(), room, flushes);
-        same(&rt, (room, flushes, ended), (room, flushes, want));
-    }
+fn what_is_cut_is_no_report(rt: HostRuntime) {
+    let (alloc, whole) = (rt.alloc(), TOTALS.len());
+    let cut = Err(CliFault::Write);
+    same(&rt, ended_over(alloc, 0, true), cut);
+    same(&rt, ended_over(alloc, whole - 1, true), cut);
+    same(&rt, ended_over(alloc, whole, false), cut);
+    same(&rt, ended_over(alloc, whole, true), Ok(0));
+}
+
+#[test]
+fn what_is_cut_is_no_trace(rt: HostRuntime) {
     let mut out = Vec::new(rt.alloc());
     let cut = written(rt.alloc(), Some(&mut full()), &mut out);
     same(&rt, cut, Err(CliFault::Write));

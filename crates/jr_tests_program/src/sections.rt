@@ -14,35 +14,41 @@ const SHOWN_JOBS: &str =
 fn shown(alloc: Global, sections: &[Section]) -> Result<String, AllocError> {
     let mut text = String::new(alloc);
     for section in sections {
-        write!(text, "{} [{}]\n", section.line(), section.name())?;
-        for option in section.lines() {
-            match option.value() {
-                Some(value) => write!(text, "{} {}={value}\n", option.line(), option.key())?,
-                None => write!(text, "{} {}\n", option.line(), option.key())?,
-            }
-        }
+        show(&mut text, section)?;
     }
     Ok(text)
 }
 
-#[test]
-fn reads_sections_with_their_lines(rt: HostRuntime) -> Result<(), Fail> {
-    let texts = [
-        ("", ""),
-        ("\n\n", ""),
-        ("[global]", "1 [global]\n"),
-        (
-            "\t[ x[y] ]\r\nb\u{e4}r=\u{e4}\t",
-            "1 [ x[y]\n2 b\u{e4}r=\u{e4}\n",
-        ),
-        (JOBS, SHOWN_JOBS),
-    ];
-    for (text, want) in texts {
-        let read = sections(rt.alloc(), text.as_bytes())?;
-        let read = shown(rt.alloc(), read.as_slice())?;
-        same(&rt, (text, read.as_str()), (text, want));
+fn show(text: &mut String, section: &Section) -> Result<(), AllocError> {
+    write!(text, "{} [{}]\n", section.line(), section.name())?;
+    for option in section.lines() {
+        match option.value() {
+            Some(value) => write!(text, "{} {}={value}\n", option.line(), option.key())?,
+            None => write!(text, "{} {}\n", option.line(), option.key())?,
+        }
     }
     Ok(())
+}
+
+// Is this what is read of the text?
+fn assert_read(rt: &(impl AllocGlobal + Abort), text: &str, want: &str) -> Result<(), Fail> {
+    let sections = sections(rt.alloc(), text.as_bytes())?;
+    let read = shown(rt.alloc(), sections.as_slice())?;
+    same(rt, (text, read.as_str()), (text, want));
+    Ok(())
+}
+
+#[test]
+fn reads_sections_with_their_lines(rt: HostRuntime) -> Result<(), Fail> {
+    assert_read(&rt, "", "")?;
+    assert_read(&rt, "\n\n", "")?;
+    assert_read(&rt, "[global]", "1 [global]\n")?;
+    assert_read(
+        &rt,
+        "\t[ x[y] ]\r\nb\u{e4}r=\u{e4}\t",
+        "1 [ x[y]\n2 b\u{e4}r=\u{e4}\n",
+    )?;
+    assert_read(&rt, JOBS, SHOWN_JOBS)
 }
 
 // A section with two lines, the second without a value.

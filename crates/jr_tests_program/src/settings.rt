@@ -22,17 +22,22 @@ fn shape(alloc: Global, text: &str) -> Result<Shape, JobFault> {
     }
 }
 
-#[test]
-fn the_last_mix_counts(rt: HostRuntime) -> Result<(), Fail> {
-    for (text, percent) in [
-        ("[a]\n", 50),
-        ("[a]\nrwmixread=70\nrwmixwrite=40\n", 60),
-        ("[a]\nrwmixwrite=40\nrwmixread=70\n", 70),
-    ] {
-        let options = options(rt.alloc(), text)?;
-        same(&rt, (text, options.read_percent), (text, percent));
+// How many hundredths of a text's first job are reads.
+fn read_percent(alloc: Global, text: &str) -> Result<u8, JobFault> {
+    match options(alloc, text) {
+        Ok(options) => Ok(options.read_percent),
+        Err(fault) => Err(fault),
     }
-    Ok(())
+}
+
+#[test]
+fn the_last_mix_counts(rt: HostRuntime) {
+    let alloc = rt.alloc();
+    same(&rt, read_percent(alloc, "[a]\n"), Ok(50));
+    let text = "[a]\nrwmixread=70\nrwmixwrite=40\n";
+    same(&rt, read_percent(alloc, text), Ok(60));
+    let text = "[a]\nrwmixwrite=40\nrwmixread=70\n";
+    same(&rt, read_percent(alloc, text), Ok(70));
 }
 
 #[test]

@@ -19,17 +19,15 @@ pub fn assert_said(
     Ok(())
 }
 
+const WANT: &str = "out of memory";
+
 #[test]
 fn wants_have_their_text_and_status(rt: HostRuntime) -> Result<(), Fail> {
-    for fault in [
-        CliFault::Text(TextFault::Memory),
-        CliFault::Job(JobFault::Memory),
-        CliFault::Run(RunFault::Memory),
-        CliFault::Trace(TraceFault::Memory),
-        CliFault::Memory,
-    ] {
-        assert_said(&rt, fault, 3, "out of memory")?;
-    }
+    assert_said(&rt, CliFault::Text(TextFault::Memory), 3, WANT)?;
+    assert_said(&rt, CliFault::Job(JobFault::Memory), 3, WANT)?;
+    assert_said(&rt, CliFault::Run(RunFault::Memory), 3, WANT)?;
+    assert_said(&rt, CliFault::Trace(TraceFault::Memory), 3, WANT)?;
+    assert_said(&rt, CliFault::Memory, 3, WANT)?;
     let thread = CliFault::Run(RunFault::Thread);
     assert_said(&rt, thread, 3, "cannot start a thread")
 }

@@ -71,18 +71,14 @@ fn assert_refused(
 
 #[test]
 fn words_are_refused_by_their_kind(rt: HostRuntime) -> Result<(), Fail> {
-    for (word, kind, status) in [
-        ("--workers=0", ErrorKind::ValueValidation, 2),
-        ("--workers=17", ErrorKind::ValueValidation, 2),
-        ("--workers=-1", ErrorKind::ValueValidation, 2),
-        ("--workers=two", ErrorKind::ValueValidation, 2),
-        ("--nosuch", ErrorKind::UnknownArgument, 2),
-        ("--workers", ErrorKind::InvalidValue, 2),
-        ("--parse-only=1", ErrorKind::TooManyValues, 2),
-        ("--help", ErrorKind::DisplayHelp, 0),
-        ("--version", ErrorKind::DisplayVersion, 0),
-    ] {
-        assert_refused(&rt, word, kind, status)?;
-    }
-    Ok(())
+    let value = ErrorKind::ValueValidation;
+    assert_refused(&rt, "--workers=0", value, 2)?;
+    assert_refused(&rt, "--workers=17", value, 2)?;
+    assert_refused(&rt, "--workers=-1", value, 2)?;
+    assert_refused(&rt, "--workers=two", value, 2)?;
+    assert_refused(&rt, "--nosuch", ErrorKind::UnknownArgument, 2)?;
+    assert_refused(&rt, "--workers", ErrorKind::InvalidValue, 2)?;
+    assert_refused(&rt, "--parse-only=1", ErrorKind::TooManyValues, 2)?;
+    assert_refused(&rt, "--help", ErrorKind::DisplayHelp, 0)?;
+    assert_refused(&rt, "--version", ErrorKind::DisplayVersion, 0)
 }
