@@ -1,5 +1,4 @@
-ghost use Rattle.std.specs.Prelude.{◌≡◌, ◌+◌, ◌<◌, ◌≤◌, vec_len, IfOk};
-ghost use Rattle.jr_files.specs.Regions.{IsCut};
+ghost use Rattle.std.specs.Prelude.{◌≡◌, ◌<◌, vec_len, IfOk};
 
 use crate::regions::Regions;
 use std::alloc::{AllocError, Global};
@@ -18,6 +17,50 @@ pub struct Marks {
     ghost sized: { 0 < regions.size },
     ghost some: { 0 < regions.count },
     ghost all: { vec_len marks ≡ regions.count },
+}
+
+/// How far a renewal of a file has come.
+#[derive(Clone, Copy, Debug, PartialEq, Eq)]
+pub enum Stage {
+    /// Its sync is to begin.
+    Begun,
+    /// The sync has ended.
+    Synced,
+    /// What the system's cache had of the file was dropped since then.
+    Dropped,
+}
+
+/// A sync of a file, and then a drop of what the system's cache has of it.
+#[derive(Debug, Drop)]
+pub struct Renewal {
+    number: u64,
+    stage: Stage,
+}
+
+impl Renewal {
+    /// The renewal once its sync has ended.
+    pub fn synced(self) -> Renewal
+        requires { self.stage ≡ Stage.Begun }
+        ensures stage { result.stage ≡ Stage.Synced }
+        ensures number { result.number ≡ self.number }
+    {
+        Renewal {
+            stage: Stage::Synced,
+            ..self
+        }
+    }
+
+    /// The renewal once its drop has ended too.
+    pub fn dropped(self) -> Renewal
+        requires { self.stage ≡ Stage.Synced }
+        ensures stage { result.stage ≡ Stage.Dropped }
+        ensures number { result.number ≡ self.number }
+    {
+        Renewal {
+            stage: Stage::Dropped,
+            ..self
+        }
+    }
 }
 
 impl Marks {
@@ -50,14 +93,22 @@ impl Marks {
         has_newer(self.marks.as_slice(), self.ended.load(Ordering::SeqCst))
     }
 
-    /// The number of a sync that is to begin.
-    pub fn begin(&self) -> u64 {
-        self.begun.fetch_add(1, Ordering::SeqCst).saturating_add(1)
+    /// A renewal of the file, whose sync is to begin.
+    pub fn begin(&self) -> Renewal
+        ensures { result.stage ≡ Stage.Begun }
+    {
+        let number = self.begun.fetch_add(1, Ordering::SeqCst).saturating_add(1);
+        Renewal {
+            number,
+            stage: Stage::Begun,
+        }
     }
 
-    /// Notes that the sync of this number has ended, and that what it wrote was dropped from the cache.
-    pub fn end(&self, sync: u64) {
-        raise(&self.ended, sync);
+    /// Notes that a renewal has ended: what was written before it began is read from the device now.
+    pub fn end(&self, renewal: Renewal)
+        requires { renewal.stage ≡ Stage.Dropped }
+    {
+        raise(&self.ended, renewal.number);
     }
 
     // The marks of the regions of these bytes.

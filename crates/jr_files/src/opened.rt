@@ -1,6 +1,6 @@
-ghost use Rattle.std.specs.Prelude.{◌≤◌, IfOk, length};
+ghost use Rattle.std.specs.Prelude.{◌≡◌, ◌≤◌, IfOk, length};
 
-use crate::marks::Marks;
+use crate::marks::{Marks, Renewal, Stage};
 use std::fs::File;
 use std::io;
 use std::io::ErrorKind;
@@ -19,15 +19,16 @@ pub struct OpenedFile {
 }
 
 impl OpenedFile {
-    /// The file, with no mark of its own. Where the system keeps it in a cache, what is read of a fresh one comes from the device.
-    pub fn new(file: File, marks: Marks, has_cache: bool, is_fresh: bool) -> OpenedFile {
-        OpenedFile {
+    /// The file with these marks. What is read of a fresh one comes from the device, if the system keeps the file in a cache.
+    pub fn new(file: File, marks: Marks, is_fresh: bool) -> io::Result<OpenedFile> {
+        let has_cache = has_cache(&file)?;
+        Ok(OpenedFile {
             file,
             marks,
             has_cache,
             is_fresh,
             is_lost: AtomicBool::new(false),
-        }
+        })
     }
 
     /// Reads bytes from `offset` on, of a fresh file those of the device.
@@ -52,24 +53,30 @@ impl OpenedFile {
     /// Syncs the file if it was written since it was synced last. It fails for good once a sync has failed.
     pub fn settle(&self) -> io::Result<()> {
         self.keeps()?;
-        if !self.has_cache || !self.marks.is_any_stale() {
-            return Ok(());
+        if self.has_cache && self.marks.is_any_stale() {
+            self.sync(self.marks.begin())?;
         }
-        self.sync()
+        Ok(())
+    }
+
+    /// Syncs the file, and drops what the system's cache has of it.
+    pub fn renew(&self) -> io::Result<()> {
+        if self.has_cache {
+            let synced = self.sync(self.marks.begin())?;
+            self.marks.end(self.forget(synced)?);
+        }
+        Ok(())
     }
 
     // Sees to it that these bytes are read from the device.
     fn freshen(&self, offset: u64, len: usize) -> io::Result<()> {
         self.keeps()?;
-        if !self.marks.is_stale(offset, len) {
-            return Ok(());
-        }
-        let number = self.marks.begin();
-        self.sync()?;
-        // Another handle may have done the same meanwhile: what is read ahead since then isn't dropped again.
         if self.marks.is_stale(offset, len) {
-            forget(&self.file)?;
-            self.marks.end(number);
+            let synced = self.sync(self.marks.begin())?;
+            // Another handle may have renewed it meanwhile: what was read ahead since then stays.
+            if self.marks.is_stale(offset, len) {
+                self.marks.end(self.forget(synced)?);
+            }
         }
         Ok(())
     }
@@ -82,32 +89,33 @@ impl OpenedFile {
         Ok(())
     }
 
-    fn sync(&self) -> io::Result<()> {
-        let result = self.file.sync_data();
-        if result.is_err() {
+    // Has the system write to the device what it keeps of the file.
+    fn sync(&self, renewal: Renewal) -> io::Result<Renewal>
+        requires { renewal.stage ≡ Stage.Begun }
+        ensures { IfOk result (λ renewal. renewal.stage ≡ Stage.Synced) }
+    {
+        if let Err(error) = self.file.sync_data() {
             self.is_lost.store(true, Ordering::SeqCst);
+            return Err(error);
         }
-        result
+        Ok(renewal.synced())
+    }
+
+    // Has the system drop what its cache has of the file, but for what isn't synced.
+    fn forget(&self, renewal: Renewal) -> io::Result<Renewal>
+        requires { renewal.stage ≡ Stage.Synced }
+        ensures { IfOk result (λ renewal. renewal.stage ≡ Stage.Dropped) }
+    {
+        let file = self.file.as_raw_fd();
+        match libc::posix_fadvise(file, 0, 0, libc::POSIX_FADV_DONTNEED) {
+            0 => Ok(renewal.dropped()),
+            refused => Err(io::Error::from_raw_os_error(refused)),
+        }
     }
 }
 
-/// Syncs the file, and drops what the system's cache has of it.
-pub fn renew(file: &File) -> io::Result<()> {
-    file.sync_data()?;
-    forget(file)
-}
-
-/// Whether the system keeps the file's bytes in a cache: a plain file, or a block device.
-pub fn has_cache(file: &File) -> io::Result<bool> {
+// Whether the system keeps the file's bytes in a cache: those of a plain file, or of a block device.
+fn has_cache(file: &File) -> io::Result<bool> {
     let kind = file.metadata()?.file_type();
     Ok(kind.is_file() || kind.is_block_device())
-}
-
-// Drops the pages of the file that the system's cache has, but for those that aren't synced.
-fn forget(file: &File) -> io::Result<()> {
-    let refused = libc::posix_fadvise(file.as_raw_fd(), 0, 0, libc::POSIX_FADV_DONTNEED);
-    if refused != 0 {
-        return Err(io::Error::from_raw_os_error(refused));
-    }
-    Ok(())
 }

@@ -4,7 +4,7 @@ ghost use Rattle.jr_files.specs.Engines.{IsFresh, IsOpenFault, NamesFile};
 use crate::faults::FileFault;
 use crate::file_engine::{FileEngine, open};
 use crate::marks::Marks;
-use crate::opened::{OpenedFile, has_cache, renew};
+use crate::opened::OpenedFile;
 use crate::positioned::Positioned;
 use crate::uses::{is_checked, is_written};
 use jr_plan::Plan;
@@ -131,27 +131,20 @@ fn opened_file<R: Files<File = File>>(
     let spec = &plan.files()[index];
     let is_fresh = source == Source::Device && is_checked(plan, index);
     let marks = Marks::new(alloc, if is_fresh { spec.high() } else { 0 })?;
-    let Ok((file, has_cache)) = prepared(rt, spec.name(), is_written(plan, index), source) else {
+    let Ok(file) = open(rt, spec.name(), is_written(plan, index)).and_then(|file| prepared(
+        file, marks, is_fresh, source,
+    )) else {
         return Err(FileFault::File(index));
     };
-    let file = OpenedFile::new(file, marks, has_cache, is_fresh);
-    Ok(SharedFile {
-        file: Arc::new(alloc, file)?,
-    })
+    let file = Arc::new(alloc, file)?;
+    Ok(SharedFile { file })
 }
 
-// Opens a file, and says whether the system keeps it in a cache: where it is to be read from its device, it is synced and
-// dropped from there.
-fn prepared<R: Files<File = File>>(
-    rt: &R,
-    name: &str,
-    is_written: bool,
-    source: Source,
-) -> io::Result<(File, bool)> {
-    let file = open(rt, name, is_written)?;
-    let has_cache = has_cache(&file)?;
-    if has_cache && source == Source::Device {
-        renew(&file)?;
+// The file as engines share it. Where it is to be read from its device, it is synced, and dropped from the system's cache.
+fn prepared(file: File, marks: Marks, is_fresh: bool, source: Source) -> io::Result<OpenedFile> {
+    let file = OpenedFile::new(file, marks, is_fresh)?;
+    if source == Source::Device {
+        file.renew()?;
     }
-    Ok((file, has_cache))
+    Ok(file)
 }

@@ -2,7 +2,6 @@ ghost use Rattle.std.specs.Prelude.{◌≡◌, ◌<◌, ◌≤◌, length};
 ghost use Rattle.std.specs.List.{list_any};
 ghost use Rattle.jr_files.specs.Uses.{checks_file, writes_file};
 
-use jr_model::VerifyKind;
 use jr_plan::{Plan, SubJob};
 
 /// Whether a clone of the plan writes this file.
@@ -38,5 +37,5 @@ fn writes_file(job: &SubJob, file: usize) -> bool
 fn checks_file(job: &SubJob, file: usize) -> bool
     ensures { result ≡ checks_file file job.now }
 {
-    writes_file(job, file) && job.method().kind != VerifyKind::Plain && job.checks_writes()
+    writes_file(job, file) && job.method().kind.is_verified() && job.checks_writes()
 }
