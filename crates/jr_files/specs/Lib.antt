@@ -1,3 +1,5 @@
 pub mod Engines
 pub mod Moves
 pub mod Parts
+pub mod Regions
+pub mod Uses

@@ -1,4 +1,4 @@
-use std::alloc::AllocFailed;
+use std::alloc::{AllocError, AllocFailed};
 use thiserror::Error;
 
 /// Why the files of a plan couldn't be made or opened.
@@ -19,6 +19,17 @@ impl<T: Drop> From<AllocFailed<T>> for FileFault {
     ghost from_gives = { λ error made. made ≡ fault.Memory };
 
     fn from(_error: AllocFailed<T>) -> FileFault {
+        FileFault::Memory
+    }
+}
+
+impl From<AllocError> for FileFault {
+    ghost use Rattle.std.specs.Prelude.{◌≡◌};
+    ghost use Rattle.jr_files.specs.declared.faults.FileFault.TheVariants as fault;
+
+    ghost from_gives = { λ error made. made ≡ fault.Memory };
+
+    fn from(_error: AllocError) -> FileFault {
         FileFault::Memory
     }
 }

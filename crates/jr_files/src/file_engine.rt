@@ -5,6 +5,7 @@ ghost use Rattle.jr_files.specs.Engines.{IsFresh, IsOpenFault, ReadsKnown, Write
 use crate::faults::FileFault;
 use crate::moving::{LARGEST_OFFSET, read_whole, write_whole};
 use crate::positioned::Positioned;
+use crate::uses::is_written;
 use jr_engines::{Engine, EngineFault, Tally};
 use jr_plan::Plan;
 use std::alloc::Global;
@@ -63,7 +64,7 @@ impl FileEngine<File> {
     {
         let mut files = Vec::new(alloc);
         for (index, spec) in plan.files().iter().enumerate() {
-            let Ok(file) = open(rt, spec.name()) else {
+            let Ok(file) = open(rt, spec.name(), is_written(plan, index)) else {
                 return Err(FileFault::File(index));
             };
             files.push(file)?;
@@ -118,9 +119,12 @@ impl<F: Positioned> Engine for FileEngine<F> {
     }
 }
 
-// Opens a file that is there for reading and writing.
-pub fn open<R: Files<File = File>>(rt: &R, name: &str) -> io::Result<File> {
-    OpenOptions::new().read(true).write(true).open(rt, name)
+// Opens a file that is there, for reading alone where it isn't written.
+pub fn open<R: Files<File = File>>(rt: &R, name: &str, is_written: bool) -> io::Result<File> {
+    OpenOptions::new()
+        .read(true)
+        .write(is_written)
+        .open(rt, name)
 }
 
 // Whether there is this file, and the system can name all of these bytes of it.

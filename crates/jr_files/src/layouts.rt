@@ -3,25 +3,38 @@ ghost use Rattle.std.specs.Io.KnownBytes.{Keeps};
 ghost use Rattle.jr_files.specs.Engines.{NamesFile};
 
 use crate::faults::FileFault;
+use crate::uses::is_written;
 use jr_plan::Plan;
-use std::fs::OpenOptions;
+use std::fs::{File, OpenOptions};
 use std::io;
 use std::io::{Seek, SeekFrom, Write};
 use std::rt::Files;
 
 /// Makes each file of the plan that is missing, and extends each that is shorter than its end by one zero byte.
 ///
-/// A file's length is where a seek to its end stands, so that a device of the right size isn't written to.
+/// A file's length is where a seek to its end stands, so that a device of the right size isn't written to. One that no clone
+/// writes, and that is long enough, needs no right to write it.
 /// At an error the files before the one that it names are laid out, and those behind it aren't touched.
 pub fn lay_out<R: Files>(rt: &R, plan: &Plan) -> Result<(), FileFault>
     ensures { IfErr result (λ fault. NamesFile fault (length plan.now.files)) }
 {
     for (index, spec) in plan.files().iter().enumerate() {
+        if !is_written(plan, index) && has_length(rt, spec.name(), spec.high()) {
+            continue;
+        }
         if extend(rt, spec.name(), spec.high()).is_err() {
             return Err(FileFault::File(index));
         }
     }
     Ok(())
+}
+
+// Whether the file can be read, and has at least so many bytes.
+fn has_length<R: Files>(rt: &R, name: &str, high: u64) -> bool {
+    let Ok(mut file) = File::open(rt, name) else {
+        return false;
+    };
+    file.seek(SeekFrom::End(0)).is_ok_and(|end| end >= high)
 }
 
 // Makes the file if it is missing, and lets it have at least so many bytes.

@@ -4,9 +4,13 @@
 mod faults;
 mod file_engine;
 mod layouts;
+mod marks;
 mod moving;
+mod opened;
 mod positioned;
+mod regions;
 mod shares;
+mod uses;
 
 pub use faults::FileFault;
 pub use file_engine::FileEngine;

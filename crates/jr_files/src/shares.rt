@@ -1,21 +1,23 @@
-ghost use Rattle.std.specs.Prelude.{◌≡◌, length, IfOk, IfErr};
-ghost use Rattle.jr_files.specs.Engines.{IsFresh, IsOpenFault};
+ghost use Rattle.std.specs.Prelude.{◌≡◌, ◌<◌, length, IfOk, IfErr};
+ghost use Rattle.jr_files.specs.Engines.{IsFresh, IsOpenFault, NamesFile};
 
 use crate::faults::FileFault;
 use crate::file_engine::{FileEngine, open};
+use crate::marks::Marks;
+use crate::opened::OpenedFile;
 use crate::positioned::Positioned;
+use crate::uses::{is_checked, is_written};
 use jr_plan::Plan;
 use std::alloc::Global;
 use std::fs::File;
 use std::io;
-use std::os::unix::fs::FileExt;
 use std::rt::Files;
 use std::sync::Arc;
 
 /// An open file that several engines read and write, each call by its own offset.
 #[derive(Drop)]
 pub struct SharedFile {
-    file: Arc<File>,
+    file: Arc<OpenedFile>,
 }
 
 impl Positioned for SharedFile {
@@ -24,16 +26,26 @@ impl Positioned for SharedFile {
     ghost view = { λ _. unknown_view };
 
     fn read_at(&mut self, buf: &mut [u8], offset: u64) -> io::Result<usize> {
-        FileExt::read_at(&*self.file, buf, offset)
+        self.file.read_at(buf, offset)
     }
 
     fn write_at(&mut self, buf: &[u8], offset: u64) -> io::Result<usize> {
-        FileExt::write_at(&*self.file, buf, offset)
+        self.file.write_at(buf, offset)
     }
+}
+
+// Where the reads of a file come from that was written before.
+#[derive(Clone, Copy, Debug, PartialEq, Eq)]
+enum Source {
+    Device,
+    Cache,
 }
 
 impl FileEngine<SharedFile> {
     /// Opens the plan's files, which have to be there (`lay_out` makes them), once for all engines that are to share them.
+    ///
+    /// Each is synced, and dropped from the system's cache. In a file that a clone checks, what was written through
+    /// these engines is read only once the same was done again: so a check reads the device.
     pub fn shared<R: Files<File = File>>(
         rt: &R,
         alloc: Global,
@@ -42,15 +54,19 @@ impl FileEngine<SharedFile> {
         ensures ok { IfOk result (λ engine. IsFresh engine (length plan.now.files)) }
         ensures err { IfErr result (λ fault. IsOpenFault fault (length plan.now.files)) }
     {
-        let mut files = Vec::new(alloc);
-        for (index, spec) in plan.files().iter().enumerate() {
-            let Ok(file) = open(rt, spec.name()) else {
-                return Err(FileFault::File(index));
-            };
-            let file = Arc::new(alloc, file)?;
-            files.push(SharedFile { file })?;
-        }
-        Ok(FileEngine::over(files))
+        opened(rt, alloc, plan, Source::Device)
+    }
+
+    /// The same, where what is read may come from the system's cache. Nothing is synced but by `settle`.
+    pub fn shared_cached<R: Files<File = File>>(
+        rt: &R,
+        alloc: Global,
+        plan: &Plan,
+    ) -> Result<FileEngine<SharedFile>, FileFault>
+        ensures ok { IfOk result (λ engine. IsFresh engine (length plan.now.files)) }
+        ensures err { IfErr result (λ fault. IsOpenFault fault (length plan.now.files)) }
+    {
+        opened(rt, alloc, plan, Source::Cache)
     }
 
     /// One more engine over the same open files, with counts of its own.
@@ -67,4 +83,68 @@ impl FileEngine<SharedFile> {
         }
         Ok(FileEngine::over(files))
     }
+
+    /// Syncs each file that was written, by any engine that shares it, since it was synced last.
+    ///
+    /// A fault names the first file of which the system has lost something that was written, now or at a sync before.
+    pub fn settle(&self) -> Result<(), FileFault>
+        ensures { IfErr result (λ fault. NamesFile fault (length self.now.files)) }
+    {
+        let mut settled = Ok(());
+        for (index, shared) in self.files().iter().enumerate() {
+            if shared.file.settle().is_err() && settled.is_ok() {
+                settled = Err(FileFault::File(index));
+            }
+        }
+        settled
+    }
+}
+
+// Opens the plan's files for engines that are to share them.
+fn opened<R: Files<File = File>>(
+    rt: &R,
+    alloc: Global,
+    plan: &Plan,
+    source: Source,
+) -> Result<FileEngine<SharedFile>, FileFault>
+    ensures ok { IfOk result (λ engine. IsFresh engine (length plan.now.files)) }
+    ensures err { IfErr result (λ fault. IsOpenFault fault (length plan.now.files)) }
+{
+    let mut files = Vec::new(alloc);
+    for index in 0..plan.files().len() {
+        files.push(opened_file(rt, alloc, plan, index, source)?)?;
+    }
+    Ok(FileEngine::over(files))
+}
+
+// Opens one of them.
+fn opened_file<R: Files<File = File>>(
+    rt: &R,
+    alloc: Global,
+    plan: &Plan,
+    index: usize,
+    source: Source,
+) -> Result<SharedFile, FileFault>
+    requires { index < length plan.now.files }
+    ensures { IfErr result (λ fault. IsOpenFault fault (length plan.now.files)) }
+{
+    let spec = &plan.files()[index];
+    let is_fresh = source == Source::Device && is_checked(plan, index);
+    let marks = Marks::new(alloc, if is_fresh { spec.high() } else { 0 })?;
+    let Ok(file) = open(rt, spec.name(), is_written(plan, index)).and_then(|file| prepared(
+        file, marks, is_fresh, source,
+    )) else {
+        return Err(FileFault::File(index));
+    };
+    let file = Arc::new(alloc, file)?;
+    Ok(SharedFile { file })
+}
+
+// The file as engines share it. Where it is to be read from its device, it is synced, and dropped from the system's cache.
+fn prepared(file: File, marks: Marks, is_fresh: bool, source: Source) -> io::Result<OpenedFile> {
+    let file = OpenedFile::new(file, marks, is_fresh)?;
+    if source == Source::Device {
+        file.renew()?;
+    }
+    Ok(file)
 }

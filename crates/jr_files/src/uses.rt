@@ -1,0 +1,41 @@
+ghost use Rattle.std.specs.Prelude.{◌≡◌, ◌<◌, ◌≤◌, length};
+ghost use Rattle.std.specs.List.{list_any};
+ghost use Rattle.jr_files.specs.Uses.{checks_file, writes_file};
+
+use jr_plan::{Plan, SubJob};
+
+/// Whether a clone of the plan writes this file.
+pub fn is_written(plan: &Plan, file: usize) -> bool
+    ensures { result ≡ list_any (writes_file file) plan.now.clones }
+{
+    for i in 0..plan.clones() {
+        if writes_file(plan.clone_at(i), file) {
+            return true;
+        }
+    }
+    false
+}
+
+/// Whether a clone of the plan reads back what it writes to this file.
+pub fn is_checked(plan: &Plan, file: usize) -> bool
+    ensures { result ≡ list_any (checks_file file) plan.now.clones }
+{
+    for i in 0..plan.clones() {
+        if checks_file(plan.clone_at(i), file) {
+            return true;
+        }
+    }
+    false
+}
+
+fn writes_file(job: &SubJob, file: usize) -> bool
+    ensures { result ≡ writes_file file job.now }
+{
+    job.file() as usize == file && job.io_type().has_writes()
+}
+
+fn checks_file(job: &SubJob, file: usize) -> bool
+    ensures { result ≡ checks_file file job.now }
+{
+    writes_file(job, file) && job.method().kind.is_verified() && job.checks_writes()
+}
