@@ -8,7 +8,7 @@ use jr_cli::{
     print_check, print_plan, read_job, read_text, read_trace, workers_of,
 };
 use jr_engines::{Engine, MemoryEngine, NullEngine, SharedMemory};
-use jr_files::{FileEngine, FileFault, SharedFile, Source, lay_out};
+use jr_files::{FileEngine, FileFault, SharedFile, lay_out};
 use jr_model::EngineKind;
 use jr_plan::Plan;
 use show::{Extent, Screen, shown};
@@ -122,12 +122,7 @@ fn perform<
         return Ok(Turn::Ended(0));
     }
     let workers = workers_of(&plan, choice.workers);
-    let source = if choice.cached {
-        Source::Cache
-    } else {
-        Source::Device
-    };
-    run_plan(rt, choice.trace, source, plan, workers, &mut out)
+    run_plan(rt, choice, plan, workers, &mut out)
 }
 
 // The trace that is to be checked.
@@ -173,20 +168,14 @@ fn job_text<R: Files + Input + AllocGlobal>(
 fn run_plan<
     R: Files<File = File> + Screen + AllocGlobal + Clock + Threads + Wait + Sync,
     V: io::Write,
->(
-    rt: &R,
-    trace: Option<&str>,
-    source: Source,
-    plan: Plan,
-    workers: u32,
-    out: &mut V,
-) -> Result<Turn, CliFault> {
+>(rt: &R, choice: &Choice<'_>, plan: Plan, workers: u32, out: &mut V) -> Result<Turn, CliFault> {
     if workers == 1 && plan.verifiers() == 0 {
-        return Ok(Turn::Ended(run_alone(rt, trace, source, plan, out)?));
+        return Ok(Turn::Ended(run_alone(rt, choice, plan, out)?));
     }
+    let trace = choice.trace;
     match plan.engine() {
         EngineKind::File => {
-            let files = opened(rt, &plan, source)?;
+            let files = opened(rt, &plan, choice.cached)?;
             let engines = file_shares(rt.alloc(), &files, workers)?;
             let events = trace_file(rt, trace)?;
             let status = run_files(rt, plan, engines, events, out)?;
@@ -211,16 +200,11 @@ fn run_plan<
 fn run_alone<
     R: Files<File = File> + Screen + AllocGlobal + Clock + Threads + Wait + Sync,
     V: io::Write,
->(
-    rt: &R,
-    trace: Option<&str>,
-    source: Source,
-    plan: Plan,
-    out: &mut V,
-) -> Result<u8, CliFault> {
+>(rt: &R, choice: &Choice<'_>, plan: Plan, out: &mut V) -> Result<u8, CliFault> {
+    let trace = choice.trace;
     match plan.engine() {
         EngineKind::File => {
-            let mut files = opened(rt, &plan, source)?;
+            let mut files = opened(rt, &plan, choice.cached)?;
             let status = run_over(rt, trace, plan, &mut files, out)?;
             settled(&files, status)
         }
@@ -243,16 +227,22 @@ fn laid_out<R: Files>(rt: &R, plan: &Plan) -> Result<(), CliFault> {
     }
 }
 
-// The plan's files, made where they are missing, long enough, and opened, to be shared by workers.
+// The plan's files, made where they are missing, long enough, and opened, to be shared by workers. What a check reads of them comes
+// from the device, unless the system's cache is asked for.
 fn opened<R: Files<File = File> + AllocGlobal>(
     rt: &R,
     plan: &Plan,
-    source: Source,
+    cached: bool,
 ) -> Result<FileEngine<SharedFile>, CliFault>
     ensures { IfOk result (λ engine. engine.calls ≡ 0) }
 {
     laid_out(rt, plan)?;
-    match FileEngine::shared(rt, rt.alloc(), plan, source) {
+    let made = if cached {
+        FileEngine::shared_cached(rt, rt.alloc(), plan)
+    } else {
+        FileEngine::shared(rt, rt.alloc(), plan)
+    };
+    match made {
         Ok(files) => Ok(files),
         Err(fault) => Err(open_fault(fault)),
     }

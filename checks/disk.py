@@ -1,0 +1,204 @@
+#!/usr/bin/env python3
+"""checks/disk.py [PROGRAM] runs the program (bin/fiorun where none is given) over files of a disk, and as root over loop devices that lose what
+they are given, and looks at what the system read and wrote for it: that checks read the device and not the system's cache. What can't be
+tried here is skipped with a word. The status is 1 where something is wrong."""
+
+import contextlib
+import os
+import re
+import resource
+import shutil
+import subprocess
+import sys
+import tempfile
+
+HERE = os.path.dirname(os.path.realpath(__file__))
+MIB = 1 << 20
+CLEAN = "w: clone=0 reads=0 rbytes=0 writes=256 wbytes=1048576 checks=256 good=256 bad=0 skipped=0 void=0 faults=0\n"
+
+
+class Skipped(Exception):
+    """Why a case can't be tried here."""
+
+
+class Wrong(Exception):
+    """What isn't as it must be."""
+
+
+def expect(holds, text):
+    if not holds:
+        raise Wrong(text)
+
+
+def run(program, room, job, *words):
+    """Runs a job text; the finished process, and how many bytes the system read from devices for it."""
+    before = resource.getrusage(resource.RUSAGE_CHILDREN).ru_inblock
+    ran = subprocess.run([program, *words], input=job, cwd=room, capture_output=True, text=True, timeout=120, check=False)
+    return ran, 512 * (resource.getrusage(resource.RUSAGE_CHILDREN).ru_inblock - before)
+
+
+def job_of(size="1m", more=(), verify="md5", filename="f"):
+    lines = ["[w]", "ioengine=psync", "rw=write", f"size={size}", f"verify={verify}", f"filename={filename}", *more]
+    return "\n".join(lines) + "\n"
+
+
+def needs(word, *tools):
+    for it in tools:
+        if not shutil.which(it):
+            raise Skipped(f"{word}: there is no {it}")
+
+
+def on_a_disk(room):
+    """Not where the folder for temporary files is a memory."""
+    kind = subprocess.run(["stat", "-f", "-c", "%T", room], capture_output=True, text=True, check=False).stdout.strip()
+    if kind in ("tmpfs", "ramfs"):
+        raise Skipped(f"{room} is a {kind}")
+
+
+@contextlib.contextmanager
+def tmpfs(room, size):
+    folder = os.path.join(room, "small")
+    os.mkdir(folder)
+    if os.geteuid() != 0:
+        raise Skipped("not root")
+    if subprocess.run(["mount", "-t", "tmpfs", "-o", f"size={size}", "tmpfs", folder], capture_output=True, check=False).returncode:
+        raise Skipped("no tmpfs can be mounted")
+    try:
+        yield folder
+    finally:
+        subprocess.run(["umount", folder], capture_output=True, check=False)
+
+
+@contextlib.contextmanager
+def loop_device(image, size):
+    """A loop device over a sparse image."""
+    needs("a loop device", "losetup")
+    if os.geteuid() != 0:
+        raise Skipped("not root")
+    with open(image, "wb") as it:
+        it.truncate(size)
+    made = subprocess.run(["losetup", "-f", "--show", image], capture_output=True, text=True, check=False)
+    if made.returncode:
+        raise Skipped(f"no loop device: {made.stderr.strip()}")
+    device = made.stdout.strip()
+    try:
+        yield device
+    finally:
+        subprocess.run(["losetup", "-d", device], capture_output=True, check=False)
+
+
+def totals_of(report):
+    return {key: int(value) for key, value in re.findall(r" (\w+)=(\d+)", report.split("\n")[0])}
+
+
+def checks_read_the_device(program, room):
+    """The system reads from the device at least what was checked; with --cached next to nothing."""
+    on_a_disk(room)
+    for words in ((), ("--workers=4",)):
+        ran, read = run(program, room, job_of("16m", ["iodepth=8"]), *words)
+        expect(ran.returncode == 0, f"status {ran.returncode}: {ran.stderr}")
+        expect(read >= 16 * MIB, f"16 MiB were checked with {words}, and {read} bytes were read from the device")
+    ran, read = run(program, room, job_of("16m"), "--cached")
+    expect(ran.returncode == 0 and read < 2 * MIB, f"with --cached status {ran.returncode}, and {read} bytes were read")
+
+
+def a_later_run_reads_the_device(program, room):
+    """What stands in the cache as a run begins is dropped."""
+    on_a_disk(room)
+    with open(os.path.join(room, "f"), "wb") as it:
+        it.write(bytes(16 * MIB))
+    job = "[r]\nioengine=psync\nrw=read\nsize=16m\nfilename=f\n"
+    ran, read = run(program, room, job)
+    expect(ran.returncode == 0 and read >= 16 * MIB, f"status {ran.returncode}, and {read} bytes were read")
+    ran, read = run(program, room, job, "--cached")
+    expect(ran.returncode == 0 and read < 2 * MIB, f"with --cached status {ran.returncode}, and {read} bytes were read")
+
+
+def a_disk_that_is_too_small_is_found(program, room):
+    """A device of 16 MiB that stores one: writes go well, and checks don't."""
+    with tmpfs(room, "1m") as folder, loop_device(os.path.join(folder, "image"), 16 * MIB) as device:
+        place = ["directory=/dev"]
+        for words in (("--workers=1",), ("--workers=4",)):
+            job = job_of("16m", place + ["iodepth=8"], filename=os.path.basename(device))
+            ran, _ = run(program, room, job, *words)
+            expect(ran.returncode == 1, f"{words}: status {ran.returncode}: {ran.stdout}{ran.stderr}")
+            totals = totals_of(ran.stdout)
+            expect(totals["writes"] == 4096 and totals["faults"] + totals["bad"] > 0, f"{words}: {ran.stdout}")
+        job = job_of("16m", place, verify="0", filename=os.path.basename(device))
+        ran, _ = run(program, room, job)
+        expect((ran.returncode, ran.stderr) == (3, "fiorun: cannot write\n"), f"unchecked: status {ran.returncode}: {ran.stderr}")
+        expect(totals_of(ran.stdout)["writes"] == 4096, f"unchecked: the report isn't there: {ran.stdout}")
+
+
+def order_of(trace):
+    """The calls of a run on its file, as letters: w(rite), s(ync), d(rop), r(ead), each once for several in a row."""
+    letters = ""
+    for call in re.findall(r"\b(pwrite64|fdatasync|fsync|fadvise64|pread64)\(", trace):
+        letter = {"pwrite64": "w", "fdatasync": "s", "fsync": "s", "fadvise64": "d", "pread64": "r"}[call]
+        letters += "" if letters.endswith(letter) else letter
+    return letters
+
+
+def traced(program, room, job, *words):
+    needs("the order of calls", "strace")
+    log = os.path.join(room, "calls")
+    calls = "trace=pwrite64,pread64,fdatasync,fsync,fadvise64"
+    ran, _ = run("strace", room, job, "-f", "-o", log, "-e", calls, program, *words)
+    if not os.path.exists(log) or "strace:" in ran.stderr:
+        raise Skipped(f"strace is refused: {ran.stderr[:80]}")
+    expect(ran.returncode == 0, f"status {ran.returncode}: {ran.stdout}{ran.stderr}")
+    with open(log, encoding="utf-8", errors="replace") as it:
+        return order_of(it.read())
+
+
+def a_sync_and_a_drop_stand_before_each_round(program, room):
+    """One worker: the writes of a round, a sync, a drop, and its checks."""
+    begin = "sd"
+    for backlog, rounds in ((0, 1), (1000, 1), (64, 4)):
+        job = job_of(more=[f"verify_backlog={backlog}"])
+        found = traced(program, room, job, "--workers=1")
+        expect(found == begin + "wsdr" * rounds, f"verify_backlog={backlog}: {found}")
+    found = traced(program, room, job_of(), "--workers=1", "--cached")
+    expect(found == "wrs", f"with --cached: {found}")
+    found = traced(program, room, job_of(verify="0"), "--workers=1")
+    expect(found == begin + "ws", f"unchecked: {found}")
+
+
+def reports_are_the_same(program, room):
+    for words in ((), ("--cached",), ("--workers=4",)):
+        ran, _ = run(program, room, job_of(more=["verify_backlog=3"]), *words)
+        expect((ran.returncode, ran.stdout) == (0, CLEAN), f"{words}: status {ran.returncode}: {ran.stdout}{ran.stderr}")
+
+
+CASES = [
+    reports_are_the_same,
+    checks_read_the_device,
+    a_later_run_reads_the_device,
+    a_sync_and_a_drop_stand_before_each_round,
+    a_disk_that_is_too_small_is_found,
+]
+
+
+def tried(case, program):
+    """Is the case as it must be? Says what isn't."""
+    name = case.__name__.replace("_", " ")
+    with tempfile.TemporaryDirectory(prefix="disk-", dir="/var/tmp") as room:
+        try:
+            case(program, room)
+        except Skipped as why:
+            print(f"disk: skipped: {name}: {why}")
+        except (Wrong, OSError, subprocess.SubprocessError) as why:
+            print(f"disk: FAILED: {name}: {why}")
+            return False
+    return True
+
+
+def main(words):
+    program = os.path.realpath(words[0] if words else os.path.join(HERE, "..", "bin", "fiorun"))
+    failed = [case for case in CASES if not tried(case, program)]
+    print(f"disk: {len(CASES)} cases, {len(failed)} failed")
+    return 1 if failed else 0
+
+
+if __name__ == "__main__":
+    sys.exit(main(sys.argv[1:]))
