@@ -40,12 +40,7 @@ fn planned(alloc: Global, folder: &str, jobs: &[Job<'_>]) -> Result<Plan, Fail> 
 }
 
 // The plan of one clone, over the file of this name in the folder.
-fn planned_as(
-    alloc: Global,
-    folder: &str,
-    name: &str,
-    workload: &Workload,
-) -> Result<Plan, Fail> {
+fn planned_as(alloc: Global, folder: &str, name: &str, workload: &Workload) -> Result<Plan, Fail> {
     let mut draft = Draft::new(alloc);
     draft.add(alloc, workload, name, path_in(alloc, folder, name)?, 0)?;
     if draft.clones() == 0 {
