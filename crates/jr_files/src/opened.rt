@@ -72,10 +72,10 @@ impl OpenedFile {
     fn freshen(&self, offset: u64, len: usize) -> io::Result<()> {
         self.keeps()?;
         if self.marks.is_stale(offset, len) {
-            let synced = self.sync(self.marks.begin())?;
+            let renewal = self.sync(self.marks.begin())?;
             // Another handle may have renewed it meanwhile: what was read ahead since then stays.
             if self.marks.is_stale(offset, len) {
-                self.marks.end(self.forget(synced)?);
+                self.marks.end(self.forget(renewal)?);
             }
         }
         Ok(())

@@ -3,7 +3,7 @@ ghost use Rattle.std.specs.Prelude.{◌+◌, ◌≤◌, IfOk};
 use crate::asserts::same;
 use jr_engines::{Engine, EngineFault, SharedMemory};
 use jr_files::{FileEngine, FileFault, Positioned, lay_out, read_whole, write_whole};
-use jr_model::{EngineKind, IoType, SECTOR};
+use jr_model::{EngineKind, IoType, SECTOR, VerifyKind};
 use jr_plan::{Draft, Plan, Workload};
 use std::alloc::{AllocError, Allocator, Global};
 use std::fs::{File, Metadata, OpenFile, OpenOptions};
@@ -37,6 +37,23 @@ fn planned(alloc: Global, folder: &str, jobs: &[Job<'_>]) -> Result<Plan, Fail> 
         return Err(Fail::from("no clones"));
     }
     Ok(draft.finish(EngineKind::File, 0))
+}
+
+// The plan of one clone, over the file of this name in the folder.
+fn planned_as(alloc: Global, folder: &str, name: &str, workload: &Workload) -> Result<Plan, Fail> {
+    let mut draft = Draft::new(alloc);
+    draft.add(alloc, workload, name, path_in(alloc, folder, name)?, 0)?;
+    if draft.clones() == 0 {
+        return Err(Fail::from("no clones"));
+    }
+    Ok(draft.finish(EngineKind::File, 0))
+}
+
+// So many blocks of a page, written and checked.
+fn verified(blocks: u32) -> Workload {
+    let mut workload = Workload::plain(IoType::Write, 4096, blocks);
+    workload.method.kind = VerifyKind::Md5;
+    workload
 }
 
 fn path_in(alloc: Global, folder: &str, name: &str) -> Result<String, AllocError> {
@@ -108,6 +125,70 @@ fn assert_kept(
     assert_bytes(rt, &linked.as_slice()[..3], 8, 3, &[]);
     assert_bytes(rt, &linked.as_slice()[3..], 0, 507, &[6, 6]);
     Ok(())
+}
+
+// Writes in three regions, one call over two of them, and reads of what was written and of what wasn't.
+fn assert_fresh(rt: &impl Abort, engine: &mut impl Engine, other: &mut impl Engine) {
+    same(rt, engine.write(0, 8190, &[1, 2, 3, 4]), Ok(4));
+    same(rt, other.write(0, 20_000, &[5]), Ok(1));
+    let mut buf = [9; 4];
+    same(rt, other.read(0, 8190, &mut buf), Ok(4));
+    same(rt, buf, [1, 2, 3, 4]);
+    same(rt, engine.read(0, 19_999, &mut buf[..3]), Ok(3));
+    same(rt, buf, [0, 5, 0, 4]);
+    same(rt, engine.write(0, 32_766, &[6, 7, 8]), Ok(3));
+    same(rt, engine.read(0, 32_766, &mut buf), Ok(3));
+    same(rt, buf, [6, 7, 8, 4]);
+    same(rt, (engine.failures(), other.failures()), (0, 0));
+}
+
+#[test]
+fn checked_file_is_read_as_written(rt: HostRuntime) -> Result<(), Fail> {
+    let alloc = rt.alloc();
+    let folder = fresh_folder(&rt, process::id(rt.process()), "fresh")?;
+    let plan = planned_as(alloc, folder.as_str(), "a.0.0", &verified(8))?;
+    lay_out(&rt, &plan)?;
+    let mut engine = FileEngine::shared(&rt, alloc, &plan)?;
+    let mut other = engine.share(alloc)?;
+    same(&rt, engine.settle(), Ok(()));
+    assert_fresh(&rt, &mut engine, &mut other);
+    same(&rt, other.settle(), Ok(()));
+    let plan = planned_as(alloc, folder.as_str(), "b.0.0", &verified(8))?;
+    lay_out(&rt, &plan)?;
+    let mut engine = FileEngine::shared_cached(&rt, alloc, &plan)?;
+    let mut other = engine.share(alloc)?;
+    assert_fresh(&rt, &mut engine, &mut other);
+    same(&rt, other.settle(), Ok(()));
+    fs::remove_dir_all(&rt, folder.as_str())?;
+    Ok(())
+}
+
+#[test]
+fn file_that_is_only_read(rt: HostRuntime) -> Result<(), Fail> {
+    let alloc = rt.alloc();
+    let folder = fresh_folder(&rt, process::id(rt.process()), "read")?;
+    let reads = Workload::plain(IoType::Read, SECTOR, 2);
+    let plan = planned_as(alloc, folder.as_str(), "a.0.0", &reads)?;
+    lay_out(&rt, &plan)?;
+    let path = path_in(alloc, folder.as_str(), "a.0.0")?;
+    let mut permissions = fs::metadata(&rt, path.as_str())?.permissions();
+    permissions.set_readonly(true);
+    fs::set_permissions(&rt, path.as_str(), permissions)?;
+    lay_out(&rt, &plan)?;
+    assert_only_read(&rt, &mut FileEngine::new(&rt, alloc, &plan)?);
+    let mut shared = FileEngine::shared(&rt, alloc, &plan)?;
+    assert_only_read(&rt, &mut shared);
+    same(&rt, shared.settle(), Ok(()));
+    fs::remove_dir_all(&rt, folder.as_str())?;
+    Ok(())
+}
+
+// A file that is open for reading alone.
+fn assert_only_read(rt: &impl Abort, engine: &mut impl Engine) {
+    let mut buf = [9; 2];
+    same(rt, engine.read(0, 1022, &mut buf), Ok(2));
+    same(rt, buf, [0, 0]);
+    same(rt, engine.write(0, 0, &[1]), Err(EngineFault::Device));
 }
 
 #[test]
@@ -207,18 +288,26 @@ fn file_without_the_right_to_write(rt: HostRuntime) -> Result<(), Fail> {
 #[test]
 fn full_device_fails_its_writes(rt: HostRuntime) -> Result<(), Fail> {
     let plan = planned(rt.alloc(), "/dev", &[("full", 0, 1)])?;
-    let mut engine = FileEngine::new(&rt, rt.alloc(), &plan)?;
-    same(&rt, engine.write(0, 0, &[1]), Err(EngineFault::Device));
+    assert_full(&rt, &mut FileEngine::new(&rt, rt.alloc(), &plan)?);
+    let mut shared = FileEngine::shared(&rt, rt.alloc(), &plan)?;
+    assert_full(&rt, &mut shared);
+    same(&rt, shared.settle(), Ok(()));
+    Ok(())
+}
+
+// A device that takes nothing, and that no cache stands before.
+fn assert_full(rt: &impl Abort, engine: &mut impl Engine) {
+    same(rt, (engine.calls(), engine.failures()), (0, 0));
+    same(rt, engine.write(0, 0, &[1]), Err(EngineFault::Device));
     let mut buf = [9; 2];
-    same(&rt, engine.read(0, 0, &mut buf), Ok(2));
-    same(&rt, engine.read(1, 0, &mut buf), Err(EngineFault::Outside));
+    same(rt, engine.read(0, 0, &mut buf), Ok(2));
+    same(rt, engine.read(1, 0, &mut buf), Err(EngineFault::Outside));
     same(
-        &rt,
+        rt,
         engine.write(0, u64::MAX, &[1]),
         Err(EngineFault::Outside),
     );
-    same(&rt, (engine.calls(), engine.failures()), (4, 3));
-    Ok(())
+    same(rt, (engine.calls(), engine.failures()), (4, 3));
 }
 
 // A block device of so many bytes, which isn't to be written to. Its metadata says 0.
