@@ -1,12 +1,11 @@
 #!/usr/bin/env python3
-"""checks/disk.py [PROGRAM] runs the program (bin/fiorun where none is given) over files of a disk, and as root over loop devices that lose what
-they are given, and looks at what the system read and wrote for it: that checks read the device and not the system's cache. What can't be
-tried here is skipped with a word. The status is 1 where something is wrong."""
+"""checks/disk.py [PROGRAM] runs the program (bin/fiorun where none is given) over files, and as root over a loop device that can't store what
+it is given, and looks at the order of its calls: that a file is synced before its checks, and that what was lost is found. What can't be tried
+here is skipped with a word. The status is 1 where something is wrong."""
 
 import contextlib
 import os
 import re
-import resource
 import shutil
 import subprocess
 import sys
@@ -31,10 +30,8 @@ def expect(holds, text):
 
 
 def run(program, room, job, *words):
-    """Runs a job text; the finished process, and how many bytes the system read from devices for it."""
-    before = resource.getrusage(resource.RUSAGE_CHILDREN).ru_inblock
-    ran = subprocess.run([program, *words], input=job, cwd=room, capture_output=True, text=True, timeout=120, check=False)
-    return ran, 512 * (resource.getrusage(resource.RUSAGE_CHILDREN).ru_inblock - before)
+    """Runs a job text."""
+    return subprocess.run([program, *words], input=job, cwd=room, capture_output=True, text=True, timeout=120, check=False)
 
 
 def job_of(size="1m", more=(), verify="md5", filename="f"):
@@ -46,13 +43,6 @@ def needs(word, *tools):
     for it in tools:
         if not shutil.which(it):
             raise Skipped(f"{word}: there is no {it}")
-
-
-def on_a_disk(room):
-    """Not where the folder for temporary files is a memory."""
-    kind = subprocess.run(["stat", "-f", "-c", "%T", room], capture_output=True, text=True, check=False).stdout.strip()
-    if kind in ("tmpfs", "ramfs"):
-        raise Skipped(f"{room} is a {kind}")
 
 
 @contextlib.contextmanager
@@ -91,50 +81,27 @@ def totals_of(report):
     return {key: int(value) for key, value in re.findall(r" (\w+)=(\d+)", report.split("\n")[0])}
 
 
-def checks_read_the_device(program, room):
-    """The system reads from the device at least what was checked; with --cached next to nothing."""
-    on_a_disk(room)
-    for words in ((), ("--workers=4",)):
-        ran, read = run(program, room, job_of("16m", ["iodepth=8"]), *words)
-        expect(ran.returncode == 0, f"status {ran.returncode}: {ran.stderr}")
-        expect(read >= 16 * MIB, f"16 MiB were checked with {words}, and {read} bytes were read from the device")
-    ran, read = run(program, room, job_of("16m"), "--cached")
-    expect(ran.returncode == 0 and read < 2 * MIB, f"with --cached status {ran.returncode}, and {read} bytes were read")
-
-
-def a_later_run_reads_the_device(program, room):
-    """What stands in the cache as a run begins is dropped."""
-    on_a_disk(room)
-    with open(os.path.join(room, "f"), "wb") as it:
-        it.write(bytes(16 * MIB))
-    job = "[r]\nioengine=psync\nrw=read\nsize=16m\nfilename=f\n"
-    ran, read = run(program, room, job)
-    expect(ran.returncode == 0 and read >= 16 * MIB, f"status {ran.returncode}, and {read} bytes were read")
-    ran, read = run(program, room, job, "--cached")
-    expect(ran.returncode == 0 and read < 2 * MIB, f"with --cached status {ran.returncode}, and {read} bytes were read")
-
-
 def a_disk_that_is_too_small_is_found(program, room):
     """A device of 16 MiB that stores one: writes go well, and checks don't."""
     with tmpfs(room, "1m") as folder, loop_device(os.path.join(folder, "image"), 16 * MIB) as device:
         place = ["directory=/dev"]
         for words in (("--workers=1",), ("--workers=4",)):
             job = job_of("16m", place + ["iodepth=8"], filename=os.path.basename(device))
-            ran, _ = run(program, room, job, *words)
+            ran = run(program, room, job, *words)
             expect(ran.returncode == 1, f"{words}: status {ran.returncode}: {ran.stdout}{ran.stderr}")
             totals = totals_of(ran.stdout)
             expect(totals["writes"] == 4096 and totals["faults"] + totals["bad"] > 0, f"{words}: {ran.stdout}")
         job = job_of("16m", place, verify="0", filename=os.path.basename(device))
-        ran, _ = run(program, room, job)
+        ran = run(program, room, job)
         expect((ran.returncode, ran.stderr) == (3, "fiorun: cannot write\n"), f"unchecked: status {ran.returncode}: {ran.stderr}")
         expect(totals_of(ran.stdout)["writes"] == 4096, f"unchecked: the report isn't there: {ran.stdout}")
 
 
 def order_of(trace):
-    """The calls of a run on its file, as letters: w(rite), s(ync), d(rop), r(ead), each once for several in a row."""
+    """The calls of a run on its file, as letters: w(rite), s(ync), r(ead), each once for several in a row."""
     letters = ""
-    for call in re.findall(r"\b(pwrite64|fdatasync|fsync|fadvise64|pread64)\(", trace):
-        letter = {"pwrite64": "w", "fdatasync": "s", "fsync": "s", "fadvise64": "d", "pread64": "r"}[call]
+    for call in re.findall(r"\b(pwrite64|fdatasync|pread64)\(", trace):
+        letter = {"pwrite64": "w", "fdatasync": "s", "pread64": "r"}[call]
         letters += "" if letters.endswith(letter) else letter
     return letters
 
@@ -142,8 +109,8 @@ def order_of(trace):
 def traced(program, room, job, *words):
     needs("the order of calls", "strace")
     log = os.path.join(room, "calls")
-    calls = "trace=pwrite64,pread64,fdatasync,fsync,fadvise64"
-    ran, _ = run("strace", room, job, "-f", "-o", log, "-e", calls, program, *words)
+    calls = "trace=pwrite64,pread64,fdatasync"
+    ran = run("strace", room, job, "-f", "-o", log, "-e", calls, program, *words)
     if not os.path.exists(log) or "strace:" in ran.stderr:
         raise Skipped(f"strace is refused: {ran.stderr[:80]}")
     expect(ran.returncode == 0, f"status {ran.returncode}: {ran.stdout}{ran.stderr}")
@@ -151,30 +118,34 @@ def traced(program, room, job, *words):
         return order_of(it.read())
 
 
-def a_sync_and_a_drop_stand_before_each_round(program, room):
-    """One worker: the writes of a round, a sync, a drop, and its checks."""
-    begin = "sd"
+def a_sync_stands_before_each_round(program, room):
+    """One worker: the writes of a round, a sync, and its checks."""
     for backlog, rounds in ((0, 1), (1000, 1), (64, 4)):
         job = job_of(more=[f"verify_backlog={backlog}"])
         found = traced(program, room, job, "--workers=1")
-        expect(found == begin + "wsdr" * rounds, f"verify_backlog={backlog}: {found}")
+        expect(found == "wsr" * rounds, f"verify_backlog={backlog}: {found}")
     found = traced(program, room, job_of(), "--workers=1", "--cached")
     expect(found == "wrs", f"with --cached: {found}")
     found = traced(program, room, job_of(verify="0"), "--workers=1")
-    expect(found == begin + "ws", f"unchecked: {found}")
+    expect(found == "ws", f"unchecked: {found}")
+
+
+def several_workers_sync_before_they_check(program, room):
+    """Whatever the order of four workers, a sync stands between the last write and the first check."""
+    found = traced(program, room, job_of(more=["iodepth=8"]), "--workers=4")
+    expect(re.fullmatch("ws+(rs*)+", found), f"four workers: {found}")
 
 
 def reports_are_the_same(program, room):
     for words in ((), ("--cached",), ("--workers=4",)):
-        ran, _ = run(program, room, job_of(more=["verify_backlog=3"]), *words)
+        ran = run(program, room, job_of(more=["verify_backlog=3"]), *words)
         expect((ran.returncode, ran.stdout) == (0, CLEAN), f"{words}: status {ran.returncode}: {ran.stdout}{ran.stderr}")
 
 
 CASES = [
     reports_are_the_same,
-    checks_read_the_device,
-    a_later_run_reads_the_device,
-    a_sync_and_a_drop_stand_before_each_round,
+    a_sync_stands_before_each_round,
+    several_workers_sync_before_they_check,
     a_disk_that_is_too_small_is_found,
 ]
 

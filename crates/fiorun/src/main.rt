@@ -227,8 +227,8 @@ fn laid_out<R: Files>(rt: &R, plan: &Plan) -> Result<(), CliFault> {
     }
 }
 
-// The plan's files, made where they are missing, long enough, and opened, to be shared by workers. What a check reads of them comes
-// from the device, unless the system's cache is asked for.
+// The plan's files, made where they are missing, long enough, and opened, to be shared by workers. What a check reads of them was
+// synced, unless the system's cache is good enough.
 fn opened<R: Files<File = File> + AllocGlobal>(
     rt: &R,
     plan: &Plan,

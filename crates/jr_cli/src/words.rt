@@ -37,7 +37,7 @@ pub struct Choice<'a> {
     pub trace: Option<&'a str>,
     /// The trace to check in place of a run.
     pub check_trace: Option<&'a str>,
-    /// Let checks read what the system keeps of the files, in place of the device.
+    /// Let checks read what the system keeps of the files, and sync none before them.
     pub cached: bool,
 }
 
@@ -171,5 +171,5 @@ fn cached_arg<'a>(alloc: Global) -> Arg<'a>
         .long("cached")
         .action(ArgAction::SetTrue)
         .value_parser(value_parser!(bool))
-        .help("Let checks read the system's cache in place of the device")
+        .help("Sync no file before its checks")
 }

@@ -1,5 +1,5 @@
 -- Believed: the regions of a file, by which is kept where it was written.
-use Rattle.std.specs.Prelude.{◌≡◌, ℕ, ◌+◌, ◌-◌, ◌*◌, ◌/◌, ◌<◌, ◌≤◌, min}
+use Rattle.std.specs.Prelude.{◌≡◌, ℕ, ◌-◌, ◌*◌, ◌/◌, ◌<◌, ◌≤◌, min}
 
 -- the region that a byte is in, of so many of this size
 abbrev pub region_of : ℕ → ℕ → ℕ → ℕ

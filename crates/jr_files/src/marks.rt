@@ -19,45 +19,30 @@ pub struct Marks {
     ghost all: { vec_len marks ≡ regions.count },
 }
 
-/// How far a renewal of a file has come.
+/// How far a sync of a file has come.
 #[derive(Clone, Copy, Debug, PartialEq, Eq)]
 pub enum Stage {
-    /// Its sync is to begin.
+    /// It is to begin.
     Begun,
-    /// The sync has ended.
-    Synced,
-    /// What the system's cache had of the file was dropped since then.
-    Dropped,
+    /// It has ended well.
+    Ended,
 }
 
-/// A sync of a file, and then a drop of what the system's cache has of it.
+/// A sync of a file, by its number.
 #[derive(Debug, Drop)]
-pub struct Renewal {
+pub struct FileSync {
     number: u64,
     stage: Stage,
 }
 
-impl Renewal {
-    /// The renewal once its sync has ended.
-    pub fn synced(self) -> Renewal
-        requires { self.stage ≡ Stage.Begun }
-        ensures stage { result.stage ≡ Stage.Synced }
+impl FileSync {
+    /// The sync once it has ended well.
+    pub fn ended(self) -> FileSync
+        ensures stage { result.stage ≡ Stage.Ended }
         ensures number { result.number ≡ self.number }
     {
-        Renewal {
-            stage: Stage::Synced,
-            ..self
-        }
-    }
-
-    /// The renewal once its drop has ended too.
-    pub fn dropped(self) -> Renewal
-        requires { self.stage ≡ Stage.Synced }
-        ensures stage { result.stage ≡ Stage.Dropped }
-        ensures number { result.number ≡ self.number }
-    {
-        Renewal {
-            stage: Stage::Dropped,
+        FileSync {
+            stage: Stage::Ended,
             ..self
         }
     }
@@ -93,22 +78,22 @@ impl Marks {
         has_newer(self.marks.as_slice(), self.ended.load(Ordering::SeqCst))
     }
 
-    /// A renewal of the file, whose sync is to begin.
-    pub fn begin(&self) -> Renewal
+    /// A sync of the file that is to begin.
+    pub fn begin(&self) -> FileSync
         ensures { result.stage ≡ Stage.Begun }
     {
         let number = self.begun.fetch_add(1, Ordering::SeqCst).saturating_add(1);
-        Renewal {
+        FileSync {
             number,
             stage: Stage::Begun,
         }
     }
 
-    /// Notes that a renewal has ended: what was written before it began is read from the device now.
-    pub fn end(&self, renewal: Renewal)
-        requires { renewal.stage ≡ Stage.Dropped }
+    /// Notes that a sync has ended: what was written before it began is on the device now.
+    pub fn end(&self, sync: FileSync)
+        requires { sync.stage ≡ Stage.Ended }
     {
-        raise(&self.ended, renewal.number);
+        raise(&self.ended, sync.number);
     }
 
     // The marks of the regions of these bytes.

@@ -1,42 +1,43 @@
 ghost use Rattle.std.specs.Prelude.{◌≡◌, ◌≤◌, IfOk, length};
 
-use crate::marks::{Marks, Renewal, Stage};
+use crate::marks::{FileSync, Marks, Stage};
 use std::fs::File;
 use std::io;
 use std::io::ErrorKind;
-use std::os::fd::AsRawFd;
 use std::os::unix::fs::{FileExt, FileTypeExt};
 use std::sync::atomic::{AtomicBool, Ordering};
 
 /// An open file of the system, as several engines share it: where it was written, and whether the system lost any of it.
+///
+/// The system may still answer a read out of its own cache: std has no call that takes a file out of it.
 #[derive(Drop)]
 pub struct OpenedFile {
     file: File,
     marks: Marks,
     has_cache: bool,
-    is_fresh: bool,
+    is_checked: bool,
     is_lost: AtomicBool,
 }
 
 impl OpenedFile {
-    /// The file with these marks. What is read of a fresh one comes from the device, if the system keeps the file in a cache.
-    pub fn new(file: File, marks: Marks, is_fresh: bool) -> io::Result<OpenedFile> {
+    /// The file with these marks. What is read of one that is checked was synced, if the system keeps the file in a cache.
+    pub fn new(file: File, marks: Marks, is_checked: bool) -> io::Result<OpenedFile> {
         let has_cache = has_cache(&file)?;
         Ok(OpenedFile {
             file,
             marks,
             has_cache,
-            is_fresh,
+            is_checked,
             is_lost: AtomicBool::new(false),
         })
     }
 
-    /// Reads bytes from `offset` on, of a fresh file those of the device.
+    /// Reads bytes from `offset` on, and of a file that is checked none that weren't synced since they were written.
     pub fn read_at(&self, buf: &mut [u8], offset: u64) -> io::Result<usize>
         ensures { IfOk result (λ n. n ≤ length buf.old) }
     {
-        if self.has_cache && self.is_fresh {
-            self.freshen(offset, buf.len())?;
+        if self.has_cache && self.is_checked {
+            self.sync_before(offset, buf.len())?;
         }
         FileExt::read_at(&self.file, buf, offset)
     }
@@ -54,31 +55,18 @@ impl OpenedFile {
     pub fn settle(&self) -> io::Result<()> {
         self.keeps()?;
         if self.has_cache && self.marks.is_any_stale() {
-            self.sync(self.marks.begin())?;
+            self.marks.end(self.sync(self.marks.begin())?);
         }
         Ok(())
     }
 
-    /// Syncs the file, and drops what the system's cache has of it.
-    pub fn renew(&self) -> io::Result<()> {
-        if self.has_cache {
-            let synced = self.sync(self.marks.begin())?;
-            self.marks.end(self.forget(synced)?);
-        }
-        Ok(())
-    }
-
-    // Sees to it that these bytes are read from the device.
-    fn freshen(&self, offset: u64, len: usize) -> io::Result<()> {
+    // Sees to it that these bytes were synced since they were written, and that no sync has failed.
+    fn sync_before(&self, offset: u64, len: usize) -> io::Result<()> {
         self.keeps()?;
         if self.marks.is_stale(offset, len) {
-            let renewal = self.sync(self.marks.begin())?;
-            // Another handle may have renewed it meanwhile: what was read ahead since then stays.
-            if self.marks.is_stale(offset, len) {
-                self.marks.end(self.forget(renewal)?);
-            }
+            self.marks.end(self.sync(self.marks.begin())?);
         }
-        Ok(())
+        self.keeps()
     }
 
     // An error once a sync has failed: what the system has lost then it doesn't report twice.
@@ -90,27 +78,14 @@ impl OpenedFile {
     }
 
     // Has the system write to the device what it keeps of the file.
-    fn sync(&self, renewal: Renewal) -> io::Result<Renewal>
-        requires { renewal.stage ≡ Stage.Begun }
-        ensures { IfOk result (λ renewal. renewal.stage ≡ Stage.Synced) }
+    fn sync(&self, begun: FileSync) -> io::Result<FileSync>
+        ensures { IfOk result (λ sync. sync.stage ≡ Stage.Ended) }
     {
         if let Err(error) = self.file.sync_data() {
             self.is_lost.store(true, Ordering::SeqCst);
             return Err(error);
         }
-        Ok(renewal.synced())
-    }
-
-    // Has the system drop what its cache has of the file, but for what isn't synced.
-    fn forget(&self, renewal: Renewal) -> io::Result<Renewal>
-        requires { renewal.stage ≡ Stage.Synced }
-        ensures { IfOk result (λ renewal. renewal.stage ≡ Stage.Dropped) }
-    {
-        let file = self.file.as_raw_fd();
-        match libc::posix_fadvise(file, 0, 0, libc::POSIX_FADV_DONTNEED) {
-            0 => Ok(renewal.dropped()),
-            refused => Err(io::Error::from_raw_os_error(refused)),
-        }
+        Ok(begun.ended())
     }
 }
 

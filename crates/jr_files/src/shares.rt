@@ -34,18 +34,18 @@ impl Positioned for SharedFile {
     }
 }
 
-// Where the reads of a file come from that was written before.
+// What is read of a file that is checked: what was synced since it was written, or whatever the system has of it.
 #[derive(Clone, Copy, Debug, PartialEq, Eq)]
-enum Source {
-    Device,
-    Cache,
+enum Reads {
+    Synced,
+    Cached,
 }
 
 impl FileEngine<SharedFile> {
     /// Opens the plan's files, which have to be there (`lay_out` makes them), once for all engines that are to share them.
     ///
-    /// Each is synced, and dropped from the system's cache. In a file that a clone checks, what was written through
-    /// these engines is read only once the same was done again: so a check reads the device.
+    /// In a file that a clone checks, what was written through these engines is read only once the file was synced: a read
+    /// fails where the system couldn't write all of it to the device, and so does each later one.
     pub fn shared<R: Files<File = File>>(
         rt: &R,
         alloc: Global,
@@ -54,10 +54,10 @@ impl FileEngine<SharedFile> {
         ensures ok { IfOk result (λ engine. IsFresh engine (length plan.now.files)) }
         ensures err { IfErr result (λ fault. IsOpenFault fault (length plan.now.files)) }
     {
-        opened(rt, alloc, plan, Source::Device)
+        opened(rt, alloc, plan, Reads::Synced)
     }
 
-    /// The same, where what is read may come from the system's cache. Nothing is synced but by `settle`.
+    /// The same, where nothing is synced but by `settle`.
     pub fn shared_cached<R: Files<File = File>>(
         rt: &R,
         alloc: Global,
@@ -66,7 +66,7 @@ impl FileEngine<SharedFile> {
         ensures ok { IfOk result (λ engine. IsFresh engine (length plan.now.files)) }
         ensures err { IfErr result (λ fault. IsOpenFault fault (length plan.now.files)) }
     {
-        opened(rt, alloc, plan, Source::Cache)
+        opened(rt, alloc, plan, Reads::Cached)
     }
 
     /// One more engine over the same open files, with counts of its own.
@@ -105,14 +105,14 @@ fn opened<R: Files<File = File>>(
     rt: &R,
     alloc: Global,
     plan: &Plan,
-    source: Source,
+    reads: Reads,
 ) -> Result<FileEngine<SharedFile>, FileFault>
     ensures ok { IfOk result (λ engine. IsFresh engine (length plan.now.files)) }
     ensures err { IfErr result (λ fault. IsOpenFault fault (length plan.now.files)) }
 {
     let mut files = Vec::new(alloc);
     for index in 0..plan.files().len() {
-        files.push(opened_file(rt, alloc, plan, index, source)?)?;
+        files.push(opened_file(rt, alloc, plan, index, reads)?)?;
     }
     Ok(FileEngine::over(files))
 }
@@ -123,28 +123,19 @@ fn opened_file<R: Files<File = File>>(
     alloc: Global,
     plan: &Plan,
     index: usize,
-    source: Source,
+    reads: Reads,
 ) -> Result<SharedFile, FileFault>
     requires { index < length plan.now.files }
     ensures { IfErr result (λ fault. IsOpenFault fault (length plan.now.files)) }
 {
     let spec = &plan.files()[index];
-    let is_fresh = source == Source::Device && is_checked(plan, index);
-    let marks = Marks::new(alloc, if is_fresh { spec.high() } else { 0 })?;
-    let Ok(file) = open(rt, spec.name(), is_written(plan, index)).and_then(|file| prepared(
-        file, marks, is_fresh, source,
+    let syncs = reads == Reads::Synced && is_checked(plan, index);
+    let marks = Marks::new(alloc, if syncs { spec.high() } else { 0 })?;
+    let Ok(file) = open(rt, spec.name(), is_written(plan, index)).and_then(|file| OpenedFile::new(
+        file, marks, syncs,
     )) else {
         return Err(FileFault::File(index));
     };
     let file = Arc::new(alloc, file)?;
     Ok(SharedFile { file })
-}
-
-// The file as engines share it. Where it is to be read from its device, it is synced, and dropped from the system's cache.
-fn prepared(file: File, marks: Marks, is_fresh: bool, source: Source) -> io::Result<OpenedFile> {
-    let file = OpenedFile::new(file, marks, is_fresh)?;
-    if source == Source::Device {
-        file.renew()?;
-    }
-    Ok(file)
 }

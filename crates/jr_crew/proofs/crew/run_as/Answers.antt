@@ -1,4 +1,4 @@
-use Rattle.std.proofs.Common.{◌≡◌, ℕ, length, true, ap, subst}
+use Rattle.std.proofs.Common.{◌≡◌, ℕ, length, true, subst}
 use Rattle.std.specs.List.{list_all}
 use Rattle.jr_model.specs.Plan.{Plan}
 use Rattle.jr_model.specs.Legal.{is_legal, is_complete}

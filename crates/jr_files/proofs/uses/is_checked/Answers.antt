@@ -1,5 +1,4 @@
-use Rattle.std.proofs.Common.{◌≡◌, sym, ap, ◌∙◌, take_all, arith}
-use Rattle.std.specs.List.{list_any}
+use Rattle.std.proofs.Common.{sym, ◌∙◌}
 use Rattle.jr_files.specs.Uses.{checks_file}
 use Rattle.jr_files.proofs.UseLemmas.{none_more, some_there}
 use Rattle.jr_files.proofs.uses.is_checked.Goals as goal
