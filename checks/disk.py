@@ -100,7 +100,7 @@ def a_disk_that_is_too_small_is_found(program, room):
 def order_of(trace):
     """The calls of a run on its file, as letters: w(rite), s(ync), r(ead), each once for several in a row."""
     letters = ""
-    for call in re.findall(r"\b(pwrite64|fdatasync|pread64)\(", trace):
+    for call in re.findall(r"\b(pwrite64|fdatasync|pread64)\(\d+<[^>]*/f>", trace):
         letter = {"pwrite64": "w", "fdatasync": "s", "pread64": "r"}[call]
         letters += "" if letters.endswith(letter) else letter
     return letters
@@ -110,7 +110,7 @@ def traced(program, room, job, *words):
     needs("the order of calls", "strace")
     log = os.path.join(room, "calls")
     calls = "trace=pwrite64,pread64,fdatasync"
-    ran = run("strace", room, job, "-f", "-o", log, "-e", calls, program, *words)
+    ran = run("strace", room, job, "-f", "-y", "-o", log, "-e", calls, program, *words)
     if not os.path.exists(log) or "strace:" in ran.stderr:
         raise Skipped(f"strace is refused: {ran.stderr[:80]}")
     expect(ran.returncode == 0, f"status {ran.returncode}: {ran.stdout}{ran.stderr}")
