@@ -1,6 +1,7 @@
 #!/usr/bin/env python3
 """bench/run.py prints the page docs/SPEED.md: how long fiorun takes, beside fio for the same jobs, by workers and verifiers, beside its
-floor, for each I/O as runs grow, and for the check of a trace. Each row's runs are made in turn, TIMES times: what is printed are the medians.
+floor, for each I/O as runs grow, and for the check of a trace. Each row's runs are made in turn, TIMES times: what is printed are the
+medians.
 
 fio is installed by the system's package manager where it isn't there, and its columns are empty where that can't be. What it prints on
 standard error is how far it is. From the environment:
