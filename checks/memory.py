@@ -1,5 +1,5 @@
 #!/usr/bin/env python3
-"""checks/memory [PROGRAM [JOB..]] refuses the program each of its requests for memory and for threads, one in each run.
+"""checks/memory.py [PROGRAM [JOB..]] refuses the program each of its requests for memory and for threads, one in each run.
 
 A library that is loaded before the program's own (checks/refuse.c, built by cc into a folder that is removed again) counts the requests
 of small jobs, and refuses one of them: each of the first, and then so many over the run that there are MOST in all (40). Where one is
@@ -9,15 +9,14 @@ PROGRAM is the built program (crates/fiorun/out/fiorun, built where it has to be
 """
 
 import os
-import shutil
-import struct
 import subprocess
 import sys
 import tempfile
 import time
 from typing import NamedTuple
 
-HERE = os.path.dirname(os.path.realpath(__file__))
+from program import Ended, Requests, find_program
+
 MOST = int(os.environ.get("MOST", "40"))
 FIRST = 12
 SECONDS = 20
@@ -58,34 +57,18 @@ JOBS = {
 }
 
 
-class Ended(NamedTuple):
-    status: int
-    out: bytes
-    err: bytes
-
-
 class Bench:
     """Runs the program in a folder, with requests refused."""
 
     def __init__(self, program, folder):
         self.program = program
-        self.folder = folder
-        self.library = os.path.join(folder, "refuse.so")
-        self.counts = os.path.join(folder, "counts")
+        self.requests = Requests(folder, "memory")
         self.room = os.path.join(folder, "room")
         os.mkdir(self.room)
-        compiler = os.environ.get("CC", "cc")
-        if not shutil.which(compiler):
-            sys.exit(f"memory: FAILED: there is no C compiler {compiler}")
-        subprocess.run([compiler, "-O2", "-shared", "-fPIC", "-o", self.library, os.path.join(HERE, "refuse.c"), "-ldl"], check=True)
 
-    def run(self, job, **refusal):
-        """How a run ends, or None where it doesn't."""
-        environment = {"PATH": os.environ.get("PATH", "")}
-        if refusal:
-            with open(self.counts, "wb") as it:
-                it.write(bytes(16))
-            environment.update(LD_PRELOAD=self.library, COUNTS=self.counts, **refusal)
+    def run(self, job, number=None, onward=False):
+        """How a run ends, or None where it doesn't. Its requests are counted where a number is given, and that one is refused."""
+        environment = {"PATH": os.environ.get("PATH", "")} if number is None else self.requests.environment(number, onward)
         trace = os.path.join(self.room, "trace")
         if "--trace=trace" in job.words and os.path.exists(trace):
             os.remove(trace)
@@ -95,11 +78,6 @@ class Bench:
         except subprocess.TimeoutExpired:
             return None
         return Ended(it.returncode, it.stdout, it.stderr)
-
-    def counted(self):
-        """How many requests the last run made, and how many were refused."""
-        with open(self.counts, "rb") as it:
-            return struct.unpack("QQ", it.read(16))
 
     def is_traced(self, job):
         """Is the trace that the last run wrote one of a whole run of this job, which says what the run says?"""
@@ -127,21 +105,21 @@ def is_right(bench, job, usual, ended):
 def wrongs(bench, job):
     """Tries a job with its requests refused: how many it makes, how many runs were tried, how many did without, and what was wrong."""
     usual = bench.run(job)
-    counted = bench.run(job, REFUSE="0")
-    count, _ = bench.counted()
+    counted = bench.run(job, 0)
+    count, _ = bench.requests.counted()
     if usual is None or usual.status != job.status:
         return count, 0, 0, [f"without a refusal it ended with {usual}"]
     if counted != usual or not count or not bench.is_traced(job):
         return count, 0, 0, [f"counted, it ended with {counted}, {count} requests"]
     wrong, without, tried = [], 0, 0
     for number in spread(count):
-        for on in ("0", "1"):
-            ended = bench.run(job, REFUSE=str(number), REFUSE_ON=on)
-            _, refused = bench.counted()
+        for onward in (False, True):
+            ended = bench.run(job, number, onward)
+            _, refused = bench.requests.counted()
             tried += 1
             without += bool(refused) and ended == usual
             if not is_right(bench, job, usual, ended) or (not refused and ended != usual):
-                what = "all from request" if on == "1" else "request"
+                what = "all from request" if onward else "request"
                 wrong.append(f"{what} {number} of {count} refused ({refused}): {str(ended)[:600]}")
     return count, tried, without, wrong
 
@@ -158,19 +136,8 @@ def prepare(bench):
             it.write(content)
 
 
-def find_program(path):
-    """The program itself, and not the script that builds it."""
-    if path is None:
-        subprocess.run([os.path.join(HERE, "..", "bin", "fiorun"), "--help"], stdout=subprocess.DEVNULL, check=True)
-        path = os.path.join(HERE, "..", "crates", "fiorun", "out", "fiorun")
-    with open(path, "rb") as it:
-        if it.read(4) != b"\x7fELF":
-            sys.exit(f"memory: {path} isn't a built program")
-    return os.path.realpath(path)
-
-
 def main():
-    program = find_program(sys.argv[1] if len(sys.argv) > 1 else None)
+    program = find_program(sys.argv[1] if len(sys.argv) > 1 else None, "memory")
     chosen = sys.argv[2:] or list(JOBS)
     failed = []
     with tempfile.TemporaryDirectory(prefix="memory-") as folder:

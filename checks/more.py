@@ -1,6 +1,6 @@
 #!/usr/bin/env python3
-"""checks/more [NAME..] tries the edits of checks/edits/: mistakes beyond those that the gate tries (crates/NAME/must-fail/), each of
-which the prover must refuse too. They take some 20 seconds each. checks/more --look only looks, in no time, that each can be applied:
+"""checks/more.py [NAME..] tries the edits of checks/edits/: mistakes beyond those that the gate tries (crates/NAME/must-fail/), each of
+which the prover must refuse too. They take some 20 seconds each. checks/more.py --look only looks, in no time, that each can be applied:
 that each text it takes away stands once in its file.
 
 It works in a folder of its own, on copies of the sources and links to the libraries that were built. It ends with 0 where all is well."""
@@ -49,7 +49,7 @@ def look(names):
     for edit, why in wrong:
         if why:
             print(f"{os.path.relpath(edit, TOP)}: {why}")
-    print(f"checks/more: {len(edits)} edits, {sum(why is not None for _, why in wrong)} can't be applied")
+    print(f"checks/more.py: {len(edits)} edits, {sum(why is not None for _, why in wrong)} can't be applied")
     return sum(why is not None for _, why in wrong)
 
 
@@ -72,7 +72,7 @@ def main(words):
     names = [it for it in words if it != "--look"] or sorted(os.listdir(EDITS))
     unknown = [it for it in names if not os.path.isdir(os.path.join(EDITS, it))]
     if unknown:
-        print(f"checks/more: checks/edits has nothing for {' '.join(unknown)}")
+        print(f"checks/more.py: checks/edits has nothing for {' '.join(unknown)}")
         return 2
     failed = look(names)
     if failed or "--look" in words:

@@ -1,5 +1,5 @@
 #!/usr/bin/env python3
-"""checks/progress PROGRAM looks at the line that a long run shows of how far it is.
+"""checks/progress.py PROGRAM looks at the line that a long run shows of how far it is.
 
 A job of SIZE MiB (1024) over the null engine runs for some seconds, with one worker and with four, first with standard error at a
 terminal of its own and then at a pipe. At the terminal there is at least one line, whose numbers never fall, and at the end it is wiped;
@@ -7,15 +7,14 @@ at the pipe there is nothing. Standard output and the status are the same in bot
 """
 
 import os
-import re
 import subprocess
 import sys
 import tempfile
 
+from program import LINE, WIPED
+
 SIZE = int(os.environ.get("SIZE", "1024"))
 JOB = f"[w]\nioengine=null\nrw=write\nbs=4k\nsize={SIZE}m\niodepth=16\nverify=md5\nverify_backlog=64\n"
-WIPED = "\r\x1b[K"
-LINE = re.compile(r"fiorun: (\d+) % started, (\d+) I/Os, (\d+) checked, (\d+) bad")
 
 
 def said_at(end):
@@ -73,7 +72,7 @@ def wrong(workers, program, folder):
 
 def main():
     if len(sys.argv) != 2:
-        sys.exit("usage: checks/progress PROGRAM")
+        sys.exit("usage: checks/progress.py PROGRAM")
     program = os.path.realpath(sys.argv[1])
     for workers in (1, 4):
         with tempfile.TemporaryDirectory(prefix="progress-") as folder:

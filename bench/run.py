@@ -1,6 +1,7 @@
 #!/usr/bin/env python3
-"""bench/run prints the page docs/SPEED.md: how long fiorun takes, beside fio for the same jobs, by workers and verifiers, beside its floor, for
-each I/O as runs grow, and for the check of a trace. Each row's runs are made in turn, TIMES times: what is printed are the medians.
+"""bench/run.py prints the page docs/SPEED.md: how long fiorun takes, beside fio for the same jobs, by workers and verifiers, beside its
+floor, for each I/O as runs grow, and for the check of a trace. Each row's runs are made in turn, TIMES times: what is printed are the
+medians.
 
 fio is installed by the system's package manager where it isn't there, and its columns are empty where that can't be. What it prints on
 standard error is how far it is. From the environment:
@@ -220,7 +221,7 @@ def main():
     subprocess.run([PROGRAM, "--help"], stdout=subprocess.DEVNULL, check=True)
     memory = int(found("/proc/meminfo", r"MemTotal:\s*(\d+)") or 0) >> 20
     model = found("/proc/cpuinfo", r"model name\s*:\s*(.*)") or platform.machine()
-    print("# Speed\n\nMade by `bench/run`, and not by hand.\n")
+    print("# Speed\n\nMade by `bench/run.py`, and not by hand.\n")
     print(f"- {model}, {os.cpu_count()} processors, {memory} GiB, Linux {platform.release()}")
     fio_is = said_by("fio", "--version") if with_fio else "fio is not there: its columns are empty"
     print(f"- kit `{said_by('rt', 'version') or 'unknown'}`, {fio_is}")
