@@ -1,11 +1,15 @@
 -- The notes of lines and of sections that are gone over one after another.
-use Rattle.std.proofs.Common.{◌≡◌, ℕ, ◌+◌, ◌<◌, Bool, true, false, cond, not, List, [], ◌∷◌, ◌++◌, length, drop, map, ◌≤◌, slice_index_or, Option, Some, None, Result, Ok, Err, ap, ◌∙◌, sym, refl, arith, append_assoc, append-nil}
-use Rattle.std.specs.Prelude.{IfOk, filter, flat_map, is_some, ◌||◌, ◌==◌}
+use Rattle.std.proofs.Common.{◌≡◌, ℕ, ◌+◌, ◌<◌, Bool, true, false, cond, not, List, [], ◌∷◌, ◌++◌, length, drop, map, ◌≤◌, slice_index_or, Option, Some, None, Result, Ok, Err, ap, ◌∙◌, sym, subst, refl, arith, append_assoc, append-nil}
+use Rattle.std.specs.Prelude.{IfOk, IsErr, filter, flat_map, is_some, ◌||◌, ◌==◌}
 use Rattle.std.specs.List.{list_any}
 use Rattle.std.specs.Result.{result_err}
 use Rattle.std.proofs.lemmas.List.{at_drop_all, at_drop_more, map-append}
 use Rattle.std.proofs.lemmas.Bool.{eqb-true}
 use Rattle.std.proofs.lemmas.List.Elements.{filter-append}
+use Rattle.jr_text.specs.declared.faults.TextFault.{TextFault}
+use Rattle.jr_text.specs.declared.faults.TextFault.TheVariants.{Memory}
+use Rattle.jr_text.specs.JobText.{sections_of}
+use Rattle.jr_text.specs.Refusals.{refusal_of}
 use Rattle.jr_text.specs.Records.{LineText, SectionText}
 use Rattle.jr_settings.specs.declared.faults.JobFault.{JobFault}
 use Rattle.jr_settings.specs.declared.options.JobOptions.{JobOptions}
@@ -14,7 +18,7 @@ use Rattle.jr_settings.specs.Options.{and_setting, options_from}
 use Rattle.jr_settings.specs.Settings.{setting_of}
 use Rattle.jr_options.specs.Refusals.{counts, counting_lines, line_fault, lines_of}
 use Rattle.jr_notes.specs.declared.notes.Note.{Note}
-use Rattle.jr_notes.specs.Notes.{HasRefused, is_refused, line_number, lines_noted, noted, noted_line, refused_in, refused_lines, sections_noted}
+use Rattle.jr_notes.specs.Notes.{HasRefused, is_refused, is_want, line_number, lines_noted, noted, noted_line, refused_in, refused_lines, sections_noted}
 
 -- a line that is read alone is refused by its own fault
 alone_by : (o : JobOptions) (read : Result Setting JobFault) → result_err (and_setting o read) ≡ result_err read
@@ -53,9 +57,9 @@ pub lines_more : (notes new : List Note) (lines : List LineText) (i : ℕ) (line
 lines_more notes new lines i line within here added =
     let rest = lines_noted (drop (i + 1) lines) in
     let next : lines_noted (drop i lines) ≡ lines_noted (line ∷ []) ++ rest =
-        at_drop_more lines_noted lines i line within
-        ∙ ap (λ x. lines_noted (x ∷ drop (i + 1) lines)) (sym here)
-        ∙ joined (line ∷ []) (drop (i + 1) lines) in
+    at_drop_more lines_noted lines i line within
+    ∙ ap (λ x. lines_noted (x ∷ drop (i + 1) lines)) (sym here)
+    ∙ joined (line ∷ []) (drop (i + 1) lines) in
     ap (λ ls. ls ++ rest) added
     ∙ append_assoc (noted notes) (lines_noted (line ∷ [])) rest
     ∙ ap (λ ls. noted notes ++ ls) (sym next)
@@ -75,7 +79,7 @@ sections_step only section rest = section_by (counts only section) section (filt
 pub section_noted : (only : Option (List ℕ)) (notes new : List Note) (section : SectionText) → counts only section ≡ true → noted new ≡ noted notes ++ lines_noted section.lines → noted new ≡ noted notes ++ sections_noted only (section ∷ [])
 section_noted only notes new section counted added =
     let alone : sections_noted only (section ∷ []) ≡ lines_noted section.lines =
-        sections_step only section [] ∙ ap (λ b. cond b (lines_noted section.lines ++ []) []) counted ∙ append-nil (lines_noted section.lines) in
+    sections_step only section [] ∙ ap (λ b. cond b (lines_noted section.lines ++ []) []) counted ∙ append-nil (lines_noted section.lines) in
     added ∙ ap (λ ls. noted notes ++ ls) (sym alone)
 
 pub section_passed : (only : Option (List ℕ)) (notes : List Note) (section : SectionText) → counts only section ≡ false → noted notes ≡ noted notes ++ sections_noted only (section ∷ [])
@@ -98,9 +102,9 @@ pub sections_more : (only : Option (List ℕ)) (notes new : List Note) (sections
 sections_more only notes new sections i section within here added =
     let rest = sections_noted only (drop (i + 1) sections) in
     let next : sections_noted only (drop i sections) ≡ sections_noted only (section ∷ []) ++ rest =
-        at_drop_more (sections_noted only) sections i section within
-        ∙ ap (λ x. sections_noted only (x ∷ drop (i + 1) sections)) (sym here)
-        ∙ sections_joined only section (drop (i + 1) sections) in
+    at_drop_more (sections_noted only) sections i section within
+    ∙ ap (λ x. sections_noted only (x ∷ drop (i + 1) sections)) (sym here)
+    ∙ sections_joined only section (drop (i + 1) sections) in
     ap (λ ls. ls ++ rest) added
     ∙ append_assoc (noted notes) (sections_noted only (section ∷ [])) rest
     ∙ ap (λ ls. noted notes ++ ls) (sym next)
@@ -131,3 +135,10 @@ nothing_in (note ∷ notes) n count zero = absurd (omega (arith, eqb-true n 0 ze
 pub of_any : {A E : Type 0} (P : A → Type 0) (r : Result A E) → ((x : A) → P x) → IfOk r P
 of_any P (Ok x) all = all x
 of_any P (Err e) all = tt
+
+-- a text that says sections isn't refused but for want of memory
+pub of_unread : {A E : Type 0} (shown : A → List Note) (text : List ℕ) (only : Option (List ℕ)) (f : TextFault) (r : Result A E) → (refusal_of text ≡ None → f ≡ Memory) → (is_want f ≡ true → IsErr r) → IfOk r (λ x. (sections : List SectionText) → sections_of text ≡ Ok sections → HasRefused only sections → noted (shown x) ≡ sections_noted only sections)
+of_unread shown text only f (Err e) refused wants = tt
+of_unread shown text only f (Ok x) refused wants = λ sections is has.
+    let clash : false ≡ true = wants (ap is_want (refused (ap result_err is))) in
+    absurd (cc)

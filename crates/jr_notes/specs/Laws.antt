@@ -37,4 +37,7 @@ RefusedAscend =
 
 -- of a file that is taken no line is refused
 abbrev pub AcceptedHaveNone : Type 0
-AcceptedHaveNone = (sections : List SectionText) (only : Option (List ℕ)) → refusal_of sections only ≡ None → refused_lines only sections ≡ []
+AcceptedHaveNone =
+    (sections : List SectionText) (only : Option (List ℕ))
+    → refusal_of sections only ≡ None
+    → refused_lines only sections ≡ []

@@ -1,6 +1,8 @@
 -- Believed: which lines of a job file have notes, and what a note prints.
-use Rattle.std.specs.Prelude.{◌≡◌, ℕ, ◌++◌, Bool, true, List, filter, map, Option, Some, None, is_some, codes, decimal, string_bytes}
+use Rattle.std.specs.Prelude.{◌≡◌, ℕ, ◌++◌, Bool, true, false, List, filter, map, Option, Some, None, is_some, codes, decimal, string_bytes}
 use Rattle.std.specs.List.{list_any}
+use Rattle.jr_text.specs.declared.faults.TextFault.{TextFault}
+use Rattle.jr_text.specs.declared.faults.TextFault.TheVariants as fault
 use Rattle.jr_text.specs.Records.{LineText, SectionText}
 use Rattle.jr_options.specs.Refusals.{counting_lines, line_fault}
 use Rattle.jr_notes.specs.declared.notes.Note.{Note}
@@ -37,6 +39,11 @@ lines_noted lines = map (λ (n : ℕ). Some n) (refused_in lines)
 
 abbrev pub sections_noted : Option (List ℕ) → List SectionText → List (Option ℕ)
 sections_noted only sections = map (λ (n : ℕ). Some n) (refused_lines only sections)
+
+-- the sections of a text weren't read for want of memory
+abbrev pub is_want : TextFault → Bool
+is_want fault.Memory = true
+is_want _ = false
 
 -- what a note prints
 abbrev pub placed_text : Option ℕ → List ℕ → List ℕ

@@ -122,8 +122,9 @@ const KEYS: [Row; 33] = [
         "the system's commands around fiorun",
     ),
     (
-        "write_bw_log write_lat_log write_iops_log write_hist_log log_* bwavgtime iopsavgtime disk_util stats percentile_list clat_percentiles \
-        lat_percentiles slat_percentiles block_error_percentiles significant_figures per_job_logs unified_rw_reporting steadystate* ss ss_*",
+        "write_bw_log write_lat_log write_iops_log write_hist_log log_* bwavgtime iopsavgtime disk_util stats \
+        percentile_list clat_percentiles lat_percentiles slat_percentiles block_error_percentiles significant_figures \
+        per_job_logs unified_rw_reporting steadystate* ss ss_*",
         "nothing is measured",
         "nothing",
     ),

@@ -1,12 +1,12 @@
-ghost use Rattle.std.specs.Prelude.{◌≡◌, List, Ok, IfOk, option_copied};
+ghost use Rattle.std.specs.Prelude.{◌≡◌, List, Ok, true, IfOk, IsErr, option_copied};
 ghost use Rattle.jr_text.specs.Records.{SectionText};
 ghost use Rattle.jr_text.specs.JobText.{sections_of};
-ghost use Rattle.jr_notes.specs.Notes.{HasRefused, noted, sections_noted};
+ghost use Rattle.jr_notes.specs.Notes.{HasRefused, is_want, noted, sections_noted};
 
 use crate::jobs::jobs;
 use crate::lines::line_notes;
-use crate::whole::{add_joint, add_own, add_unchecked, add_unplanned};
-use jr_text::{Section, sections};
+use crate::whole::{add_joint, add_own, add_unplanned, unchecked_notes};
+use jr_text::{Section, TextFault, sections};
 use std::alloc::{AllocError, Global};
 use std::fmt;
 
@@ -36,14 +36,32 @@ impl fmt::Display for Note {
 /// jobs together. There are none where the text is no job file, since its fault says it all.
 pub fn job_notes(alloc: Global, text: &[u8], only: Option<&str>) -> Result<Vec<Note>, AllocError>
     // Where lines are refused, the notes are of these lines.
-    ensures lines { IfOk result (λ notes. (sections : List SectionText) → sections_of text.now ≡ Ok sections
+    ensures { IfOk result (λ notes. (sections : List SectionText) → sections_of text.now ≡ Ok sections
         → HasRefused (option_copied only.entry) sections
         → noted notes.items ≡ sections_noted (option_copied only.entry) sections) }
 {
     match sections(alloc, text) {
         Ok(sections) => section_notes(alloc, sections.as_slice(), only),
-        Err(_) => Ok(Vec::new(alloc)),
+        Err(fault) => unread(alloc, fault),
     }
+}
+
+// No notes where a text is no job file, unless memory is wanting.
+fn unread(alloc: Global, fault: TextFault) -> Result<Vec<Note>, AllocError>
+    ensures { is_want fault ≡ true → IsErr result }
+{
+    if is_want(fault) {
+        Err(AllocError)
+    } else {
+        Ok(Vec::new(alloc))
+    }
+}
+
+// Whether sections weren't read for want of memory.
+fn is_want(fault: TextFault) -> bool
+    ensures { result ≡ is_want fault }
+{
+    matches!(fault, TextFault::Memory)
 }
 
 // The same, of the file's sections.
@@ -71,7 +89,7 @@ fn whole_notes(
     let mut notes = Vec::new(alloc);
     let jobs = jobs(alloc, sections, only)?;
     if jobs.is_empty() {
-        add_unplanned(alloc, &mut notes, sections, only)?;
+        add_unplanned(alloc, &mut notes, sections)?;
     }
     add_own(alloc, &mut notes, jobs.as_slice())?;
     if notes.is_empty() {
@@ -82,10 +100,11 @@ fn whole_notes(
 
 /// What is worth knowing of a job file that is taken: that a job has a pattern or a backlog and checks nothing.
 pub fn plan_notes(alloc: Global, text: &[u8], only: Option<&str>) -> Result<Vec<Note>, AllocError> {
-    let mut notes = Vec::new(alloc);
-    if let Ok(sections) = sections(alloc, text) {
-        let jobs = jobs(alloc, sections.as_slice(), only)?;
-        add_unchecked(alloc, &mut notes, jobs.as_slice())?;
+    match sections(alloc, text) {
+        Ok(sections) => {
+            let jobs = jobs(alloc, sections.as_slice(), only)?;
+            unchecked_notes(alloc, jobs.as_slice())
+        }
+        Err(fault) => unread(alloc, fault),
     }
-    Ok(notes)
 }

@@ -18,30 +18,38 @@ pub(crate) fn add_unplanned(
     alloc: Global,
     notes: &mut Vec<Note>,
     sections: &[Section],
-    only: Option<&str>,
 ) -> Result<(), AllocError> {
-    let mut names = String::new(alloc);
-    let mut jobs = sections.iter().filter(|section| !is_global(section));
-    for section in jobs.by_ref().take(MOST_NAMES) {
-        let name = shown(alloc, section.name())?;
-        names.push_str(" [")?;
-        names.push_str(name.as_str())?;
-        names.push(']')?;
-    }
-    if jobs.next().is_some() {
-        names.push_str(" ..")?;
-    }
+    let names = names(alloc, sections)?;
     let text = if names.is_empty() {
         String::from_str(
             alloc,
             "[global] alone is no job; instead: a heading [NAME] with its lines",
         )?
     } else {
-        let name = shown(alloc, only.unwrap_or(""))?;
-        format!(in alloc; "no job is named {name}; instead: one of{names}")?
+        format!(in alloc; "no job of this name; instead: one of{names}")?
     };
     notes.push(Note { line: None, text })?;
     Ok(())
+}
+
+// The names of the first jobs, each behind a space.
+fn names(alloc: Global, sections: &[Section]) -> Result<String, AllocError> {
+    let mut names = String::new(alloc);
+    let mut count = 0usize;
+    for section in sections {
+        if !is_global(section) {
+            if count == MOST_NAMES {
+                names.push_str(" ..")?;
+                return Ok(names);
+            }
+            count = count.saturating_add(1);
+            let name = shown(alloc, section.name())?;
+            names.push_str(" [")?;
+            names.push_str(name.as_str())?;
+            names.push(']')?;
+        }
+    }
+    Ok(names)
 }
 
 // Says of each job that is at fault by itself what is wrong with it.
@@ -273,20 +281,17 @@ fn visits(options: &JobOptions, shape: &Shape) -> u128 {
 }
 
 // Says which jobs have a pattern or a backlog and verify nothing.
-pub(crate) fn add_unchecked(
-    alloc: Global,
-    notes: &mut Vec<Note>,
-    jobs: &[Job],
-) -> Result<(), AllocError> {
+pub(crate) fn unchecked_notes(alloc: Global, jobs: &[Job]) -> Result<Vec<Note>, AllocError> {
+    let mut notes = Vec::new(alloc);
     for job in jobs {
         if let Some(key) = idle_key(&job.options) {
             let text = format!(in alloc;
                 "{key} without verify: nothing is checked; instead: verify=pattern or verify=md5"
             )?;
-            add(alloc, notes, job, text)?;
+            add(alloc, &mut notes, job, text)?;
         }
     }
-    Ok(())
+    Ok(notes)
 }
 
 // The key that does nothing without `verify`.
