@@ -5,7 +5,7 @@ use Rattle.jr_plan.specs.PlanFacts.{IsPlanned}
 use Rattle.jr_crew.specs.Runs.{IsFresh}
 use Rattle.jr_crew.proofs.Serially.{IsSerialSoFar}
 use Rattle.jr_crew.proofs.Turning.{IsSoFar}
-use Rattle.jr_crew.proofs.serial.run_serial_watched.Given as goal
+use Rattle.jr_crew.proofs.serial.run_serial.Given as goal
 
 -- the desk is that of the plan, and the run so far keeps what is to hold between two turns
 abbrev pub invariant-loop-desk : goal.invariant-loop-desk

@@ -4,7 +4,7 @@ use Rattle.jr_model.specs.Legal.{is_complete}
 use Rattle.jr_board.specs.DeskState.{DeskState}
 use Rattle.jr_crew.proofs.Running.{first_sofar, between, few_calls, goes_on, leaves_less, comes_to_end}
 use Rattle.jr_crew.proofs.Serially.{serial_first, serial_turn, serial_last}
-use Rattle.jr_crew.proofs.serial.run_serial_watched.Goals as goal
+use Rattle.jr_crew.proofs.serial.run_serial.Goals as goal
 
 pub loop-desk-init : goal.loop-desk-init
 loop-desk-init g c =

@@ -1,4 +1,4 @@
-use Rattle.jr_crew.proofs.crew.run_watched.Given as goal
+use Rattle.jr_crew.proofs.crew.run.Given as goal
 
 -- the run's name for its plan
 abbrev pub ghosts-run_as : goal.ghosts-run_as
