@@ -40,11 +40,21 @@ impl<'a> Launcher<'a> {
             return Ok(None);
         };
         let has_failed = Arc::try_clone(&self.has_failed)?;
-        let Some((requests, answers)) = pair_at(pipes, place).and_then(|pair| opened(rt, alloc, pair)) else {
+        let Some((requests, answers)) = pair_at(pipes, place).and_then(|pair| opened(
+            rt, alloc, pair,
+        )) else {
             self.has_failed.store(true, Ordering::SeqCst);
             return Ok(None);
         };
-        Ok(Some(Arc::new(alloc, Dropper { alloc, requests, answers, has_failed })?))
+        Ok(Some(Arc::new(
+            alloc,
+            Dropper {
+                alloc,
+                requests,
+                answers,
+                has_failed,
+            },
+        )?))
     }
 
     /// Whether any file wasn't dropped that a launcher was asked for.
@@ -93,6 +103,9 @@ fn pair_at(pipes: &str, place: usize) -> Option<(u32, u32)> {
 fn opened<R: Files<File = File>>(rt: &R, alloc: Global, pair: (u32, u32)) -> Option<(File, File)> {
     let requests = format!(in alloc; "/proc/self/fd/{}", pair.0).ok()?;
     let answers = format!(in alloc; "/proc/self/fd/{}", pair.1).ok()?;
-    let requests = OpenOptions::new().write(true).open(rt, requests.as_str()).ok()?;
+    let requests = OpenOptions::new()
+        .write(true)
+        .open(rt, requests.as_str())
+        .ok()?;
     Some((requests, File::open(rt, answers.as_str()).ok()?))
 }

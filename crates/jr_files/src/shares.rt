@@ -101,9 +101,8 @@ impl FileEngine<SharedFile> {
     /// Syncs each file, and drops what the system keeps of it, before anything of it is read or written.
     ///
     /// A fault names the first file of which the system can't store what was written before.
-    pub fn begin(&mut self) -> Result<(), FileFault>
-        ensures result { IfErr result (λ fault. NamesFile fault (length self.old.files)) }
-        ensures engine { self.new ≡ self.old }
+    pub fn begin(&self) -> Result<(), FileFault>
+        ensures { IfErr result (λ fault. NamesFile fault (length self.now.files)) }
     {
         let mut begun = Ok(());
         for (index, shared) in self.files().iter().enumerate() {
