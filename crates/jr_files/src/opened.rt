@@ -62,7 +62,7 @@ impl OpenedFile {
     /// asked for it, and is none here.
     pub fn settle(&self) -> io::Result<()> {
         if self.has_cache && self.keeps().is_ok() && self.marks.is_any_stale() {
-            self.marks.end(self.sync(self.marks.begin())?);
+            self.sync(self.marks.begin())?;
         }
         Ok(())
     }
@@ -83,8 +83,7 @@ impl OpenedFile {
         self.keeps()?;
         if self.marks.is_stale(offset, len) {
             let synced = self.sync(self.marks.begin())?;
-            self.drop_cached(dropper);
-            self.marks.end(synced);
+            self.marks.end(self.dropped(synced, dropper));
         }
         self.keeps()
     }
@@ -105,13 +104,23 @@ impl OpenedFile {
 
     // Has the system write to the device what it keeps of the file.
     fn sync(&self, begun: FileSync) -> io::Result<FileSync>
-        ensures { IfOk result (λ sync. sync.stage ≡ Stage.Ended) }
+        requires { begun.stage ≡ Stage.Begun }
+        ensures { IfOk result (λ sync. sync.stage ≡ Stage.Synced) }
     {
         if let Err(error) = self.file.sync_data() {
             self.is_lost.store(true, Ordering::SeqCst);
             return Err(error);
         }
-        Ok(begun.ended())
+        Ok(begun.synced())
+    }
+
+    // Has it drop what it keeps of the file, behind a sync: what isn't on the device it can't drop.
+    fn dropped(&self, synced: FileSync, dropper: Option<&Dropper>) -> FileSync
+        requires { synced.stage ≡ Stage.Synced }
+        ensures { result.stage ≡ Stage.Ended }
+    {
+        self.drop_cached(dropper);
+        synced.ended()
     }
 }
 

@@ -90,10 +90,11 @@ impl FileEngine<SharedFile> {
     {
         let mut files = Vec::new(alloc);
         for shared in self.files() {
-            files.push(SharedFile {
-                file: Arc::try_clone(&shared.file)?,
-                dropper: shared_dropper(dropper.as_ref())?,
-            })?;
+            let Ok(file) = Arc::try_clone(&shared.file) else {
+                return Err(FileFault::Memory);
+            };
+            let dropper = shared_dropper(dropper.as_ref())?;
+            files.push(SharedFile { file, dropper })?;
         }
         Ok(FileEngine::over(files))
     }
