@@ -1,7 +1,7 @@
 #!/usr/bin/env python3
-"""checks/drop.py [PROGRAM] runs the program (the built one where none is given) below bin/launch, and below a launcher of its own, and looks
-that checks read the device and not the system's cache, that all goes on where nothing can be dropped, and that the launcher shows nowhere.
-What can't be tried here is skipped with a word. The status is 1 where something is wrong."""
+"""checks/drop.py [PROGRAM [CASE..]] runs the program (the built one where none is given) below bin/launch, and below a launcher of its
+own, and looks that checks read the device and not the system's cache, that all goes on where nothing can be dropped, and that the launcher
+shows nowhere. What can't be tried here is skipped with a word. The status is 1 where something is wrong."""
 
 import bisect
 import contextlib
@@ -67,7 +67,7 @@ def what_a_run_finds_is_read_from_the_device(program, room):
     needs_disk(room)
     with open(os.path.join(room, "f"), "wb") as it:
         it.write(bytes(4 * MIB))
-    job = f"[r]\nioengine=psync\nrw=read\nsize=4m\nfilename=f\n"
+    job = "[r]\nioengine=psync\nrw=read\nsize=4m\nfilename=f\n"
     read = blocks_read(program, room, job)
     expect(read >= 4 * MIB, f"{read} bytes were read from the device")
     read = blocks_read(program, room, job, "--cached")
@@ -147,15 +147,15 @@ def each_check_stands_behind_a_drop(program, room):
                     expect(stands, f"{what}: the check at {offset} is read with no drop before")
             expect(checks == 256, f"{what}: {checks} checks")
             if workers == 1 and backlog == 0:
-                order = "".join(letter for letter, *_ in calls)
-                expect(re.fullmatch("sdf?a(w)+sdf?a(r)+", order.replace("fa", "a")), f"{what}: {order[:9]}..{order[-9:]}")
+                order = "".join(letter for letter, *_ in calls if letter != "f")
+                expect(re.fullmatch("w?sdaw+sdar+", order), f"{what}: {order[:9]}..{order[-9:]}")
 
 
 # A launcher of the checks' own, whose answers are known.
 
 
 class Launcher:
-    """Starts the program with pairs of pipes, and answers each request by what `answer` gives for the file's number (none: all pipes end)."""
+    """Starts the program with pairs of pipes, and answers each request by what `answer` gives for the file (none: all pipes end)."""
 
     def __init__(self, program, room, job, *words, pairs=17):
         self.requests, self.answers, theirs = [], [], []
@@ -243,7 +243,8 @@ def a_zeroed_disk_is_bad_in_every_block(program, room):
             totals = totals_of(ran.stdout)
             expect(asked == 2, f"{asked} requests")
             bad = 256 if drops else 0
-            expect((totals["checks"], totals["bad"]) == (256, bad), f"drops {drops}: status {ran.returncode}: {ran.stdout[:200]}{ran.stderr}")
+            found = (totals["checks"], totals["bad"])
+            expect(found == (256, bad), f"drops {drops}: status {ran.returncode}: {ran.stdout[:200]}{ran.stderr}")
 
 
 def a_run_goes_on_without_drops(program, room):
@@ -254,11 +255,13 @@ def a_run_goes_on_without_drops(program, room):
                 it = Launcher(program, room, job_of(more=[f"verify_backlog={backlog}", "iodepth=4"]), workers)
                 it.answer_all(lambda asked, _, answers=answers: answers[min(asked, len(answers) - 1)])
                 ran = it.ended()
-                expect((ran.returncode, ran.stdout) == (0, CLEAN), f"{workers}, {answers}: status {ran.returncode}: {ran.stdout}{ran.stderr}")
+                what = f"{workers}, {answers}, verify_backlog={backlog}"
+                expect((ran.returncode, ran.stdout) == (0, CLEAN), f"{what}: status {ran.returncode}: {ran.stdout}{ran.stderr}")
         it = Launcher(program, room, job_of(), workers)
         it.end_pipes()
         ran = it.ended()
-        expect((ran.returncode, ran.stdout) == (0, CLEAN), f"{workers}, pipes that end: status {ran.returncode}: {ran.stdout}{ran.stderr}")
+        what = f"{workers}, pipes that have ended"
+        expect((ran.returncode, ran.stdout) == (0, CLEAN), f"{what}: status {ran.returncode}: {ran.stdout}{ran.stderr}")
 
 
 def other_values_are_no_launcher(program, room):
@@ -294,7 +297,8 @@ def statuses_are_passed_on(_program, room):
     end = script(room, "end", "n = int(sys.argv[-1])\nsys.exit(n)\n")
     for status in (0, 1, 2, 3, 77, 255):
         same(*both(end, str(status)), f"status {status}")
-    end = script(room, "killed", "n = int(sys.argv[-1])\nif n != 9: signal.signal(n, signal.SIG_DFL)\nos.kill(os.getpid(), n)\ntime.sleep(9)\n")
+    text = "n = int(sys.argv[-1])\nif n != 9: signal.signal(n, signal.SIG_DFL)\nos.kill(os.getpid(), n)\ntime.sleep(9)\n"
+    end = script(room, "killed", text)
     for name in ("HUP", "INT", "QUIT", "ABRT", "KILL", "USR1", "SEGV", "PIPE", "ALRM", "TERM"):
         same(*both(end, str(int(signal.Signals["SIG" + name])), cwd=room), name)
     ran = subprocess.run([LAUNCH, os.path.join(room, "none")], capture_output=True, text=True, check=False)
@@ -333,7 +337,8 @@ if "open" not in words:
     for closed in ("", "<&-", ">&-", "<&- >&-", "2>&-", "<&- >&- 2>&-"):
         answers = []
         for words in ([seen, "open"], [LAUNCH, seen, "open"]):
-            ran = subprocess.run(["sh", "-c", f'exec "$@" {closed}', "sh", *words], capture_output=True, text=True, check=False, stdin=subprocess.DEVNULL)
+            words = ["sh", "-c", f'exec "$@" {closed}', "sh", *words]
+            ran = subprocess.run(words, capture_output=True, text=True, check=False, stdin=subprocess.DEVNULL)
             answers.append((ran.returncode, ran.stderr.splitlines()[-1:] if "2>" not in closed else []))
         same(*answers, f"closed {closed}")
 
@@ -457,7 +462,8 @@ def what_is_installed_runs(program, room):
         clean(run(command, room, job_of()), command)
         ran = run(command, room, "", "--version")
         expect(ran.stdout.startswith("fiorun "), f"{command}: {ran.stdout}{ran.stderr}")
-    found = sorted(os.path.relpath(os.path.join(where, it), room) for where, _, names in os.walk(os.path.join(room, "prefix")) for it in names)
+    prefix = os.path.join(room, "prefix")
+    found = sorted(os.path.relpath(os.path.join(where, it), room) for where, _, names in os.walk(prefix) for it in names)
     wanted = ["bin/fiorun", "lib/fiorun/fiorun", "lib/fiorun/launch", "lib/fiorun/start", "share/man/man1/fiorun.1"]
     expect(found == [f"prefix/{it}" for it in wanted], f"{found}")
     for it in found[:4]:
