@@ -1,3 +1,4 @@
 pub mod MoveLemmas
 pub mod RegionLemmas
+pub mod TwinLemmas
 pub mod UseLemmas

@@ -1,4 +1,6 @@
+pub mod Devices
 pub mod Engines
+pub mod Identities
 pub mod Moves
 pub mod Parts
 pub mod Regions

@@ -1,22 +1,31 @@
 // Files of the system as an engine, and the files of a plan made long enough for it.
 #![tactic(auto)]
 
+mod claims;
+mod devices;
 mod droppers;
 mod faults;
 mod file_engine;
+mod identities;
+mod in_use;
 mod layouts;
+mod making;
 mod marks;
 mod moving;
 mod opened;
 mod positioned;
+mod refusals;
 mod regions;
 mod shares;
+mod tables;
 mod uses;
 
+pub use claims::{Claims, claim};
 pub use droppers::{Dropper, Launcher};
 pub use faults::FileFault;
 pub use file_engine::FileEngine;
 pub use layouts::lay_out;
 pub use moving::{LARGEST_OFFSET, read_whole, write_whole};
 pub use positioned::Positioned;
-pub use shares::SharedFile;
+pub use refusals::{Act, Refusal, Use, Why};
+pub use shares::{Reads, SharedFile};

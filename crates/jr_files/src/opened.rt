@@ -1,11 +1,14 @@
 ghost use Rattle.std.specs.Prelude.{◌≡◌, ◌≤◌, IfOk, length};
 
 use crate::droppers::Dropper;
+use crate::identities::FileNumbers;
+use crate::layouts::{extend, lengthen};
 use crate::marks::{FileSync, Marks, Stage};
-use std::fs::File;
+use std::fs::{File, TryLockError};
 use std::io;
-use std::io::ErrorKind;
-use std::os::unix::fs::{FileExt, FileTypeExt};
+use std::io::{ErrorKind, Seek, SeekFrom};
+use std::os::unix::fs::FileExt;
+use std::rt::Files;
 use std::sync::atomic::{AtomicBool, Ordering};
 
 /// An open file of the system, as several engines share it: where it was written, and whether the system lost any of it.
@@ -14,6 +17,7 @@ use std::sync::atomic::{AtomicBool, Ordering};
 #[derive(Drop)]
 pub struct OpenedFile {
     file: File,
+    numbers: FileNumbers,
     marks: Marks,
     has_cache: bool,
     is_checked: bool,
@@ -23,14 +27,47 @@ pub struct OpenedFile {
 impl OpenedFile {
     /// The file with these marks. What is read of one that is checked was synced, if the system keeps the file in a cache.
     pub fn new(file: File, marks: Marks, is_checked: bool) -> io::Result<OpenedFile> {
-        let has_cache = has_cache(&file)?;
+        let metadata = file.metadata()?;
+        let numbers = FileNumbers::of(&metadata);
+        // The system keeps the bytes of a plain file and of a block device in a cache.
+        let has_cache = metadata.is_file() || numbers.is_block_device;
         Ok(OpenedFile {
             file,
+            numbers,
             marks,
             has_cache,
             is_checked,
             is_lost: AtomicBool::new(false),
         })
+    }
+
+    /// The numbers by which the system knows the file.
+    pub fn numbers(&self) -> FileNumbers {
+        self.numbers
+    }
+
+    /// Locks the file for as long as it is open, alone or among others that share it. Whether no other handle has locked it
+    /// otherwise: where its file system has no locks none has.
+    pub fn lock(&self, alone: bool) -> bool {
+        let locked = if alone {
+            self.file.try_lock()
+        } else {
+            self.file.try_lock_shared()
+        };
+        !matches!(locked, Err(TryLockError::WouldBlock))
+    }
+
+    /// Lets the file have at least so many bytes.
+    pub fn lengthen(&self, high: u64) -> io::Result<()> {
+        lengthen(&mut &self.file, high)
+    }
+
+    /// The same where it is open for reading alone: it is opened anew by its name, and only if it is too short.
+    pub fn lengthen_by_name<R: Files>(&self, rt: &R, name: &str, high: u64) -> io::Result<()> {
+        if (&self.file).seek(SeekFrom::End(0))? < high {
+            extend(rt, name, high)?;
+        }
+        Ok(())
     }
 
     /// Reads bytes from `offset` on, and of a file that is checked none that weren't synced, and then dropped, since they were
@@ -122,10 +159,4 @@ impl OpenedFile {
         self.drop_cached(dropper);
         synced.ended()
     }
-}
-
-// Whether the system keeps the file's bytes in a cache: those of a plain file, or of a block device.
-fn has_cache(file: &File) -> io::Result<bool> {
-    let kind = file.metadata()?.file_type();
-    Ok(kind.is_file() || kind.is_block_device())
 }

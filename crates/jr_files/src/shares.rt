@@ -1,16 +1,13 @@
 ghost use Rattle.std.specs.Prelude.{◌≡◌, ◌<◌, length, IfOk, IfErr};
-ghost use Rattle.jr_files.specs.Engines.{IsFresh, IsOpenFault, NamesFile};
+ghost use Rattle.jr_files.specs.Engines.{IsFresh, NamesFile};
 
 use crate::droppers::Dropper;
 use crate::faults::FileFault;
-use crate::file_engine::{FileEngine, open};
-use crate::marks::Marks;
+use crate::file_engine::FileEngine;
+use crate::identities::{FileNumbers, Identity};
 use crate::opened::OpenedFile;
 use crate::positioned::Positioned;
-use crate::uses::{is_checked, is_written};
-use jr_plan::Plan;
-use std::alloc::{AllocError, Global};
-use std::fs::File;
+use std::alloc::{AllocError, AllocFailed, Global};
 use std::io;
 use std::rt::Files;
 use std::sync::Arc;
@@ -36,41 +33,60 @@ impl Positioned for SharedFile {
     }
 }
 
-// What is read of a file that is checked: what was synced since it was written, or whatever the system has of it.
+/// What is read of a file that a clone checks.
 #[derive(Clone, Copy, Debug, PartialEq, Eq)]
-enum Reads {
+pub enum Reads {
+    /// What was synced since it was written.
     Synced,
+    /// Whatever the system has of it.
     Cached,
 }
 
+impl SharedFile {
+    /// The open file, to be shared.
+    pub(crate) fn new(
+        alloc: Global,
+        file: OpenedFile,
+    ) -> Result<SharedFile, AllocFailed<OpenedFile>> {
+        let file = Arc::new(alloc, file)?;
+        Ok(SharedFile {
+            file,
+            dropper: None,
+        })
+    }
+
+    /// The numbers by which the system knows it.
+    pub(crate) fn numbers(&self) -> FileNumbers {
+        self.file.numbers()
+    }
+
+    /// What it is, whatever its name.
+    pub(crate) fn identity(&self) -> Identity {
+        self.numbers().identity()
+    }
+
+    /// Locks it for as long as it is open, for this run alone or among others that share it. Whether no other run has locked it.
+    pub(crate) fn lock(&self, alone: bool) -> bool {
+        self.file.lock(alone)
+    }
+
+    /// Lets it have at least so many bytes.
+    pub(crate) fn lengthen(&self, high: u64) -> io::Result<()> {
+        self.file.lengthen(high)
+    }
+
+    /// The same of a file that is open for reading alone: it is opened anew by its name, and only where it is too short.
+    pub(crate) fn lengthen_by_name<R: Files>(
+        &self,
+        rt: &R,
+        name: &str,
+        high: u64,
+    ) -> io::Result<()> {
+        self.file.lengthen_by_name(rt, name, high)
+    }
+}
+
 impl FileEngine<SharedFile> {
-    /// Opens the plan's files, which have to be there (`lay_out` makes them), once for all engines that are to share them.
-    ///
-    /// In a file that a clone checks, what was written through these engines is read only once the file was synced: a read
-    /// fails where the system couldn't write all of it to the device, and so does each later one.
-    pub fn shared<R: Files<File = File>>(
-        rt: &R,
-        alloc: Global,
-        plan: &Plan,
-    ) -> Result<FileEngine<SharedFile>, FileFault>
-        ensures ok { IfOk result (λ engine. IsFresh engine (length plan.now.files)) }
-        ensures err { IfErr result (λ fault. IsOpenFault fault (length plan.now.files)) }
-    {
-        opened(rt, alloc, plan, Reads::Synced)
-    }
-
-    /// The same, where nothing is synced but by `settle`.
-    pub fn shared_cached<R: Files<File = File>>(
-        rt: &R,
-        alloc: Global,
-        plan: &Plan,
-    ) -> Result<FileEngine<SharedFile>, FileFault>
-        ensures ok { IfOk result (λ engine. IsFresh engine (length plan.now.files)) }
-        ensures err { IfErr result (λ fault. IsOpenFault fault (length plan.now.files)) }
-    {
-        opened(rt, alloc, plan, Reads::Cached)
-    }
-
     /// One more engine over the same open files, with counts of its own.
     pub fn share(&self, alloc: Global) -> Result<FileEngine<SharedFile>, FileFault>
         ensures ok { IfOk result (λ engine. IsFresh engine (length self.now.files)) }
@@ -128,49 +144,6 @@ impl FileEngine<SharedFile> {
         }
         settled
     }
-}
-
-// Opens the plan's files for engines that are to share them.
-fn opened<R: Files<File = File>>(
-    rt: &R,
-    alloc: Global,
-    plan: &Plan,
-    reads: Reads,
-) -> Result<FileEngine<SharedFile>, FileFault>
-    ensures ok { IfOk result (λ engine. IsFresh engine (length plan.now.files)) }
-    ensures err { IfErr result (λ fault. IsOpenFault fault (length plan.now.files)) }
-{
-    let mut files = Vec::new(alloc);
-    for index in 0..plan.files().len() {
-        files.push(opened_file(rt, alloc, plan, index, reads)?)?;
-    }
-    Ok(FileEngine::over(files))
-}
-
-// Opens one of them.
-fn opened_file<R: Files<File = File>>(
-    rt: &R,
-    alloc: Global,
-    plan: &Plan,
-    index: usize,
-    reads: Reads,
-) -> Result<SharedFile, FileFault>
-    requires { index < length plan.now.files }
-    ensures { IfErr result (λ fault. IsOpenFault fault (length plan.now.files)) }
-{
-    let spec = &plan.files()[index];
-    let syncs = reads == Reads::Synced && is_checked(plan, index);
-    let marks = Marks::new(alloc, if syncs { spec.high() } else { 0 })?;
-    let Ok(file) = open(rt, spec.name(), is_written(plan, index)).and_then(|file| OpenedFile::new(
-        file, marks, syncs,
-    )) else {
-        return Err(FileFault::File(index));
-    };
-    let file = Arc::new(alloc, file)?;
-    Ok(SharedFile {
-        file,
-        dropper: None,
-    })
 }
 
 // One more handle of the dropper.

@@ -2,7 +2,9 @@ ghost use Rattle.std.specs.Prelude.{◌+◌, ◌≤◌, IfOk};
 
 use crate::asserts::same;
 use jr_engines::{Engine, EngineFault, SharedMemory};
-use jr_files::{FileEngine, FileFault, Positioned, lay_out, read_whole, write_whole};
+use jr_files::{
+    Claims, FileEngine, FileFault, Positioned, Reads, Refusal, SharedFile, claim, lay_out, read_whole, write_whole,
+};
 use jr_model::{EngineKind, IoType, SECTOR, VerifyKind};
 use jr_plan::{Draft, Plan, Workload};
 use std::alloc::{AllocError, Allocator, Global};
@@ -54,6 +56,28 @@ fn verified(blocks: u32) -> Workload {
     let mut workload = Workload::plain(IoType::Write, 4096, blocks);
     workload.method.kind = VerifyKind::Md5;
     workload
+}
+
+// Takes the plan's files as a run does.
+fn claimed<R: Files<File = File>>(
+    rt: &R,
+    alloc: Global,
+    plan: &Plan,
+    reads: Reads,
+) -> Result<FileEngine<SharedFile>, Refusal> {
+    let claims = Claims {
+        reads,
+        devices_in_use: false,
+    };
+    claim(rt, alloc, plan, claims)
+}
+
+// Which fault they are refused with.
+fn refused<R: Files<File = File>>(rt: &R, alloc: Global, plan: &Plan) -> Option<FileFault> {
+    match claimed(rt, alloc, plan, Reads::Synced) {
+        Ok(_) => None,
+        Err(refusal) => Some(refusal.fault),
+    }
 }
 
 fn path_in(alloc: Global, folder: &str, name: &str) -> Result<String, AllocError> {
@@ -148,15 +172,13 @@ fn checked_file_is_read_as_written(rt: HostRuntime) -> Result<(), Fail> {
     let alloc = rt.alloc();
     let folder = fresh_folder(&rt, process::id(rt.process()), "fresh")?;
     let plan = planned_as(alloc, folder.as_str(), "a.0.0", &verified(8))?;
-    lay_out(&rt, &plan)?;
-    let mut engine = FileEngine::shared(&rt, alloc, &plan)?;
+    let mut engine = claimed(&rt, alloc, &plan, Reads::Synced)?;
     let mut other = engine.share(alloc)?;
     same(&rt, engine.settle(), Ok(()));
     assert_fresh(&rt, &mut engine, &mut other);
     same(&rt, other.settle(), Ok(()));
     let plan = planned_as(alloc, folder.as_str(), "b.0.0", &verified(8))?;
-    lay_out(&rt, &plan)?;
-    let mut engine = FileEngine::shared_cached(&rt, alloc, &plan)?;
+    let mut engine = claimed(&rt, alloc, &plan, Reads::Cached)?;
     let mut other = engine.share(alloc)?;
     assert_fresh(&rt, &mut engine, &mut other);
     same(&rt, other.settle(), Ok(()));
@@ -177,7 +199,7 @@ fn file_that_is_only_read(rt: HostRuntime) -> Result<(), Fail> {
     fs::set_permissions(&rt, path.as_str(), permissions)?;
     lay_out(&rt, &plan)?;
     assert_only_read(&rt, &mut FileEngine::new(&rt, alloc, &plan)?);
-    let mut shared = FileEngine::shared(&rt, alloc, &plan)?;
+    let mut shared = claimed(&rt, alloc, &plan, Reads::Synced)?;
     assert_only_read(&rt, &mut shared);
     same(&rt, shared.settle(), Ok(()));
     fs::remove_dir_all(&rt, folder.as_str())?;
@@ -244,11 +266,7 @@ fn refused_files_are_named(rt: HostRuntime) -> Result<(), Fail> {
         FileEngine::new(&rt, alloc, &plan).err(),
         Some(FileFault::File(1)),
     );
-    same(
-        &rt,
-        FileEngine::shared(&rt, alloc, &plan).err(),
-        Some(FileFault::File(1)),
-    );
+    same(&rt, refused(&rt, alloc, &plan), Some(FileFault::File(1)));
     let first = path_in(alloc, folder.as_str(), "a.0.0")?;
     same(&rt, fs::metadata(&rt, first.as_str())?.len(), 1024);
     let third = path_in(alloc, folder.as_str(), "c.0.0")?;
@@ -291,9 +309,8 @@ fn file_without_the_right_to_write(rt: HostRuntime) -> Result<(), Fail> {
 fn full_device_fails_its_writes(rt: HostRuntime) -> Result<(), Fail> {
     let plan = planned(rt.alloc(), "/dev", &[("full", 0, 1)])?;
     assert_full(&rt, &mut FileEngine::new(&rt, rt.alloc(), &plan)?);
-    let mut shared = FileEngine::shared(&rt, rt.alloc(), &plan)?;
-    assert_full(&rt, &mut shared);
-    same(&rt, shared.settle(), Ok(()));
+    let fault = refused(&rt, rt.alloc(), &plan);
+    same(&rt, fault, Some(FileFault::File(0)));
     Ok(())
 }
 
@@ -604,10 +621,39 @@ fn engines_side_by_side(rt: HostRuntime) -> Result<(), Fail> {
     let second = Box::new(alloc, shared.share()?)?;
     assert_side_by_side(&rt, Box::new(alloc, shared)?, second)?;
     let plan = planned(alloc, folder.as_str(), &[("b.0.0", 0, 2)])?;
-    lay_out(&rt, &plan)?;
-    let shared = FileEngine::shared(&rt, alloc, &plan)?;
+    let shared = claimed(&rt, alloc, &plan, Reads::Synced)?;
     let second = Box::new(alloc, shared.share(alloc)?)?;
     assert_side_by_side(&rt, Box::new(alloc, shared)?, second)?;
+    fs::remove_dir_all(&rt, folder.as_str())?;
+    Ok(())
+}
+
+// The note of a refusal.
+fn note<R: Files<File = File>>(rt: &R, alloc: Global, plan: &Plan) -> Result<String, AllocError> {
+    match claimed(rt, alloc, plan, Reads::Synced) {
+        Ok(_) => String::from_str(alloc, "not refused"),
+        Err(refusal) => refusal.to_string(alloc),
+    }
+}
+
+#[test]
+fn taken_files_are_refused(rt: HostRuntime) -> Result<(), Fail> {
+    let alloc = rt.alloc();
+    let folder = fresh_folder(&rt, process::id(rt.process()), "taken")?;
+    let plan = planned(alloc, folder.as_str(), &[("a", 0, 2)])?;
+    let held = claimed(&rt, alloc, &plan, Reads::Synced)?;
+    let path = path_in(alloc, folder.as_str(), "a")?;
+    let expected = format!(in alloc; "{path} is locked by another run")?;
+    same(&rt, note(&rt, alloc, &plan)?.as_str(), expected.as_str());
+    same(&rt, held.calls(), 0);
+    let link = path_in(alloc, folder.as_str(), "c")?;
+    symlink(&rt, "a", link.as_str())?;
+    let jobs = [("b", 0, 2), ("a", 0, 2), ("c", 0, 2)];
+    let plan = planned(alloc, folder.as_str(), &jobs)?;
+    let expected = format!(in alloc; "{path} and {link} are one file")?;
+    same(&rt, note(&rt, alloc, &plan)?.as_str(), expected.as_str());
+    let new = path_in(alloc, folder.as_str(), "b")?;
+    assert!(rt; !fs::exists(&rt, new.as_str())?);
     fs::remove_dir_all(&rt, folder.as_str())?;
     Ok(())
 }

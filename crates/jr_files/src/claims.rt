@@ -1,0 +1,177 @@
+ghost use Rattle.std.specs.Prelude.{◌≡◌, ◌<◌, length, IfOk, IfErr};
+ghost use Rattle.jr_files.specs.Engines.{IsFresh, IsOpenFault};
+
+use crate::devices::DeviceNumbers;
+use crate::faults::FileFault;
+use crate::file_engine::FileEngine;
+use crate::identities::first_twins;
+use crate::in_use::use_of;
+use crate::making::opened_file;
+use crate::refusals::{Act, Refusal, Why};
+use crate::shares::{Reads, SharedFile};
+use crate::uses::is_written;
+use jr_plan::Plan;
+use std::alloc::{AllocError, Global};
+use std::fs;
+use std::fs::File;
+use std::rt::Files;
+
+/// How a plan's files are taken.
+#[derive(Clone, Copy, Debug, PartialEq, Eq)]
+pub struct Claims {
+    /// What a check reads.
+    pub reads: Reads,
+    /// Whether a block device that is in use may be written.
+    pub devices_in_use: bool,
+}
+
+/// Takes the plan's files for a run, to be shared by its engines: each is opened, and made where it is missing; no two are one; no
+/// block device that a clone writes is in use; each is locked for this run alone, or among runs that only read it; and only then
+/// is each extended that is too short, by one zero byte at its end.
+///
+/// A missing file of /dev isn't made. At a refusal the files that this call made go again. What the file system has no locks for
+/// isn't locked.
+///
+/// In a file that a clone checks, what was written through these engines is read only once the file was synced, unless `reads`
+/// is `Cached`: a read fails where the system couldn't write all of it to the device, and so does each later one.
+pub fn claim<R: Files<File = File>>(
+    rt: &R,
+    alloc: Global,
+    plan: &Plan,
+    claims: Claims,
+) -> Result<FileEngine<SharedFile>, Refusal>
+    ensures ok { IfOk result (λ engine. IsFresh engine (length plan.now.files)) }
+    ensures err { IfErr result (λ refusal. IsOpenFault refusal.fault (length plan.now.files)) }
+{
+    let mut made = Vec::new(alloc);
+    let claimed = claimed(rt, alloc, plan, claims, &mut made);
+    if claimed.is_err() {
+        for path in made.as_slice() {
+            let _ = fs::remove_file(rt, path.as_str());
+        }
+    }
+    claimed
+}
+
+// The same, but what was made stays; it stands in `made`.
+fn claimed<R: Files<File = File>>(
+    rt: &R,
+    alloc: Global,
+    plan: &Plan,
+    claims: Claims,
+    made: &mut Vec<String>,
+) -> Result<FileEngine<SharedFile>, Refusal>
+    ensures ok { IfOk result (λ engine. IsFresh engine (length plan.now.files)) }
+    ensures err { IfErr result (λ refusal. IsOpenFault refusal.fault (length plan.now.files)) }
+{
+    let mut files = Vec::new(alloc);
+    for index in 0..plan.files().len() {
+        files.push(opened_file(rt, alloc, plan, index, claims.reads, made)?)?;
+    }
+    apart(alloc, plan, files.as_slice())?;
+    if !claims.devices_in_use {
+        unused(rt, alloc, plan, files.as_slice())?;
+    }
+    locked(alloc, plan, files.as_slice())?;
+    extended(rt, alloc, plan, files.as_slice())?;
+    Ok(FileEngine::over(files))
+}
+
+// Whether no two of the files are one.
+fn apart(alloc: Global, plan: &Plan, files: &[SharedFile]) -> Result<(), Refusal>
+    requires { length files.now ≡ length plan.now.files }
+    ensures { IfErr result (λ refusal. IsOpenFault refusal.fault (length plan.now.files)) }
+{
+    let mut identities = Vec::new(alloc);
+    for file in files {
+        identities.push(file.identity())?;
+    }
+    let Some((first, second)) = first_twins(identities.as_slice()) else {
+        return Ok(());
+    };
+    let first = name_of(alloc, plan, first)?;
+    let second_name = name_of(alloc, plan, second)?;
+    Err(refused(second, Why::OneFile(first, second_name)))
+}
+
+// Whether none of the files that a clone writes is a block device that is in use.
+fn unused<R: Files<File = File>>(
+    rt: &R,
+    alloc: Global,
+    plan: &Plan,
+    files: &[SharedFile],
+) -> Result<(), Refusal>
+    requires { length files.now ≡ length plan.now.files }
+    ensures { IfErr result (λ refusal. IsOpenFault refusal.fault (length plan.now.files)) }
+{
+    for (index, file) in files.iter().enumerate() {
+        let numbers = file.numbers();
+        if !numbers.is_block_device || !is_written(plan, index) {
+            continue;
+        }
+        match use_of(rt, alloc, DeviceNumbers::of(numbers.device)) {
+            Ok(None) => {}
+            Ok(Some(by)) => {
+                let name = name_of(alloc, plan, index)?;
+                return Err(refused(index, Why::InUse(name, by)));
+            }
+            Err(_) => return Err(Refusal::memory()),
+        }
+    }
+    Ok(())
+}
+
+// Locks each file: for this run alone where a clone writes it.
+fn locked(alloc: Global, plan: &Plan, files: &[SharedFile]) -> Result<(), Refusal>
+    requires { length files.now ≡ length plan.now.files }
+    ensures { IfErr result (λ refusal. IsOpenFault refusal.fault (length plan.now.files)) }
+{
+    for (index, file) in files.iter().enumerate() {
+        if !file.lock(is_written(plan, index)) {
+            let name = name_of(alloc, plan, index)?;
+            return Err(refused(index, Why::Locked(name)));
+        }
+    }
+    Ok(())
+}
+
+// Extends each file that is too short.
+fn extended<R: Files<File = File>>(
+    rt: &R,
+    alloc: Global,
+    plan: &Plan,
+    files: &[SharedFile],
+) -> Result<(), Refusal>
+    requires { length files.now ≡ length plan.now.files }
+    ensures { IfErr result (λ refusal. IsOpenFault refusal.fault (length plan.now.files)) }
+{
+    for (index, file) in files.iter().enumerate() {
+        let spec = &plan.files()[index];
+        let end = if is_written(plan, index) {
+            file.lengthen(spec.high())
+        } else {
+            file.lengthen_by_name(rt, spec.name(), spec.high())
+        };
+        if let Err(error) = end {
+            let name = name_of(alloc, plan, index)?;
+            return Err(refused(index, Why::System(Act::Extend, name, error)));
+        }
+    }
+    Ok(())
+}
+
+// The name of one of the plan's files.
+fn name_of(alloc: Global, plan: &Plan, index: usize) -> Result<String, AllocError>
+    requires { index < length plan.now.files }
+{
+    String::from_str(alloc, plan.files()[index].name())
+}
+
+fn refused(index: usize, why: Why) -> Refusal
+    ensures { result.fault ≡ FileFault.File index }
+{
+    Refusal {
+        fault: FileFault::File(index),
+        why,
+    }
+}

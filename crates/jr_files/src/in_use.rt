@@ -1,0 +1,149 @@
+// By what a block device is in use. The kernel's tables are looked at by numbers: a name may be any path.
+use crate::devices::DeviceNumbers;
+use crate::refusals::Use;
+use crate::tables::{field_of, mount_of, names_of, place_of, text_of};
+use std::alloc::Global;
+use std::os::unix::fs::{FileTypeExt, MetadataExt};
+use std::rt::Files;
+use std::{fs, io};
+
+/// By what this device, a partition of it, or the disk that it is a partition of is in use. Where the kernel's tables can't be read
+/// nothing is. The one error is want of memory.
+pub fn use_of<R: Files>(rt: &R, alloc: Global, device: DeviceNumbers) -> io::Result<Option<Use>> {
+    let family = family_of(rt, alloc, device)?;
+    let mounts = text_of(rt, alloc, "/proc/self/mountinfo")?;
+    let swaps = swaps_of(rt, alloc)?;
+    for member in family.as_slice() {
+        let found = use_of_one(
+            rt,
+            alloc,
+            member.as_str(),
+            mounts.as_slice(),
+            swaps.as_slice(),
+        )?;
+        if found.is_some() {
+            return Ok(found);
+        }
+    }
+    Ok(None)
+}
+
+// By what the device with these numbers is in use, itself.
+fn use_of_one<R: Files>(
+    rt: &R,
+    alloc: Global,
+    device: &str,
+    mounts: &[u8],
+    swaps: &[String],
+) -> io::Result<Option<Use>> {
+    if let Some(line) = mount_of(mounts, device.as_bytes()) {
+        let place = place_of(line).unwrap_or(line);
+        return Ok(Some(Use::Mounted(String::from_utf8_lossy(alloc, place)?)));
+    }
+    for swap in swaps {
+        if swap.as_str() == device {
+            return Ok(Some(Use::Swap));
+        }
+    }
+    holder_of(rt, alloc, device)
+}
+
+// The first device that stands on this one.
+fn holder_of<R: Files>(rt: &R, alloc: Global, device: &str) -> io::Result<Option<Use>> {
+    let holders = format!(in alloc; "/sys/dev/block/{device}/holders")?;
+    let names = names_of(rt, alloc, holders.as_str())?;
+    for name in names.as_slice().split(|byte| *byte == 0) {
+        if is_entry(name) {
+            return Ok(Some(Use::PartOf(String::from_utf8_lossy(alloc, name)?)));
+        }
+    }
+    Ok(None)
+}
+
+// Whether the name of a folder's entry is of something in it.
+fn is_entry(name: &[u8]) -> bool {
+    !matches!(name, b"" | b"." | b"..")
+}
+
+// The numbers of the device, of its partitions, and of the disk that it is a partition of: what is done to one is done to the others.
+fn family_of<R: Files>(rt: &R, alloc: Global, device: DeviceNumbers) -> io::Result<Vec<String>> {
+    let mut family = Vec::new(alloc);
+    let own = device.text(alloc)?;
+    let place = format!(in alloc; "/sys/dev/block/{own}")?;
+    family.push(own)?;
+    add_parts(rt, alloc, place.as_str(), &mut family)?;
+    let mark = format!(in alloc; "{place}/partition")?;
+    if fs::metadata(rt, mark.as_str()).is_ok() {
+        let disk = format!(in alloc; "{place}/../dev")?;
+        add_device(rt, alloc, disk.as_str(), &mut family)?;
+    }
+    Ok(family)
+}
+
+// Adds the numbers of each partition of the disk whose folder this is.
+fn add_parts<R: Files>(
+    rt: &R,
+    alloc: Global,
+    place: &str,
+    family: &mut Vec<String>,
+) -> io::Result<()> {
+    let names = names_of(rt, alloc, place)?;
+    for name in names.as_slice().split(|byte| *byte == 0) {
+        if is_entry(name) {
+            let name = String::from_utf8_lossy(alloc, name)?;
+            add_part(rt, alloc, place, name.as_str(), family)?;
+        }
+    }
+    Ok(())
+}
+
+// Adds the numbers of the entry, if it is a partition.
+fn add_part<R: Files>(
+    rt: &R,
+    alloc: Global,
+    place: &str,
+    name: &str,
+    family: &mut Vec<String>,
+) -> io::Result<()> {
+    let mark = format!(in alloc; "{place}/{name}/partition")?;
+    if fs::metadata(rt, mark.as_str()).is_err() {
+        return Ok(());
+    }
+    let numbers = format!(in alloc; "{place}/{name}/dev")?;
+    add_device(rt, alloc, numbers.as_str(), family)
+}
+
+// Adds the numbers that the file says, which stand alone on its line.
+fn add_device<R: Files>(
+    rt: &R,
+    alloc: Global,
+    path: &str,
+    family: &mut Vec<String>,
+) -> io::Result<()> {
+    let text = text_of(rt, alloc, path)?;
+    let numbers = String::from_utf8_lossy(alloc, text.as_slice().trim_ascii_end())?;
+    if !numbers.is_empty() {
+        family.push(numbers)?;
+    }
+    Ok(())
+}
+
+// The numbers of the block devices that are swap.
+fn swaps_of<R: Files>(rt: &R, alloc: Global) -> io::Result<Vec<String>> {
+    let mut swaps = Vec::new(alloc);
+    let text = text_of(rt, alloc, "/proc/swaps")?;
+    for line in text.as_slice().split(|byte| *byte == b'\n') {
+        let path = String::from_utf8_lossy(alloc, field_of(line, 0).unwrap_or(line))?;
+        if let Some(device) = device_at(rt, path.as_str()) {
+            swaps.push(device.text(alloc)?)?;
+        }
+    }
+    Ok(swaps)
+}
+
+// The numbers of the block device of this name, if it is one.
+fn device_at<R: Files>(rt: &R, path: &str) -> Option<DeviceNumbers> {
+    let metadata = fs::metadata(rt, path).ok()?;
+    let is_device = metadata.file_type().is_block_device();
+    is_device.then(|| DeviceNumbers::of(metadata.rdev()))
+}

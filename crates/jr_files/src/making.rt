@@ -1,0 +1,149 @@
+// Opens a plan's files, and makes those that are missing. Nothing is written to any of them.
+ghost use Rattle.std.specs.Prelude.{◌≡◌, ◌<◌, length, IfErr};
+ghost use Rattle.jr_files.specs.Engines.{IsOpenFault};
+
+use crate::faults::FileFault;
+use crate::file_engine::open;
+use crate::identities::FileNumbers;
+use crate::marks::Marks;
+use crate::opened::OpenedFile;
+use crate::refusals::{Act, Refusal, Why};
+use crate::shares::{Reads, SharedFile};
+use crate::uses::{is_checked, is_written};
+use jr_plan::Plan;
+use std::alloc::Global;
+use std::fs::{File, OpenOptions};
+use std::io::ErrorKind;
+use std::os::unix::fs::FileTypeExt;
+use std::path::Path;
+use std::rt::Files;
+use std::{fs, io};
+
+/// Opens this file of the plan, for reading alone where no clone writes it, and adds its path to `made` where it had to be made.
+pub fn opened_file<R: Files<File = File>>(
+    rt: &R,
+    alloc: Global,
+    plan: &Plan,
+    index: usize,
+    reads: Reads,
+    made: &mut Vec<String>,
+) -> Result<SharedFile, Refusal>
+    requires { index < length plan.now.files }
+    ensures { IfErr result (λ refusal. IsOpenFault refusal.fault (length plan.now.files)) }
+{
+    let spec = &plan.files()[index];
+    let syncs = reads == Reads::Synced && is_checked(plan, index);
+    let marks = Marks::new(alloc, if syncs { spec.high() } else { 0 })?;
+    let name = String::from_str(alloc, spec.name())?;
+    let mut act = Act::Open;
+    let opened = open_or_make(
+        rt,
+        alloc,
+        spec.name(),
+        is_written(plan, index),
+        &mut act,
+        made,
+    );
+    match opened.and_then(|file| OpenedFile::new(file, marks, syncs)) {
+        Ok(file) => Ok(SharedFile::new(alloc, file)?),
+        Err(error) if error.kind() == ErrorKind::OutOfMemory => Err(Refusal::memory()),
+        Err(error) => Err(Refusal {
+            fault: FileFault::File(index),
+            why: Why::System(act, name, error),
+        }),
+    }
+}
+
+// Opens the file, and makes it first where it is missing.
+fn open_or_make<R: Files<File = File>>(
+    rt: &R,
+    alloc: Global,
+    name: &str,
+    is_written: bool,
+    act: &mut Act,
+    made: &mut Vec<String>,
+) -> io::Result<File> {
+    match open_there(rt, name, is_written) {
+        Err(error) if error.kind() == ErrorKind::NotFound => {
+            if is_in_dev(rt, name) {
+                return Err(error);
+            }
+            *act = Act::Make;
+            make(rt, alloc, name, made)?;
+            *act = Act::Open;
+            open(rt, name, is_written)
+        }
+        opened => opened,
+    }
+}
+
+// Opens a file that is there. A pipe that is to be read would wait for its writer, and a folder opens but can't be read.
+fn open_there<R: Files<File = File>>(rt: &R, name: &str, is_written: bool) -> io::Result<File> {
+    let kind = fs::metadata(rt, name)?.file_type();
+    if kind.is_fifo() {
+        return Err(io::Error::from(ErrorKind::NotSeekable));
+    }
+    if kind.is_dir() {
+        return Err(io::Error::from(ErrorKind::IsADirectory));
+    }
+    open(rt, name, is_written)
+}
+
+// Makes the file, also where a link to nothing leads, and adds its path to those that were made.
+fn make<R: Files<File = File>>(
+    rt: &R,
+    alloc: Global,
+    name: &str,
+    made: &mut Vec<String>,
+) -> io::Result<()> {
+    made.reserve(1)?;
+    let path = String::from_str(alloc, name)?;
+    match File::create_new(rt, name) {
+        Ok(_) => {
+            made.push(path)?;
+            Ok(())
+        }
+        Err(error) if error.kind() == ErrorKind::AlreadyExists && is_link(rt, name) => {
+            make_behind(rt, alloc, name, made)
+        }
+        Err(error) => Err(error),
+    }
+}
+
+// Makes the file that a link to nothing leads to, but in /dev.
+fn make_behind<R: Files<File = File>>(
+    rt: &R,
+    alloc: Global,
+    name: &str,
+    made: &mut Vec<String>,
+) -> io::Result<()> {
+    OpenOptions::new()
+        .read(true)
+        .write(true)
+        .create(true)
+        .open(rt, name)?;
+    let path = rt.canonicalize(alloc, name)?.into_string();
+    let in_dev = is_in_dev(rt, path.as_str());
+    made.push(path)?;
+    if in_dev {
+        return Err(io::Error::from(ErrorKind::NotFound));
+    }
+    Ok(())
+}
+
+fn is_link<R: Files>(rt: &R, name: &str) -> bool {
+    fs::symlink_metadata(rt, name).is_ok_and(|metadata| metadata.is_symlink())
+}
+
+// Whether the file stands directly in /dev. One that is missing there is a device that is missing: made it would be a file in memory,
+// and a run over it would say nothing of any disk.
+fn is_in_dev<R: Files>(rt: &R, name: &str) -> bool {
+    let folder = match Path::new(name).parent() {
+        Some(folder) if !folder.as_str().is_empty() => folder.as_str(),
+        _ => ".",
+    };
+    let (Ok(folder), Ok(dev)) = (fs::metadata(rt, folder), fs::metadata(rt, "/dev")) else {
+        return false;
+    };
+    FileNumbers::of(&folder).identity() == FileNumbers::of(&dev).identity()
+}

@@ -1,0 +1,121 @@
+ghost use Rattle.std.specs.Prelude.{◌≡◌, ◌<◌, length};
+ghost use Rattle.jr_files.specs.Engines.{IsOpenFault};
+
+use crate::faults::FileFault;
+use std::alloc::{AllocError, AllocFailed};
+use std::error::Error;
+use std::{fmt, io};
+
+/// Why the files of a plan weren't taken. Printed it is a note for whoever runs the program.
+#[derive(Debug, Drop)]
+pub struct Refusal {
+    /// Which file is refused, or that memory was.
+    pub fault: FileFault,
+    /// Why it is.
+    pub why: Why,
+}
+
+/// Why a file of a plan isn't taken.
+#[derive(Debug, Drop)]
+pub enum Why {
+    /// The system refused to do this to the file of this name.
+    System(Act, String, io::Error),
+    /// These two names are of one file.
+    OneFile(String, String),
+    /// The block device of this name is in use.
+    InUse(String, Use),
+    /// Another run holds the lock of the file of this name.
+    Locked(String),
+    /// A request for memory was refused.
+    Memory,
+}
+
+/// What was to be done to a file.
+#[derive(Clone, Copy, Debug, PartialEq, Eq)]
+pub enum Act {
+    /// It was to be opened.
+    Open,
+    /// It was missing, and to be made.
+    Make,
+    /// It was too short, and to be extended.
+    Extend,
+}
+
+/// By what a block device is in use.
+#[derive(Debug, Drop)]
+pub enum Use {
+    /// A file system, mounted at this place.
+    Mounted(String),
+    /// The system's swap.
+    Swap,
+    /// Another device, of this name, that stands on it.
+    PartOf(String),
+}
+
+impl fmt::Display for Refusal {
+    fn fmt<W: fmt::Write>(&self, f: &mut fmt::Formatter<W>) -> fmt::Result {
+        match &self.why {
+            Why::System(act, name, error) => write!(f, "cannot {act} {name}: {error}"),
+            Why::OneFile(first, second) => write!(f, "{first} and {second} are one file"),
+            Why::InUse(name, by) => write!(f, "{name} is in use: {by}"),
+            Why::Locked(name) => write!(f, "{name} is locked by another run"),
+            Why::Memory => write!(f, "out of memory"),
+        }
+    }
+}
+
+impl Error for Refusal {}
+
+impl fmt::Display for Act {
+    fn fmt<W: fmt::Write>(&self, f: &mut fmt::Formatter<W>) -> fmt::Result {
+        match self {
+            Act::Open => write!(f, "open"),
+            Act::Make => write!(f, "make"),
+            Act::Extend => write!(f, "extend"),
+        }
+    }
+}
+
+impl fmt::Display for Use {
+    fn fmt<W: fmt::Write>(&self, f: &mut fmt::Formatter<W>) -> fmt::Result {
+        match self {
+            Use::Mounted(place) => write!(f, "mounted at {place}"),
+            Use::Swap => write!(f, "swap"),
+            Use::PartOf(name) => write!(f, "part of {name}"),
+        }
+    }
+}
+
+impl Refusal {
+    /// A refusal for want of memory.
+    pub(crate) fn memory() -> Refusal
+        ensures { result.fault ≡ FileFault.Memory }
+    {
+        Refusal {
+            fault: FileFault::Memory,
+            why: Why::Memory,
+        }
+    }
+}
+
+impl From<AllocError> for Refusal {
+    ghost use Rattle.std.specs.Prelude.{◌≡◌};
+    ghost use Rattle.jr_files.specs.declared.faults.FileFault.TheVariants as fault;
+
+    ghost from_gives = { λ error made. made.fault ≡ fault.Memory };
+
+    fn from(_error: AllocError) -> Refusal {
+        Refusal::memory()
+    }
+}
+
+impl<T: Drop> From<AllocFailed<T>> for Refusal {
+    ghost use Rattle.std.specs.Prelude.{◌≡◌};
+    ghost use Rattle.jr_files.specs.declared.faults.FileFault.TheVariants as fault;
+
+    ghost from_gives = { λ error made. made.fault ≡ fault.Memory };
+
+    fn from(_error: AllocFailed<T>) -> Refusal {
+        Refusal::memory()
+    }
+}

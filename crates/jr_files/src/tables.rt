@@ -1,0 +1,79 @@
+// Texts that the kernel makes: of mounts (/proc/self/mountinfo), of swap (/proc/swaps), and the names in a folder.
+ghost use Rattle.std.specs.Prelude.{◌≡◌, ◌↔◌, IsTrue, IfSome};
+ghost use Rattle.std.specs.Option.{option_map};
+ghost use Rattle.jr_files.specs.Devices.{IsMountOf, field_of};
+
+use std::alloc::Global;
+use std::fs::File;
+use std::io;
+use std::io::{ErrorKind, Read};
+use std::rt::Files;
+
+// The fields of a mount: its device's numbers, and where it stands.
+const DEVICE: usize = 2;
+
+const MOUNT_POINT: usize = 4;
+
+// More than any such text has that is of use here.
+const MOST_READ: u64 = 1 << 20;
+
+/// What the system answers for a file, or nothing where it can't be read. The one error is want of memory.
+pub fn text_of<R: Files>(rt: &R, alloc: Global, path: &str) -> io::Result<Vec<u8>> {
+    match File::open(rt, path) {
+        Ok(file) => taken(alloc, file),
+        Err(_) => Ok(Vec::new(alloc)),
+    }
+}
+
+/// The names in a folder, each ended by a NUL, or nothing where it can't be read. The one error is want of memory.
+pub fn names_of<R: Files>(rt: &R, alloc: Global, path: &str) -> io::Result<Vec<u8>> {
+    match rt.open_dir(path) {
+        Ok(folder) => taken(alloc, folder),
+        Err(_) => Ok(Vec::new(alloc)),
+    }
+}
+
+// What comes of a source until it ends, fails, or has given all that is looked at.
+fn taken<S: Read + Drop>(alloc: Global, source: S) -> io::Result<Vec<u8>> {
+    let mut text = Vec::new(alloc);
+    match source.take(MOST_READ).read_to_end(&mut text) {
+        Err(error) if error.kind() == ErrorKind::OutOfMemory => Err(error),
+        _ => Ok(text),
+    }
+}
+
+/// The first line of a table of mounts that has these numbers.
+pub fn mount_of<'a>(mounts: &'a [u8], device: &[u8]) -> Option<&'a [u8]>
+    ensures { IfSome result (λ line. IsMountOf device.now line.now) }
+{
+    for line in mounts.split(|byte| *byte == b'\n') {
+        if is_mount_of(line, device) {
+            return Some(line);
+        }
+    }
+    None
+}
+
+/// Where a mount stands.
+pub fn place_of(line: &[u8]) -> Option<&[u8]>
+    ensures { option_map (λ field. field.now) result ≡ field_of line.now 4 }
+{
+    field_of(line, MOUNT_POINT)
+}
+
+// Whether the line of a mount has these numbers.
+fn is_mount_of(line: &[u8], device: &[u8]) -> bool
+    ensures { IsTrue result ↔ IsMountOf device.now line.now }
+{
+    match field_of(line, DEVICE) {
+        Some(field) => field == device,
+        None => false,
+    }
+}
+
+/// The field at this place of a line, if it has so many.
+pub fn field_of(line: &[u8], place: usize) -> Option<&[u8]>
+    ensures { option_map (λ field. field.now) result ≡ field_of line.now place }
+{
+    line.split(|byte| *byte == b' ').nth(place)
+}
