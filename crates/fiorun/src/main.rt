@@ -1,15 +1,17 @@
 // Runs a fio job file, or prints its plan: the words of the command line say which.
 #![tactic(auto)]
 
-ghost use Rattle.std.specs.Prelude.{◌≡◌, ◌≤◌, ◌^◌, IfOk};
+ghost use Rattle.std.specs.Prelude.{◌≤◌, ◌^◌};
 
+use files::{Taken, is_taken, take_files};
 use jr_cli::{
     Choice, CliFault, answer_words, choose, execute, execute_serial, memory_or, print_check,
     print_plan, read_job, read_text, read_trace, workers_of,
 };
 use jr_engines::{Engine, MemoryEngine, NullEngine, SharedMemory};
-use jr_files::{FileEngine, FileFault, SharedFile, lay_out};
+use jr_files::{FileEngine, SharedFile};
 use jr_model::EngineKind;
+use jr_notes::{job_notes, plan_notes};
 use jr_plan::Plan;
 use show::{Extent, Screen, shown};
 use std::alloc::Global;
@@ -21,8 +23,11 @@ use std::sync::Wait;
 use std::thread::Threads;
 use std::time::Clock;
 use std::{env, fs, io};
+use stops::{Stop, tell_all};
 
+mod files;
 mod show;
+mod stops;
 
 fn main(rt: HostRuntime) -> ExitCode {
     let _held = held(&rt);
@@ -37,17 +42,15 @@ fn main(rt: HostRuntime) -> ExitCode {
         }
         run_memory(&rt, job, engines)
     };
-    let ended = match begin(&rt) {
+    let mut has_notes = rt.is_shown();
+    let ended = match begin(&rt, &mut has_notes) {
         Ok(Turn::Ended(status)) => Ok(status),
-        Ok(Turn::Shared(job)) => run_shared(job),
-        Err(fault) => Err(fault),
+        Ok(Turn::Shared(job)) => run_shared(job).map_err(Stop::from),
+        Err(stop) => Err(stop),
     };
     match ended {
         Ok(status) => ExitCode::from(status),
-        Err(fault) => {
-            let _ = eprintln!(rt; "fiorun: {fault}");
-            ExitCode::from(fault.status())
-        }
+        Err(stop) => ExitCode::from(stop.tell(&rt, has_notes)),
     }
 }
 
@@ -77,7 +80,7 @@ struct SharedRun {
     events: Option<BufWriter<File>>,
 }
 
-// Does what the words ask for, but for a run over a shared memory.
+// Does what the words ask for, but for a run over a shared memory. They may ask for notes.
 fn begin<
     R: Env
         + Files<File = File>
@@ -89,10 +92,13 @@ fn begin<
         + Threads
         + Wait
         + Sync,
->(rt: &R) -> Result<Turn, CliFault> {
+>(rt: &R, has_notes: &mut bool) -> Result<Turn, Stop> {
     let words = words_of(rt)?;
     match choose(rt.alloc(), words.as_slice()) {
-        Ok(choice) => perform(rt, &choice),
+        Ok(choice) => {
+            *has_notes |= choice.notes;
+            perform(rt, &choice, *has_notes)
+        }
         Err(error) => Ok(Turn::Ended(answer_words(rt, &error)?)),
     }
 }
@@ -106,11 +112,11 @@ fn words_of<R: Env + AllocGlobal>(rt: &R) -> Result<Vec<String>, CliFault> {
 
 fn perform<
     R: Files<File = File> + Input + Print + Screen + AllocGlobal + Clock + Threads + Wait + Sync,
->(rt: &R, choice: &Choice<'_>) -> Result<Turn, CliFault> {
+>(rt: &R, choice: &Choice<'_>, has_notes: bool) -> Result<Turn, Stop> {
     let text = job_text(rt, choice.job)?;
-    let plan = read_job(rt.alloc(), text.as_slice(), choice.section)?;
+    let plan = job_plan(rt.alloc(), text.as_slice(), choice.section)?;
     let Ok(mut out) = BufWriter::new(rt.alloc(), io::writer(rt)) else {
-        return Err(CliFault::Memory);
+        return Err(Stop::from(CliFault::Memory));
     };
     if choice.parse_only {
         print_plan(rt.alloc(), &plan, &mut out)?;
@@ -121,8 +127,23 @@ fn perform<
         print_check(rt.alloc(), &plan, events.as_slice(), &mut out)?;
         return Ok(Turn::Ended(0));
     }
+    if has_notes && let Ok(notes) = plan_notes(rt.alloc(), text.as_slice(), choice.section) {
+        tell_all(rt, notes.as_slice());
+    }
     let workers = workers_of(&plan, choice.workers);
     run_plan(rt, choice, plan, workers, &mut out)
+}
+
+// The plan of a job text, or its fault with what is worth knowing of it.
+fn job_plan(alloc: Global, text: &[u8], section: Option<&str>) -> Result<Plan, Stop> {
+    let fault = match read_job(alloc, text, section) {
+        Ok(plan) => return Ok(plan),
+        Err(fault) => fault,
+    };
+    match job_notes(alloc, text, section) {
+        Ok(notes) => Err(Stop::job(fault, notes)),
+        Err(_) => Err(Stop::from(fault)),
+    }
 }
 
 // The trace that is to be checked.
@@ -168,18 +189,22 @@ fn job_text<R: Files + Input + AllocGlobal>(
 fn run_plan<
     R: Files<File = File> + Screen + AllocGlobal + Clock + Threads + Wait + Sync,
     V: io::Write,
->(rt: &R, choice: &Choice<'_>, plan: Plan, workers: u32, out: &mut V) -> Result<Turn, CliFault> {
+>(rt: &R, choice: &Choice<'_>, plan: Plan, workers: u32, out: &mut V) -> Result<Turn, Stop> {
+    let is_over = |path| is_taken(rt, path, choice.job, &plan);
+    if plan.engine() == EngineKind::File && choice.trace.is_some_and(is_over) {
+        return Err(Stop::trace());
+    }
     if workers == 1 && plan.verifiers() == 0 {
         return Ok(Turn::Ended(run_alone(rt, choice, plan, out)?));
     }
     let trace = choice.trace;
     match plan.engine() {
         EngineKind::File => {
-            let files = opened(rt, &plan, choice.cached)?;
-            let engines = file_shares(rt.alloc(), &files, workers)?;
+            let files = take_files(rt, &plan, choice)?;
             let events = trace_file(rt, trace)?;
+            let engines = file_engines(rt, &files, workers)?;
             let status = run_files(rt, plan, engines, events, out)?;
-            Ok(Turn::Ended(settled(&files, status)?))
+            Ok(Turn::Ended(files.settled(status)?))
         }
         EngineKind::Memory => {
             let events = trace_file(rt, trace)?;
@@ -200,83 +225,45 @@ fn run_plan<
 fn run_alone<
     R: Files<File = File> + Screen + AllocGlobal + Clock + Threads + Wait + Sync,
     V: io::Write,
->(rt: &R, choice: &Choice<'_>, plan: Plan, out: &mut V) -> Result<u8, CliFault> {
+>(rt: &R, choice: &Choice<'_>, plan: Plan, out: &mut V) -> Result<u8, Stop> {
     let trace = choice.trace;
     match plan.engine() {
         EngineKind::File => {
-            let mut files = opened(rt, &plan, choice.cached)?;
-            let status = run_over(rt, trace, plan, &mut files, out)?;
-            settled(&files, status)
+            let files = take_files(rt, &plan, choice)?;
+            let mut engine = files.engine(rt, 0)?;
+            files.begin(&engine);
+            let status = run_over(rt, trace, plan, &mut engine, out)?;
+            Ok(files.settled(status)?)
         }
         EngineKind::Memory => {
-            let mut engine = MemoryEngine::new(rt.alloc(), &plan)?;
-            run_over(rt, trace, plan, &mut engine, out)
+            let mut engine = match MemoryEngine::new(rt.alloc(), &plan) {
+                Ok(engine) => engine,
+                Err(_) => return Err(Stop::from(CliFault::Memory)),
+            };
+            Ok(run_over(rt, trace, plan, &mut engine, out)?)
         }
         EngineKind::Null => {
             let mut engine = NullEngine::new();
-            run_over(rt, trace, plan, &mut engine, out)
+            Ok(run_over(rt, trace, plan, &mut engine, out)?)
         }
     }
 }
 
-// Makes the plan's files where they are missing, and long enough.
-fn laid_out<R: Files>(rt: &R, plan: &Plan) -> Result<(), CliFault> {
-    match lay_out(rt, plan) {
-        Ok(()) => Ok(()),
-        Err(fault) => Err(open_fault(fault)),
-    }
-}
-
-// The plan's files, made where they are missing, long enough, and opened, to be shared by workers. What a check reads of them was
-// synced, unless the system's cache is good enough.
-fn opened<R: Files<File = File> + AllocGlobal>(
+// The engines of so many workers over the files, which the first of them drops from the system's cache.
+fn file_engines<R: Files<File = File> + AllocGlobal>(
     rt: &R,
-    plan: &Plan,
-    cached: bool,
-) -> Result<FileEngine<SharedFile>, CliFault>
-    ensures { IfOk result (λ engine. engine.calls ≡ 0) }
-{
-    laid_out(rt, plan)?;
-    let made = if cached {
-        FileEngine::shared_cached(rt, rt.alloc(), plan)
-    } else {
-        FileEngine::shared(rt, rt.alloc(), plan)
-    };
-    match made {
-        Ok(files) => Ok(files),
-        Err(fault) => Err(open_fault(fault)),
-    }
-}
-
-// So many engines over the open files.
-fn file_shares(
-    alloc: Global,
-    files: &FileEngine<SharedFile>,
+    files: &Taken<'_>,
     workers: u32,
 ) -> Result<Vec<FileEngine<SharedFile>>, CliFault> {
-    let mut engines = Vec::new(alloc);
-    for _ in 0..workers {
-        match files.share(alloc) {
-            Ok(engine) => add(&mut engines, engine)?,
-            Err(fault) => return Err(open_fault(fault)),
+    let mut engines = Vec::new(rt.alloc());
+    for place in 0..workers as usize {
+        let engine = files.engine(rt, place)?;
+        if place == 0 {
+            files.begin(&engine);
         }
+        add(&mut engines, engine)?;
     }
     Ok(engines)
-}
-
-// The status of a run, once all that it wrote was synced.
-fn settled(files: &FileEngine<SharedFile>, status: u8) -> Result<u8, CliFault> {
-    match files.settle() {
-        Ok(()) => Ok(status),
-        Err(_) => Err(CliFault::Write),
-    }
-}
-
-fn open_fault(fault: FileFault) -> CliFault {
-    match fault {
-        FileFault::File(_) => CliFault::Open,
-        FileFault::Memory => CliFault::Memory,
-    }
 }
 
 fn boxed<X: Drop>(alloc: Global, one: X) -> Result<Box<X>, CliFault> {

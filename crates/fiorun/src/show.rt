@@ -1,5 +1,6 @@
 // The line that a terminal shows of a run that goes on: how much was started, what was checked, and how much of that was bad.
 use jr_cli::Progress;
+use jr_model::IoType;
 use jr_plan::{Plan, SubJob};
 use std::io::IsTerminal;
 use std::sync::{Condvar, CondvarTimeouts, Mutex, Wait};
@@ -52,7 +53,7 @@ pub fn shown<
     )
 }
 
-// How many bytes a plan's jobs read and write of themselves, without checks.
+// How many bytes a plan's jobs read and write, checks too.
 #[derive(Clone, Copy)]
 pub struct Extent {
     bytes: u64,
@@ -73,9 +74,23 @@ impl Extent {
     }
 }
 
+// What a clone reads and writes, and once more what it writes where it checks that. Some of it may be skipped, as overwritten.
 fn bytes_of(clone: &SubJob) -> u64 {
     let pass = u64::from(clone.cells()).saturating_mul(u64::from(clone.cell()));
-    pass.saturating_mul(u64::from(clone.passes()))
+    let own = pass.saturating_mul(u64::from(clone.passes()));
+    own.saturating_add(own / 100 * checked_percent(clone))
+}
+
+// How many hundredths of what a clone reads and writes are read back.
+fn checked_percent(clone: &SubJob) -> u64 {
+    let checks = clone.method().kind.is_verified() && clone.checks_writes();
+    match clone.io_type() {
+        IoType::Write | IoType::RandWrite if checks => 100,
+        IoType::ReadWrite | IoType::RandRw if checks => {
+            100u64.saturating_sub(u64::from(clone.read_percent()))
+        }
+        _ => 0,
+    }
 }
 
 // What is shown of a run.
@@ -92,7 +107,8 @@ impl Line {
         // (what counts fewer is read first, so that no number of a line is above one that it can't be above)
         let bad = progress.bad();
         let checks = progress.checks();
-        let percent = extent.percent(progress.bytes());
+        let bytes = progress.bytes().saturating_add(progress.checked_bytes());
+        let percent = extent.percent(bytes).min(100);
         Line {
             percent,
             ios: progress.ios(),
@@ -106,7 +122,7 @@ impl fmt::Display for Line {
     fn fmt<W: fmt::Write>(&self, f: &mut fmt::Formatter<W>) -> fmt::Result {
         write!(
             f,
-            "fiorun: {} % started, {} I/Os, {} checked, {} bad",
+            "fiorun: {} % done, {} I/Os, {} checked, {} bad",
             self.percent, self.ios, self.checks, self.bad
         )
     }

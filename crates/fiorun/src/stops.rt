@@ -1,0 +1,90 @@
+// Why the program ends before its time, and what is worth knowing of it.
+use jr_cli::CliFault;
+use jr_files::{FileFault, Refusal};
+use jr_notes::Note;
+
+// A fault, and what is said behind it where notes are wanted.
+#[derive(Drop)]
+pub struct Stop {
+    fault: CliFault,
+    notes: Notes,
+}
+
+#[derive(Drop)]
+enum Notes {
+    None,
+    Job(Vec<Note>),
+    Files(Refusal),
+    Trace,
+}
+
+impl From<CliFault> for Stop {
+    fn from(fault: CliFault) -> Stop {
+        Stop {
+            fault,
+            notes: Notes::None,
+        }
+    }
+}
+
+impl Stop {
+    // A job file is refused.
+    pub fn job(fault: CliFault, notes: Vec<Note>) -> Stop {
+        Stop {
+            fault,
+            notes: Notes::Job(notes),
+        }
+    }
+
+    // The files of a job are refused.
+    pub fn files(refusal: Refusal) -> Stop {
+        match refusal.fault {
+            FileFault::File(_) => Stop {
+                fault: CliFault::Open,
+                notes: Notes::Files(refusal),
+            },
+            FileFault::Memory => Stop::from(CliFault::Memory),
+        }
+    }
+
+    // The trace would go to a file that is read or written otherwise.
+    pub fn trace() -> Stop {
+        Stop {
+            fault: CliFault::Write,
+            notes: Notes::Trace,
+        }
+    }
+
+    // Says it on standard error, with the notes where they are wanted, and gives the exit status.
+    pub fn tell<R: Eprint>(&self, rt: &R, has_notes: bool) -> u8 {
+        let _ = eprintln!(rt; "fiorun: {}", self.fault);
+        if has_notes {
+            self.notes.tell(rt);
+        }
+        self.fault.status()
+    }
+}
+
+impl Notes {
+    fn tell<R: Eprint>(&self, rt: &R) {
+        match self {
+            Notes::None => {}
+            Notes::Job(notes) => tell_all(rt, notes.as_slice()),
+            Notes::Files(refusal) => {
+                let _ = eprintln!(rt; "fiorun: note: {refusal}");
+            }
+            Notes::Trace => {
+                let _ = eprintln!(rt;
+                    "fiorun: note: the trace's file is the job file or a file of a job"
+                );
+            }
+        }
+    }
+}
+
+// Says each of these notes on a line of its own.
+pub fn tell_all<R: Eprint>(rt: &R, notes: &[Note]) {
+    for note in notes {
+        let _ = eprintln!(rt; "fiorun: note: {note}");
+    }
+}
