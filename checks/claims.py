@@ -160,7 +160,7 @@ def two_names_of_one_device_are_refused(program, room):
 
 def a_second_run_is_refused(program, room):
     """While a first run goes on over a file, a second one is refused; two that only read it aren't."""
-    first_job = job_of(more=["verify_backlog=1", "loops=40"])
+    first_job = job_of(more=["verify_backlog=1", "loops=10"])
     command = [program, "--notes"]
     first = subprocess.Popen(command, stdin=subprocess.PIPE, stdout=subprocess.PIPE, stderr=subprocess.PIPE, cwd=room, text=True)
     try:
@@ -176,7 +176,7 @@ def a_second_run_is_refused(program, room):
         out = first.stdout.read()
         err = first.stderr.read()
         expect(first.wait(SECONDS) == 0 and err == "", f"the first run: {out}{err}")
-        expect("writes=10240 " in out and "good=10240 bad=0 " in out, f"the first run: {out}")
+        expect("writes=2560 " in out and "good=2560 bad=0 " in out, f"the first run: {out}")
     finally:
         first.kill()
         first.wait()
