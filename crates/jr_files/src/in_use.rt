@@ -50,7 +50,7 @@ fn use_of_one<R: Files>(
 
 // The first device that stands on this one.
 fn holder_of<R: Files>(rt: &R, alloc: Global, device: &str) -> io::Result<Option<Use>> {
-    let holders = format!(in alloc; "/sys/dev/block/{device}/holders")?;
+    let holders = format!(in alloc; "/sys/dev/block/{device}/holders/")?;
     let names = names_of(rt, alloc, holders.as_str())?;
     for name in names.as_slice().split(|byte| *byte == 0) {
         if is_entry(name) {
@@ -69,12 +69,12 @@ fn is_entry(name: &[u8]) -> bool {
 fn family_of<R: Files>(rt: &R, alloc: Global, device: DeviceNumbers) -> io::Result<Vec<String>> {
     let mut family = Vec::new(alloc);
     let own = device.text(alloc)?;
-    let place = format!(in alloc; "/sys/dev/block/{own}")?;
+    let place = format!(in alloc; "/sys/dev/block/{own}/")?;
     family.push(own)?;
     add_parts(rt, alloc, place.as_str(), &mut family)?;
-    let mark = format!(in alloc; "{place}/partition")?;
+    let mark = format!(in alloc; "{place}partition")?;
     if fs::metadata(rt, mark.as_str()).is_ok() {
-        let disk = format!(in alloc; "{place}/../dev")?;
+        let disk = format!(in alloc; "{place}../dev")?;
         add_device(rt, alloc, disk.as_str(), &mut family)?;
     }
     Ok(family)
@@ -105,11 +105,11 @@ fn add_part<R: Files>(
     name: &str,
     family: &mut Vec<String>,
 ) -> io::Result<()> {
-    let mark = format!(in alloc; "{place}/{name}/partition")?;
+    let mark = format!(in alloc; "{place}{name}/partition")?;
     if fs::metadata(rt, mark.as_str()).is_err() {
         return Ok(());
     }
-    let numbers = format!(in alloc; "{place}/{name}/dev")?;
+    let numbers = format!(in alloc; "{place}{name}/dev")?;
     add_device(rt, alloc, numbers.as_str(), family)
 }
 

@@ -25,7 +25,7 @@ pub fn text_of<R: Files>(rt: &R, alloc: Global, path: &str) -> io::Result<Vec<u8
     }
 }
 
-/// The names in a folder, each ended by a NUL, or nothing where it can't be read. The one error is want of memory.
+/// The names in a folder, each ended by a NUL, or nothing where it can't be read. A link is followed where the path ends in a slash. The one error is want of memory.
 pub fn names_of<R: Files>(rt: &R, alloc: Global, path: &str) -> io::Result<Vec<u8>> {
     match rt.open_dir(path) {
         Ok(folder) => taken(alloc, folder),

@@ -3,7 +3,8 @@ ghost use Rattle.std.specs.Prelude.{◌+◌, ◌≤◌, IfOk};
 use crate::asserts::same;
 use jr_engines::{Engine, EngineFault, SharedMemory};
 use jr_files::{
-    Claims, FileEngine, FileFault, Positioned, Reads, Refusal, SharedFile, claim, lay_out, read_whole, write_whole,
+    Claims, FileEngine, FileFault, Positioned, Reads, Refusal, SharedFile, claim, lay_out,
+    read_whole, write_whole,
 };
 use jr_model::{EngineKind, IoType, SECTOR, VerifyKind};
 use jr_plan::{Draft, Plan, Workload};
