@@ -13,11 +13,15 @@ which are indented by four spaces and end in line feeds. In quotes a text is one
     file NAME   a file that is there before the run
     out         what is printed, the whole of it; nothing is where it isn't given
     has         a part of what is printed, where the rest of it isn't told
+    like        a regular expression of what is printed, the whole of it, where it isn't the same each time
     fault       what is said on standard error behind `fiorun: `, and nothing else is
     says        the first line on standard error, where there may be more
     status      the exit status, where it isn't 0
     trace       the whole file `trace` after the run
     starts      the first letters of its lines that start an I/O (I), a check (P) or a skip (S)
+    who         the numbers of workers and of verifiers in it: a verdict (V) is of one of the verifiers, which are numbered on from the
+                workers, or where there are none of the worker that ended the check, and all else is of a worker
+    times       how often the case is run, where it isn't once
     bytes NAME  what a file begins with after the run, in hexadecimal digits
     again       the words of a second run in the same folder, which must print the same and end with 0
 
@@ -39,7 +43,7 @@ from concurrent.futures import ThreadPoolExecutor
 
 HERE = os.path.dirname(os.path.realpath(__file__))
 SECONDS = 60
-PARTS = set("words job out has fault says status trace starts again refused lines".split())
+PARTS = set("words job out has like fault says status trace starts who times again refused lines".split())
 NAMED = {"file", "bytes"}
 ROWS = {"refused", "lines"}
 QUOTED = re.compile(r"""(b?"(?:[^"\\]|\\.)*")(?: x (\d+))?""")
@@ -143,7 +147,7 @@ def runs_of(case):
     """The runs that a case stands for: one, or one for each of its rows."""
     kinds = [it for it in case.parts if it in ROWS]
     rows = [(kind, number, row) for kind in kinds for number, row in enumerate(case.get(kind).decode().splitlines(), 1)]
-    return [row_of(case, *row) for row in rows] if kinds else [case]
+    return [row_of(case, *row) for row in rows] if kinds else [case] * int(case.get("times", b"1"))
 
 
 def held(folder):
@@ -160,13 +164,30 @@ def starts(trace):
     return b"".join(it[:1] for it in trace.splitlines() if it[:1] in (b"I", b"P", b"S"))
 
 
+def strangers(trace, workers, verifiers):
+    """The lines of a trace that aren't of one who may have done it."""
+    ends, wrong = {}, []
+    for line in trace.splitlines():
+        kind, number, io = line.split()[0], int(line.split()[1]), line.split()[2]
+        if kind == b"E":
+            ends[io] = number
+        if kind == b"V":
+            is_right = workers <= number < workers + verifiers if verifiers else number == ends.get(io)
+        else:
+            is_right = number < workers
+        wrong += [] if is_right else [line]
+    return wrong
+
+
 def differences(case, ended, before, after):
     """What of a run isn't as the case says: pairs of what was wanted and what came."""
     said, trace = ended.stderr.split(b"\n")[0], after.get("trace", b"")
     fault = b"fiorun: " + case.get("fault") + b"\n" if "fault" in case.parts else b""
     status = int(case.get("status", b"0"))
     pairs = [(status, ended.returncode)]
-    if "has" not in case.parts:
+    if "like" in case.parts:
+        pairs.append((True, bool(re.fullmatch(case.get("like"), ended.stdout)) or ended.stdout))
+    elif "has" not in case.parts:
         pairs.append((case.get("out"), ended.stdout))
     pairs.append((case.get("says"), said) if "says" in case.parts else (fault, ended.stderr))
     if status == 2:
@@ -175,6 +196,8 @@ def differences(case, ended, before, after):
         pairs.append((case.get("trace"), trace))
     if "starts" in case.parts:
         pairs.append((case.get("starts"), starts(trace)))
+    if "who" in case.parts:
+        pairs.append(([], strangers(trace, *map(int, case.get("who").split()))))
     for it, text in case.parts.items():
         if it.startswith("bytes "):
             first = bytes.fromhex(text.decode())

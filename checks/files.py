@@ -166,6 +166,9 @@ def full_device(place, workers):
     same("run", ended, said(1, total("w", faults=1)))
     same("reads and writes", calls, (0, 1))
     same("trace", re.sub(r"(?m)^([IE]) \d+", r"\1 W", trace), "I W 0 0 0 0\nE W 0 failed\n")
+    # (where the seek says that it is a byte shorter, that byte can't be written)
+    shorter = place.run(jobs, workers, "/dev", env=place.fault("lseek 1 at:16383"))
+    same("run over a shorter device", shorter, REFUSED)
 
 
 CUT_TRACE = """I 0 0 0 0 0
@@ -176,7 +179,7 @@ P 0 2 0 0 0
 E 0 2 whole
 V 0 2 good
 P 0 3 0 0 1
-E 0 3 short 0
+E 0 3 short {rest}
 I 0 4 1 0 0
 E 0 4 whole
 I 0 5 1 0 1
@@ -190,15 +193,16 @@ V 0 7 good
 """
 
 
-def cut_file(place):
-    """A file that is cut to its first block before the third call, its first read, gives one fault, and no call fails."""
+def cut_file(place, length):
+    """A file that is cut in or before its second block before the third call, its first read, gives one fault, and no call fails."""
     jobs = "rw=write\nsize=8k\nverify=pattern\nverify_pattern=1\n[a]\nfilename=a\n[b]\nfilename=b\n"
-    ended, trace, calls = place.traced(jobs, 1, "pread 1 cut:4096")
+    ended, trace, calls = place.traced(jobs, 1, f"pread 1 cut:{length}")
     counts = {"writes": 2, "wbytes": 8192}
     same("run", ended, said(1, total("a", checks=1, good=1, faults=1, **counts), total("b", 1, checks=2, good=2, **counts)))
-    same("trace", trace, CUT_TRACE)
-    same("reads and writes", calls, (4, 4))
-    same("files", place.held(), {"a": blocks((4096, 1)), "b": blocks((8192, 1))})
+    same("trace", trace, CUT_TRACE.format(rest=length - 4096))
+    # (behind a part of a block a second read says that the file ends there)
+    same("reads and writes", calls, (4 if length == 4096 else 5, 4))
+    same("files", place.held(), {"a": blocks((length, 1)), "b": blocks((8192, 1))})
 
 
 # -- The line
@@ -302,7 +306,7 @@ CASES = [
     *((no_folder, workers) for workers in (1, 2)),
     *((read_only, workers) for workers in (1, 2)),
     *((full_device, workers) for workers in (1, 4)),
-    (cut_file,),
+    *((cut_file, length) for length in (4096, 6000)),
 ]
 
 

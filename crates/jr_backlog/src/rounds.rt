@@ -120,6 +120,3 @@ impl Rounds {
         self.due() && self.to_check.is_empty()
     }
 }
-
-#[cfg(test)]
-mod tests;

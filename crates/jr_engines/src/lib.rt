@@ -21,6 +21,3 @@ pub use null_engine::NullEngine;
 pub use scripted_engine::ScriptedEngine;
 pub use shared_memory::SharedMemory;
 pub use tallies::Tally;
-
-#[cfg(test)]
-mod tests;

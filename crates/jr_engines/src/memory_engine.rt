@@ -50,23 +50,6 @@ impl MemoryEngine {
     }
 }
 
-#[cfg(test)]
-impl MemoryEngine {
-    // The engine for files from the first number up to the second, all zeros.
-    pub fn from_ranges(alloc: Global, ranges: &[(u64, u64)]) -> Result<MemoryEngine, Memory>
-        ensures { IfOk result (λ engine. engine.calls ≡ 0) }
-    {
-        let mut files = Vec::new(alloc);
-        for (low, high) in ranges {
-            files.push(MemoryFile::new(alloc, *low, *high)?)?;
-        }
-        Ok(MemoryEngine {
-            files,
-            tally: Tally::new(),
-        })
-    }
-}
-
 impl Engine for MemoryEngine {
     ghost state = { memory_state };
 

@@ -13,6 +13,3 @@ pub use buffers::room_for;
 pub use content::fill;
 pub use ruling::{Ruling, rule};
 pub use served::{Served, serve};
-
-#[cfg(test)]
-mod tests;

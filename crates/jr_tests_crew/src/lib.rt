@@ -1,4 +1,4 @@
-// Tests of who runs: the hand-over, one worker, and several beside verifiers.
+// Tests of who runs: of the hand-over, and of workers beside one another. What a run gives is proved, and shown by checks/cases.
 #![tactic(auto)]
 
 #[cfg(test)]
@@ -13,5 +13,3 @@ mod plans;
 mod progress;
 #[cfg(test)]
 mod runs;
-#[cfg(test)]
-mod serial;

@@ -198,8 +198,8 @@ impl Pair {
             return Ok(());
         }
         let mut seed = self.seed;
-        let reply = draw_reply(&mut seed, false);
-        let again = draw_reply(&mut self.seed, false);
+        let reply = draw_reply(&mut seed);
+        let again = draw_reply(&mut self.seed);
         let one = self.one.carried_out(self.alloc, place, reply)?;
         let other = self.other.carried_out(self.alloc, place, again)?;
         same(rt, one.outcome(), other.outcome());

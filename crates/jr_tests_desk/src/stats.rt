@@ -3,15 +3,10 @@ use crate::plans::{checked, plan_of};
 use jr_board::Desk;
 use jr_model::Totals;
 use jr_plan::Plan;
-use jr_stats::{
-    accepted_is_a_trace, check_trace, numbers_fit, report, totals_text, trace, trace_is_accepted,
-};
+use jr_stats::{accepted_is_a_trace, numbers_fit, report, totals_text, trace, trace_is_accepted};
 use std::alloc::Global;
 use std::process::Abort;
 use std::test::Fail;
-
-const EVENTS: &[u8] =
-    b"I 0 0 0 0 0\nE 0 0 whole\nI 0 1 0 0 1\nE 0 1 whole\nP 0 2 0 0 0\nE 0 2 whole\nV 0 2 good\nP 0 3 0 0 1\nE 0 3 whole\nV 0 3 good\n";
 
 // Two writes of 4096 bytes that are checked by their pattern.
 fn planned(alloc: Global) -> Result<Plan, Fail> {
@@ -33,15 +28,6 @@ fn done(good: u64, bad: u64) -> Totals {
     }
 }
 
-#[test]
-fn accepts_a_whole_run(rt: HostRuntime) -> Result<(), Fail> {
-    let alloc = rt.alloc();
-    let plan = planned(alloc)?;
-    let totals = check_trace(alloc, &plan, EVENTS)?;
-    same(&rt, totals.as_slice(), [done(2, 0)].as_slice());
-    Ok(())
-}
-
 const NOTHING: &[u8] =
     b"w: clone=0 reads=0 rbytes=0 writes=0 wbytes=0 checks=0 good=0 bad=0 skipped=0 void=0 faults=0\n";
 
@@ -50,20 +36,20 @@ const ONE_BAD: &[u8] =
 
 fn assert_one_bad(rt: &impl Abort, alloc: Global, plan: &Plan) -> Result<(), Fail> {
     let lines = totals_text(alloc, plan, &[done(1, 1)])?;
-    assert!(rt; lines.as_slice() == ONE_BAD);
+    same(rt, lines.as_slice(), ONE_BAD);
     Ok(())
 }
 
 fn assert_traced(rt: &impl Abort, alloc: Global, desk: &Desk, text: &[u8]) -> Result<(), Fail> {
     let events = trace(alloc, desk)?;
-    assert!(rt; events.as_slice() == text);
+    same(rt, events.as_slice(), text);
     Ok(())
 }
 
 // Nothing has ended.
 fn assert_nothing_done(rt: &impl Abort, alloc: Global, desk: &Desk) -> Result<(), Fail> {
     let lines = report(alloc, desk)?;
-    assert!(rt; lines.as_slice() == NOTHING);
+    same(rt, lines.as_slice(), NOTHING);
     Ok(())
 }
 
@@ -74,8 +60,7 @@ fn prints_what_a_desk_has_started(rt: HostRuntime) -> Result<(), Fail> {
     assert_one_bad(&rt, alloc, &plan)?;
     let mut desk = Desk::new(alloc, plan)?;
     assert_traced(&rt, alloc, &desk, b"")?;
-    let is_taken = desk.take(3).is_ok();
-    assert!(rt; is_taken);
+    same(&rt, desk.take(3).is_ok(), true);
     assert_traced(&rt, alloc, &desk, b"I 3 0 0 0 0\n")?;
     assert_nothing_done(&rt, alloc, &desk)
 }

@@ -2,15 +2,20 @@ use crate::asserts::same;
 use crate::plans::plan_of;
 use jr_draw::Drawer;
 use jr_model::{Dir, Draw, IoType, Piece};
-use jr_plan::{Split, Workload};
+use jr_plan::{Plan, Split, Workload};
 use jr_words::{WordList, Words};
+use std::alloc::Global;
+use std::process::Abort;
 use std::test::Fail;
 
-// A write of so many bytes at an offset.
-fn write(number: u32, offset: u64, len: u32, seed: u64) -> Option<Draw> {
+// A draw: its direction, offset and length, and its seed; or none.
+type Drawn = Option<(Dir, u64, u32, u64)>;
+
+fn draw_of(number: u32, drawn: Drawn) -> Option<Draw> {
+    let (dir, offset, len, seed) = drawn?;
     Some(Draw {
         number,
-        dir: Dir::Write,
+        dir,
         piece: Piece {
             file: 0,
             offset,
@@ -20,26 +25,40 @@ fn write(number: u32, offset: u64, len: u32, seed: u64) -> Option<Draw> {
     })
 }
 
+// Are these the first draws of pass 7 of a plan's one clone, from these words? Each draw takes four, of which the last is its seed.
+fn assert_drawn(
+    rt: &impl Abort,
+    alloc: Global,
+    plan: &Plan,
+    words: &[u64],
+    wanted: &[Drawn],
+) -> Result<(), Fail> {
+    same(rt, plan.clones(), 1);
+    let source = WordList { rest: words };
+    let mut drawer = Drawer::new(alloc, plan.clone_at(0), 7, source)?;
+    same(rt, drawer.pass(), 7);
+    for (number, drawn) in (0u32..99).zip(wanted.iter()) {
+        same(rt, drawer.next(), draw_of(number, *drawn));
+    }
+    Ok(())
+}
+
 #[test]
 fn visits_each_cell_of_a_map_once(rt: HostRuntime) -> Result<(), Fail> {
-    let plan = plan_of(
-        rt.alloc(),
-        &[(Workload::plain(IoType::RandWrite, 4096, 4), "f", 0)],
-    )?;
-    same(&rt, plan.clones(), 1);
+    let work = Workload::plain(IoType::RandWrite, 4096, 4);
     let words = [
         0, 0, 2, 10, 1, 1, 2, 11, 2, 2, 3, 12, 3, 3, 6, 13, 4, 4, 0, 14,
     ];
-    let source = WordList { rest: &words };
-    let mut drawer = Drawer::new(rt.alloc(), plan.clone_at(0), 7, source)?;
-    same(&rt, drawer.pass(), 7);
-    same(&rt, drawer.next(), write(0, 8192, 4096, 10));
-    same(&rt, drawer.next(), write(1, 12288, 4096, 11));
-    same(&rt, drawer.next(), write(2, 0, 4096, 12));
-    same(&rt, drawer.next(), write(3, 4096, 4096, 13));
-    same(&rt, drawer.next(), None);
-    same(&rt, drawer.next(), None);
-    Ok(())
+    let wanted = [
+        Some((Dir::Write, 8192, 4096, 10)),
+        Some((Dir::Write, 12288, 4096, 11)),
+        Some((Dir::Write, 0, 4096, 12)),
+        Some((Dir::Write, 4096, 4096, 13)),
+        None,
+        None,
+    ];
+    let plan = plan_of(rt.alloc(), &[(work, "f", 0)])?;
+    assert_drawn(&rt, rt.alloc(), &plan, &words, &wanted)
 }
 
 // A read takes cell 3, and the write of four cells that follows is cut there.
@@ -49,17 +68,13 @@ fn cuts_a_draw_at_a_taken_cell(rt: HostRuntime) -> Result<(), Fail> {
         writes: Split::single(4096),
         ..Workload::plain(IoType::RandRw, 1024, 8)
     };
-    let plan = plan_of(rt.alloc(), &[(mixed, "f", 0)])?;
-    same(&rt, plan.clones(), 1);
     let words = [49, 0, 11, 1, 50, 0, 9, 2];
-    let source = WordList { rest: &words };
-    let mut drawer = Drawer::new(rt.alloc(), plan.clone_at(0), 0, source)?;
-    let first = drawer.next().ok_or("no draw")?;
-    same(&rt, first.dir, Dir::Read);
-    same(&rt, first.piece.offset, 3072);
-    same(&rt, first.piece.len, 1024);
-    same(&rt, drawer.next(), write(1, 1024, 2048, 2));
-    Ok(())
+    let wanted = [
+        Some((Dir::Read, 3072, 1024, 1)),
+        Some((Dir::Write, 1024, 2048, 2)),
+    ];
+    let plan = plan_of(rt.alloc(), &[(mixed, "f", 0)])?;
+    assert_drawn(&rt, rt.alloc(), &plan, &words, &wanted)
 }
 
 #[test]
@@ -68,16 +83,16 @@ fn comes_back_to_a_cell_without_a_map(rt: HostRuntime) -> Result<(), Fail> {
         has_map: false,
         ..Workload::plain(IoType::RandWrite, 4096, 4)
     };
-    let plan = plan_of(rt.alloc(), &[(unmapped, "f", 0)])?;
-    same(&rt, plan.clones(), 1);
     let words = [0, 0, 2, 0, 0, 0, 2, 0, 0, 0, 2, 0, 0, 0, 0, 0];
-    let source = WordList { rest: &words };
-    let mut drawer = Drawer::new(rt.alloc(), plan.clone_at(0), 0, source)?;
-    for (number, offset) in [(0, 8192), (1, 8192), (2, 8192), (3, 0)] {
-        same(&rt, drawer.next(), write(number, offset, 4096, 0));
-    }
-    same(&rt, drawer.next(), None);
-    Ok(())
+    let wanted = [
+        Some((Dir::Write, 8192, 4096, 0)),
+        Some((Dir::Write, 8192, 4096, 0)),
+        Some((Dir::Write, 8192, 4096, 0)),
+        Some((Dir::Write, 0, 4096, 0)),
+        None,
+    ];
+    let plan = plan_of(rt.alloc(), &[(unmapped, "f", 0)])?;
+    assert_drawn(&rt, rt.alloc(), &plan, &words, &wanted)
 }
 
 // Reads and writes each go on where their own direction stopped, and the last draw is cut.
@@ -87,19 +102,16 @@ fn goes_on_in_order(rt: HostRuntime) -> Result<(), Fail> {
         writes: Split::single(1024),
         ..Workload::plain(IoType::ReadWrite, 512, 6)
     };
-    let plan = plan_of(rt.alloc(), &[(mixed, "f", 4096)])?;
-    same(&rt, plan.clones(), 1);
     let words = [50, 0, 4, 0, 49, 0, 4, 0, 99, 0, 4, 0, 150, 0, 4, 0];
-    let source = WordList { rest: &words };
-    let mut drawer = Drawer::new(rt.alloc(), plan.clone_at(0), 0, source)?;
-    same(&rt, drawer.next(), write(0, 4096, 1024, 0));
-    let second = drawer.next().ok_or("no draw")?;
-    same(&rt, second.dir, Dir::Read);
-    same(&rt, second.piece.offset, 4096);
-    same(&rt, drawer.next(), write(2, 5120, 1024, 0));
-    same(&rt, drawer.next(), write(3, 6144, 512, 0));
-    same(&rt, drawer.next(), None);
-    Ok(())
+    let wanted = [
+        Some((Dir::Write, 4096, 1024, 0)),
+        Some((Dir::Read, 4096, 512, 0)),
+        Some((Dir::Write, 5120, 1024, 0)),
+        Some((Dir::Write, 6144, 512, 0)),
+        None,
+    ];
+    let plan = plan_of(rt.alloc(), &[(mixed, "f", 4096)])?;
+    assert_drawn(&rt, rt.alloc(), &plan, &words, &wanted)
 }
 
 // Four random passes from the seed 5.

@@ -1,8 +1,7 @@
-ghost use Rattle.std.specs.Prelude.{◌≡◌, ◌<◌, ◌≤◌, length, IfSome};
+ghost use Rattle.std.specs.Prelude.{◌≡◌, ◌<◌, ◌≤◌, length};
 
 use crate::asserts::same;
 use jr_map::{CellMap, MOST_CELLS};
-use std::alloc::Global;
 use std::process::Abort;
 use std::test::Fail;
 
@@ -76,99 +75,5 @@ fn cuts_a_run_at_a_taken_cell(rt: HostRuntime) -> Result<(), Fail> {
     let mut map = CellMap::new(rt.alloc(), 8)?;
     let drawn = (draw(&mut map, 3, 1), draw(&mut map, 1, 4));
     same(&rt, drawn, (Some((3, 1)), Some((1, 2))));
-    Ok(())
-}
-
-// The plain double has a flag for each cell: true where it is taken.
-fn first_free(taken: &[bool]) -> Option<usize>
-    ensures { IfSome result (λ x. x < length taken.now) }
-{
-    taken.iter().position(|taken| !*taken)
-}
-
-fn pick_flag(taken: &[bool], r: usize) -> Option<usize>
-    requires { r < length taken.now }
-    ensures { IfSome result (λ x. x < length taken.now) }
-{
-    match first_free(&taken[r..]) {
-        Some(k) => Some(r + k),
-        None => first_free(taken),
-    }
-}
-
-fn free_front(taken: &[bool]) -> usize {
-    taken.iter().take_while(|taken| !**taken).count()
-}
-
-fn draw_flags(taken: &mut [bool], r: usize, want: usize) -> Option<(usize, usize)>
-    requires { r < length taken.old }
-{
-    let x = pick_flag(taken, r)?;
-    let m = free_front(&taken[x..]).min(want);
-    for cell in taken.iter_mut().skip(x).take(m) {
-        *cell = true;
-    }
-    Some((x, m))
-}
-
-fn left_flags(taken: &[bool]) -> usize {
-    taken.iter().filter(|taken| !**taken).count()
-}
-
-// The high bits of a number of a congruential sequence.
-fn random(state: &mut u64) -> u32 {
-    *state = state
-        .wrapping_mul(6_364_136_223_846_793_005)
-        .wrapping_add(1_442_695_040_888_963_407);
-    (*state >> 40) as u32
-}
-
-// One draw from anywhere, of a map and of as many flags; all cells are freed again once none is left.
-fn compare_draws(rt: &impl Abort, map: &mut CellMap, taken: &mut [bool], n: u32, state: &mut u64)
-    requires least { 1 ≤ n }
-    requires size { length map.old ≡ n }
-    requires flags { length taken.old ≡ n }
-    ensures { length map.new ≡ n }
-{
-    let r = random(state) % n;
-    let want = 1 + random(state) % (1 + n / 32);
-    let drawn = draw(map, r, want);
-    let expected = draw_flags(taken, r as usize, want as usize);
-    let drawn = drawn.map(|(x, m)| (x as usize, m as usize));
-    same(rt, (n, want, r, drawn), (n, want, r, expected));
-    same(rt, map.left() as usize, left_flags(taken));
-    if drawn.is_none() {
-        map.clear();
-        taken.fill(false);
-    }
-}
-
-// So many draws of a map and of flags.
-fn compare(
-    rt: &impl Abort,
-    alloc: Global,
-    n: u32,
-    rounds: u32,
-    state: &mut u64,
-) -> Result<(), Fail> {
-    assert!(rt; 1 <= n && n <= MOST_CELLS);
-    let mut map = CellMap::new(alloc, n)?;
-    let mut taken = vec![in alloc; false; n as usize]?;
-    for _round in 0..rounds {
-        compare_draws(rt, &mut map, &mut taken, n, state);
-    }
-    Ok(())
-}
-
-// Sizes around powers of 64.
-#[test]
-fn agrees_with_flags(rt: HostRuntime) -> Result<(), Fail> {
-    let mut state = 1;
-    for n in [1, 2, 63, 64, 65, 127, 128, 129, 4095, 4096, 4097] {
-        compare(&rt, rt.alloc(), n, 400, &mut state)?;
-    }
-    for n in [262_143, 262_144, 262_145] {
-        compare(&rt, rt.alloc(), n, 20, &mut state)?;
-    }
     Ok(())
 }

@@ -1,5 +1,6 @@
-// The plans that these tests stand on.
-use jr_model::EngineKind;
+// The plans that these tests stand on, and a memory for one.
+use jr_engines::MemoryEngine;
+use jr_model::{EngineKind, IoType, SECTOR};
 use jr_plan::{Draft, Plan, Workload};
 use std::alloc::Global;
 use std::test::Fail;
@@ -10,14 +11,38 @@ fn add(alloc: Global, draft: &mut Draft, clone: &(Workload, &str, u64)) -> Resul
     Ok(())
 }
 
+fn finished(draft: Draft) -> Result<Plan, Fail> {
+    if draft.clones() == 0 {
+        return Err(Fail::from("no clones"));
+    }
+    Ok(draft.finish(EngineKind::Memory, 0))
+}
+
 // A plan over memory: of clones with this work, in these files from these places on.
 pub fn plan_of(alloc: Global, clones: &[(Workload, &str, u64)]) -> Result<Plan, Fail> {
     let mut draft = Draft::new(alloc);
     for clone in clones {
         add(alloc, &mut draft, clone)?;
     }
-    if draft.clones() == 0 {
-        return Err(Fail::from("no clones"));
+    finished(draft)
+}
+
+// A plan over memory: of clones with sectors, in these files from these places on, so many.
+pub fn in_sectors(
+    alloc: Global,
+    io_type: IoType,
+    clones: &[(&str, u64, u32)],
+) -> Result<Plan, Fail> {
+    let mut draft = Draft::new(alloc);
+    for (file, start, sectors) in clones {
+        let workload = Workload::plain(io_type, SECTOR, *sectors);
+        add(alloc, &mut draft, &(workload, file, *start))?;
     }
-    Ok(draft.finish(EngineKind::Memory, 0))
+    finished(draft)
+}
+
+// A memory of one file of so many sectors.
+pub fn memory_of(alloc: Global, sectors: u32) -> Result<MemoryEngine, Fail> {
+    let plan = in_sectors(alloc, IoType::Write, &[("f", 0, sectors)])?;
+    Ok(MemoryEngine::new(alloc, &plan)?)
 }

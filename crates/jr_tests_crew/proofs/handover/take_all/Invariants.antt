@@ -1,5 +1,0 @@
-use Rattle.jr_handover.specs.Passes.{IsPassOf}
-use Rattle.jr_tests_crew.proofs.handover.take_all.Given as goal
-
-abbrev pub invariant-loop : goal.invariant-loop
-invariant-loop g l = IsPassOf l.handoff l.pass

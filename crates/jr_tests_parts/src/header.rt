@@ -1,0 +1,288 @@
+// What a write puts into its blocks, and what is said of bytes that a check read.
+use crate::asserts::same;
+use crate::plans::memory_of;
+use jr_engines::{Engine, ScriptedEngine};
+use jr_header::{Served, fill, room_for, rule, serve};
+use jr_model::{
+    Expected, LARGEST_BLOCK, Method, Pattern, Piece, Reply, ReplyBytes, SECTOR, Ticket, TicketKind,
+    Verdict, VerifyKind, What, WriteId,
+};
+use sha2::{Digest, Sha256};
+use std::alloc::Global;
+use std::process::Abort;
+use std::test::Fail;
+
+// A write of draw 11 of clone 3 in pass 7, at 2^40 bytes, whose filler has the seed 42. An empty pattern stands for none.
+fn a_write(kind: VerifyKind, pattern: &[u8], len: u32) -> Ticket {
+    Ticket {
+        id: 0,
+        worker: 0,
+        kind: TicketKind::Write,
+        write: WriteId {
+            clone: 3,
+            pass: 7,
+            number: 11,
+        },
+        piece: Piece {
+            file: 0,
+            offset: 1 << 40,
+            len,
+        },
+        seed: 42,
+        method: Method {
+            kind,
+            pattern: Pattern::new(pattern),
+        },
+        expected: Expected::Nothing,
+    }
+}
+
+// The block of a write, and what its check is judged by.
+fn filled(alloc: Global, ticket: &Ticket) -> Result<(Vec<u8>, Expected), Fail> {
+    let mut block = room_for(alloc, ticket)?;
+    if !ticket.fits() {
+        return Err(Fail::from("a ticket that fits"));
+    }
+    let expected = fill(ticket, block.as_mut_slice());
+    Ok((block, expected))
+}
+
+// Whether the block begins with these bytes, and what it is judged by is its own beginning.
+fn is_begun(block: &[u8], begin: &[u8], expected: &Expected) -> bool {
+    match expected {
+        Expected::Header(header) => block.starts_with(begin) && block.starts_with(header),
+        Expected::Pattern(pattern) => block.starts_with(begin)
+            && begin.starts_with(pattern.as_slice()),
+        Expected::Nothing => false,
+    }
+}
+
+// The first bytes were written by hand from the header's layout.
+#[test]
+fn a_header_says_who_wrote_what_and_where(rt: HostRuntime) -> Result<(), Fail> {
+    let mut ticket = a_write(VerifyKind::Md5, &[], 4096);
+    ticket.write = WriteId {
+        clone: 0,
+        pass: 1,
+        number: 2,
+    };
+    ticket.piece.offset = 8192;
+    let begin: [u8; 32] = [
+        0x4a, 0x52, 0x56, 0x31, 1, 16, 1, 0, 0, 0x10, 0, 0, 0, 0, 0, 0, 0, 0x20, 0, 0, 0, 0, 0, 0,
+        2, 0, 0, 0, 0, 0, 0, 0,
+    ];
+    let (block, expected) = filled(rt.alloc(), &ticket)?;
+    same(&rt, is_begun(&block, &begin, &expected), true);
+    Ok(())
+}
+
+#[test]
+fn a_pattern_is_repeated_from_the_first_byte(rt: HostRuntime) -> Result<(), Fail> {
+    let ticket = a_write(VerifyKind::Pattern, &[0x0a, 0xbc], 512);
+    let begin: [u8; 5] = [0x0a, 0xbc, 0x0a, 0xbc, 0x0a];
+    let (block, expected) = filled(rt.alloc(), &ticket)?;
+    same(&rt, is_begun(&block, &begin, &expected), true);
+    same(&rt, block.last().copied(), Some(0xbc));
+    Ok(())
+}
+
+// The first 8 bytes of the SHA-256 of a whole block.
+fn digest_of(block: &[u8]) -> u64 {
+    let [a, b, c, d, e, f, g, h, ..] = Sha256::digest(block);
+    u64::from_be_bytes([a, b, c, d, e, f, g, h])
+}
+
+// Has the block of a write this digest?
+fn assert_digest(rt: &impl Abort, alloc: Global, ticket: &Ticket, digest: u64) -> Result<(), Fail> {
+    let (block, _) = filled(alloc, ticket)?;
+    let kind = ticket.method.kind;
+    same(rt, (kind, digest_of(block.as_slice())), (kind, digest));
+    Ok(())
+}
+
+// The digests are those of a Python program with hashlib and a generator of its own, written from the
+// authors' C code of SplitMix64 and Xoshiro256++.
+#[test]
+fn blocks_are_those_of_the_reference(rt: HostRuntime) -> Result<(), Fail> {
+    let (plain, pattern) = (VerifyKind::Plain, VerifyKind::Pattern);
+    let (md5, sha1, sha256) = (VerifyKind::Md5, VerifyKind::Sha1, VerifyKind::Sha256);
+    let (none, three): (&[u8], &[u8]) = (&[], &[0x61, 0x62, 0x63]);
+    let blocks = [
+        (a_write(plain, none, 512), 0x0009_28d5_0566_8570),
+        (a_write(plain, three, 4096), 0x35df_7542_580c_3c4d),
+        (a_write(pattern, three, 512), 0x08bb_fae4_2dca_e792),
+        (a_write(pattern, three, 4096), 0x35df_7542_580c_3c4d),
+        (
+            a_write(pattern, three, LARGEST_BLOCK),
+            0x7f5c_6799_7218_8eb4,
+        ),
+        (a_write(md5, none, 512), 0x9bcd_2bf4_40cf_4413),
+        (a_write(md5, three, 4096), 0xf6e9_fe73_656f_2ab1),
+        (a_write(md5, none, LARGEST_BLOCK), 0x84bb_2202_99e6_cde1),
+        (a_write(sha1, none, 512), 0x3cf7_e6b9_421d_c3a5),
+        (a_write(sha1, three, 4096), 0x3b05_925d_cc6b_412d),
+        (a_write(sha1, none, LARGEST_BLOCK), 0x0276_6e5e_a76a_0d30),
+        (a_write(sha256, none, 512), 0x3661_ca88_eb9c_c150),
+        (a_write(sha256, three, 4096), 0xdcec_ee82_5fc8_3490),
+        (a_write(sha256, none, LARGEST_BLOCK), 0x7b8d_c5c7_df59_42b4),
+    ];
+    for (ticket, digest) in blocks {
+        assert_digest(&rt, rt.alloc(), &ticket, digest)?;
+    }
+    Ok(())
+}
+
+// A memory of a block, whose calls have the replies that are set for them.
+fn memory_for(alloc: Global, len: u32) -> Result<ScriptedEngine, Fail> {
+    let memory = memory_of(alloc, len / SECTOR)?;
+    Ok(ScriptedEngine::new(memory, Vec::new(alloc)))
+}
+
+// Carries out a ticket by this reply.
+fn carried_out(
+    alloc: Global,
+    engine: &mut ScriptedEngine,
+    ticket: &Ticket,
+    reply: Reply,
+) -> Result<Served, Fail> {
+    let buffer = room_for(alloc, ticket)?;
+    engine.set_next(reply);
+    if !ticket.fits() || engine.calls() > 99 {
+        return Err(Fail::from("a ticket that fits"));
+    }
+    Ok(serve(engine, *ticket, buffer))
+}
+
+// The verdict on a check, which is of its own ticket.
+fn verdict_on(check: &Served) -> Result<Verdict, Fail> {
+    if !check.to_judge() {
+        return Err(Fail::from("a check that ended whole"));
+    }
+    let ruling = rule(check);
+    if ruling.served().ticket() != check.ticket() {
+        return Err(Fail::from("the verdict of this check"));
+    }
+    Ok(ruling.verdict())
+}
+
+// A write at the file's first byte.
+fn at_start(kind: VerifyKind, pattern: &[u8], len: u32) -> Ticket {
+    let mut ticket = a_write(kind, pattern, len);
+    ticket.piece.offset = 0;
+    ticket
+}
+
+// The check of a write, judged by this.
+fn check_of(ticket: &Ticket, expected: &Expected) -> Ticket {
+    let mut check = *ticket;
+    check.kind = TicketKind::Probe;
+    check.expected = *expected;
+    check
+}
+
+// What is said of a write where the replies to it and to its check are these.
+fn verdict_by(
+    alloc: Global,
+    ticket: &Ticket,
+    to_write: Reply,
+    to_check: Reply,
+) -> Result<Verdict, Fail> {
+    let mut engine = memory_for(alloc, ticket.piece.len)?;
+    let written = carried_out(alloc, &mut engine, ticket, to_write)?;
+    let check = check_of(ticket, written.expected());
+    let read = carried_out(alloc, &mut engine, &check, to_check)?;
+    verdict_on(&read)
+}
+
+// Is this what is said of a check that reads the byte at this place the other way round?
+fn assert_flipped(
+    rt: &impl Abort,
+    alloc: Global,
+    ticket: &Ticket,
+    place: u32,
+    what: What,
+) -> Result<(), Fail> {
+    let (kind, len) = (ticket.method.kind, ticket.piece.len);
+    let found = verdict_by(alloc, ticket, Reply::Pass, Reply::Flip(place))?;
+    let wanted = Verdict::Bad(what);
+    same(rt, (kind, len, place, found), (kind, len, place, wanted));
+    Ok(())
+}
+
+// Is what is wrong first named, and a write that was dropped by its header?
+fn assert_named(rt: &impl Abort, alloc: Global, ticket: &Ticket) -> Result<(), Fail> {
+    assert_flipped(rt, alloc, ticket, 20, What::Header)?;
+    assert_flipped(rt, alloc, ticket, 40, What::Digest)?;
+    assert_flipped(rt, alloc, ticket, 100, What::DataArea)?;
+    let good = verdict_by(alloc, ticket, Reply::Pass, Reply::Pass)?;
+    let dropped = verdict_by(alloc, ticket, Reply::Drop, Reply::Pass)?;
+    let wanted = (Verdict::Good, Verdict::Bad(What::Header));
+    same(rt, (good, dropped), wanted);
+    Ok(())
+}
+
+#[test]
+fn what_is_wrong_first_is_named(rt: HostRuntime) -> Result<(), Fail> {
+    for kind in [VerifyKind::Md5, VerifyKind::Sha1, VerifyKind::Sha256] {
+        for len in [512, 4096, LARGEST_BLOCK] {
+            assert_named(&rt, rt.alloc(), &at_start(kind, &[], len))?;
+        }
+    }
+    Ok(())
+}
+
+// What is said of a write where its check reads these bytes, and is judged by this.
+fn verdict_over(
+    alloc: Global,
+    ticket: &Ticket,
+    expected: &Expected,
+    bytes: &[u8],
+) -> Result<Verdict, Fail> {
+    let mut engine = memory_for(alloc, ticket.piece.len)?;
+    let check = check_of(ticket, expected);
+    let reply = Reply::Bytes(ReplyBytes::new(bytes.to_vec(alloc)?));
+    let read = carried_out(alloc, &mut engine, &check, reply)?;
+    verdict_on(&read)
+}
+
+// What is said of a write where its check reads the block of the next one.
+fn verdict_on_another(alloc: Global, ticket: &Ticket) -> Result<Verdict, Fail> {
+    let (_, expected) = filled(alloc, ticket)?;
+    let mut other = *ticket;
+    other.write.number = 12;
+    let (block, _) = filled(alloc, &other)?;
+    verdict_over(alloc, ticket, &expected, &block)
+}
+
+#[test]
+fn the_block_of_another_write_is_wrong(rt: HostRuntime) -> Result<(), Fail> {
+    for kind in [VerifyKind::Md5, VerifyKind::Sha1, VerifyKind::Sha256] {
+        let found = verdict_on_another(rt.alloc(), &at_start(kind, &[], 4096))?;
+        same(&rt, found, Verdict::Bad(What::Header));
+    }
+    Ok(())
+}
+
+// Is the first difference of a block of a pattern named, wherever it stands?
+fn assert_differs(rt: &impl Abort, alloc: Global, ticket: &Ticket) -> Result<(), Fail> {
+    let len = ticket.piece.len;
+    for place in [0, 65, len / 2, len.saturating_sub(1)] {
+        assert_flipped(rt, alloc, ticket, place, What::Byte(place))?;
+    }
+    let good = verdict_by(alloc, ticket, Reply::Pass, Reply::Pass)?;
+    same(rt, good, Verdict::Good);
+    Ok(())
+}
+
+#[test]
+fn the_first_byte_off_the_pattern_is_named(rt: HostRuntime) -> Result<(), Fail> {
+    let long: [u8; 64] = [7; 64];
+    let patterns: [&[u8]; 3] = [&[0x61], &[0x61, 0x62, 0x63], &long];
+    for len in [512, 4096, LARGEST_BLOCK] {
+        for pattern in patterns {
+            let ticket = at_start(VerifyKind::Pattern, pattern, len);
+            assert_differs(&rt, rt.alloc(), &ticket)?;
+        }
+    }
+    Ok(())
+}
