@@ -3,10 +3,11 @@
 
 A library that is loaded before the program's own (checks/refuse.c, built by cc into a folder that is removed again) counts a test's
 requests for memory and for threads, and refuses one of them. Then the test passes, or it ends with an error that names the want: a
-wrong answer is an assertion that fails. TESTS has for each call that can want memory a test in which it stands. Some tests say what was
-refused (they make the call again, or name the fault): each of these texts has to come up in some run. Of a test with threads, whose
-requests differ from run to run, all from one request on are refused too. The programs are those that rt ci or rt test leaves in
-crates/NAME/out (built where there is none). The status is 1 where a test ends otherwise.
+wrong answer is an assertion that fails. TESTS has for each call that can want memory a test in which it stands, but for `choose`,
+`lay_out` and the engines over files, which checks/memory tries in runs of the program. Some tests say what was refused (they make the
+call again, or name the fault): each of these texts has to come up in some run. Of a test with threads, whose requests differ from run
+to run, all from one request on are refused too. The programs are those that rt ci or rt test leaves in crates/NAME/out (built where
+there is none). The status is 1 where a test ends otherwise.
 """
 
 import os
@@ -22,11 +23,11 @@ from concurrent.futures import ThreadPoolExecutor
 from typing import NamedTuple
 
 HERE = os.path.dirname(os.path.realpath(__file__))
-CRATES = os.environ.get("CRATES", os.path.join(HERE, "..", "crates"))
+CRATES = os.path.join(HERE, "..", "crates")
 SECONDS = 20
 # The status of a test that ended with a fault of its own, and not by an assertion.
 GAVE_UP = 101
-WANT = re.compile(rb"^error: .*(Memory|AllocError|AllocFailed|OutOfMemory|out of memory|cannot start a thread)", re.MULTILINE)
+WANT = re.compile(rb"^error: .*(Memory|AllocError|AllocFailed|OutOfMemory|Thread|out of memory|cannot start a thread)", re.MULTILINE)
 
 
 class Test(NamedTuple):
@@ -62,7 +63,6 @@ TESTS = (
     Test("jr_tests_parts", "draws::visits_each_cell_of_a_map_once", "Drawer::new"),
     Test("jr_tests_parts", "standing::gives_the_draws_of_a_drawer", "DrawsLeft::of_pass"),
     Test("jr_tests_parts", "standing::writes_and_reads_in_rounds_of_two", "Rounds::written (by the rounds of a standing clone)"),
-    Test("jr_tests_parts", "files::files_hold_what_was_written", "lay_out, FileEngine::new"),
     Test("jr_tests_crew", "drops::a_refused_run_drops_its_engines", "run, which drops its engines", RUN_SAID, True),
     Test("jr_tests_crew", "runs::four_workers_over_one_memory", "SharedMemory::new, share; run", threads=True),
     Test("jr_tests_crew", "handover::who_holds_every_part_can_settle", "Handoff::new, split"),
@@ -74,7 +74,6 @@ TESTS = (
     Test("jr_tests_program", "program::a_plan_is_printed_whole_or_not", "read_text, read_job, plan_text"),
     Test("jr_tests_program", "program::a_report_and_a_trace_are_written", "execute_serial; MemoryEngine::new"),
     Test("jr_tests_program", "program::a_trace_is_checked", "read_trace, check_trace"),
-    Test("jr_tests_program", "words::each_word_goes_to_its_field", "choose"),
     Test("jr_tests_program", "crew::a_flipped_byte_is_found_by_a_crew", "execute", threads=True),
 )
 
@@ -110,9 +109,10 @@ class Ended(NamedTuple):
 class Bench:
     """Runs tests, each run in a folder of its own."""
 
-    def __init__(self, folder):
+    def __init__(self, folder, crates):
         self.library = built_library(folder)
         self.folder = folder
+        self.programs = {it: built_program(it) for it in crates}
 
     def run(self, test, number, and_on):
         """How a test ends that is refused the request of this number, and all behind it where so said."""
@@ -120,10 +120,11 @@ class Bench:
             counts = os.path.join(room, "counts")
             with open(counts, "wb") as it:
                 it.write(bytes(16))
-            environment = {"LD_PRELOAD": self.library, "COUNTS": counts, "REFUSE": str(number), "REFUSE_ON": "1" if and_on else "0"}
+            environment = {"LD_PRELOAD": self.library, "COUNTS": counts, "TMPDIR": room}
+            environment.update(REFUSE=str(number), REFUSE_ON="1" if and_on else "0")
             how = {"cwd": room, "env": environment, "stdin": subprocess.DEVNULL, "capture_output": True, "timeout": SECONDS}
             try:
-                it = subprocess.run([built_program(test.crate), test.name], check=False, **how)
+                it = subprocess.run([self.programs[test.crate], test.name], check=False, **how)
             except subprocess.TimeoutExpired:
                 return Ended(None, b"", b"", 0, 0)
             with open(counts, "rb") as counted:
@@ -177,7 +178,7 @@ def main():
     chosen = [it for it in TESTS if "all" in names or it.crate in names]
     failed = []
     with tempfile.TemporaryDirectory(prefix="wants-") as folder:
-        bench = Bench(folder)
+        bench = Bench(folder, {it.crate for it in chosen})
         for test in chosen:
             began = time.monotonic()
             it = tried(bench, test)
