@@ -6,6 +6,9 @@ program=$out/fiorun
 begun=$out/build.begun
 ended=$out/build.ended
 lanes=$out/lanes
+makefile=$out/build.mk
+# A line for each crate whose build was begun.
+started=$out/build.started
 
 # Is the program there, and no source newer than the start of its build (or than itself, where the gate made it)?
 is_built() {
@@ -35,61 +38,63 @@ build() {
   return $status
 }
 
-# Crates that stand apart are built side by side, as many at once as there are processors.
+# Builds all crates. What comes when, and how many at once, is make's: those that stand apart are built side by side.
 build_crates() {
+  local run
+  if ! command -v make >/dev/null; then
+    say "cannot build: there is no make on the path"
+    return 1
+  fi
   what="build"
   [ -e "$program" ] || what="first build"
   mkdir -p "$lanes"
-  [ -e "$begun" ] || : >"$begun"
   touch "$begun"
-  SECONDS=0
+  : >"$started"
   end_lanes
-  order=() runs=() changed=" " built=" " count=0
-  read_crates
-  visit fiorun
-  total=${#order[@]}
-  trap 'end_all; exit 130' INT TERM HUP
-  until [ ${#order[@]} -eq 0 ] && [ ${#runs[@]} -eq 0 ]; do
-    start_ready
-    [ ${#runs[@]} -eq 0 ] || end_one || { end_all; return 1; }
-  done
+  write_makefile >"$makefile"
+  total=$(make -n -C "$top" -f "$makefile" | grep -c make_crate)
+  export top what total
+  # (in a process group of its own, so that all of it can be ended)
+  set -m
+  make -s -C "$top" -f "$makefile" -j "$(nproc)" --no-print-directory </dev/null >&2 &
+  run=$!
+  set +m
+  trap 'kill -- "-$run" 2>/dev/null; wait; exit 130' INT TERM HUP
+  wait "$run" || return 1
   trap - INT TERM HUP
   rmdir "$lanes"
-  say "$what: done in $(((SECONDS + 30) / 60)) min"
+  say "$what: done in $((($(seconds) + 30) / 60)) min"
   mv "$begun" "$ended"
 }
 
-# Starts the crates whose turn it is: all that they stand on is built. Where a crate needs no proof, it is built already.
-start_ready() {
-  local name ready=() left=()
-  for name in "${order[@]}"; do
-    if is_ready "$name" && [ $((${#runs[@]} + ${#ready[@]})) -lt "$(nproc)" ]; then
-      ready+=("$name")
-    else
-      left+=("$name")
-    fi
+# How long the build has been running.
+seconds() { printf '%s' $(($(date +%s) - $(stat -c %Y "$begun"))); }
+
+# A target for each crate: the stamp of its library. It is made again where one below it was, or where a source is newer. (What the times
+# say counts for the order; rt itself decides by what the files hold.)
+write_makefile() {
+  local all name dep stamp
+  read_crates
+  order=()
+  visit fiorun
+  all=("${order[@]}")
+  # (what a target had before is kept where its build is interrupted)
+  printf 'SHELL := bash\n.DEFAULT_GOAL := fiorun\n.PHONY: fiorun newer\n.PRECIOUS: %%\n'
+  for name in "${all[@]}"; do
+    stamp=$(stamp_of "$name")
+    printf '%s:' "$stamp"
+    for dep in ${below[$name]}; do
+      [ -z "${below[$dep]+here}" ] || printf ' %s' "$(stamp_of "$dep")"
+    done
+    [ -z "$(find "$top/crates/$name"/{src,specs,proofs} -newer "$top/$stamp" -print -quit 2>/dev/null)" ] || printf ' newer'
+    order=()
+    visit "$name"
+    # shellcheck disable=SC2016
+    printf '\n\t@. "$$top/bin/build.sh" && make_crate %s\n' "${order[*]}"
   done
-  order=("${left[@]}")
-  # One that runs alone gets all processors that memory is free for; several get what rt chooses.
-  jobs=()
-  [ $((${#runs[@]} + ${#ready[@]})) -ne 1 ] || jobs=(--jobs "$(provers)")
-  for name in "${ready[@]}"; do start_one "$name"; done
 }
 
-start_one() {
-  count=$((count + 1))
-  if [ "$1" != fiorun ] && ! needs_proof "$1"; then
-    built+="$1 "
-    return 0
-  fi
-  changed+="$1 "
-  say "$what: proving $1 ($count of $total), $((SECONDS / 60)) min"
-  # (in a process group of its own, so that all of it can be ended)
-  set -m
-  prove "$1" &
-  set +m
-  runs[$!]=$1
-}
+stamp_of() { if [ "$1" = fiorun ]; then printf 'fiorun'; else printf 'crates/%s/out/rlib/stamp' "$1"; fi; }
 
 # How many provers there is room for: one a processor, of some 3 GB each.
 provers() {
@@ -101,44 +106,26 @@ provers() {
   printf '%s' "$free"
 }
 
-# Is all built that the crate stands on?
-is_ready() {
-  local dep
-  for dep in ${below[$1]}; do
-    [ -z "${below[$dep]+here}" ] || case "$built" in *" $dep "*) ;; *) return 1 ;; esac
-  done
-}
-
-# Waits until one of those that run has ended, and says whether it was built.
-end_one() {
-  local ended_run status=0
-  wait -n -p ended_run "${!runs[@]}" || status=$?
-  [ "$status" -ne 0 ] || built+="${runs[$ended_run]} "
-  unset "runs[$ended_run]"
-  return $status
-}
-
-# Ends all that run.
-end_all() {
-  local run
-  for run in "${!runs[@]}"; do
-    kill -- "-$run" 2>/dev/null || true
-  done
-  wait
-}
-
-# Proves and builds a crate with the kit, over what earlier runs have kept; where it fails, says what was said.
-prove() {
-  local log=$out/build.$1.log status=0
-  if [ "$1" = fiorun ]; then
+# Proves and builds a crate, the last of these, over those that it stands on and over what earlier runs have kept. Make calls it. Where it
+# fails, it says what was said.
+make_crate() {
+  local name=${!#} log jobs=() status=0
+  unset MAKEFLAGS MAKELEVEL
+  log=$out/build.$name.log
+  printf '%s\n' "$name" >>"$started"
+  say "$what: proving $name ($(grep -nxF "$name" "$started" | cut -d: -f1) of $total), $(($(seconds) / 60)) min"
+  [ "$name" = fiorun ] || lay_lane "$@"
+  # One that runs alone gets all processors that memory is free for; several get what rt chooses.
+  [ "$(find "$lanes" -mindepth 1 -maxdepth 1 | wc -l)" -gt 1 ] || jobs=(--jobs "$(provers)")
+  if [ "$name" = fiorun ]; then
     (cd "$top/crates/fiorun" && rt run "${jobs[@]}" -- --help) </dev/null >"$log" 2>&1 || status=1
   else
-    lay_lane "$1"
-    (cd "$lanes/$1/crates/$1" && rt lib "${jobs[@]}") </dev/null >"$log" 2>&1 || status=1
-    end_lane "$1"
+    (cd "$lanes/$name/crates/$name" && rt lib "${jobs[@]}") </dev/null >"$log" 2>&1 || status=1
+    end_lane "$name"
+    [ "$status" -ne 0 ] || touch "$top/$(stamp_of "$name")"
   fi
   [ "$status" -eq 0 ] || {
-    say "$1 was not built; the end of $log:"
+    say "$name was not built; the end of $log:"
     tail -n 30 "$log" >&2
   }
   return $status
@@ -147,7 +134,8 @@ prove() {
 # A crate's lane is a folder for its build: links to all sources and to the libraries below it, and what it has kept itself. For rt
 # lets nothing else into the folders of a crate, and of those below it, while it builds one.
 lay_lane() {
-  local lane=$lanes/$1 folder name part
+  local made=${!#} lane folder name part
+  lane=$lanes/$made
   mkdir -p "$lane/crates"
   cp -l "$top/crates.txt" "$top/HANDLES" "$lane"
   for folder in "$top"/crates/*; do
@@ -156,13 +144,12 @@ lay_lane() {
     for part in src specs proofs; do
       [ ! -d "$folder/$part" ] || cp -rl "$folder/$part" "$lane/crates/$name"
     done
-    case "$built" in *" $name "*)
-      mkdir "$lane/crates/$name/out"
-      cp -rl "$folder/out/rlib" "$lane/crates/$name/out"
-      ;;
-    esac
   done
-  [ ! -d "$top/crates/$1/out" ] || mv "$top/crates/$1/out" "$lane/crates/$1"
+  for name in "${@:1:$#-1}"; do
+    mkdir "$lane/crates/$name/out"
+    cp -rl "$top/crates/$name/out/rlib" "$lane/crates/$name/out"
+  done
+  [ ! -d "$top/crates/$made/out" ] || mv "$top/crates/$made/out" "$lane/crates/$made"
 }
 
 # Gives the crate what was made in its lane.
@@ -197,16 +184,4 @@ visit() {
   case " ${order[*]} " in *" $1 "*) return 0 ;; esac
   for dep in ${below[$1]}; do visit "$dep"; done
   order+=("$1")
-}
-
-# Has a library to be proved, by the times of its files and by what it stands on? (What it says counts for the lines that
-# are printed; rt itself decides by what the files hold.)
-needs_proof() {
-  local dep stamp=$top/crates/$1/out/rlib/stamp
-  [ -e "$stamp" ] || return 0
-  for dep in ${below[$1]}; do
-    case "$changed" in *" $dep "*) return 0 ;; esac
-    [ ! "$top/crates/$dep/out/rlib/stamp" -nt "$stamp" ] || return 0
-  done
-  [ -n "$(find "$top/crates/$1"/{src,specs,proofs} -newer "$stamp" -print -quit 2>/dev/null)" ]
 }

@@ -1,7 +1,7 @@
 #!/usr/bin/env python3
-"""checks/disk.py [PROGRAM] runs the program (bin/fiorun where none is given) over files, and as root over a loop device that can't store what
-it is given, and looks at the order of its calls: that a file is synced before its checks, and that what was lost is found. What can't be tried
-here is skipped with a word. The status is 1 where something is wrong."""
+"""checks/disk.py [PROGRAM] runs the program (bin/fiorun where none is given) over files, and as root over a loop device that can't store
+what it is given, and looks at the order of its calls: that a file is synced before its checks, and that what was lost is found. What
+can't be tried here is skipped with a word. The status is 1 where something is wrong."""
 
 import contextlib
 import os
@@ -11,22 +11,10 @@ import subprocess
 import sys
 import tempfile
 
-HERE = os.path.dirname(os.path.realpath(__file__))
+from program import TOP, Skipped, Wrong, expect
+
 MIB = 1 << 20
 CLEAN = "w: clone=0 reads=0 rbytes=0 writes=256 wbytes=1048576 checks=256 good=256 bad=0 skipped=0 void=0 faults=0\n"
-
-
-class Skipped(Exception):
-    """Why a case can't be tried here."""
-
-
-class Wrong(Exception):
-    """What isn't as it must be."""
-
-
-def expect(holds, text):
-    if not holds:
-        raise Wrong(text)
 
 
 def run(program, room, job, *words):
@@ -165,7 +153,7 @@ def tried(case, program):
 
 
 def main(words):
-    program = os.path.realpath(words[0] if words else os.path.join(HERE, "..", "bin", "fiorun"))
+    program = os.path.realpath(words[0] if words else os.path.join(TOP, "bin", "fiorun"))
     failed = [case for case in CASES if not tried(case, program)]
     print(f"disk: {len(CASES)} cases, {len(failed)} failed")
     return 1 if failed else 0

@@ -11,47 +11,21 @@ differs.
 import os
 import re
 import select
-import shutil
-import struct
 import subprocess
 import sys
 import tempfile
 import time
 from concurrent.futures import ThreadPoolExecutor
-from typing import NamedTuple
 
-HERE = os.path.dirname(os.path.realpath(__file__))
-NOBODY = 65534
+from program import LINE, NOBODY, WIPED, Ended, SystemCalls, Wrong, copied, find_program, needed_library, total
+
 SECONDS = 60
-FIELDS = "reads rbytes writes wbytes checks good bad skipped void faults".split()
-CALLS = "open lseek read write pread pwrite pthread_create".split()
-WIPED = "\r\x1b[K"
-LINE = re.compile(r"fiorun: (\d+) % started, (\d+) I/Os, (\d+) checked, (\d+) bad")
-
-
-class Wrong(Exception):
-    """Something isn't as it must be."""
-
-
-class Ended(NamedTuple):
-    """How a run ended: its status and what it wrote to its two streams."""
-
-    status: int
-    out: bytes
-    err: bytes
-
-
 REFUSED = Ended(3, b"", b"fiorun: cannot open the files\n")
 
 
 def same(what, got, wanted):
     if got != wanted:
         raise Wrong(f"{what}: {str(got)[:400]}\n    and not {str(wanted)[:400]}")
-
-
-def total(job, clone=0, **counts):
-    """A clone's line of the report."""
-    return f"{job}: clone={clone} " + " ".join(f"{it}={counts.get(it, 0)}" for it in FIELDS) + "\n"
 
 
 def said(status, *lines):
@@ -108,18 +82,15 @@ class Place:
         return Ended(it.returncode, it.stdout, it.stderr)
 
     def fault(self, fault):
-        """The environment in which one call goes so (checks/faulty.c)."""
-        with open(self.at("calls"), "wb") as it:
-            it.write(bytes(8 * len(CALLS)))
-        return {**os.environ, "LD_PRELOAD": self.library, "CALLS": self.at("calls"), "FAULT": fault}
+        """The environment in which one call goes so."""
+        return SystemCalls(self.library, self.at("calls")).environment(fault)
 
     def traced(self, jobs, workers, fault, folder=None):
         """Runs jobs with this fault: how that ends, its trace, and how often it read and wrote blocks."""
         ended = self.run(jobs, workers, folder, [f"--trace={self.at('trace')}"], env=self.fault(fault))
         with open(self.at("trace"), encoding="ascii") as it:
             trace = it.read()
-        with open(self.at("calls"), "rb") as it:
-            calls = dict(zip(CALLS, struct.unpack(f"{len(CALLS)}Q", it.read())))
+        calls = SystemCalls(self.library, self.at("calls")).counted()
         return ended, trace, (calls["pread"], calls["pwrite"])
 
 
@@ -346,36 +317,13 @@ def tried(room, case):
     return None
 
 
-def find_program(path):
-    """The program itself, and not the script that builds it."""
-    if path is None:
-        subprocess.run([os.path.join(HERE, "..", "bin", "fiorun"), "--help"], stdout=subprocess.DEVNULL, check=True)
-        path = os.path.join(HERE, "..", "crates", "fiorun", "out", "fiorun")
-    with open(path, "rb") as it:
-        if it.read(4) != b"\x7fELF":
-            sys.exit(f"files: FAILED: {path} isn't a built program")
-    return path
-
-
-def built_library(room):
-    """What is loaded before the program's own libraries."""
-    library, compiler = os.path.join(room, "faulty.so"), os.environ.get("CC", "cc")
-    if not shutil.which(compiler):
-        sys.exit(f"files: FAILED: there is no C compiler {compiler}")
-    subprocess.run([compiler, "-O2", "-shared", "-fPIC", "-o", library, os.path.join(HERE, "faulty.c"), "-ldl"], check=True)
-    return library
-
-
 def main(words):
     if len(words) > 1:
         sys.exit("usage: checks/files.py [PROGRAM]")
-    program = find_program(words[0] if words else None)
+    program = find_program(words[0] if words else None, "files")
     with tempfile.TemporaryDirectory(prefix="files-") as room:
-        # (nobody is to run it too)
-        os.chmod(room, 0o755)
-        Place.program = shutil.copy(program, os.path.join(room, "fiorun"))
-        os.chmod(Place.program, 0o755)
-        Place.library = built_library(room)
+        Place.program = copied(program, room)
+        Place.library = needed_library("faulty.c", room, "files")
         with ThreadPoolExecutor(len(CASES)) as pool:
             wrong = [it for it in pool.map(lambda case: tried(room, case), CASES) if it]
     for it in wrong:

@@ -4,8 +4,8 @@
 ghost use Rattle.std.specs.Prelude.{◌≡◌, ◌≤◌, ◌^◌, IfOk};
 
 use jr_cli::{
-    Choice, CliFault, answer_words, choose, execute_serial_watched, execute_watched, memory_or,
-    print_check, print_plan, read_job, read_text, read_trace, workers_of,
+    Choice, CliFault, answer_words, choose, execute, execute_serial, memory_or, print_check,
+    print_plan, read_job, read_text, read_trace, workers_of,
 };
 use jr_engines::{Engine, MemoryEngine, NullEngine, SharedMemory};
 use jr_files::{FileEngine, FileFault, SharedFile, lay_out};
@@ -315,10 +315,10 @@ fn run_over<R: Files + Screen + AllocGlobal + Clock + Threads + Wait + Sync, V: 
             match events {
                 None => {
                     let none = None::<&mut Vec<u8>>;
-                    execute_serial_watched(alloc, plan, engine, progress, none, out)
+                    execute_serial(alloc, plan, engine, progress, none, out)
                 }
                 Some(mut events) => {
-                    execute_serial_watched(alloc, plan, engine, progress, Some(&mut events), out)
+                    execute_serial(alloc, plan, engine, progress, Some(&mut events), out)
                 }
             }
         },
@@ -400,10 +400,8 @@ fn run_with<R: Screen + AllocGlobal + Clock + Threads + Wait + Sync, V: io::Writ
     shown(rt, Extent::of(&plan), move |progress| match events {
         None => {
             let none = None::<&mut Vec<u8>>;
-            execute_watched(rt, alloc, plan, engines, progress, none, out)
+            execute(rt, alloc, plan, engines, progress, none, out)
         }
-        Some(mut events) => {
-            execute_watched(rt, alloc, plan, engines, progress, Some(&mut events), out)
-        }
+        Some(mut events) => { execute(rt, alloc, plan, engines, progress, Some(&mut events), out) }
     })
 }

@@ -6,7 +6,7 @@ use jr_tallies::Tallies;
 use jr_writes::WriteLog;
 
 // What happened in a run, and what is kept of it, so that no call looks at the whole history.
-#[derive(Debug, Drop)]
+#[derive(Drop)]
 pub struct Board {
     // All events, the oldest first. It is appended to alone.
     pub history: Vec<Event>,

@@ -18,7 +18,7 @@ use std::alloc::Global;
 
 // What is in flight. The I/O that began last stands beside the others until the next `settle`, so that to begin it takes
 // no memory.
-#[derive(Debug, Drop)]
+#[derive(Drop)]
 pub struct Flying {
     pub flight: Flight,
     pub begun: Option<Io>,

@@ -24,14 +24,14 @@ use jr_standing::{DeferredRounds, DrawsLeft};
 use std::alloc::Global;
 
 // A draw that was issued: its number, and whether it was checked or skipped.
-#[derive(Clone, Copy, Debug, PartialEq, Eq)]
+#[derive(Clone, Copy)]
 pub struct Issued {
     pub id: IoId,
     pub is_taken_up: bool,
 }
 
 // Where a clone stands.
-#[derive(Debug, Drop)]
+#[derive(Drop)]
 pub struct Standing {
     // The pass that it is in.
     pub pass: u32,

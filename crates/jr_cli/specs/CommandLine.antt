@@ -39,13 +39,23 @@ check_trace_rule = option_rule (codes "check-trace")
 abbrev pub cached_rule : Rule
 cached_rule = flag_rule (codes "cached")
 
+abbrev pub allow_mounted_write_rule : Rule
+allow_mounted_write_rule = flag_rule (codes "allow-mounted-write")
+
+abbrev pub notes_rule : Rule
+notes_rule = flag_rule (codes "notes")
+
+abbrev pub drop_pipes_rule : Rule
+drop_pipes_rule = option_rule (codes "drop-pipes")
+
 -- a program that tells its version
 abbrev pub with_version : App → App
 with_version app = on_top (λ shape. record shape { has_version = true }) app
 
 unfoldable pub command_line : App
-command_line = with_rule (with_rule (with_rule (with_rule (with_rule (with_rule (with_rule (with_version (new_app (codes "fiorun"))) job_rule)
-    section_rule) parse_only_rule) workers_rule) trace_rule) check_trace_rule) cached_rule
+command_line = with_rule (with_rule (with_rule (with_rule (with_rule (with_rule (with_rule (with_rule (with_rule (with_rule
+    (with_version (new_app (codes "fiorun"))) job_rule) section_rule) parse_only_rule) workers_rule) trace_rule) check_trace_rule) cached_rule)
+    allow_mounted_write_rule) notes_rule) drop_pipes_rule
 
 -- the number that a text of digits writes
 abbrev pub number_in : Text → ℕ
@@ -60,3 +70,6 @@ pub record IsChoiceOf (choice : Choice) (rows : List Row) : Type 0 where
   pub trace : option_copied choice.trace ≡ first_of (codes "trace") rows
   pub check_trace : option_copied choice.check_trace ≡ first_of (codes "check-trace") rows
   pub cached : choice.cached ≡ unwrap_or (option_map (bytes_eq (codes "true")) (one_of (codes "cached") rows)) false
+  pub allow_mounted_write : choice.allow_mounted_write ≡ unwrap_or (option_map (bytes_eq (codes "true")) (one_of (codes "allow-mounted-write") rows)) false
+  pub notes : choice.notes ≡ unwrap_or (option_map (bytes_eq (codes "true")) (one_of (codes "notes") rows)) false
+  pub drop_pipes : option_copied choice.drop_pipes ≡ first_of (codes "drop-pipes") rows

@@ -10,9 +10,6 @@ mod workers;
 pub use faults::CliFault;
 pub use inputs::{memory_or, read_text, read_trace};
 pub use jr_crew::Progress;
-pub use runs::{
-    execute, execute_serial, execute_serial_watched, execute_watched, print_check, print_plan,
-    read_job,
-};
+pub use runs::{execute, execute_serial, print_check, print_plan, read_job};
 pub use words::{Choice, answer_words, choose};
 pub use workers::workers_of;

@@ -15,7 +15,7 @@ ghost use Rattle.jr_cli.specs.Status.{status_of, is_unclean};
 
 use crate::faults::CliFault;
 use jr_board::Desk;
-use jr_crew::{Progress, RunFault, run, run_serial, run_serial_watched, run_watched};
+use jr_crew::{Progress, RunFault, run, run_serial};
 use jr_engines::Engine;
 use jr_model::Totals;
 use jr_options::{Plan, plan, plan_text};
@@ -46,39 +46,6 @@ pub fn execute_serial<W: Write, V: Write>(
     alloc: Global,
     plan: Plan,
     engine: &mut dyn Engine,
-    events: Option<&mut W>,
-    out: &mut V,
-) -> Result<u8, CliFault>
-    requires { (state engine.old).calls ≤ 2 ^ 63 }
-
-    // The report, the trace and the status are those of one run of this engine.
-    ensures run { IfOk result (λ status. HasRun plan (state engine.old) (state engine.new) (λ history.
-        IsReported plan history (V.contents out.old) (V.contents out.new) status
-        × IsTraced W.contents events.entry events.exit history)) }
-
-    // Over a fresh memory they are those of the history of one worker, and nothing goes wrong.
-    ensures serial { IsFresh plan (state engine.old) → IfOk result (λ status.
-        IsReported plan (serial_history plan) (V.contents out.old) (V.contents out.new) status
-        × IsTraced W.contents events.entry events.exit (serial_history plan)) }
-    ensures clean { IsFresh plan (state engine.old) → IfOk result (λ status. status ≡ 0) }
-    ensures quiet { IfOk result (IsQuietlyReported plan (V.contents out.old) (V.contents out.new)) }
-    ensures failed { IfErr result IsCutShort }
-{
-    // Its contract says what holds of every plan.
-    plan.facts();
-    let desk = run_serial(alloc, plan, engine)?;
-    let status = print_report(alloc, &desk, out)?;
-    if let Some(events) = events {
-        print_trace(alloc, &desk, events)?;
-    }
-    Ok(status)
-}
-
-/// The same, where another thread may look at how far the run is.
-pub fn execute_serial_watched<W: Write, V: Write>(
-    alloc: Global,
-    plan: Plan,
-    engine: &mut dyn Engine,
     progress: Option<&Progress>,
     events: Option<&mut W>,
     out: &mut V,
@@ -100,10 +67,10 @@ pub fn execute_serial_watched<W: Write, V: Write>(
 {
     // Its contract says what holds of every plan.
     plan.facts();
-    let watched = run_serial_watched(alloc, plan, engine, progress)?;
-    let status = print_report(alloc, &watched, out)?;
+    let desk = run_serial(alloc, plan, engine, progress)?;
+    let status = print_report(alloc, &desk, out)?;
     if let Some(events) = events {
-        print_trace(alloc, &watched, events)?;
+        print_trace(alloc, &desk, events)?;
     }
     Ok(status)
 }
@@ -115,37 +82,6 @@ pub fn execute<R: Threads + Wait + Sync, W: Write, V: Write>(
     alloc: Global,
     plan: Plan,
     engines: Vec<Box<dyn Engine + Send>>,
-    events: Option<&mut W>,
-    out: &mut V,
-) -> Result<u8, CliFault>
-    // The report, the trace and the status are those of one run of these engines.
-    ensures run { IfOk result (λ status. HasCrewRun plan (map (λ engine. state engine) engines.items) (λ history.
-        IsReported plan history (V.contents out.old) (V.contents out.new) status
-        × IsTraced W.contents events.entry events.exit history)) }
-
-    // So the report is the same for every schedule, where the clones have files of their own and nothing goes wrong.
-    ensures quiet { IfOk result (IsQuietlyReported plan (V.contents out.old) (V.contents out.new)) }
-    ensures none { engines.items ≡ [] → result ≡ Err (CliFault.Run RunFault.NoEngine) }
-    ensures no_engine { IfErr result (λ fault. fault ≡ CliFault.Run RunFault.NoEngine → engines.items ≡ []) }
-    ensures thread { IfErr result (λ fault. fault ≡ CliFault.Run RunFault.Thread → 0 < plan.verifiers) }
-    ensures failed { IfErr result IsRunFault }
-{
-    // Its contract says what holds of every plan.
-    plan.facts();
-    let ran = run(rt, alloc, plan, engines)?;
-    let status = print_report(alloc, &ran.desk, out)?;
-    if let Some(events) = events {
-        print_trace(alloc, &ran.desk, events)?;
-    }
-    Ok(status)
-}
-
-/// The same, where another thread may look at how far the run is.
-pub fn execute_watched<R: Threads + Wait + Sync, W: Write, V: Write>(
-    rt: &R,
-    alloc: Global,
-    plan: Plan,
-    engines: Vec<Box<dyn Engine + Send>>,
     progress: Option<&Progress>,
     events: Option<&mut W>,
     out: &mut V,
@@ -164,10 +100,10 @@ pub fn execute_watched<R: Threads + Wait + Sync, W: Write, V: Write>(
 {
     // Its contract says what holds of every plan.
     plan.facts();
-    let watched = run_watched(rt, alloc, plan, engines, progress)?;
-    let status = print_report(alloc, &watched.desk, out)?;
+    let ran = run(rt, alloc, plan, engines, progress)?;
+    let status = print_report(alloc, &ran.desk, out)?;
     if let Some(events) = events {
-        print_trace(alloc, &watched.desk, events)?;
+        print_trace(alloc, &ran.desk, events)?;
     }
     Ok(status)
 }

@@ -10,6 +10,9 @@ ghost use Rattle.jr_cli.specs.CommandLine.{
   trace_rule,
   check_trace_rule,
   cached_rule,
+  allow_mounted_write_rule,
+  notes_rule,
+  drop_pipes_rule,
   IsChoiceOf,
 };
 
@@ -39,6 +42,12 @@ pub struct Choice<'a> {
     pub check_trace: Option<&'a str>,
     /// Let checks read what the system keeps of the files, and sync none before them.
     pub cached: bool,
+    /// Write block devices that are in use.
+    pub allow_mounted_write: bool,
+    /// Say what a fault is about, also where standard error is no terminal.
+    pub notes: bool,
+    /// The pipes by which the launcher is asked to drop the cached pages of a file (`bin/launch`).
+    pub drop_pipes: Option<&'a str>,
 }
 
 /// Reads the words of the command line, of which the first is the program's name. Help and the version are
@@ -59,6 +68,9 @@ pub fn choose<'a, S: AsStr>(alloc: Global, words: &'a [S]) -> Result<Choice<'a>,
         trace: matches.get_str("trace"),
         check_trace: matches.get_str("check-trace"),
         cached: matches.get_flag("cached"),
+        allow_mounted_write: matches.get_flag("allow-mounted-write"),
+        notes: matches.get_flag("notes"),
+        drop_pipes: matches.get_str("drop-pipes"),
     })
 }
 
@@ -94,7 +106,10 @@ fn command<'a>(alloc: Global) -> Result<Command<'a>, AllocError>
         .arg(workers_arg(alloc))?
         .arg(trace_arg(alloc))?
         .arg(check_trace_arg(alloc))?
-        .arg(cached_arg(alloc))
+        .arg(cached_arg(alloc))?
+        .arg(allow_mounted_write_arg(alloc))?
+        .arg(notes_arg(alloc))?
+        .arg(drop_pipes_arg(alloc))
 }
 
 fn job_arg<'a>(alloc: Global) -> Arg<'a>
@@ -172,4 +187,37 @@ fn cached_arg<'a>(alloc: Global) -> Arg<'a>
         .action(ArgAction::SetTrue)
         .value_parser(value_parser!(bool))
         .help("Sync no file before its checks")
+}
+
+fn allow_mounted_write_arg<'a>(alloc: Global) -> Arg<'a>
+    ensures rule { rule_of result ≡ allow_mounted_write_rule }
+    ensures local { result.global ≡ false }
+{
+    Arg::new(alloc, "allow-mounted-write")
+        .long("allow-mounted-write")
+        .action(ArgAction::SetTrue)
+        .value_parser(value_parser!(bool))
+        .help("Write block devices that are mounted or in use otherwise")
+}
+
+fn notes_arg<'a>(alloc: Global) -> Arg<'a>
+    ensures rule { rule_of result ≡ notes_rule }
+    ensures local { result.global ≡ false }
+{
+    Arg::new(alloc, "notes")
+        .long("notes")
+        .action(ArgAction::SetTrue)
+        .value_parser(value_parser!(bool))
+        .help("Say what a fault is about, also where standard error is no terminal")
+}
+
+fn drop_pipes_arg<'a>(alloc: Global) -> Arg<'a>
+    ensures rule { rule_of result ≡ drop_pipes_rule }
+    ensures local { result.global ≡ false }
+{
+    Arg::new(alloc, "drop-pipes")
+        .long("drop-pipes")
+        .value_name("PIPES")
+        .action(ArgAction::Set)
+        .help("Pipes to ask for cached pages to be dropped, as the launcher gives them")
 }

@@ -39,27 +39,8 @@ pub struct Ran {
 }
 
 /// Runs a plan with one worker an engine, numbered from 0, and as many verifiers as the plan wants, numbered on from them; all
-/// work at once. Without verifiers each worker judges its own checks.
+/// work at once. Without verifiers each worker judges its own checks. A `Progress` tells another thread how far the run is.
 pub fn run<R: Threads + Wait + Sync>(
-    rt: &R,
-    alloc: Global,
-    plan: Plan,
-    engines: Vec<Box<dyn Engine + Send>>,
-) -> Result<Ran, RunFault>
-    ensures plan { IfOk result (λ ran. ran.desk.plan ≡ plan) }
-    ensures run { IfOk result (λ ran. IsCrewRun plan ran.desk.history (map (λ engine. state engine) engines.items)
-        (map (λ engine. state engine) ran.engines.items) (map (λ book. book.items) ran.books.items)) }
-    ensures none { engines.items ≡ [] → result ≡ Err RunFault.NoEngine }
-    ensures no_engine { IfErr result (λ fault. fault ≡ RunFault.NoEngine → engines.items ≡ []) }
-
-    // All but verifiers can do without a thread of their own.
-    ensures thread { IfErr result (λ fault. fault ≡ RunFault.Thread → 0 < plan.verifiers) }
-{
-    run_watched(rt, alloc, plan, engines, None)
-}
-
-/// The same, where another thread may look at how far the run is.
-pub fn run_watched<R: Threads + Wait + Sync>(
     rt: &R,
     alloc: Global,
     plan: Plan,

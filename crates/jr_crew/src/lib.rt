@@ -15,7 +15,7 @@ mod verifier;
 mod work;
 
 pub use books::Done;
-pub use crew::{Ran, run, run_watched};
+pub use crew::{Ran, run};
 pub use faults::RunFault;
 pub use progress::Progress;
-pub use serial::{run_serial, run_serial_watched};
+pub use serial::run_serial;

@@ -9,6 +9,7 @@ pub struct Progress {
     ios: AtomicU64,
     bytes: AtomicU64,
     checks: AtomicU64,
+    checked: AtomicU64,
     bad: AtomicU64,
 }
 
@@ -19,6 +20,7 @@ impl Progress {
             ios: AtomicU64::new(0),
             bytes: AtomicU64::new(0),
             checks: AtomicU64::new(0),
+            checked: AtomicU64::new(0),
             bad: AtomicU64::new(0),
         }
     }
@@ -38,6 +40,11 @@ impl Progress {
         self.checks.load(Ordering::Relaxed)
     }
 
+    /// How many bytes they read back.
+    pub fn checked_bytes(&self) -> u64 {
+        self.checked.load(Ordering::Relaxed)
+    }
+
     /// How many of them were bad.
     pub fn bad(&self) -> u64 {
         self.bad.load(Ordering::Relaxed)
@@ -51,9 +58,11 @@ impl Progress {
     }
 
     // A check is judged.
-    fn judge(&self, verdict: Verdict) {
+    fn judge(&self, ruling: &Ruling<'_>) {
         self.checks.fetch_add(1, Ordering::Relaxed);
-        if let Verdict::Bad(_) = verdict {
+        let bytes = ruling.served().ticket().piece.len;
+        self.checked.fetch_add(u64::from(bytes), Ordering::Relaxed);
+        if let Verdict::Bad(_) = ruling.verdict() {
             self.bad.fetch_add(1, Ordering::Relaxed);
         }
     }
@@ -69,6 +78,6 @@ pub fn note_start(progress: Option<&Progress>, ticket: &Ticket) {
 // Notes that a check is judged, where anybody wants to know.
 pub fn note_verdict(progress: Option<&Progress>, ruling: &Ruling<'_>) {
     if let Some(progress) = progress {
-        progress.judge(ruling.verdict());
+        progress.judge(ruling);
     }
 }

@@ -17,21 +17,7 @@ use jr_plan::Plan;
 use std::alloc::Global;
 
 /// Runs a plan with one worker, 0, which waits for nobody and judges its own checks.
-pub fn run_serial(alloc: Global, plan: Plan, engine: &mut dyn Engine) -> Result<Desk, RunFault>
-    requires { (state engine.old).calls ≤ 2 ^ 63 }
-    ensures plan { IfOk result (λ desk. desk.plan ≡ plan) }
-    ensures run { IfOk result (λ desk. IsRun plan desk.history (state engine.old) (state engine.new)) }
-    ensures going { IfOk result (λ desk. IsFalse desk.is_stopped) }
-
-    // Over a fresh memory the history is known.
-    ensures serial { IsFresh plan (state engine.old) → IfOk result (λ desk. desk.history ≡ serial_history plan) }
-    ensures memory { IfErr result (λ fault. fault ≡ RunFault.Memory) }
-{
-    run_serial_watched(alloc, plan, engine, None)
-}
-
-/// The same, where another thread may look at how far the run is.
-pub fn run_serial_watched(
+pub fn run_serial(
     alloc: Global,
     plan: Plan,
     engine: &mut dyn Engine,

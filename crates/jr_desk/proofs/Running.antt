@@ -1,5 +1,7 @@
 -- A list of steps of the machine, step by step.
 use Rattle.std.proofs.Common.{◌≡◌, List, [], ◌∷◌, ◌++◌, true, refl, sym, ◌∙◌, ap, subst}
+use Rattle.std.proofs.Common.{ℕ, ◌≤◌, length, take}
+use Rattle.std.proofs.lemmas.List.{take_all}
 use Rattle.std.specs.Prelude.{Some, None}
 use Rattle.jr_model.specs.declared.events.Started.{Started}
 use Rattle.jr_model.specs.declared.steps.Step.{Step}
@@ -14,6 +16,7 @@ use Rattle.jr_laws.specs.Memory.{CoversFiles}
 use Rattle.jr_steps.proofs.CountLaws.{numbered_of}
 use Rattle.jr_laws.proofs.Memories.{covers-fresh_memory}
 use Rattle.jr_desk.specs.declared.plays.Player.{Player}
+use Rattle.jr_desk.specs.DeskOf.{desk_in}
 use Rattle.jr_desk.specs.Plays.{GoesOn, IsReady, KeepsReads, state_of}
 
 abbrev with_step : Plan → Played → Step → Played
@@ -84,3 +87,13 @@ first_played plan player planned first same none = record {
       subst (λ (xs : List AnswerParts). KeepsReads player.desk.plan player.desk.history xs) (sym none)
       (subst (λ (s : State). KeepsReads player.desk.plan s.history []) (sym first) (none_kept player.desk.plan));
 }
+
+-- once it made them all, its replies and its desk are the machine's
+pub played_all : (plan : Plan) (steps : List Step) (count : ℕ) (replies : List StepReply) (player : Player) → length steps ≤ count → HasPlayed plan (take count steps) replies player → (replies ≡ (machine_run plan (first_state plan) steps).replies) × (player.desk ≡ desk_in plan (machine_run plan (first_state plan) steps).state)
+played_all plan steps count replies player all so =
+    let played : machine_run plan (first_state plan) steps ≡ record { replies = replies; state = state_of player } =
+    ap (λ (made : List Step). machine_run plan (first_state plan) made) (sym (take_all count steps all)) ∙ so.played in
+    (
+      sym (ap (λ (p : Played). p.replies) played),
+      ap (λ (p : Plan). record player.desk { plan = p }) so.its_plan ∙ ap (λ (p : Played). desk_in plan p.state) (sym played),
+    )

@@ -16,14 +16,21 @@ use jr_header::{Served, room_for, rule};
 use jr_model::{DeskFault, IoId, Memory, Reply, Step, StepReply, Ticket, TicketKind};
 use jr_plan::Plan;
 use std::alloc::Global;
+use std::fmt;
 
 /// What a list of steps came to.
-#[derive(Debug, Drop)]
+#[derive(Drop)]
 pub struct Played {
     /// The desk after the last step.
     pub desk: Desk,
     /// The reply to each step.
     pub replies: Vec<StepReply>,
+}
+
+impl fmt::Debug for Played {
+    fn fmt<F: fmt::Write>(&self, f: &mut fmt::Formatter<F>) -> fmt::Result {
+        f.write_str("Played { .. }")
+    }
 }
 
 /// Runs a list of steps over a memory of its own, each End with its scripted reply.
@@ -51,7 +58,7 @@ pub fn play(alloc: Global, plan: Plan, steps: &[Step]) -> Result<Played, Memory>
 }
 
 // Plays steps one by one: a desk, an engine over a memory of its own, and all that was read so far.
-#[derive(Debug, Drop)]
+#[derive(Drop)]
 struct Player {
     alloc: Global,
     desk: Desk,

@@ -9,7 +9,7 @@ use std::alloc::Global;
 use std::marker::Model;
 
 /// The cells of a draw.
-#[derive(Debug, Drop)]
+#[derive(Drop)]
 pub struct Choice {
     dir: Dir,
     first: u32,
@@ -25,7 +25,7 @@ impl Model for Choice {
 }
 
 /// A pass on its way: what of the clone its draws depend on, and how far it has come.
-#[derive(Debug, Drop)]
+#[derive(Drop)]
 pub struct Course {
     file: u32,
     start: u64,

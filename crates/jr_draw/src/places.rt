@@ -8,7 +8,7 @@ use jr_model::{IoType, Memory};
 use std::alloc::Global;
 
 /// Where a pass may draw.
-#[derive(Debug, Drop)]
+#[derive(Drop)]
 pub enum Places {
     /// One cell after another.
     Sequential,

@@ -1,6 +1,7 @@
 // Files of the system as an engine, and the files of a plan made long enough for it.
 #![tactic(auto)]
 
+mod droppers;
 mod faults;
 mod file_engine;
 mod layouts;
@@ -12,6 +13,7 @@ mod regions;
 mod shares;
 mod uses;
 
+pub use droppers::{Dropper, Launcher};
 pub use faults::FileFault;
 pub use file_engine::FileEngine;
 pub use layouts::lay_out;

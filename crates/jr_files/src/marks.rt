@@ -24,11 +24,13 @@ pub struct Marks {
 pub enum Stage {
     /// It is to begin.
     Begun,
-    /// It has ended well.
+    /// The system has stored what it kept of the file.
+    Synced,
+    /// And what it keeps was dropped, as far as that can be asked for.
     Ended,
 }
 
-/// A sync of a file, by its number.
+/// A sync of a file, by its number, with the drop behind it.
 #[derive(Debug, Drop)]
 pub struct FileSync {
     number: u64,
@@ -36,8 +38,21 @@ pub struct FileSync {
 }
 
 impl FileSync {
-    /// The sync once it has ended well.
+    /// The sync once the system has stored what it kept.
+    pub fn synced(self) -> FileSync
+        requires { self.stage ≡ Stage.Begun }
+        ensures stage { result.stage ≡ Stage.Synced }
+        ensures number { result.number ≡ self.number }
+    {
+        FileSync {
+            stage: Stage::Synced,
+            ..self
+        }
+    }
+
+    /// The sync once the file was dropped behind it.
     pub fn ended(self) -> FileSync
+        requires { self.stage ≡ Stage.Synced }
         ensures stage { result.stage ≡ Stage.Ended }
         ensures number { result.number ≡ self.number }
     {
@@ -89,7 +104,7 @@ impl Marks {
         }
     }
 
-    /// Notes that a sync has ended: what was written before it began is on the device now.
+    /// Notes that a sync has ended: what was written before it began is on the device now, and no longer kept.
     pub fn end(&self, sync: FileSync)
         requires { sync.stage ≡ Stage.Ended }
     {

@@ -1,6 +1,7 @@
 ghost use Rattle.std.specs.Prelude.{◌≡◌, ◌<◌, length, IfOk, IfErr};
 ghost use Rattle.jr_files.specs.Engines.{IsFresh, IsOpenFault, NamesFile};
 
+use crate::droppers::Dropper;
 use crate::faults::FileFault;
 use crate::file_engine::{FileEngine, open};
 use crate::marks::Marks;
@@ -8,7 +9,7 @@ use crate::opened::OpenedFile;
 use crate::positioned::Positioned;
 use crate::uses::{is_checked, is_written};
 use jr_plan::Plan;
-use std::alloc::Global;
+use std::alloc::{AllocError, Global};
 use std::fs::File;
 use std::io;
 use std::rt::Files;
@@ -18,6 +19,7 @@ use std::sync::Arc;
 #[derive(Drop)]
 pub struct SharedFile {
     file: Arc<OpenedFile>,
+    dropper: Option<Arc<Dropper>>,
 }
 
 impl Positioned for SharedFile {
@@ -26,7 +28,7 @@ impl Positioned for SharedFile {
     ghost view = { λ _. unknown_view };
 
     fn read_at(&mut self, buf: &mut [u8], offset: u64) -> io::Result<usize> {
-        self.file.read_at(buf, offset)
+        self.file.read_at(buf, offset, self.dropper.as_deref())
     }
 
     fn write_at(&mut self, buf: &[u8], offset: u64) -> io::Result<usize> {
@@ -74,14 +76,42 @@ impl FileEngine<SharedFile> {
         ensures ok { IfOk result (λ engine. IsFresh engine (length self.now.files)) }
         ensures err { IfErr result (λ fault. fault ≡ FileFault.Memory) }
     {
+        self.share_with(alloc, None)
+    }
+
+    /// The same, where what a check reads is dropped from the system's cache before. No other engine may have this dropper.
+    pub fn share_with(
+        &self,
+        alloc: Global,
+        dropper: Option<Arc<Dropper>>,
+    ) -> Result<FileEngine<SharedFile>, FileFault>
+        ensures ok { IfOk result (λ engine. IsFresh engine (length self.now.files)) }
+        ensures err { IfErr result (λ fault. fault ≡ FileFault.Memory) }
+    {
         let mut files = Vec::new(alloc);
         for shared in self.files() {
             let Ok(file) = Arc::try_clone(&shared.file) else {
                 return Err(FileFault::Memory);
             };
-            files.push(SharedFile { file })?;
+            let dropper = shared_dropper(dropper.as_ref())?;
+            files.push(SharedFile { file, dropper })?;
         }
         Ok(FileEngine::over(files))
+    }
+
+    /// Syncs each file, and drops what the system keeps of it, before anything of it is read or written.
+    ///
+    /// A fault names the first file of which the system can't store what was written before.
+    pub fn begin(&self) -> Result<(), FileFault>
+        ensures { IfErr result (λ fault. NamesFile fault (length self.now.files)) }
+    {
+        let mut begun = Ok(());
+        for (index, shared) in self.files().iter().enumerate() {
+            if shared.file.begin(shared.dropper.as_deref()).is_err() && begun.is_ok() {
+                begun = Err(FileFault::File(index));
+            }
+        }
+        begun
     }
 
     /// Syncs each file that was written, by any engine that shares it, since it was synced last.
@@ -137,5 +167,16 @@ fn opened_file<R: Files<File = File>>(
         return Err(FileFault::File(index));
     };
     let file = Arc::new(alloc, file)?;
-    Ok(SharedFile { file })
+    Ok(SharedFile {
+        file,
+        dropper: None,
+    })
+}
+
+// One more handle of the dropper.
+fn shared_dropper(dropper: Option<&Arc<Dropper>>) -> Result<Option<Arc<Dropper>>, AllocError> {
+    match dropper {
+        Some(dropper) => Ok(Some(Arc::try_clone(dropper)?)),
+        None => Ok(None),
+    }
 }

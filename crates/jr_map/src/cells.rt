@@ -4,17 +4,24 @@ ghost use Rattle.jr_model.specs.CellSet.{free_cell_from, free_run, with_cells, n
 use crate::levels::Levels;
 use jr_model::Memory;
 use std::alloc::Global;
+use std::fmt;
 use std::marker::Model;
 
 /// The most cells that a map can have.
 pub const MOST_CELLS: u32 = 16_777_216;
 
 /// A set of the cells of a region, each of which is free or taken.
-#[derive(Debug, Drop)]
+#[derive(Drop)]
 pub struct CellMap {
     levels: Levels,
     cells: u32,
     left: u32,
+}
+
+impl fmt::Debug for CellMap {
+    fn fmt<F: fmt::Write>(&self, f: &mut fmt::Formatter<F>) -> fmt::Result {
+        f.write_str("CellMap { .. }")
+    }
 }
 
 // Clauses see a flag for each cell: true where it is taken.

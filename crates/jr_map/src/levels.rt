@@ -7,7 +7,7 @@ use jr_model::Memory;
 use std::alloc::Global;
 
 /// Levels of words: a bit for each cell, and above them a bit for each word of the level below.
-#[derive(Debug, Drop)]
+#[derive(Drop)]
 pub struct Levels {
     lowest: Vec<u64>,
     second: Vec<u64>,

@@ -72,7 +72,7 @@ fn has_planned(sections: &[Section], only: Option<&str>) -> bool
 }
 
 // What is known of the planned jobs so far.
-#[derive(Clone, Copy, Debug)]
+#[derive(Clone, Copy)]
 struct Tally {
     // The first job that is at fault.
     fault: Option<JobFault>,
@@ -214,7 +214,7 @@ fn visits(options: &JobOptions, shape: &Shape) -> u128
 }
 
 // The options that count so far, and what is known of the jobs so far.
-#[derive(Clone, Copy, Debug)]
+#[derive(Clone, Copy)]
 struct Survey {
     globals: JobOptions,
     tally: Tally,

@@ -120,13 +120,13 @@ impl Draft {
         let end = start + u64::from(workload.cells) * u64::from(workload.cell);
         let file = use_file(&mut self.files, file, start, end)? as u32;
         let workload = *workload;
-        self.clones.push(SubJob {
+        self.clones.push_reserved(SubJob {
             job,
             clone,
             file,
             start,
             workload,
-        })?;
+        });
         self.work += u64::from(workload.cells) * u64::from(workload.passes);
         Ok(())
     }

@@ -5,3 +5,4 @@ pub mod OptionWords
 pub mod Options
 pub mod Settings
 pub mod Shapes
+pub mod Wordings

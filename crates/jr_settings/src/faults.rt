@@ -42,23 +42,56 @@ impl fmt::Display for JobFault {
     ghost output = { λ fault. Some (job_fault_text fault) };
 
     fn fmt<W: fmt::Write>(&self, f: &mut fmt::Formatter<W>) -> fmt::Result {
+        write!(f, "{}", self.wording())
+    }
+}
+
+// What a fault prints: a text alone, what is wrong at a line or in the job that it opens, or which limit was met.
+#[derive(Clone, Copy)]
+enum Wording {
+    Alone(&'static str),
+    Limit(Bound),
+    Line(u32, &'static str),
+    Job(u32, &'static str),
+}
+
+impl fmt::Display for Wording {
+    ghost use Rattle.std.specs.Prelude.{Some};
+    ghost use Rattle.jr_settings.specs.Wordings.{wording_text};
+
+    ghost output = { λ wording. Some (wording_text wording) };
+
+    fn fmt<W: fmt::Write>(&self, f: &mut fmt::Formatter<W>) -> fmt::Result {
         match self {
-            JobFault::NoJob => write!(f, "job file: no job"),
-            JobFault::NoSection => write!(f, "job file: no such section"),
-            JobFault::Unknown(line) => write!(f, "job file: line {line}: option out of scope"),
-            JobFault::BadValue(line) => write!(f, "job file: line {line}: bad value"),
-            JobFault::MissingSize(line) => write!(f, "job at line {line}: no size"),
-            JobFault::BadBlock(line) => write!(f, "job at line {line}: bad block size or place"),
-            JobFault::BadSplit(line) => write!(f, "job file: line {line}: bad split"),
-            JobFault::NoPattern(line) => write!(f, "job at line {line}: no verify_pattern"),
-            JobFault::VerifyNeedsWrite(line) => write!(
-                f,
-                "job at line {line}: verify needs a write"
-            ),
-            JobFault::MixedEngines => write!(f, "job file: several engine kinds"),
-            JobFault::SeveralFiles(line) => write!(f, "job file: line {line}: several files"),
-            JobFault::Limit(bound) => write!(f, "job file: limit of {bound}"),
-            JobFault::Memory => write!(f, "out of memory"),
+            Wording::Alone(text) => write!(f, "{text}"),
+            Wording::Limit(bound) => write!(f, "job file: limit of {bound}"),
+            Wording::Line(line, what) => write!(f, "job file: line {line}: {what}"),
+            Wording::Job(line, what) => write!(f, "job at line {line}: {what}"),
+        }
+    }
+}
+
+impl JobFault {
+    ghost use Rattle.jr_settings.specs.FaultTexts.{job_fault_text};
+    ghost use Rattle.jr_settings.specs.Wordings.{wording_text};
+
+    fn wording(&self) -> Wording
+        ensures { wording_text result ≡ job_fault_text self.now }
+    {
+        match self {
+            JobFault::NoJob => Wording::Alone("job file: no job"),
+            JobFault::NoSection => Wording::Alone("job file: no such section"),
+            JobFault::Unknown(line) => Wording::Line(*line, "option out of scope"),
+            JobFault::BadValue(line) => Wording::Line(*line, "bad value"),
+            JobFault::MissingSize(line) => Wording::Job(*line, "no size"),
+            JobFault::BadBlock(line) => Wording::Job(*line, "bad block size or place"),
+            JobFault::BadSplit(line) => Wording::Line(*line, "bad split"),
+            JobFault::NoPattern(line) => Wording::Job(*line, "no verify_pattern"),
+            JobFault::VerifyNeedsWrite(line) => Wording::Job(*line, "verify needs a write"),
+            JobFault::MixedEngines => Wording::Alone("job file: several engine kinds"),
+            JobFault::SeveralFiles(line) => Wording::Line(*line, "several files"),
+            JobFault::Limit(bound) => Wording::Limit(*bound),
+            JobFault::Memory => Wording::Alone("out of memory"),
         }
     }
 }

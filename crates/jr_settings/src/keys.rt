@@ -1,5 +1,5 @@
 /// A key whose value is one of a few words.
-#[derive(Clone, Copy, Debug, PartialEq, Eq)]
+#[derive(Clone, Copy)]
 pub enum ChoiceKey {
     IoType,
     Engine,
@@ -9,7 +9,7 @@ pub enum ChoiceKey {
 }
 
 /// A key whose value is a whole number.
-#[derive(Clone, Copy, Debug, PartialEq, Eq)]
+#[derive(Clone, Copy)]
 pub enum NumberKey {
     ReadPercent,
     WritePercent,
@@ -25,7 +25,7 @@ pub enum NumberKey {
 }
 
 /// A key whose value is 0 or 1, and 1 where it has none.
-#[derive(Clone, Copy, Debug, PartialEq, Eq)]
+#[derive(Clone, Copy)]
 pub enum FlagKey {
     NoMap,
     Stonewall,
@@ -36,7 +36,7 @@ pub enum FlagKey {
 }
 
 /// A key whose value is a text of its own form.
-#[derive(Clone, Copy, Debug, PartialEq, Eq)]
+#[derive(Clone, Copy, PartialEq, Eq)]
 pub enum TextKey {
     BlockSizes,
     Splits,
@@ -47,7 +47,7 @@ pub enum TextKey {
 }
 
 /// An option of a job file. Aliases are one key.
-#[derive(Clone, Copy, Debug, PartialEq, Eq)]
+#[derive(Clone, Copy)]
 pub enum Key {
     Choice(ChoiceKey),
     Number(NumberKey),

@@ -13,7 +13,7 @@ use jr_plan::Split;
 use jr_text::Line;
 
 /// What one option line says.
-#[derive(Clone, Copy, Debug, PartialEq, Eq)]
+#[derive(Clone, Copy)]
 pub enum Setting {
     IoType(IoType),
     /// The percentage of reads, whichever way the line says it.

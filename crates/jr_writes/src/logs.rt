@@ -2,6 +2,7 @@ use crate::spots::{Spot, put, take_out};
 use jr_model::{Expected, Memory, Piece, WriteId};
 use std::alloc::Global;
 use std::collections::BTreeMap;
+use std::fmt;
 use std::marker::Model;
 
 /// What the log has of a write: where it lies, and what its checks compare with.
@@ -13,10 +14,16 @@ pub struct Logged {
 
 /// The intact writes of a run: those that were settled, and of whose pieces no byte was settled or
 /// unsettled since.
-#[derive(Debug, Drop)]
+#[derive(Drop)]
 pub struct WriteLog {
     writes: BTreeMap<WriteId, Logged>,
     spots: BTreeMap<(u32, u64), Spot>,
+}
+
+impl fmt::Debug for WriteLog {
+    fn fmt<F: fmt::Write>(&self, f: &mut fmt::Formatter<F>) -> fmt::Result {
+        f.write_str("WriteLog { .. }")
+    }
 }
 
 // Clauses see the entries of the log, in the order of the writes.

@@ -10,7 +10,7 @@ use jr_model::{Expected, Memory, Piece, WriteId, overlaps};
 use std::collections::BTreeMap;
 
 // The write whose piece begins at a place, and the piece's length.
-#[derive(Clone, Copy, Debug)]
+#[derive(Clone, Copy)]
 pub struct Spot {
     pub write: WriteId,
     pub len: u32,

@@ -16,4 +16,7 @@ returns c =
     let with_workers = c.in_ok-arg-4.ensures.shape c.workers_arg.ensures.local ∙ ap₂ with_rule with_flag c.workers_arg.ensures.rule in
     let with_trace = c.in_ok-arg-5.ensures.shape c.trace_arg.ensures.local ∙ ap₂ with_rule with_workers c.trace_arg.ensures.rule in
     let with_check = c.in_ok-arg-6.ensures.shape c.check_trace_arg.ensures.local ∙ ap₂ with_rule with_trace c.check_trace_arg.ensures.rule in
-    IfOk-weaker c.arg-7.result _ _ (λ r added. added.shape c.cached_arg.ensures.local ∙ ap₂ with_rule with_check c.cached_arg.ensures.rule) c.arg-7.ensures
+    let with_cached = c.in_ok-arg-7.ensures.shape c.cached_arg.ensures.local ∙ ap₂ with_rule with_check c.cached_arg.ensures.rule in
+    let with_allowed = c.in_ok-arg-8.ensures.shape c.allow_mounted_write_arg.ensures.local ∙ ap₂ with_rule with_cached c.allow_mounted_write_arg.ensures.rule in
+    let with_notes = c.in_ok-arg-9.ensures.shape c.notes_arg.ensures.local ∙ ap₂ with_rule with_allowed c.notes_arg.ensures.rule in
+    IfOk-weaker c.arg-10.result _ _ (λ r added. added.shape c.drop_pipes_arg.ensures.local ∙ ap₂ with_rule with_notes c.drop_pipes_arg.ensures.rule) c.arg-10.ensures

@@ -2,7 +2,7 @@ use Rattle.std.proofs.Common.{◌≡◌, ◌+◌, List, ◌∷◌, [], ◌++◌,
 use Rattle.std.proofs.lemmas.List.{take_more}
 use Rattle.jr_model.specs.declared.steps.Step.{Step}
 use Rattle.jr_model.specs.declared.steps.StepReply.{StepReply}
-use Rattle.jr_desk.proofs.Running.{HasPlayed, ready_on, played_on, first_played}
+use Rattle.jr_desk.proofs.Running.{HasPlayed, ready_on, played_all, played_on, first_played}
 use Rattle.jr_desk.proofs.plays.play.Goals as goal
 
 pub answer-requires-clause-ready : goal.answer-requires-clause-ready
@@ -38,3 +38,11 @@ loop-step-preserved c =
           (played_on c.args.plan (take i steps) c.loop-step.replies.items c.loop-step.player c.answer.new.self c.step-item.result c.in_ok-reply.reply so.played goes));
       calls = omega (arith, so.calls, goes.calls);
     }
+
+pub returns-clause-replies : goal.returns-clause-replies
+returns-clause-replies c =
+    (played_all c.args.plan c.args.steps.now c.loop-step.step-index c.loop-step.replies.items c.loop-step.player c.loop-step-test.false c.loop-step.invariant.played).0
+
+pub returns-clause-desk : goal.returns-clause-desk
+returns-clause-desk c =
+    (played_all c.args.plan c.args.steps.now c.loop-step.step-index c.loop-step.replies.items c.loop-step.player c.loop-step-test.false c.loop-step.invariant.played).1

@@ -1,0 +1,517 @@
+#!/usr/bin/env python3
+"""checks/drop.py [PROGRAM [CASE..]] runs the program (the built one where none is given) below bin/launch, and below a launcher of its
+own, and looks that checks read the device and not the system's cache, that all goes on where nothing can be dropped, and that the launcher
+shows nowhere. What can't be tried here is skipped with a word. The status is 1 where something is wrong."""
+
+import bisect
+import contextlib
+import os
+import re
+import resource
+import select
+import shutil
+import signal
+import stat
+import subprocess
+import sys
+import tempfile
+import time
+
+from disk import CLEAN, MIB, Skipped, Wrong, expect, job_of, loop_device, needs, run, totals_of
+
+HERE = os.path.dirname(os.path.realpath(__file__))
+BIN = os.path.join(HERE, "..", "bin")
+LAUNCH = os.path.join(BIN, "launch")
+SECONDS = 60
+
+
+def launched(program, room, job, *words):
+    return run(LAUNCH, room, job, program, *words)
+
+
+def clean(ran, what):
+    expect((ran.returncode, ran.stdout, ran.stderr) == (0, CLEAN, ""), f"{what}: status {ran.returncode}: {ran.stdout}{ran.stderr}")
+
+
+def needs_disk(room):
+    """A file system that a device stands below."""
+    kind = subprocess.run(["stat", "-f", "-c", "%T", room], capture_output=True, text=True, check=False).stdout.strip()
+    if kind in ("tmpfs", "ramfs", "overlayfs", ""):
+        raise Skipped(f"{room} is no disk but {kind}")
+
+
+# What is read, and in what order.
+
+
+def blocks_read(program, room, job, *words):
+    """How many bytes a run had the system read from devices."""
+    before = resource.getrusage(resource.RUSAGE_CHILDREN).ru_inblock
+    ran = launched(program, room, job, *words)
+    expect((ran.returncode, ran.stderr) == (0, ""), f"{words}: status {ran.returncode}: {ran.stdout}{ran.stderr}")
+    return (resource.getrusage(resource.RUSAGE_CHILDREN).ru_inblock - before) * 512
+
+
+def checks_read_the_device(program, room):
+    needs_disk(room)
+    for backlog in (0, 1000):
+        job = job_of("16m", [f"verify_backlog={backlog}", "iodepth=4"])
+        for words in (["--workers=1"], ["--workers=4"]):
+            read = blocks_read(program, room, job, *words)
+            expect(read >= 16 * MIB, f"{backlog}, {words}: {read} bytes were read from the device")
+            read = blocks_read(program, room, job, "--cached", *words)
+            expect(read < MIB, f"{backlog}, {words}, --cached: {read} bytes were read from the device")
+
+
+def what_a_run_finds_is_read_from_the_device(program, room):
+    """A file of another program's is dropped before a run reads it."""
+    needs_disk(room)
+    with open(os.path.join(room, "f"), "wb") as it:
+        it.write(bytes(4 * MIB))
+    job = "[r]\nioengine=psync\nrw=read\nsize=4m\nfilename=f\n"
+    read = blocks_read(program, room, job)
+    expect(read >= 4 * MIB, f"{read} bytes were read from the device")
+    read = blocks_read(program, room, job, "--cached")
+    expect(read < MIB, f"--cached: {read} bytes were read from the device")
+
+
+LETTERS = {"pwrite64": "w", "fdatasync": "s", "write": "d", "fadvise64": "f", "read": "a", "pread64": "r"}
+
+
+def calls_of(log):
+    """The calls of a trace that count: (letter, process, line of its begin, line of its end, offset)."""
+    begun = {}
+    for number, line in enumerate(log.splitlines()):
+        process, text = line.split(None, 1)
+        if "<unfinished ...>" in text:
+            begun[process] = (number, text.replace("<unfinished ...>", ""))
+            continue
+        start = number
+        if resumed := re.match(r"<\.\.\. \w+ resumed>(.*)", text):
+            start, front = begun.pop(process)
+            text = front.rstrip() + " " + resumed[1]
+        if not (call := re.match(r"(\w+)\((\d+)<([^>]*)>(.*)", text)) or call[1] not in LETTERS:
+            continue
+        letter, rest = LETTERS[call[1]], call[4]
+        if letter in "wrs" and not call[3].endswith("/f"):
+            continue
+        if letter == "d" and '"drop ' not in rest or letter == "a" and not re.search(r'"\.", 1\)', rest):
+            continue
+        place = re.search(r", (\d+)\) += ", rest)
+        yield letter, process, start, number, int(place[1]) if place else 0
+
+
+def traced(program, room, job, *words):
+    needs("the order of calls", "strace")
+    log = os.path.join(room, "calls")
+    calls = "trace=" + ",".join(LETTERS)
+    ran = run("strace", room, job, "-f", "-y", "-o", log, "-e", calls, LAUNCH, program, *words)
+    if not os.path.exists(log) or "strace:" in ran.stderr:
+        raise Skipped(f"strace is refused: {ran.stderr[:80]}")
+    clean(ran, f"{words}")
+    with open(log, encoding="utf-8", errors="replace") as it:
+        return list(calls_of(it.read()))
+
+
+def drops_of(calls):
+    """Each (begin of a sync, end of the answer) of one process: a sync, a request, and an answer that says that it was done."""
+    waiting, drops = {}, []
+    for letter, process, start, end, _ in calls:
+        if letter == "s":
+            waiting[process] = (start, "s")
+        elif letter == "d" and waiting.get(process, ("", ""))[1] == "s":
+            waiting[process] = (waiting[process][0], "d")
+        elif letter == "a" and waiting.get(process, ("", ""))[1] == "d":
+            drops.append((waiting.pop(process)[0], end))
+    return drops
+
+
+def each_check_stands_behind_a_drop(program, room):
+    """Between a write's end and its check lie a sync's begin and the end of the drop behind it."""
+    for backlog in (0, 3, 1000):
+        for workers in (1, 4):
+            with contextlib.suppress(FileNotFoundError):
+                os.remove(os.path.join(room, "f"))
+            job = job_of(more=[f"verify_backlog={backlog}", "iodepth=8"])
+            calls = traced(program, room, job, f"--workers={workers}")
+            what = f"verify_backlog={backlog}, {workers} workers"
+            drops, written, checks = drops_of(calls), {}, 0
+            begins = [begin for begin, _ in drops]
+            expect(begins == sorted(begins), f"{what}: drops out of order")
+            for letter, _, start, end, offset in calls:
+                if letter == "w":
+                    written[offset] = end
+                elif letter == "r":
+                    checks += 1
+                    first = bisect.bisect(begins, written[offset])
+                    stands = any(answered < start for _, answered in drops[first:])
+                    expect(stands, f"{what}: the check at {offset} is read with no drop before")
+            expect(checks == 256, f"{what}: {checks} checks")
+            if workers == 1 and backlog == 0:
+                order = "".join(letter for letter, *_ in calls if letter != "f")
+                expect(re.fullmatch("w?sdaw+sdar+", order), f"{what}: {order[:9]}..{order[-9:]}")
+
+
+# A launcher of the checks' own, whose answers are known.
+
+
+class Launcher:
+    """Starts the program with pairs of pipes, and answers each request by what `answer` gives for the file (none: all pipes end)."""
+
+    def __init__(self, program, room, job, *words, pairs=17):
+        self.requests, self.answers, theirs = [], [], []
+        for _ in range(pairs):
+            requests, requesting = os.pipe()
+            answered, answers = os.pipe()
+            self.requests.append(requests)
+            self.answers.append(answers)
+            theirs += [requesting, answered]
+        numbers = ",".join(f"{w}:{r}" for w, r in zip(theirs[::2], theirs[1::2]))
+        with open(os.path.join(room, "job"), "w", encoding="utf-8") as it:
+            it.write(job)
+        self.run = subprocess.Popen(
+            [program, f"--drop-pipes={numbers}", *words, "job"],
+            cwd=room,
+            pass_fds=theirs,
+            stdout=subprocess.PIPE,
+            stderr=subprocess.PIPE,
+            text=True,
+        )
+        for it in theirs:
+            os.close(it)
+
+    def end_pipes(self):
+        for it in (*self.requests, *self.answers):
+            os.close(it)
+        self.requests, self.answers = [], []
+
+    def answer_all(self, answer):
+        asked = 0
+        while self.requests:
+            for requests in select.select(self.requests, [], [], SECONDS)[0] or [None]:
+                if requests is None:
+                    self.run.kill()
+                    raise Wrong("the run stands still")
+                line = os.read(requests, 100)
+                place = self.requests.index(requests)
+                if not line:
+                    os.close(requests)
+                    os.close(self.answers.pop(place))
+                    del self.requests[place]
+                    continue
+                found = re.fullmatch(rb"drop (\d+)\n", line)
+                expect(found, f"no request: {line}")
+                said = answer(asked, f"/proc/{self.run.pid}/fd/{int(found[1])}")
+                asked += 1
+                if not said:
+                    self.end_pipes()
+                    break
+                os.write(self.answers[place], said)
+        return asked
+
+    def ended(self):
+        out, err = self.run.communicate(timeout=SECONDS)
+        self.end_pipes()
+        return subprocess.CompletedProcess([], self.run.returncode, out, err)
+
+
+def dropped(path):
+    it = os.open(path, os.O_RDONLY)
+    os.posix_fadvise(it, 0, 0, os.POSIX_FADV_DONTNEED)
+    os.close(it)
+    return b"."
+
+
+def a_zeroed_disk_is_bad_in_every_block(program, room):
+    """The image of a loop device is zeroed behind the sync. With the drop each check sees it, and without it none would."""
+    image = os.path.join(room, "image")
+    with loop_device(image, MIB) as device:
+        subprocess.run(["losetup", "--direct-io=on", device], capture_output=True, check=False)
+        job = job_of(more=["directory=/dev"], filename=os.path.basename(device))
+        for drops in (True, False):
+
+            def answer(asked, path, drops=drops):
+                # (the first request stands before the run)
+                if asked > 0:
+                    with open(image, "r+b") as it:
+                        it.write(bytes(MIB))
+                        it.flush()
+                        os.fsync(it.fileno())
+                return dropped(path) if drops else b"!"
+
+            it = Launcher(program, room, job, "--workers=1")
+            asked, ran = it.answer_all(answer), it.ended()
+            totals = totals_of(ran.stdout)
+            expect(asked == 2, f"{asked} requests")
+            bad = 256 if drops else 0
+            found = (totals["checks"], totals["bad"])
+            expect(found == (256, bad), f"drops {drops}: status {ran.returncode}: {ran.stdout[:200]}{ran.stderr}")
+
+
+def a_run_goes_on_without_drops(program, room):
+    """Whatever the launcher answers, and also where it ends, the report and the status are the same."""
+    for workers in ("--workers=1", "--workers=4"):
+        for answers in ([b"!"], [b"x"], [b".", b"!"], [None], [b".", None], [b"!", b"!", None]):
+            for backlog in (0, 3):
+                it = Launcher(program, room, job_of(more=[f"verify_backlog={backlog}", "iodepth=4"]), workers)
+                it.answer_all(lambda asked, _, answers=answers: answers[min(asked, len(answers) - 1)])
+                ran = it.ended()
+                what = f"{workers}, {answers}, verify_backlog={backlog}"
+                expect((ran.returncode, ran.stdout) == (0, CLEAN), f"{what}: status {ran.returncode}: {ran.stdout}{ran.stderr}")
+        it = Launcher(program, room, job_of(), workers)
+        it.end_pipes()
+        ran = it.ended()
+        what = f"{workers}, pipes that have ended"
+        expect((ran.returncode, ran.stdout) == (0, CLEAN), f"{what}: status {ran.returncode}: {ran.stdout}{ran.stderr}")
+
+
+def other_values_are_no_launcher(program, room):
+    for value in ("", ",", ":", "x:y", "9999:9998", "4294967296:1", "-1:-1", "3", "3:", "1/../0:2"):
+        ran = run(program, room, job_of(), f"--drop-pipes={value}")
+        expect((ran.returncode, ran.stdout) == (0, CLEAN), f"{value}: status {ran.returncode}: {ran.stdout}{ran.stderr}")
+
+
+# What starts below the launcher is as if it were started alone.
+
+
+def script(room, name, text):
+    path = os.path.join(room, name)
+    with open(path, "w", encoding="utf-8") as it:
+        it.write("#!/usr/bin/env python3\nimport os, signal, sys, time\n" + text)
+    os.chmod(path, 0o755)
+    return path
+
+
+def both(path, *words, **more):
+    """What a program says and how it ends, alone and below the launcher."""
+    more = {"capture_output": True, "text": True, "timeout": SECONDS, "check": False, **more}
+    alone = subprocess.run([path, *words], **more)
+    below = subprocess.run([LAUNCH, path, *words], **more)
+    return [(it.returncode, it.stdout, it.stderr) for it in (alone, below)]
+
+
+def same(alone, below, what):
+    expect(alone == below, f"{what}: alone {alone}, below the launcher {below}")
+
+
+def statuses_are_passed_on(_program, room):
+    end = script(room, "end", "n = int(sys.argv[-1])\nsys.exit(n)\n")
+    for status in (0, 1, 2, 3, 77, 255):
+        same(*both(end, str(status)), f"status {status}")
+    text = "n = int(sys.argv[-1])\nif n != 9: signal.signal(n, signal.SIG_DFL)\nos.kill(os.getpid(), n)\ntime.sleep(9)\n"
+    end = script(room, "killed", text)
+    for name in ("HUP", "INT", "QUIT", "ABRT", "KILL", "USR1", "SEGV", "PIPE", "ALRM", "TERM"):
+        same(*both(end, str(int(signal.Signals["SIG" + name])), cwd=room), name)
+    ran = subprocess.run([LAUNCH, os.path.join(room, "none")], capture_output=True, text=True, check=False)
+    expect(ran.returncode == 3 and ran.stderr.startswith("fiorun: cannot start "), f"no program: {ran}")
+
+
+def all_else_is_passed_on(_program, room):
+    """Standard input, words, folder, group, environment, open descriptors, and which signals are ignored or blocked."""
+    seen = script(
+        room,
+        "seen",
+        """
+words = [it for it in sys.argv[1:] if not it.startswith("--drop-pipes=")]
+pipes = [it for it in sys.argv[1:] if it.startswith("--drop-pipes=")]
+ours = {int(it) for pair in pipes for it in pair[13:].replace(":", ",").split(",")}
+if set(words) & {"open"}:
+    numbers = sorted(int(it) for it in os.listdir("/proc/self/fd"))
+    print([it for it in numbers if it not in ours and os.path.exists(f"/proc/self/fd/{it}")], file=sys.stderr)
+with open("/proc/self/status") as it:
+    print([line for line in it if line.startswith(("SigIgn", "SigBlk", "SigCgt"))])
+print(words, os.getcwd(), os.getpgrp(), os.getsid(0), sorted(os.environ.items()))
+if "open" not in words:
+    print(sys.stdin.read())
+""",
+    )
+    same(*both(seen, "a", "", "b c", "--workers", "3", input="some\ninput", cwd=room), "words and input")
+    # (SIGCHLD, which perl takes back, is nothing to a program without children)
+    for ignored in ((), ("HUP", "INT", "QUIT", "TERM", "PIPE")):
+        numbers = [signal.Signals["SIG" + it] for it in ignored]
+
+        def ignore(numbers=numbers):
+            for it in numbers:
+                signal.signal(it, signal.SIG_IGN)
+
+        same(*both(seen, preexec_fn=ignore, restore_signals=False, input=""), f"ignored {ignored}")
+    for closed in ("", "<&-", ">&-", "<&- >&-", "2>&-", "<&- >&- 2>&-"):
+        answers = []
+        for words in ([seen, "open"], [LAUNCH, seen, "open"]):
+            words = ["sh", "-c", f'exec "$@" {closed}', "sh", *words]
+            ran = subprocess.run(words, capture_output=True, text=True, check=False, stdin=subprocess.DEVNULL)
+            answers.append((ran.returncode, ran.stderr.splitlines()[-1:] if "2>" not in closed else []))
+        same(*answers, f"closed {closed}")
+
+
+def begun(words, room, **more):
+    """Starts a program that says its number, and waits for that."""
+    it = subprocess.Popen(words, stdout=subprocess.PIPE, text=True, cwd=room, **more)
+    return it, int(it.stdout.readline())
+
+
+def lives(pid):
+    try:
+        with open(f"/proc/{pid}/stat", encoding="utf-8") as it:
+            return it.read().rsplit(")", 1)[1].split()[0] != "Z"
+    except OSError:
+        return False
+
+
+def signals_end_both(_program, room):
+    """What comes to the launcher alone, or to the whole group, ends both at once by that signal."""
+    sleep = script(room, "sleep", "signal.signal(signal.SIGINT, signal.SIG_DFL)\nprint(os.getpid(), flush=True)\ntime.sleep(50)\n")
+    for name in ("TERM", "HUP", "INT", "QUIT", "KILL", "USR1"):
+        for group in (False, True):
+            it, pid = begun([LAUNCH, sleep], room, start_new_session=True)
+            number = signal.Signals["SIG" + name]
+            (os.killpg if group else os.kill)(it.pid, number)
+            status = it.wait(timeout=SECONDS)
+            for _ in range(100):
+                if not lives(pid):
+                    break
+                time.sleep(0.02)
+            what = f"{name} to {'both' if group else 'the launcher'}"
+            expect(status == -number, f"{what}: status {status}")
+            expect(not lives(pid), f"{what}: the program goes on")
+
+
+def stops_and_goes_on(_program, room):
+    """A stop of the group, as by Ctrl-Z, stops both; and both go on."""
+    count = script(room, "count", "print(os.getpid(), flush=True)\nfor _ in range(20):\n    time.sleep(0.05)\nprint('done')\n")
+    it, pid = begun([LAUNCH, count], room, start_new_session=True)
+    # (the group of a session that its leader's parent is not in is orphaned, and takes no SIGTSTP)
+    os.killpg(it.pid, signal.SIGSTOP)
+    time.sleep(0.2)
+    states = []
+    for who in (it.pid, pid):
+        with open(f"/proc/{who}/stat", encoding="utf-8") as file:
+            states.append(file.read().rsplit(")", 1)[1].split()[0])
+    os.killpg(it.pid, signal.SIGCONT)
+    out, _ = it.communicate(timeout=SECONDS)
+    expect((states, it.returncode, out) == (["T", "T"], 0, "done\n"), f"{states}, status {it.returncode}: {out}")
+
+
+def a_closed_output_ends_as_before(program, room):
+    """Standard output that nobody reads: the status and the words are those of the program alone."""
+    with open(os.path.join(room, "job"), "w", encoding="utf-8") as it:
+        it.write(job_of())
+    answers = []
+    for words in ([program, "job"], [LAUNCH, program, "job"]):
+        reading, writing = os.pipe()
+        os.close(reading)
+        ran = subprocess.run(words, cwd=room, stdout=writing, stderr=subprocess.PIPE, text=True, timeout=SECONDS, check=False)
+        os.close(writing)
+        answers.append((ran.returncode, ran.stderr))
+    same(*answers, "a closed pipe")
+
+
+def few_descriptors_are_no_fault_of_the_launcher(program, room):
+    """With room for few open files there are fewer pairs of pipes, or none."""
+    with open(os.path.join(room, "job"), "w", encoding="utf-8") as it:
+        it.write(job_of())
+    for limit in (12, 16, 20, 40, 64):
+        words = ["bash", "-c", f'ulimit -n {limit}; exec "$@"', "bash", LAUNCH, program, "--workers=1", "job"]
+        ran = subprocess.run(words, cwd=room, capture_output=True, text=True, timeout=SECONDS, check=False)
+        expect((ran.returncode, ran.stdout) == (0, CLEAN), f"{limit}: status {ran.returncode}: {ran.stdout}{ran.stderr}")
+
+
+def start_chooses(program, room):
+    """bin/start: the launcher only for a run, with no word of perl's, and without perl the program alone."""
+    seen = script(room, "seen", "print(len(sys.argv) > 1 and sys.argv[1].startswith('--drop-pipes='))\n")
+    words = [os.path.join(BIN, "start"), seen, LAUNCH]
+    environment = {**os.environ, "LC_ALL": "xx_XX.UTF-8"}
+    for more, launches in (
+        (["job"], True),
+        ([], True),
+        (["--workers", "2", "job"], True),
+        (["--", "--help"], True),
+        (["--help"], False),
+        (["-h"], False),
+        (["job", "--version"], False),
+        (["-V"], False),
+        (["--parse-only", "job"], False),
+        (["--check-trace=t", "job"], False),
+        (["--check-trace", "t", "job"], False),
+    ):
+        ran = subprocess.run([*words, *more], capture_output=True, text=True, env=environment, check=False)
+        expect((ran.stdout, ran.stderr) == (f"{launches}\n", ""), f"{more}: {ran.stdout}{ran.stderr}")
+    folder = os.path.join(room, "path")
+    os.mkdir(folder)
+    for tool in ("sh", "python3", "env"):
+        os.symlink(os.path.realpath(sys.executable) if tool == "python3" else shutil.which(tool), os.path.join(folder, tool))
+    ran = subprocess.run([*words, "job"], capture_output=True, text=True, env={"PATH": folder}, check=False)
+    expect((ran.stdout, ran.stderr) == ("False\n", ""), f"without perl: {ran.stdout}{ran.stderr}")
+
+
+def what_is_installed_runs(program, room):
+    clone = os.path.join(room, "clone")
+    for name in ("crates/fiorun/out", "docs"):
+        os.makedirs(os.path.join(clone, name))
+    shutil.copytree(BIN, os.path.join(clone, "bin"))
+    top = os.path.join(HERE, "..")
+    shutil.copy(os.path.join(top, "crates.txt"), clone)
+    shutil.copy(os.path.join(top, "docs", "fiorun.1"), os.path.join(clone, "docs"))
+    shutil.copy(program, os.path.join(clone, "crates", "fiorun", "out", "fiorun"))
+    ran = subprocess.run([os.path.join(clone, "bin", "install"), "prefix"], cwd=room, capture_output=True, text=True, check=False)
+    expect(ran.returncode == 0, f"bin/install: {ran.stderr}")
+    shutil.rmtree(clone)
+    os.mkdir(os.path.join(room, "links"))
+    link = os.path.join(room, "links", "f")
+    os.symlink("../prefix/bin/fiorun", link)
+    for command in (os.path.join(room, "prefix", "bin", "fiorun"), link):
+        clean(run(command, room, job_of()), command)
+        ran = run(command, room, "", "--version")
+        expect(ran.stdout.startswith("fiorun "), f"{command}: {ran.stdout}{ran.stderr}")
+    prefix = os.path.join(room, "prefix")
+    found = sorted(os.path.relpath(os.path.join(where, it), room) for where, _, names in os.walk(prefix) for it in names)
+    wanted = ["bin/fiorun", "lib/fiorun/fiorun", "lib/fiorun/launch", "lib/fiorun/start", "share/man/man1/fiorun.1"]
+    expect(found == [f"prefix/{it}" for it in wanted], f"{found}")
+    for it in found[:4]:
+        expect(os.stat(os.path.join(room, it)).st_mode & stat.S_IXOTH, f"{it} can't be run")
+
+
+CASES = [
+    statuses_are_passed_on,
+    all_else_is_passed_on,
+    signals_end_both,
+    stops_and_goes_on,
+    start_chooses,
+    what_is_installed_runs,
+    a_closed_output_ends_as_before,
+    few_descriptors_are_no_fault_of_the_launcher,
+    checks_read_the_device,
+    what_a_run_finds_is_read_from_the_device,
+    each_check_stands_behind_a_drop,
+    a_run_goes_on_without_drops,
+    other_values_are_no_launcher,
+    a_zeroed_disk_is_bad_in_every_block,
+]
+
+
+def tried(case, program):
+    """Is the case as it must be? Says what isn't."""
+    name = case.__name__.replace("_", " ")
+    with tempfile.TemporaryDirectory(prefix="drop-", dir="/var/tmp") as room:
+        try:
+            case(program, room)
+        except Skipped as why:
+            print(f"drop: skipped: {name}: {why}")
+        except (Wrong, OSError, KeyError, subprocess.SubprocessError) as why:
+            print(f"drop: FAILED: {name}: {type(why).__name__} {why}")
+            return False
+    return True
+
+
+def main(words):
+    if not shutil.which("perl"):
+        print("drop: skipped: there is no perl")
+        return 0
+    program = os.path.realpath(words[0] if words else os.path.join(HERE, "..", "crates", "fiorun", "out", "fiorun"))
+    chosen = [case for case in CASES if len(words) < 2 or case.__name__ in words[1:]]
+    failed = [case for case in chosen if not tried(case, program)]
+    print(f"drop: {len(chosen)} cases, {len(failed)} failed")
+    return 1 if failed else 0
+
+
+if __name__ == "__main__":
+    sys.exit(main(sys.argv[1:]))

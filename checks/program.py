@@ -1,0 +1,140 @@
+"""What the checks share: the built program, how its runs end, a line of its report, and the libraries that are loaded before its own."""
+
+import os
+import re
+import shutil
+import struct
+import subprocess
+import sys
+import unittest
+from typing import NamedTuple
+
+HERE = os.path.dirname(os.path.realpath(__file__))
+TOP = os.path.dirname(HERE)
+NOBODY = 65534
+FIELDS = "reads rbytes writes wbytes checks good bad skipped void faults".split()
+# The line that a terminal shows of a run: what wipes it, and what it says.
+WIPED = "\r\x1b[K"
+LINE = re.compile(r"fiorun: (\d+) % started, (\d+) I/Os, (\d+) checked, (\d+) bad")
+
+
+class Wrong(AssertionError):
+    """The program did what it must not."""
+
+
+class Skipped(unittest.SkipTest):
+    """The machine doesn't give what the case needs."""
+
+
+class Ended(NamedTuple):
+    """How a run ended: its status (below 0: the signal that killed it) and what it wrote to its two streams."""
+
+    status: int
+    out: bytes
+    err: bytes
+
+
+def expect(is_right, *said):
+    if not is_right:
+        raise Wrong(" ".join(it if isinstance(it, str) else repr(it)[:400] for it in said))
+
+
+def total(job="w", clone=0, **counts):
+    """A clone's line of the report."""
+    expect(set(counts) <= set(FIELDS), "no such field", counts)
+    return f"{job}: clone={clone} " + " ".join(f"{it}={counts.get(it, 0)}" for it in FIELDS) + "\n"
+
+
+def as_nobody():
+    """What a run needs not to be root's, for whom no file is read-only."""
+    if os.getuid() != 0:
+        return {}
+    return {"preexec_fn": lambda: (os.setgroups([]), os.setgid(NOBODY), os.setuid(NOBODY))}
+
+
+def built(path, who):
+    """The path of a built program; ends the check where it is a script or isn't there."""
+    try:
+        with open(path, "rb") as it:
+            is_built = it.read(4) == b"\x7fELF"
+    except OSError:
+        is_built = False
+    if not is_built:
+        sys.exit(f"{who}: FAILED: {path} isn't a built program")
+    return os.path.realpath(path)
+
+
+def find_program(path, who):
+    """The program itself, and not the script that builds it. It is built first where none is named."""
+    if path is None:
+        subprocess.run([os.path.join(TOP, "bin", "fiorun"), "--help"], stdout=subprocess.DEVNULL, check=True)
+        path = os.path.join(TOP, "crates", "fiorun", "out", "fiorun")
+    return built(path, who)
+
+
+def copied(program, room):
+    """A copy of the program in a folder that nobody may enter too."""
+    os.chmod(room, 0o755)
+    path = shutil.copy(program, os.path.join(room, "fiorun"))
+    os.chmod(path, 0o755)
+    return path
+
+
+def built_library(source, folder):
+    """A library that is loaded before a program's own, built by cc from a file of this folder. Where there is no cc: Skipped."""
+    library = os.path.join(folder, source.replace(".c", ".so"))
+    if not os.path.exists(library):
+        compiler = os.environ.get("CC", "cc")
+        if not shutil.which(compiler):
+            raise Skipped(f"there is no C compiler {compiler}")
+        subprocess.run([compiler, "-O2", "-shared", "-fPIC", "-o", library, os.path.join(HERE, source), "-ldl"], check=True)
+    return library
+
+
+def needed_library(source, folder, who):
+    """The same for a check that can do nothing without it."""
+    try:
+        return built_library(source, folder)
+    except Skipped as why:
+        sys.exit(f"{who}: FAILED: {why}")
+
+
+class SystemCalls:
+    """Counts a run's calls of the system, and lets one of them go wrong (checks/faulty.c)."""
+
+    NAMES = "open lseek read write pread pwrite pthread_create".split()
+
+    def __init__(self, library, counts):
+        self.library = library
+        self.counts = counts
+
+    def environment(self, fault):
+        """The environment of a run in which one call goes so."""
+        with open(self.counts, "wb") as it:
+            it.write(bytes(8 * len(self.NAMES)))
+        return {**os.environ, "LD_PRELOAD": self.library, "CALLS": self.counts, "FAULT": fault}
+
+    def counted(self):
+        """How often each call was made in the last run."""
+        with open(self.counts, "rb") as it:
+            return dict(zip(self.NAMES, struct.unpack(f"{len(self.NAMES)}Q", it.read())))
+
+
+class Requests:
+    """Counts a run's requests for memory and for threads, and refuses some of them (checks/refuse.c)."""
+
+    def __init__(self, folder, who):
+        self.library = needed_library("refuse.c", folder, who)
+        self.counts = os.path.join(folder, "counts")
+
+    def environment(self, number, onward=False):
+        """The environment of a run in which the request of this number is refused (0: none), and all behind it where `onward`."""
+        with open(self.counts, "wb") as it:
+            it.write(bytes(16))
+        refusal = {"REFUSE": str(number), "REFUSE_ON": str(int(onward))}
+        return {"PATH": os.environ.get("PATH", ""), "LD_PRELOAD": self.library, "COUNTS": self.counts, **refusal}
+
+    def counted(self):
+        """How many requests the last run made, and how many were refused."""
+        with open(self.counts, "rb") as it:
+            return struct.unpack("QQ", it.read(16))

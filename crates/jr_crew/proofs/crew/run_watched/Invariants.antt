@@ -1,5 +1,0 @@
-use Rattle.jr_crew.proofs.crew.run_watched.Given as goal
-
--- the run's name for its plan
-abbrev pub ghosts-run_as : goal.ghosts-run_as
-ghosts-run_as g a = record { plan = a.plan }

@@ -1,0 +1,3 @@
+mod FirstLemmas
+mod NoteLemmas
+mod OrderLemmas

@@ -1,0 +1,49 @@
+ghost use Rattle.std.specs.Prelude.{IfOk};
+ghost use Rattle.jr_settings.specs.Options.{AreInRange};
+
+use crate::lines::{is_global, is_planned, shown};
+use jr_settings::JobOptions;
+use jr_text::Section;
+use std::alloc::{AllocError, Global};
+
+// A planned job: its name as it is shown, the line that opens its section, and what its lines say.
+#[derive(Debug, Drop)]
+pub(crate) struct Job {
+    pub(crate) name: String,
+    pub(crate) line: u32,
+    pub(crate) options: JobOptions,
+}
+
+// The planned jobs, but for what their refused lines say.
+pub(crate) fn jobs(
+    alloc: Global,
+    sections: &[Section],
+    only: Option<&str>,
+) -> Result<Vec<Job>, AllocError> {
+    let mut jobs = Vec::new(alloc);
+    let mut globals = JobOptions::new();
+    for section in sections {
+        if is_global(section) {
+            globals = with_section(globals, section);
+        } else if is_planned(section, only) {
+            jobs.push(Job {
+                name: shown(alloc, section.name())?,
+                line: section.line(),
+                options: with_section(globals, section),
+            })?;
+        }
+    }
+    Ok(jobs)
+}
+
+// The options with those of a section, or without them where one of its lines is refused.
+fn with_section(options: JobOptions, section: &Section) -> JobOptions
+    requires { AreInRange options }
+    ensures { AreInRange result }
+{
+    let before = options;
+    match options.with_lines(section.lines()) {
+        Ok(more) => more,
+        Err(_) => before,
+    }
+}

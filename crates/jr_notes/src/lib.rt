@@ -1,0 +1,13 @@
+// What a refused job file's writer is told beside the first fault: each line that is refused, why, and what to write instead.
+#![tactic(auto)]
+
+mod jobs;
+mod keys;
+mod laws;
+mod lines;
+mod notes;
+mod whole;
+
+pub use laws::{accepted_have_none, first_is_named, refused_ascend};
+pub use lines::line_notes;
+pub use notes::{Note, job_notes, plan_notes};
