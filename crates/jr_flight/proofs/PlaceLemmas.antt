@@ -157,12 +157,12 @@ module _ (dir : Dir) (piece : Piece) (longest : ℕ) (ids : BTreeMap ℕ Io) (pl
       }
 
   -- what is found near the piece is what is found among all
-  pub any_near : IsOrdered place_cmp places
-      → list_any standing_there (filter (λ (e : Place × Io). is_near piece longest e.0) places.entries) ≡ list_any flying ids.entries
-  any_near ordered =
+  pub any_near : list_any standing_there (filter (λ (e : Place × Io). is_near piece longest e.0) places.entries)
+      ≡ list_any flying ids.entries
+  any_near =
       let near = list_any standing_near places.entries in
       let all = list_any flying ids.entries in
-      let there = λ (found : near ≡ true). flies_there (finds_entry place_cmp_total places ordered standing_near found) in
+      let there = λ (found : near ≡ true). flies_there (finds_entry place_cmp_total places kept.sorted standing_near found) in
       let back = λ (found : all ≡ true). stands_near (finds_entry nat_cmp_total ids kept.ordered flying found) in
       list_any-filter standing_there (λ (e : Place × Io). is_near piece longest e.0) places.entries
       ∙ same_truth near all

@@ -27,8 +27,10 @@ pub record IsMeasured (longest id : ℕ) (io : Io) : Type 0 where
   pub own : io.id ≡ id
   pub short : io.piece.len ≤ longest
 
--- the two maps agree: at a place stands what flies under its number, where that begins there, and nothing else
+-- both maps are in the order of their keys, and they agree: at a place stands what flies under its number, where that begins
+-- there, and nothing else
 pub record IsIndexed (ids : BTreeMap ℕ Io) (places : BTreeMap Place Io) (longest : ℕ) : Type 0 where
   pub ordered : IsOrdered nat_cmp ids
+  pub sorted : IsOrdered place_cmp places
   pub measured : (id : ℕ) → IfSome (get nat_cmp ids id) (IsMeasured longest id)
   pub placed : (at : Place) → get place_cmp places at ≡ if_standing at (get nat_cmp ids at.2)

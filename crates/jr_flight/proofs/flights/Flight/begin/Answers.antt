@@ -6,6 +6,7 @@ use Rattle.jr_flight.proofs.flights.Flight.begin.Goals as goal
 pub invariant_of-self-in-Err : goal.invariant_of-self-in-Err
 invariant_of-self-in-Err c = record {
   ordered = rw c.in-Err.ensures.err c.self.invariant.ordered;
+  sorted = c.remove.ensures.ordered;
   measured = λ id. rw c.in-Err.ensures.err (c.self.invariant.measured id);
   placed = λ at.
       let was = c.self.invariant.placed at in

@@ -26,7 +26,7 @@ found_near c =
     let yields = YieldsList-from_rest {shows = deref_pair} c.range.result refl in
     any_from_yields_List test _ _ c.any.result c.any.ensures.ran yields (λ x b q k. search (rules, tests))
     ∙ ap (list_any test) (rw (start, width) at between)
-    ∙ any_near c.args.dir c.args.piece.now _ _ _ c.self.invariant c.range.ensures.ordered
+    ∙ any_near c.args.dir c.args.piece.now _ _ _ c.self.invariant
 
 pub returns-clause-value : goal.returns-clause-value
 returns-clause-value c =

@@ -1,0 +1,198 @@
+#!/usr/bin/env python3
+"""checks/wants.py [CRATE..|all] runs tests whose calls want memory with each of their requests refused in turn, one in each run.
+
+A library that is loaded before the program's own (checks/refuse.c, built by cc into a folder that is removed again) counts a test's
+requests for memory and for threads, and refuses one of them. Then the test passes, or it ends with an error that names the want: a
+wrong answer is an assertion that fails. TESTS has for each call that can want memory a test in which it stands, but for `choose`,
+`lay_out` and the engines over files, which checks/memory tries in runs of the program. Some tests say what was refused (they make the
+call again, or name the fault): each of these texts has to come up in some run. Of a test with threads, whose requests differ from run
+to run, all from one request on are refused too. The programs are those that rt ci or rt test leaves in crates/NAME/out (built where
+there is none). The status is 1 where a test ends otherwise.
+"""
+
+import os
+import re
+import shutil
+import struct
+import subprocess
+import sys
+import tempfile
+import time
+from collections import Counter
+from concurrent.futures import ThreadPoolExecutor
+from typing import NamedTuple
+
+HERE = os.path.dirname(os.path.realpath(__file__))
+CRATES = os.path.join(HERE, "..", "crates")
+SECONDS = 20
+# The status of a test that ended with a fault of its own, and not by an assertion.
+GAVE_UP = 101
+WANT = re.compile(rb"^error: .*(Memory|AllocError|AllocFailed|OutOfMemory|Thread|out of memory|cannot start a thread)", re.MULTILINE)
+
+
+class Test(NamedTuple):
+    """A test, the calls that want memory in it, what it says where they are refused, and whether it has threads."""
+
+    crate: str
+    name: str
+    calls: str
+    said: tuple = ()
+    threads: bool = False
+
+
+DESK_SAID = ("refused: new\n", "refused: take\n", "refused: end\n", "refused: judge\n")
+RUN_SAID = ("run: out of memory", "run: cannot start a thread")
+TESTS = (
+    Test("jr_tests_past", "flight::agrees_with_a_plain_list", "Flight::new, begin"),
+    Test("jr_tests_past", "writes::last_of_its_blocks_is_intact", "WriteLog::settle"),
+    Test("jr_tests_past", "writes::both_halves_go", "WriteLog::settle"),
+    Test("jr_tests_past", "past::a_run_event_by_event", "Past::new, followed_by; Ledger::new, followed_by"),
+    Test("jr_tests_past", "past::a_large_piece_lies_over_each_of_its_parts", "Past::new, followed_by"),
+    Test("jr_tests_past", "agenda::totals_of_a_run", "totals"),
+    Test("jr_tests_past", "agenda::the_parts_of_a_plan", "Agenda::new, PlannedClone::new, Pass::new"),
+    Test("jr_tests_past", "replay::a_checked_run_is_legal_and_complete", "allowed, complete"),
+    Test("jr_tests_past", "replay::each_start_of_a_run_is_the_choice", "choice"),
+    Test("jr_tests_past", "tallies::each_clone_has_its_own", "Tallies::new, reserve"),
+    Test("jr_tests_past", "handed::tickets_come_back_as_they_were_handed_out", "Handed::reserve"),
+    Test("jr_tests_desk", "refused::a_refused_call_changes_nothing", "Desk::new, take, end, judge; ScriptedEngine", DESK_SAID),
+    Test("jr_tests_desk", "plays::two_in_flight_and_a_flipped_read", "play"),
+    Test("jr_tests_desk", "plays::two_clones_over_one_file", "play"),
+    Test("jr_tests_desk", "stats::accepts_a_whole_run", "check_trace"),
+    Test("jr_tests_desk", "stats::prints_what_a_desk_has_started", "report, totals_text, trace"),
+    Test("jr_tests_parts", "map::goes_on_at_the_least_free_cell", "CellMap::new"),
+    Test("jr_tests_parts", "draws::visits_each_cell_of_a_map_once", "Drawer::new"),
+    Test("jr_tests_parts", "standing::gives_the_draws_of_a_drawer", "DrawsLeft::of_pass"),
+    Test("jr_tests_parts", "standing::writes_and_reads_in_rounds_of_two", "Rounds::written (by the rounds of a standing clone)"),
+    Test("jr_tests_crew", "drops::a_refused_run_drops_its_engines", "run, which drops its engines", RUN_SAID, True),
+    Test("jr_tests_crew", "runs::four_workers_over_one_memory", "SharedMemory::new, share; run", threads=True),
+    Test("jr_tests_crew", "handover::who_holds_every_part_can_settle", "Handoff::new, split"),
+    Test("jr_tests_crew", "serial::each_write_is_checked_behind_the_last", "run_serial"),
+    Test("jr_tests_program", "sections::reads_sections_with_their_lines", "sections"),
+    Test("jr_tests_program", "sections::a_section_is_made_and_taken_apart", "Line::new, Section::new"),
+    Test("jr_tests_program", "options::one_file_of_two_clones", "plan"),
+    Test("jr_tests_program", "plans::clones_share_a_file", "Draft::add"),
+    Test("jr_tests_program", "program::a_plan_is_printed_whole_or_not", "read_text, read_job, plan_text"),
+    Test("jr_tests_program", "program::a_report_and_a_trace_are_written", "execute_serial; MemoryEngine::new"),
+    Test("jr_tests_program", "program::a_trace_is_checked", "read_trace, check_trace"),
+    Test("jr_tests_program", "crew::a_flipped_byte_is_found_by_a_crew", "execute", threads=True),
+)
+
+
+def built_program(crate):
+    """The program of a crate's tests."""
+    path = os.path.join(CRATES, crate, "out", f"{crate}_tests")
+    if not os.path.exists(path):
+        subprocess.run(["rt", "test"], cwd=os.path.join(CRATES, crate), stdout=subprocess.DEVNULL, check=True)
+    return os.path.realpath(path)
+
+
+def built_library(folder):
+    """The library that refuses requests."""
+    compiler = os.environ.get("CC", "cc")
+    if not shutil.which(compiler):
+        sys.exit(f"wants: FAILED: there is no C compiler {compiler}")
+    library = os.path.join(folder, "refuse.so")
+    subprocess.run([compiler, "-O2", "-shared", "-fPIC", "-o", library, os.path.join(HERE, "refuse.c"), "-ldl"], check=True)
+    return library
+
+
+class Ended(NamedTuple):
+    """How a run ended, and how many requests it made and was refused. Without an end in time the status is None."""
+
+    status: int
+    out: bytes
+    err: bytes
+    requests: int
+    refused: int
+
+
+class Bench:
+    """Runs tests, each run in a folder of its own."""
+
+    def __init__(self, folder, crates):
+        self.library = built_library(folder)
+        self.folder = folder
+        self.programs = {it: built_program(it) for it in crates}
+
+    def run(self, test, number, and_on):
+        """How a test ends that is refused the request of this number, and all behind it where so said."""
+        with tempfile.TemporaryDirectory(dir=self.folder) as room:
+            counts = os.path.join(room, "counts")
+            with open(counts, "wb") as it:
+                it.write(bytes(16))
+            environment = {"LD_PRELOAD": self.library, "COUNTS": counts, "TMPDIR": room}
+            environment.update(REFUSE=str(number), REFUSE_ON="1" if and_on else "0")
+            how = {"cwd": room, "env": environment, "stdin": subprocess.DEVNULL, "capture_output": True, "timeout": SECONDS}
+            try:
+                it = subprocess.run([self.programs[test.crate], test.name], check=False, **how)
+            except subprocess.TimeoutExpired:
+                return Ended(None, b"", b"", 0, 0)
+            with open(counts, "rb") as counted:
+                return Ended(it.returncode, it.stdout, it.stderr, *struct.unpack("QQ", counted.read(16)))
+
+
+def has_passed(ended):
+    return ended.status == 0 and b"test result: ok" in ended.out
+
+
+def is_right(test, ended):
+    """Has a test ended as it may? One without threads makes the same requests in each run, so that one of them was refused."""
+    if not test.threads and ended.refused != 1:
+        return False
+    return has_passed(ended) or (ended.refused > 0 and ended.status == GAVE_UP and bool(WANT.search(ended.err)))
+
+
+class Tried(NamedTuple):
+    """How many requests a test makes, how many runs were tried, how many gave up, how many said what, and what was wrong."""
+
+    count: int
+    runs: int
+    gave_up: int
+    seen: Counter
+    wrong: list
+
+
+def tried(bench, test):
+    """Tries a test with each request refused."""
+    usual = bench.run(test, 0, False)
+    if not has_passed(usual) or not usual.requests:
+        return Tried(usual.requests, 1, 0, Counter(), [f"without a refusal it ended with {usual}"])
+    ways = (False, True) if test.threads else (False,)
+    tries = [(number, on) for number in range(1, usual.requests + 1) for on in ways]
+    with ThreadPoolExecutor(os.cpu_count()) as pool:
+        ends = list(pool.map(lambda it: bench.run(test, *it), tries))
+    wrong, seen = [], Counter()
+    for (number, on), ended in zip(tries, ends):
+        if not is_right(test, ended):
+            wrong.append(f"{'all from request' if on else 'request'} {number} of {usual.requests} refused: {str(ended)[:600]}")
+        seen.update(text for text in test.said if text.encode() in ended.err)
+    wrong += [f"no run said '{text.strip()}'" for text in test.said if not seen[text]]
+    gave_up = sum(it.status == GAVE_UP for it in ends)
+    if not gave_up and not test.said:
+        wrong.append("no run of it gave up")
+    return Tried(usual.requests, len(tries), gave_up, seen, wrong)
+
+
+def main():
+    names = sys.argv[1:] or ["all"]
+    chosen = [it for it in TESTS if "all" in names or it.crate in names]
+    failed = []
+    with tempfile.TemporaryDirectory(prefix="wants-") as folder:
+        bench = Bench(folder, {it.crate for it in chosen})
+        for test in chosen:
+            began = time.monotonic()
+            it = tried(bench, test)
+            said = f"{it.count} requests, {it.runs} runs, {it.gave_up} gave up"
+            said += "".join(f", {it.seen[text]} said '{text.strip()}'" for text in test.said)
+            if it.wrong:
+                said = f"FAILED: {len(it.wrong)} of {it.runs} runs; " + "; ".join(it.wrong[:3])
+                failed.append(test.name)
+            print(f"wants: {test.calls}: {test.crate}: {test.name}: {said} ({time.monotonic() - began:.1f} s)", flush=True)
+    if failed or not chosen:
+        print(f"wants: FAILED: {' '.join(failed) or 'no such tests'}")
+        sys.exit(1)
+    print(f"wants: {len(chosen)} tests, each as it must be with any request refused")
+
+
+if __name__ == "__main__":
+    main()
