@@ -93,7 +93,7 @@ fn dropped_by<R: Threads + Wait + Sync>(
     let plan = plan_with(alloc, verifiers)?;
     let dropped = Arc::new(alloc, AtomicU64::new(0))?;
     let engines = engines_for(alloc, workers, calls, &dropped)?;
-    let fault = fault_of(run(rt, alloc, plan, engines), &dropped)?;
+    let fault = fault_of(run(rt, alloc, plan, engines, None), &dropped)?;
     Ok((dropped.load(Ordering::SeqCst), fault))
 }
 

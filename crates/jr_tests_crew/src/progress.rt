@@ -1,6 +1,6 @@
 use crate::asserts::same;
 use crate::plans::{checked, plan_of};
-use jr_crew::{Progress, run_serial_watched, run_watched};
+use jr_crew::{Progress, run, run_serial};
 use jr_engines::{Engine, NullEngine};
 use jr_model::EngineKind;
 use std::test::Fail;
@@ -22,7 +22,7 @@ fn one_worker_is_watched(rt: HostRuntime) -> Result<(), Fail> {
         let progress = Progress::new();
         same(&rt, told(&progress), (0, 0, 0, 0));
         let plan = plan_of(rt.alloc(), &checked(4, byte), 1, EngineKind::Null, 0)?;
-        run_serial_watched(rt.alloc(), plan, &mut NullEngine::new(), Some(&progress))?;
+        run_serial(rt.alloc(), plan, &mut NullEngine::new(), Some(&progress))?;
         same(&rt, told(&progress), (4, 16384, 4, bad));
     }
     Ok(())
@@ -37,7 +37,7 @@ fn workers_and_verifiers_are_watched(rt: HostRuntime) -> Result<(), Fail> {
         for _ in 0..2 {
             engines.push(Box::new(rt.alloc(), NullEngine::new())?)?;
         }
-        run_watched(&rt, rt.alloc(), plan, engines, Some(&progress))?;
+        run(&rt, rt.alloc(), plan, engines, Some(&progress))?;
         same(&rt, told(&progress), (4, 16384, 4, 4));
     }
     Ok(())

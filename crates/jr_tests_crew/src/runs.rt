@@ -92,7 +92,7 @@ fn two_gates(alloc: Global) -> Result<Vec<Box<dyn Engine + Send>>, Fail> {
 fn two_are_inside_their_engines_at_once(rt: HostRuntime) -> Result<(), Fail> {
     let plan = two_at_once(rt.alloc())?;
     let engines = two_gates(rt.alloc())?;
-    let ran = run(&rt, rt.alloc(), plan, engines)?;
+    let ran = run(&rt, rt.alloc(), plan, engines, None)?;
     assert_both_wrote(&rt, &ran.desk);
     Ok(())
 }

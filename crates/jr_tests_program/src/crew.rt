@@ -24,7 +24,7 @@ fn flipped<R: AllocGlobal + Threads + Wait + Sync>(
     engines.push(Box::new(rt.alloc(), ScriptedEngine::new(memory, script))?)?;
     let mut out = Vec::new(rt.alloc());
     let none = None::<&mut Vec<u8>>;
-    let status = execute(rt, rt.alloc(), plan, engines, none, &mut out)?;
+    let status = execute(rt, rt.alloc(), plan, engines, None, none, &mut out)?;
     Ok((status, out))
 }
 
@@ -49,6 +49,7 @@ fn a_crew_wants_an_engine(rt: HostRuntime) -> Result<(), Fail> {
         rt.alloc(),
         plan,
         engines,
+        None,
         None::<&mut Vec<u8>>,
         &mut out,
     );

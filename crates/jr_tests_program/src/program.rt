@@ -123,7 +123,7 @@ fn written<W: Write, V: Write>(
 ) -> Result<u8, CliFault> {
     let plan = read_job(alloc, CHECKED.as_bytes(), None)?;
     let mut engine = MemoryEngine::new(alloc, &plan)?;
-    execute_serial(alloc, plan, &mut engine, events, out)
+    execute_serial(alloc, plan, &mut engine, None, events, out)
 }
 
 #[test]

@@ -12,7 +12,14 @@ fn answered(alloc: Global, text: &str, call: u64, reply: Reply) -> Result<(Vec<u
     let script = Vec::from_array(alloc, [(call, reply)])?;
     let mut engine = ScriptedEngine::new(memory, script);
     let mut out = Vec::new(alloc);
-    let status = execute_serial(alloc, plan, &mut engine, None::<&mut Vec<u8>>, &mut out)?;
+    let status = execute_serial(
+        alloc,
+        plan,
+        &mut engine,
+        None,
+        None::<&mut Vec<u8>>,
+        &mut out,
+    )?;
     Ok((out, status))
 }
 

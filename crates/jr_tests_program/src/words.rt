@@ -12,6 +12,9 @@ const NOTHING: Choice<'static> = Choice {
     trace: None,
     check_trace: None,
     cached: false,
+    allow_mounted_write: false,
+    notes: false,
+    drop_pipes: None,
 };
 
 #[test]
@@ -25,6 +28,9 @@ fn each_word_goes_to_its_field(rt: HostRuntime) -> Result<(), Fail> {
         "--trace=t",
         "--check-trace=c",
         "--cached",
+        "--allow-mounted-write",
+        "--notes",
+        "--drop-pipes=3:4",
     ];
     let want = Choice {
         job: Some("disk.fio"),
@@ -34,6 +40,9 @@ fn each_word_goes_to_its_field(rt: HostRuntime) -> Result<(), Fail> {
         trace: Some("t"),
         check_trace: Some("c"),
         cached: true,
+        allow_mounted_write: true,
+        notes: true,
+        drop_pipes: Some("3:4"),
     };
     same(&rt, choose(rt.alloc(), &words)?, want);
     Ok(())
