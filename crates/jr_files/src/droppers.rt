@@ -52,6 +52,7 @@ impl<'a> Launcher<'a> {
                 alloc,
                 requests,
                 answers,
+                has_ended: AtomicBool::new(false),
                 has_failed,
             },
         )?))
@@ -69,15 +70,23 @@ pub struct Dropper {
     alloc: Global,
     requests: File,
     answers: File,
+    has_ended: AtomicBool,
     has_failed: Arc<AtomicBool>,
 }
 
 impl Dropper {
     /// Has the system drop what it keeps of the file, and waits for that. What isn't on the device stays.
     ///
-    /// Where it can't be done the launcher's `has_failed` says so from then on.
+    /// Where it can't be done the launcher's `has_failed` says so from then on. One that gave no answer isn't asked again.
     pub fn drop_cached(&self, file: &File) {
-        if self.ask(file).ok() != Some(DONE) {
+        if self.has_ended.load(Ordering::SeqCst) {
+            return;
+        }
+        let answer = self.ask(file);
+        if answer.is_err() {
+            self.has_ended.store(true, Ordering::SeqCst);
+        }
+        if answer.ok() != Some(DONE) {
             self.has_failed.store(true, Ordering::SeqCst);
         }
     }
@@ -99,11 +108,13 @@ fn pair_at(pipes: &str, place: usize) -> Option<(u32, u32)> {
     Some((requests.parse().ok()?, answers.parse().ok()?))
 }
 
-// Opens a pair of pipes anew, by their numbers.
+// Opens a pair of pipes anew, by their numbers. That of the requests is opened for reading too: so it has a reader even where the
+// launcher has ended, without which a write would end the program by a signal.
 fn opened<R: Files<File = File>>(rt: &R, alloc: Global, pair: (u32, u32)) -> Option<(File, File)> {
     let requests = format!(in alloc; "/proc/self/fd/{}", pair.0).ok()?;
     let answers = format!(in alloc; "/proc/self/fd/{}", pair.1).ok()?;
     let requests = OpenOptions::new()
+        .read(true)
         .write(true)
         .open(rt, requests.as_str())
         .ok()?;
