@@ -245,6 +245,50 @@ fn verdict_over(
     verdict_on(&read)
 }
 
+// Puts sevens from a place up to another.
+fn put_sevens(bytes: &mut [u8], from: usize, to: usize) {
+    for byte in bytes.iter_mut().take(to).skip(from) {
+        *byte = 7;
+    }
+}
+
+// A header with sevens behind the digest.
+fn with_sevens(expected: Expected) -> Expected {
+    let Expected::Header(mut header) = expected else {
+        return expected;
+    };
+    header[52..].copy_from_slice(&[7; 12]);
+    Expected::Header(header)
+}
+
+// What is said of a block by a header with sevens behind its digest: of the block as it was written, of one with that header, and
+// of one whose next byte is a seven too.
+fn verdicts_by_sevens(alloc: Global, ticket: &Ticket) -> Result<[Verdict; 3], Fail> {
+    let (mut block, expected) = filled(alloc, ticket)?;
+    let expected = with_sevens(expected);
+    let as_written = verdict_over(alloc, ticket, &expected, &block)?;
+    put_sevens(&mut block, 52, 64);
+    let with_header = verdict_over(alloc, ticket, &expected, &block)?;
+    put_sevens(&mut block, 64, 65);
+    let behind = verdict_over(alloc, ticket, &expected, &block)?;
+    Ok([as_written, with_header, behind])
+}
+
+// A ticket made by hand may have other bytes than zeros behind the digest in its header.
+#[test]
+fn what_stands_behind_the_digest_is_free(rt: HostRuntime) -> Result<(), Fail> {
+    let wanted = [
+        Verdict::Bad(What::Digest),
+        Verdict::Good,
+        Verdict::Bad(What::DataArea),
+    ];
+    for kind in [VerifyKind::Md5, VerifyKind::Sha1] {
+        let found = verdicts_by_sevens(rt.alloc(), &at_start(kind, &[], 512))?;
+        same(&rt, found, wanted);
+    }
+    Ok(())
+}
+
 // What is said of a write where its check reads the block of the next one.
 fn verdict_on_another(alloc: Global, ticket: &Ticket) -> Result<Verdict, Fail> {
     let (_, expected) = filled(alloc, ticket)?;
