@@ -1,4 +1,3 @@
 pub mod MoveLemmas
 pub mod RegionLemmas
-pub mod TwinLemmas
 pub mod UseLemmas

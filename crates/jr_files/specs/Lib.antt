@@ -1,6 +1,4 @@
-pub mod Devices
 pub mod Engines
-pub mod Identities
 pub mod Moves
 pub mod Parts
 pub mod Regions

@@ -1,15 +1,13 @@
 ghost use Rattle.std.specs.Prelude.{◌≡◌, ◌<◌, length, IfOk, IfErr};
 ghost use Rattle.jr_files.specs.Engines.{IsFresh, IsOpenFault};
 
-use crate::devices::DeviceNumbers;
 use crate::faults::FileFault;
 use crate::file_engine::FileEngine;
-use crate::identities::first_twins;
-use crate::in_use::use_of;
 use crate::making::opened_file;
 use crate::refusals::{Act, Refusal, Why};
 use crate::shares::{Reads, SharedFile};
 use crate::uses::is_written;
+use jr_devices::{DeviceNumbers, first_twins, use_of};
 use jr_plan::Plan;
 use std::alloc::{AllocError, Global};
 use std::fs;

@@ -2,12 +2,9 @@
 #![tactic(auto)]
 
 mod claims;
-mod devices;
 mod droppers;
 mod faults;
 mod file_engine;
-mod identities;
-mod in_use;
 mod layouts;
 mod making;
 mod marks;
@@ -17,15 +14,15 @@ mod positioned;
 mod refusals;
 mod regions;
 mod shares;
-mod tables;
 mod uses;
 
 pub use claims::{Claims, claim};
 pub use droppers::{Dropper, Launcher};
 pub use faults::FileFault;
 pub use file_engine::FileEngine;
+pub use jr_devices::Use;
 pub use layouts::lay_out;
 pub use moving::{LARGEST_OFFSET, read_whole, write_whole};
 pub use positioned::Positioned;
-pub use refusals::{Act, Refusal, Use, Why};
+pub use refusals::{Act, Refusal, Why};
 pub use shares::{Reads, SharedFile};

@@ -4,12 +4,12 @@ ghost use Rattle.jr_files.specs.Engines.{IsOpenFault};
 
 use crate::faults::FileFault;
 use crate::file_engine::open;
-use crate::identities::FileNumbers;
 use crate::marks::Marks;
 use crate::opened::OpenedFile;
 use crate::refusals::{Act, Refusal, Why};
 use crate::shares::{Reads, SharedFile};
 use crate::uses::{is_checked, is_written};
+use jr_devices::FileNumbers;
 use jr_plan::Plan;
 use std::alloc::Global;
 use std::fs::{File, OpenOptions};

@@ -1,9 +1,9 @@
 ghost use Rattle.std.specs.Prelude.{◌≡◌, ◌≤◌, IfOk, length};
 
 use crate::droppers::Dropper;
-use crate::identities::FileNumbers;
 use crate::layouts::{extend, lengthen};
 use crate::marks::{FileSync, Marks, Stage};
+use jr_devices::FileNumbers;
 use std::fs::{File, TryLockError};
 use std::io;
 use std::io::{ErrorKind, Seek, SeekFrom};

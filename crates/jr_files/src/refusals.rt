@@ -2,6 +2,7 @@ ghost use Rattle.std.specs.Prelude.{◌≡◌, ◌<◌, length};
 ghost use Rattle.jr_files.specs.Engines.{IsOpenFault};
 
 use crate::faults::FileFault;
+use jr_devices::Use;
 use std::alloc::{AllocError, AllocFailed};
 use std::error::Error;
 use std::{fmt, io};
@@ -41,17 +42,6 @@ pub enum Act {
     Extend,
 }
 
-/// By what a block device is in use.
-#[derive(Debug, Drop)]
-pub enum Use {
-    /// A file system, mounted at this place.
-    Mounted(String),
-    /// The system's swap.
-    Swap,
-    /// Another device, of this name, that stands on it.
-    PartOf(String),
-}
-
 impl fmt::Display for Refusal {
     fn fmt<W: fmt::Write>(&self, f: &mut fmt::Formatter<W>) -> fmt::Result {
         match &self.why {
@@ -72,16 +62,6 @@ impl fmt::Display for Act {
             Act::Open => write!(f, "open"),
             Act::Make => write!(f, "make"),
             Act::Extend => write!(f, "extend"),
-        }
-    }
-}
-
-impl fmt::Display for Use {
-    fn fmt<W: fmt::Write>(&self, f: &mut fmt::Formatter<W>) -> fmt::Result {
-        match self {
-            Use::Mounted(place) => write!(f, "mounted at {place}"),
-            Use::Swap => write!(f, "swap"),
-            Use::PartOf(name) => write!(f, "part of {name}"),
         }
     }
 }

@@ -1,8 +1,8 @@
 -- Believed: when two files of the system are one, whatever their names.
 use Rattle.std.specs.Prelude.{◌≡◌, ◌≢◌, ℕ, ◌<◌, List, length, slice_get, cond}
-use Rattle.jr_files.specs.declared.identities.FileNumbers.{FileNumbers}
-use Rattle.jr_files.specs.declared.identities.Identity.{Identity}
-use Rattle.jr_files.specs.declared.identities.Identity.TheVariants as identity
+use Rattle.jr_devices.specs.declared.identities.FileNumbers.{FileNumbers}
+use Rattle.jr_devices.specs.declared.identities.Identity.{Identity}
+use Rattle.jr_devices.specs.declared.identities.Identity.TheVariants as identity
 
 -- a block device is known by its own number, whatever file names it; any other file by its file system's and its inode's
 abbrev pub identity_of : FileNumbers → Identity

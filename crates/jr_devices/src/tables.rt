@@ -1,7 +1,7 @@
 // Texts that the kernel makes: of mounts (/proc/self/mountinfo), of swap (/proc/swaps), and the names in a folder.
 ghost use Rattle.std.specs.Prelude.{◌≡◌, ◌↔◌, IsTrue, IfSome};
 ghost use Rattle.std.specs.Option.{option_map};
-ghost use Rattle.jr_files.specs.Devices.{IsMountOf, field_of};
+ghost use Rattle.jr_devices.specs.Devices.{IsMountOf, field_of};
 
 use std::alloc::Global;
 use std::fs::File;

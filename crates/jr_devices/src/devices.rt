@@ -1,5 +1,5 @@
 ghost use Rattle.std.specs.Prelude.{◌≡◌, string_bytes, IfOk};
-ghost use Rattle.jr_files.specs.Devices.{numbers_of, numbers_text};
+ghost use Rattle.jr_devices.specs.Devices.{numbers_of, numbers_text};
 
 use std::alloc::{AllocError, Global};
 

@@ -1,7 +1,7 @@
 // By what a block device is in use. The kernel's tables are looked at by numbers: a name may be any path.
 use crate::devices::DeviceNumbers;
-use crate::refusals::Use;
 use crate::tables::{field_of, mount_of, names_of, place_of, text_of};
+use crate::uses::Use;
 use std::alloc::Global;
 use std::os::unix::fs::{FileTypeExt, MetadataExt};
 use std::rt::Files;

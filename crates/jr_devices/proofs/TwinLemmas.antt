@@ -1,7 +1,7 @@
 -- Lemmas on a search for a file that is one with another.
 use Rattle.std.proofs.Common.{◌≡◌, ◌≢◌, ℕ, ◌+◌, ◌<◌, List, slice_get, Some, sym, ◌∙◌, below_more}
-use Rattle.jr_files.specs.declared.identities.Identity.{Identity}
-use Rattle.jr_files.specs.Identities.{IsFirstTwin, IsNewAmong}
+use Rattle.jr_devices.specs.declared.identities.Identity.{Identity}
+use Rattle.jr_devices.specs.Identities.{IsFirstTwin, IsNewAmong}
 
 same_some : (x y : Identity) → Some x ≡ Some y → x ≡ y
 same_some x y e = cc

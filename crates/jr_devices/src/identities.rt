@@ -1,5 +1,5 @@
 ghost use Rattle.std.specs.Prelude.{◌≡◌, ◌<◌, length, slice_get, Some, MatchOption};
-ghost use Rattle.jr_files.specs.Identities.{AreApart, AreFirstTwins, IsFirstTwin, IsNewAmong, identity_of};
+ghost use Rattle.jr_devices.specs.Identities.{AreApart, AreFirstTwins, IsFirstTwin, IsNewAmong, identity_of};
 
 use std::fs::Metadata;
 use std::os::unix::fs::{FileTypeExt, MetadataExt};

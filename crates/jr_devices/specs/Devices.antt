@@ -2,7 +2,7 @@
 -- keeps a device's number with 12 low and 20 high bits of the major, and 8 low and 24 high ones of the minor).
 use Rattle.std.specs.Prelude.{◌≡◌, ℕ, ◌+◌, ◌*◌, ◌/◌, ◌%◌, ◌^◌, ◌==◌, List, ◌++◌, Option, Some, slice_get, codes, decimal}
 use Rattle.std.specs.List.{slice_split}
-use Rattle.jr_files.specs.declared.devices.DeviceNumbers.{DeviceNumbers}
+use Rattle.jr_devices.specs.declared.devices.DeviceNumbers.{DeviceNumbers}
 
 -- the numbers of the driver and of the device, out of the number that the system gives of a file
 abbrev pub numbers_of : ℕ → DeviceNumbers
