@@ -126,13 +126,13 @@ def link(place, workers):
 
 
 def no_folder(place, workers):
-    """In a folder that isn't there no file is opened, and none made; the files before it are laid out, those behind it aren't."""
+    """In a folder that isn't there no file is opened, and none made; and those that were made go again."""
     missing = os.path.join(place.jobs, "missing")
     same("run", place.run("[w]\nfilename=f\nrw=write\nsize=4k\n", workers, missing), REFUSED)
     same("files", place.held(), {})
     jobs = f"rw=write\nsize=4k\n[a]\n[b]\ndirectory={missing}\n[c]\n"
     same("run of three", place.run(jobs, workers), REFUSED)
-    same("files of three", place.held(), {"a.0.0": bytes(4096)})
+    same("files of three", place.held(), {})
 
 
 def is_writable(path):
@@ -261,14 +261,14 @@ def stands(wanted, lines):
 
 
 def line_text(place):
-    """The line says what was done: a run is held where 35 % are started, 91750 I/Os, 89120 checked, 2 bad."""
+    """The line says what was done: checks too: a run is held where 52 % are done, 91750 I/Os, 89120 checked, 2 bad."""
     checked = 89120 - 2
     jobs = f"""rw=write\nbs=512\nverify=pattern\nverify_pattern=1
 [z]\ndirectory=/dev\nfilename=zero\nsize=1k
 [w]\nsize={(91750 - 2) * 512}\nverify_backlog={checked}
 [r]\nrw=read\nverify=0\nbs=4m\nsize=80m
 """
-    wanted = "fiorun: 35 % started, 91750 I/Os, 89120 checked, 2 bad"
+    wanted = "fiorun: 52 % done, 91750 I/Os, 89120 checked, 2 bad"
     ended, text = held_run(place, jobs, "pwrite 91750 wait", wanted)
     stands(wanted, lines_of(text))
     same("status", ended.status, 1)
@@ -286,7 +286,7 @@ def hundredths(place, ios):
     if ios == 0:
         # (before the thread of a verifier is started, behind that of the line, no worker begins)
         jobs, fault = jobs + "verify_async=1\n", "pthread_create 2 wait"
-    wanted = f"fiorun: {HUNDREDTHS[ios]} % started, {ios} I/Os, 0 checked, 0 bad"
+    wanted = f"fiorun: {HUNDREDTHS[ios]} % done, {ios} I/Os, 0 checked, 0 bad"
     ended, text = held_run(place, jobs, fault, wanted)
     lines = lines_of(text)
     stands(wanted, lines)

@@ -127,9 +127,10 @@ class Files(Case):
         refuses(place.run("--trace=circle", text=IN_MEMORY), 3, "cannot write")
         os.symlink(".", place.at("folder"))
         refuses(place.run(text=FOUR.replace("=data", "=folder")), 3, "cannot open the files")
-        # Two names of one file, one after the other.
+        # Two names of one file.
         job = f"[global]\nrw=write\nsize=16k\nstonewall\n{PATTERN}[a]\nfilename=data\n[b]\nfilename=target\n"
-        says(place.run(text=job), 0, FOUR_SAID.replace("w:", "a:") + FOUR_SAID.replace("w: clone=0", "b: clone=1"))
+        refuses(place.run(text=job), 3, "cannot open the files")
+        expect(place.get("target") == FOUR_HELD, "a file of two names was written")
 
     def test_pipes_for_files(self):
         """A pipe is no place for blocks, and isn't waited for; as a job file or a trace it does."""

@@ -15,7 +15,7 @@ NOBODY = 65534
 FIELDS = "reads rbytes writes wbytes checks good bad skipped void faults".split()
 # The line that a terminal shows of a run: what wipes it, and what it says.
 WIPED = "\r\x1b[K"
-LINE = re.compile(r"fiorun: (\d+) % started, (\d+) I/Os, (\d+) checked, (\d+) bad")
+LINE = re.compile(r"fiorun: (\d+) % done, (\d+) I/Os, (\d+) checked, (\d+) bad")
 
 
 class Wrong(AssertionError):

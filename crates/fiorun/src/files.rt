@@ -1,6 +1,7 @@
 // The files of a run: taken before it begins, shared by its engines, and settled at its end.
 ghost use Rattle.std.specs.Prelude.{◌≡◌, IfOk};
 
+use crate::show::Screen;
 use crate::stops::Stop;
 use jr_cli::{Choice, CliFault};
 use jr_files::{Claims, FileEngine, FileFault, Launcher, Reads, SharedFile, claim};
@@ -15,10 +16,11 @@ pub struct Taken<'a> {
     files: FileEngine<SharedFile>,
     launcher: Launcher<'a>,
     is_cached: bool,
+    has_notes: bool,
 }
 
 // Takes the plan's files. Where checks are to read the device, a launcher drops what the system keeps of them.
-pub fn take_files<'a, R: Files<File = File> + AllocGlobal>(
+pub fn take_files<'a, R: Files<File = File> + AllocGlobal + Screen>(
     rt: &R,
     plan: &Plan,
     choice: &Choice<'a>,
@@ -47,6 +49,7 @@ pub fn take_files<'a, R: Files<File = File> + AllocGlobal>(
         files,
         launcher,
         is_cached: choice.cached,
+        has_notes: choice.notes || rt.is_shown(),
     })
 }
 
@@ -78,16 +81,16 @@ impl<'a> Taken<'a> {
     }
 
     // The status of a run, once all that it wrote was synced.
-    pub fn settled(&self, status: u8) -> Result<u8, CliFault> {
+    pub fn settled<R: Eprint>(&self, rt: &R, status: u8) -> Result<u8, CliFault> {
+        if self.has_notes && self.launcher.has_failed() {
+            let _ = eprintln!(rt;
+                "fiorun: note: a file wasn't dropped from the system's cache, which may have answered checks"
+            );
+        }
         match self.files.settle() {
             Ok(()) => Ok(status),
             Err(_) => Err(CliFault::Write),
         }
-    }
-
-    // Whether what was read may have come out of the system's cache, though a launcher was there to take it out.
-    pub fn is_undropped(&self) -> bool {
-        self.launcher.has_failed()
     }
 }
 

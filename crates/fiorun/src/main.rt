@@ -204,7 +204,7 @@ fn run_plan<
             let events = trace_file(rt, trace)?;
             let engines = file_engines(rt, &files, workers)?;
             let status = run_files(rt, plan, engines, events, out)?;
-            Ok(Turn::Ended(files.settled(status)?))
+            Ok(Turn::Ended(files.settled(rt, status)?))
         }
         EngineKind::Memory => {
             let events = trace_file(rt, trace)?;
@@ -233,7 +233,7 @@ fn run_alone<
             let mut engine = files.engine(rt, 0)?;
             files.begin(&engine);
             let status = run_over(rt, trace, plan, &mut engine, out)?;
-            Ok(files.settled(status)?)
+            Ok(files.settled(rt, status)?)
         }
         EngineKind::Memory => {
             let mut engine = match MemoryEngine::new(rt.alloc(), &plan) {

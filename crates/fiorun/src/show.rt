@@ -78,7 +78,7 @@ impl Extent {
 fn bytes_of(clone: &SubJob) -> u64 {
     let pass = u64::from(clone.cells()).saturating_mul(u64::from(clone.cell()));
     let own = pass.saturating_mul(u64::from(clone.passes()));
-    own.saturating_add(own / 100 * checked_percent(clone))
+    own.saturating_add(own.saturating_mul(checked_percent(clone)) / 100)
 }
 
 // How many hundredths of what a clone reads and writes are read back.

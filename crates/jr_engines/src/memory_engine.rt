@@ -41,7 +41,7 @@ impl MemoryEngine {
         })
     }
 
-    // The files alone, for an engine of another kind.
+    /// The files alone, for an engine of another kind. The counts of calls are dropped.
     pub fn into_files(self) -> Vec<MemoryFile>
         ensures { result.items ≡ self.memory }
     {

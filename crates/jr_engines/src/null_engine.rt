@@ -21,6 +21,7 @@ impl Model for NullEngine {
 }
 
 impl NullEngine {
+    /// An engine that keeps nothing and reads zeros. No call was made yet.
     pub fn new() -> NullEngine
         ensures { result ≡ record { calls = 0 } }
     {

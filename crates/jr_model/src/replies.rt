@@ -17,18 +17,21 @@ impl Model for ReplyBytes {
 }
 
 impl ReplyBytes {
+    /// The bytes that a scripted read gives in place of the stored ones.
     pub fn new(bytes: Vec<u8>) -> ReplyBytes
         ensures { result ≡ bytes.items }
     {
         ReplyBytes { bytes }
     }
 
+    /// The bytes, to look at.
     pub fn as_slice(&self) -> &[u8]
         ensures { result.now ≡ self.now }
     {
         self.bytes.as_slice()
     }
 
+    /// The bytes, without a copy.
     pub fn into_vec(self) -> Vec<u8>
         ensures { result.items ≡ self }
     {

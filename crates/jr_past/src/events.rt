@@ -101,12 +101,14 @@ pub fn is_judged(history: &[Event], io: usize) -> bool
     history.iter().any(|event| is_verdict_on(io, event))
 }
 
+/// Whether a ticket of this kind is the check of a write.
 pub fn is_probe(kind: TicketKind) -> bool
     ensures { result ≡ is_probe kind }
 {
     kind == TicketKind::Probe
 }
 
+/// Whether a ticket of this kind is a write of a job.
 pub fn is_write(kind: TicketKind) -> bool
     ensures { result ≡ is_write kind }
 {
