@@ -92,8 +92,7 @@ first_played plan player planned first same none = record {
 pub played_all : (plan : Plan) (steps : List Step) (count : ℕ) (replies : List StepReply) (player : Player) → length steps ≤ count → HasPlayed plan (take count steps) replies player → (replies ≡ (machine_run plan (first_state plan) steps).replies) × (player.desk ≡ desk_in plan (machine_run plan (first_state plan) steps).state)
 played_all plan steps count replies player all so =
     let played : machine_run plan (first_state plan) steps ≡ record { replies = replies; state = state_of player } =
-    ap (λ (made : List Step). machine_run plan (first_state plan) made) (sym (take_all count steps all)) ∙ so.played in
-    (
+    ap (λ (made : List Step). machine_run plan (first_state plan) made) (sym (take_all count steps all)) ∙ so.played in (
       sym (ap (λ (p : Played). p.replies) played),
       ap (λ (p : Plan). record player.desk { plan = p }) so.its_plan ∙ ap (λ (p : Played). desk_in plan p.state) (sym played),
     )
