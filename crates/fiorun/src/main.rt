@@ -114,7 +114,7 @@ fn perform<
     R: Files<File = File> + Input + Print + Screen + AllocGlobal + Clock + Threads + Wait + Sync,
 >(rt: &R, choice: &Choice<'_>, has_notes: bool) -> Result<Turn, Stop> {
     let text = job_text(rt, choice.job)?;
-    let plan = job_plan(rt.alloc(), text.as_slice(), choice.section)?;
+    let plan = job_plan(rt.alloc(), text.as_slice(), choice.section, has_notes)?;
     let Ok(mut out) = BufWriter::new(rt.alloc(), io::writer(rt)) else {
         return Err(Stop::from(CliFault::Memory));
     };
@@ -134,16 +134,21 @@ fn perform<
     run_plan(rt, choice, plan, workers, &mut out)
 }
 
-// The plan of a job text, or its fault with what is worth knowing of it.
-fn job_plan(alloc: Global, text: &[u8], section: Option<&str>) -> Result<Plan, Stop> {
+// The plan of a job text, or its fault, with what is worth knowing of it where notes are wanted.
+fn job_plan(
+    alloc: Global,
+    text: &[u8],
+    section: Option<&str>,
+    has_notes: bool,
+) -> Result<Plan, Stop> {
     let fault = match read_job(alloc, text, section) {
         Ok(plan) => return Ok(plan),
         Err(fault) => fault,
     };
-    match job_notes(alloc, text, section) {
-        Ok(notes) => Err(Stop::job(fault, notes)),
-        Err(_) => Err(Stop::from(fault)),
+    if has_notes && let Ok(notes) = job_notes(alloc, text, section) {
+        return Err(Stop::job(fault, notes));
     }
+    Err(Stop::from(fault))
 }
 
 // The trace that is to be checked.
