@@ -15,6 +15,7 @@ which are indented by four spaces and end in line feeds. In quotes a text is one
     has         a part of what is printed, where the rest of it isn't told
     like        a regular expression of what is printed, the whole of it, where it isn't the same each time
     fault       what is said on standard error behind `fiorun: `, and nothing else is
+    notes       the lines behind `fiorun: note: ` that come after it, the whole of them
     says        the first line on standard error, where there may be more
     status      the exit status, where it isn't 0
     trace       the whole file `trace` after the run
@@ -43,7 +44,7 @@ from concurrent.futures import ThreadPoolExecutor
 
 HERE = os.path.dirname(os.path.realpath(__file__))
 SECONDS = 60
-PARTS = set("words job out has like fault says status trace starts who times again refused lines".split())
+PARTS = set("words job out has like fault notes says status trace starts who times again refused lines".split())
 NAMED = {"file", "bytes"}
 ROWS = {"refused", "lines"}
 QUOTED = re.compile(r"""(b?"(?:[^"\\]|\\.)*")(?: x (\d+))?""")
@@ -183,6 +184,7 @@ def differences(case, ended, before, after):
     """What of a run isn't as the case says: pairs of what was wanted and what came."""
     said, trace = ended.stderr.split(b"\n")[0], after.get("trace", b"")
     fault = b"fiorun: " + case.get("fault") + b"\n" if "fault" in case.parts else b""
+    fault += b"".join(b"fiorun: note: " + it + b"\n" for it in case.get("notes").splitlines())
     status = int(case.get("status", b"0"))
     pairs = [(status, ended.returncode)]
     if "like" in case.parts:

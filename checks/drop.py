@@ -134,9 +134,9 @@ def each_check_stands_behind_a_drop(program, room):
             job = job_of(more=[f"verify_backlog={backlog}", "iodepth=8"])
             calls = traced(program, room, job, f"--workers={workers}")
             what = f"verify_backlog={backlog}, {workers} workers"
-            drops, written, checks = drops_of(calls), {}, 0
+            # (workers that sync at once don't wait for one another, so a drop may begin before another and end behind it)
+            drops, written, checks = sorted(drops_of(calls)), {}, 0
             begins = [begin for begin, _ in drops]
-            expect(begins == sorted(begins), f"{what}: drops out of order")
             for letter, _, start, end, offset in calls:
                 if letter == "w":
                     written[offset] = end

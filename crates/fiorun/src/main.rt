@@ -115,6 +115,9 @@ fn perform<
 >(rt: &R, choice: &Choice<'_>, has_notes: bool) -> Result<Turn, Stop> {
     let text = job_text(rt, choice.job)?;
     let plan = job_plan(rt.alloc(), text.as_slice(), choice.section, has_notes)?;
+    if has_notes && let Ok(notes) = plan_notes(rt.alloc(), text.as_slice(), choice.section) {
+        tell_all(rt, notes.as_slice());
+    }
     let Ok(mut out) = BufWriter::new(rt.alloc(), io::writer(rt)) else {
         return Err(Stop::from(CliFault::Memory));
     };
@@ -126,9 +129,6 @@ fn perform<
         let events = trace_text(rt, path)?;
         print_check(rt.alloc(), &plan, events.as_slice(), &mut out)?;
         return Ok(Turn::Ended(0));
-    }
-    if has_notes && let Ok(notes) = plan_notes(rt.alloc(), text.as_slice(), choice.section) {
-        tell_all(rt, notes.as_slice());
     }
     let workers = workers_of(&plan, choice.workers);
     run_plan(rt, choice, plan, workers, &mut out)
