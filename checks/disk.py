@@ -107,21 +107,21 @@ def traced(program, room, job, *words):
 
 
 def a_sync_stands_before_each_round(program, room):
-    """One worker: the writes of a round, a sync, and its checks."""
+    """One worker: a sync before the run, and then the writes of a round, a sync, and its checks."""
     for backlog, rounds in ((0, 1), (1000, 1), (64, 4)):
         job = job_of(more=[f"verify_backlog={backlog}"])
         found = traced(program, room, job, "--workers=1")
-        expect(found == "wsr" * rounds, f"verify_backlog={backlog}: {found}")
+        expect(found == "s" + "wsr" * rounds, f"verify_backlog={backlog}: {found}")
     found = traced(program, room, job_of(), "--workers=1", "--cached")
     expect(found == "wrs", f"with --cached: {found}")
     found = traced(program, room, job_of(verify="0"), "--workers=1")
-    expect(found == "ws", f"unchecked: {found}")
+    expect(found == "sws", f"unchecked: {found}")
 
 
 def several_workers_sync_before_they_check(program, room):
     """Whatever the order of four workers, a sync stands between the last write and the first check."""
     found = traced(program, room, job_of(more=["iodepth=8"]), "--workers=4")
-    expect(re.fullmatch("ws+(rs*)+", found), f"four workers: {found}")
+    expect(re.fullmatch("sws+(rs*)+", found), f"four workers: {found}")
 
 
 def reports_are_the_same(program, room):

@@ -96,7 +96,7 @@ def calls_of(log):
             continue
         if letter == "d" and '"drop ' not in rest or letter == "a" and not re.search(r'"\.", 1\)', rest):
             continue
-        place = re.search(r", (\d+)\) += ", rest)
+        place = re.search(r", (\d+) ?\) += ", rest)
         yield letter, process, start, number, int(place[1]) if place else 0
 
 

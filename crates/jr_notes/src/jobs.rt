@@ -12,6 +12,8 @@ pub(crate) struct Job {
     pub(crate) name: String,
     pub(crate) line: u32,
     pub(crate) options: JobOptions,
+    // Whether a line says what it verifies by, or that it verifies nothing.
+    pub(crate) says_verify: bool,
 }
 
 // The planned jobs, but for what their refused lines say.
@@ -22,14 +24,17 @@ pub(crate) fn jobs(
 ) -> Result<Vec<Job>, AllocError> {
     let mut jobs = Vec::new(alloc);
     let mut globals = JobOptions::new();
+    let mut globals_say = false;
     for section in sections {
         if is_global(section) {
             globals = with_section(globals, section);
+            globals_say |= says_verify(section);
         } else if is_planned(section, only) {
             jobs.push(Job {
                 name: shown(alloc, section.name())?,
                 line: section.line(),
                 options: with_section(globals, section),
+                says_verify: globals_say || says_verify(section),
             })?;
         }
     }
@@ -46,4 +51,8 @@ fn with_section(options: JobOptions, section: &Section) -> JobOptions
         Ok(more) => more,
         Err(_) => before,
     }
+}
+
+fn says_verify(section: &Section) -> bool {
+    section.lines().iter().any(|line| line.key() == "verify")
 }

@@ -284,7 +284,9 @@ fn visits(options: &JobOptions, shape: &Shape) -> u128 {
 pub(crate) fn unchecked_notes(alloc: Global, jobs: &[Job]) -> Result<Vec<Note>, AllocError> {
     let mut notes = Vec::new(alloc);
     for job in jobs {
-        if let Some(key) = idle_key(&job.options) {
+        if !job.says_verify
+            && let Some(key) = idle_key(&job.options)
+        {
             let text = format!(in alloc;
                 "{key} without verify: nothing is checked; instead: verify=pattern or verify=md5"
             )?;
