@@ -1,4 +1,5 @@
-// Tests of who runs: of the hand-over, and of workers beside one another. What a run gives is proved, and shown by checks/cases.
+// Tests of who runs: of the hand-over, of workers beside one another, and of verdicts on an engine's own bytes, whoever judges. What else a
+// run gives is proved, and shown by checks/cases.
 #![tactic(auto)]
 
 #[cfg(test)]
@@ -7,6 +8,8 @@ mod asserts;
 mod drops;
 #[cfg(test)]
 mod handover;
+#[cfg(test)]
+mod judged;
 #[cfg(test)]
 mod plans;
 #[cfg(test)]
