@@ -79,6 +79,12 @@ def a_disk_that_is_too_small_is_found(program, room):
             expect(ran.returncode == 1, f"{words}: status {ran.returncode}: {ran.stdout}{ran.stderr}")
             totals = totals_of(ran.stdout)
             expect(totals["writes"] == 4096 and totals["faults"] + totals["bad"] > 0, f"{words}: {ran.stdout}")
+        job = job_of("16m", place, filename=os.path.basename(device))
+        ran = run(program, room, job, "--workers=1", "--notes")
+        at = rf"clone=0 pass=0 number=\d+ file={device} offset=\d+ length=4096"
+        reason = r"(?:No space left on device|Input/output error) \(os error \d+\)"
+        found = re.search(rf"fiorun: note: check failed: {at}: {reason}\n", ran.stderr)
+        expect(totals_of(ran.stdout)["faults"] == 0 or found, f"no note of the fault: {ran.stdout[:200]}{ran.stderr[:400]}")
         job = job_of("16m", place, verify="0", filename=os.path.basename(device))
         ran = run(program, room, job)
         expect((ran.returncode, ran.stderr) == (3, "fiorun: cannot write\n"), f"unchecked: status {ran.returncode}: {ran.stderr}")

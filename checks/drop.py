@@ -198,7 +198,7 @@ class Launcher:
                     os.close(self.answers.pop(place))
                     del self.requests[place]
                     continue
-                found = re.fullmatch(rb"drop (\d+)\n", line)
+                found = re.fullmatch(rb"(?:drop|direct) (\d+)\n", line)
                 expect(found, f"no request: {line}")
                 said = answer(asked, f"/proc/{self.run.pid}/fd/{int(found[1])}")
                 asked += 1
@@ -306,19 +306,21 @@ def statuses_are_passed_on(_program, room):
 
 
 def all_else_is_passed_on(_program, room):
-    """Standard input, words, folder, group, environment, open descriptors, and which signals are ignored or blocked."""
+    """Standard input, words, folder, group, environment, open descriptors, and which signals are ignored or blocked, but those that ask
+    for a stop."""
     seen = script(
         room,
         "seen",
         """
-words = [it for it in sys.argv[1:] if not it.startswith("--drop-pipes=")]
-pipes = [it for it in sys.argv[1:] if it.startswith("--drop-pipes=")]
-ours = {int(it) for pair in pipes for it in pair[13:].replace(":", ",").split(",")}
+words = [it for it in sys.argv[1:] if not it.startswith(("--drop-pipes=", "--stop-fd="))]
+pipes = [it for it in sys.argv[1:] if it not in words]
+ours = {int(it) for some in pipes for it in some.split("=")[1].replace(":", ",").split(",")}
+asked = sum(1 << it - 1 for it in (signal.SIGHUP, signal.SIGINT, signal.SIGTERM))
 if set(words) & {"open"}:
     numbers = sorted(int(it) for it in os.listdir("/proc/self/fd"))
     print([it for it in numbers if it not in ours and os.path.exists(f"/proc/self/fd/{it}")], file=sys.stderr)
 with open("/proc/self/status") as it:
-    print([line for line in it if line.startswith(("SigIgn", "SigBlk", "SigCgt"))])
+    print([int(line[8:], 16) & ~asked for line in it if line.startswith(("SigIgn", "SigBlk", "SigCgt"))])
 print(words, os.getcwd(), os.getpgrp(), os.getsid(0), sorted(os.environ.items()))
 if "open" not in words:
     print(sys.stdin.read())
@@ -358,11 +360,11 @@ def lives(pid):
 
 
 def signals_end_both(_program, room):
-    """What comes to the launcher alone, or to the whole group, ends both at once by that signal."""
+    """What comes to the launcher alone, or to the whole group, ends both at once by that signal, where the launcher can't ask for a stop."""
     sleep = script(room, "sleep", "signal.signal(signal.SIGINT, signal.SIG_DFL)\nprint(os.getpid(), flush=True)\ntime.sleep(50)\n")
     for name in ("TERM", "HUP", "INT", "QUIT", "KILL", "USR1"):
         for group in (False, True):
-            it, pid = begun([LAUNCH, sleep], room, start_new_session=True)
+            it, pid = begun([LAUNCH, sleep, "--stop-fd=0"], room, start_new_session=True)
             number = signal.Signals["SIG" + name]
             (os.killpg if group else os.kill)(it.pid, number)
             status = it.wait(timeout=SECONDS)

@@ -1,6 +1,6 @@
 // Loaded before a program's own libraries (LD_PRELOAD), lets one of its calls of the system go wrong.
 //
-//   CALLS=FILE          a file of 56 bytes: how often each of the calls below was made
+//   CALLS=FILE          a file of 64 bytes: how often each of the calls below was made
 //   FAULT="CALL N HOW"  what call, which one of them (from 1), and how:
 //                       a number: it isn't made, and answers this error; zero: it isn't made, and answers 0;
 //                       drop: it isn't made, and answers as if it had been; half: it moves half of the bytes; one: it moves one;
@@ -21,9 +21,9 @@
 #include <sys/types.h>
 #include <unistd.h>
 
-enum call { OPEN, LSEEK, READ, WRITE, PREAD, PWRITE, THREAD, CALLS };
+enum call { OPEN, LSEEK, READ, WRITE, PREAD, PWRITE, THREAD, SYNC, CALLS };
 
-static const char *const names[CALLS] = {"open", "lseek", "read", "write", "pread", "pwrite", "pthread_create"};
+static const char *const names[CALLS] = {"open", "lseek", "read", "write", "pread", "pwrite", "pthread_create", "fdatasync"};
 static void *real[CALLS];
 static _Atomic unsigned long *counts;
 static enum call which = CALLS;
@@ -129,6 +129,12 @@ ssize_t pread(int fd, void *bytes, size_t len, off_t at) {
 
 ssize_t pwrite(int fd, const void *bytes, size_t len, off_t at) {
     return moved(PWRITE, fd, (void *)bytes, len, at);
+}
+
+int fdatasync(int fd) {
+    const char *it = wrong(SYNC);
+    if (it && atoi(it)) return errno = atoi(it), -1;
+    return ((int (*)(int))real[SYNC])(fd);
 }
 
 typedef int create(pthread_t *, const pthread_attr_t *, void *(*)(void *), void *);

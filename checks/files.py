@@ -17,7 +17,7 @@ import tempfile
 import time
 from concurrent.futures import ThreadPoolExecutor
 
-from program import LINE, NOBODY, WIPED, Ended, SystemCalls, Wrong, copied, find_program, needed_library, total
+from program import LINE, NOBODY, UNDROPPED, WIPED, Ended, SystemCalls, Wrong, copied, find_program, needed_library, total
 
 SECONDS = 60
 REFUSED = Ended(3, b"", b"fiorun: cannot open the files\n")
@@ -248,9 +248,10 @@ def held_run(place, jobs, fault, wanted):
 
 
 def lines_of(text):
-    """The lines that a terminal showed, each a text and its four numbers; it was wiped before each of them, and at the end."""
+    """The lines that a terminal showed, each a text and its four numbers; it was wiped before each of them, and at the end. Only a note
+    may come behind that."""
     first, *lines = text.split(WIPED)
-    if first or not lines or lines.pop() or not all(LINE.fullmatch(it) for it in lines):
+    if first or not lines or lines.pop() not in ("", UNDROPPED.replace("\n", "\r\n")) or not all(LINE.fullmatch(it) for it in lines):
         raise Wrong(f"not the line and its end: {text[:200]!r} .. {text[-200:]!r}")
     return [(it, tuple(int(number) for number in LINE.fullmatch(it).groups())) for it in lines]
 

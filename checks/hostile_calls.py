@@ -9,7 +9,7 @@ import os
 import re
 
 from hostile_case import FOUR, FOUR_HELD, FOUR_SAID, PATTERN, Case, main, says, traced
-from program import Ended, SystemCalls, built_library, expect, total
+from program import UNDROPPED, Ended, SystemCalls, built_library, expect, total
 
 DIGESTS = FOUR.replace(PATTERN, "verify=md5\n")
 # Bytes of such a block, and the part that each is of.
@@ -20,11 +20,11 @@ def faulty(place):
     """What runs a job with one call going wrong, and what counts the calls of the last run."""
     calls = SystemCalls(built_library("faulty.c", os.path.dirname(place.path)), place.at("calls"))
 
-    def run(job, call="none", number=0, how="0", workers=1):
+    def run(job, call="none", number=0, how="0", workers=1, words=()):
         for name in os.listdir(place.path):
             os.remove(place.at(name))
         place.put("job", job)
-        return place.run(f"--workers={workers}", "--trace=trace", "job", env=calls.environment(f"{call} {number} {how}"))
+        return place.run(f"--workers={workers}", "--trace=trace", *words, "job", env=calls.environment(f"{call} {number} {how}"))
 
     return run, calls.counted
 
@@ -83,6 +83,45 @@ class Calls(Case):
                     says(run(DIGESTS, call, number, f"flip:{at}"), 1, f"{line}{what}\n")
             says(run(FOUR, "pwrite", number, "drop"), 1, line + "byte:0\n")
             says(run(DIGESTS, "pwrite", number, "drop"), 1, line + "header\n")
+
+    def test_faults_have_notes(self):
+        """A fault has a note: what it was, how it ended, which it was and where, and the system's reason where there is one."""
+        place = self.place
+        run, _ = faulty(place)
+
+        def noted(call, number, how, wanted, workers=1):
+            ended = run(FOUR, call, number, how, workers, ["--notes"])
+            expect(ended.status == 1 and ended.err.decode() == wanted + UNDROPPED, call, number, how, "wanted", wanted, "and got", ended)
+
+        for number in range(1, 5):
+            at = f"clone=0 pass=0 number={number - 1} file=data offset={number * 4096 - 4096} length=4096"
+            for error in (errno.EIO, errno.ENOSPC, errno.EACCES):
+                reason = f"{os.strerror(error)} (os error {error})"
+                noted("pwrite", number, error, f"fiorun: note: write failed: {at}: {reason}\n")
+                noted("pread", number, error, f"fiorun: note: check failed: {at}: {reason}\n")
+            noted("pwrite", number, "zero", f"fiorun: note: write ended after 0 bytes: {at}\n")
+            noted("pread", number, "zero", f"fiorun: note: check ended after 0 bytes: {at}\n")
+            noted("pread", number, errno.EIO, f"fiorun: note: check failed: {at}: {os.strerror(errno.EIO)} (os error 5)\n", 2)
+
+    def test_syncs_refused(self):
+        """A sync that fails before the run is told alone; one before a check is that check's fault; one at the end ends the program."""
+        place = self.place
+        run, counted = faulty(place)
+        expect(run(FOUR).status == 0 and counted()["fdatasync"] == 2, "other syncs than thought of:", counted())
+        reason = f"{os.strerror(errno.ENOSPC)} (os error {errno.ENOSPC})\n"
+        says(run(FOUR, "fdatasync", 1, errno.ENOSPC), 0, FOUR_SAID)
+        ended = run(FOUR, "fdatasync", 1, errno.ENOSPC, words=["--notes"])
+        wanted = "fiorun: note: cannot sync data before the run: " + reason + UNDROPPED
+        expect(ended == Ended(0, FOUR_SAID.encode(), wanted.encode()), "before the run:", ended)
+        ended = run(FOUR, "fdatasync", 2, errno.ENOSPC, words=["--notes"])
+        at = "clone=0 pass=0 number=0 file=data offset=0 length=4096"
+        wanted = f"fiorun: note: check failed: {at}: " + reason + UNDROPPED
+        expect(ended == Ended(1, total(writes=4, wbytes=16384, faults=1).encode(), wanted.encode()), "before a check:", ended)
+        unchecked = FOUR + "do_verify=0\n"
+        expect(run(unchecked).status == 0 and counted()["fdatasync"] == 2, "other syncs than thought of:", counted())
+        ended = run(unchecked, "fdatasync", 2, errno.ENOSPC, words=["--notes"])
+        wanted = "fiorun: cannot write\nfiorun: note: cannot sync data: " + reason
+        expect(ended == Ended(3, total(writes=4, wbytes=16384).encode(), wanted.encode()), "at the end:", ended)
 
     def test_workers_with_faults(self):
         """With several workers and verifiers one fault is one fault, and one changed block one bad one, whoever meets it."""

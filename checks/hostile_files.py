@@ -5,11 +5,12 @@ Files, folders, links, pipes and devices in the place of a job's files.
 """
 
 import os
+import re
 import stat
 import time
 
 from hostile_case import FOUR, FOUR_HELD, FOUR_SAID, IN_MEMORY, PATTERN, TRACE, TRACED, TRACE_SAID, Case, main, refuses, says
-from program import Skipped, as_nobody, expect, total
+from program import UNDROPPED, Ended, Skipped, as_nobody, expect, total
 
 
 class Files(Case):
@@ -87,6 +88,34 @@ class Files(Case):
         says(place.run(text=FOUR.replace("=data", "=far") + "offset=1048576m\n"), 0, FOUR_SAID)
         expect(os.stat(place.at("far")).st_size == (1 << 40) + 16384, "a far region has another end")
         os.remove(place.at("far"))
+
+    def test_traces_have_notes(self):
+        """Why a trace can't be made, or isn't written, is said with --notes."""
+        place = self.place
+        missing = "fiorun: cannot write\nfiorun: note: cannot make no/t: No such file or directory (os error 2)\n"
+        for job in (IN_MEMORY, FOUR, FOUR.replace("filename=data", "ioengine=null")):
+            for workers in ("1", "2"):
+                ended = place.run("--trace=no/t", "--notes", f"--workers={workers}", text=job)
+                expect(ended == Ended(3, b"", missing.encode()), "a folder that isn't there:", ended)
+        ended = place.run("--trace=data", "--notes", text=FOUR)
+        over = "fiorun: cannot write\nfiorun: note: the trace's file is the job file or a file of a job\n"
+        expect(ended == Ended(3, b"", over.encode()), "over a file of the job:", ended)
+
+    def test_faults_beyond_a_hundred(self):
+        """The first hundred faults have notes, in the order of their ends, and of the others it is said how many they are."""
+        place = self.place
+        job = "[w]\nfilename=/dev/null\nrw=read\nsize=64k\niodepth=16\nnumjobs=64\n"
+        for workers in ("1", "16"):
+            ended = place.run("--notes", f"--workers={workers}", text=job)
+            faults = sum(int(it) for it in re.findall(rb" faults=(\d+)\n", ended.out))
+            lines = ended.err.decode().splitlines()
+            expect(ended.status == 1 and faults >= 64, "too few faults:", ended)
+            if faults > 100:
+                expect(lines.pop() == f"fiorun: note: and {faults - 100} faults more", "no word of the others:", ended)
+            at = r"clone=\d+ pass=0 number=\d+ file=/dev/null offset=\d+ length=4096"
+            line = re.compile("fiorun: note: read ended after 0 bytes: " + at)
+            expect(all(line.fullmatch(it) for it in lines), "another note:", lines[:2])
+            expect(len(lines) == len(set(lines)) == min(faults, 100), "other notes than faults:", len(lines), faults)
 
     def test_devices(self):
         """Devices that lose writes, answer nothing, zeros or a refusal: each is seen for what it is."""
@@ -166,6 +195,10 @@ class Files(Case):
 
         # (16 pages of 4 KiB: one for the byte that extends the file, and 15 blocks of the job.)
         says(on_disk(text=job), 1, total(writes=15, wbytes=15 * 4096, faults=1))
+        ended = on_disk("--notes", "--workers=1", text=job)
+        at = "clone=0 pass=0 number=15 file=data offset=61440 length=4096"
+        note = f"fiorun: note: write failed: {at}: No space left on device (os error 28)\n"
+        expect((ended.status, ended.err.decode()) == (1, note + UNDROPPED), "the note of a full disk:", ended)
         says(on_disk(text=job.replace("128k", "64k")), 0, total(writes=16, wbytes=65536, checks=16, good=16))
         fill = "head -c 65536 /dev/zero > old"
         stays = '[ "$(stat -c %s old)" = 65536 ] && cmp -s -n 65536 old /dev/zero || echo changed >&2'

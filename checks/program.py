@@ -3,6 +3,7 @@
 import os
 import re
 import shutil
+import signal
 import struct
 import subprocess
 import sys
@@ -15,7 +16,14 @@ NOBODY = 65534
 FIELDS = "reads rbytes writes wbytes checks good bad skipped void faults".split()
 # The line that a terminal shows of a run: what wipes it, and what it says.
 WIPED = "\r\x1b[K"
+# What is said with notes of a run with checks that wasn't started by bin/fiorun.
+UNDROPPED = "fiorun: note: the system's cache may have answered checks: started by bin/fiorun, files are dropped from it\n"
 LINE = re.compile(r"fiorun: (\d+) % done, (\d+) I/Os, (\d+) checked, (\d+) bad")
+
+# (what is ignored where a check begins, as nohup has it, would be ignored in all that it starts)
+for number in (signal.SIGHUP, signal.SIGINT, signal.SIGQUIT, signal.SIGTERM):
+    if signal.getsignal(number) == signal.SIG_IGN:
+        signal.signal(number, signal.SIG_DFL)
 
 
 class Wrong(AssertionError):
@@ -102,7 +110,7 @@ def needed_library(source, folder, who):
 class SystemCalls:
     """Counts a run's calls of the system, and lets one of them go wrong (checks/faulty.c)."""
 
-    NAMES = "open lseek read write pread pwrite pthread_create".split()
+    NAMES = "open lseek read write pread pwrite pthread_create fdatasync".split()
 
     def __init__(self, library, counts):
         self.library = library

@@ -1,5 +1,5 @@
 // The line that a terminal shows of a run that goes on: how much was started, what was checked, and how much of that was bad.
-use jr_cli::Progress;
+use jr_cli::{Progress, StopFlag, Watch};
 use jr_model::IoType;
 use jr_plan::{Plan, SubJob};
 use std::io::IsTerminal;
@@ -23,17 +23,21 @@ impl Screen for HostRuntime {
 // Back to the line's begin, and nothing on it.
 const WIPED: &str = "\r\x1b[K";
 
-// Calls `f`. Where standard error is a terminal, that shows meanwhile how far a run of this extent is, a line once a second, and
-// the line is wiped at the end.
-pub fn shown<
-    R: Screen + Clock + Threads + Wait + Sync,
-    T,
-    F: for<'p> FnOnce(Option<&'p Progress>) -> T,
->(rt: &R, extent: Extent, f: F) -> T
+// Calls `f`, which may be asked to stop by this flag. Where standard error is a terminal, that shows meanwhile how far a run of this
+// extent is, a line once a second, and the line is wiped at the end.
+pub fn shown<R: Screen + Clock + Threads + Wait + Sync, T, F: for<'p> FnOnce(Watch<'p>) -> T>(
+    rt: &R,
+    extent: Extent,
+    stop: Option<&StopFlag>,
+    f: F,
+) -> T
     requires { F.IsAlwaysCallable f }
 {
     if !rt.is_shown() {
-        return f(None);
+        return f(Watch {
+            progress: None,
+            stop,
+        });
     }
     let progress = Progress::new();
     let bell = Bell::new();
@@ -45,8 +49,11 @@ pub fn shown<
             requires { F.IsAlwaysCallable f }
         {
             // (a run that can't be shown goes on)
-            let _shown = scope.spawn(move || show(rt, extent, progress, bell));
-            let ended = f(Some(progress));
+            let _shown = scope.spawn(move || show(rt, extent, stop, progress, bell));
+            let ended = f(Watch {
+                progress: Some(progress),
+                stop,
+            });
             bell.ring(rt);
             ended
         },
@@ -128,14 +135,22 @@ impl fmt::Display for Line {
     }
 }
 
-// Prints the line once a second until the bell rings, and then wipes it.
-fn show<R: Screen + Clock + Wait>(rt: &R, extent: Extent, progress: &Progress, bell: &Bell) {
+// Prints the line once a second until the bell rings, and then wipes it. Once the run is asked to stop there are no more lines.
+fn show<R: Screen + Clock + Wait>(
+    rt: &R,
+    extent: Extent,
+    stop: Option<&StopFlag>,
+    progress: &Progress,
+    bell: &Bell,
+) {
     for _ in rt.forever() {
         if bell.rings_within(rt, Duration::from_secs(1)) {
             let _ = eprint!(rt; "{WIPED}");
             return;
         }
-        let _ = eprint!(rt; "{WIPED}{}", Line::of(extent, progress));
+        if !stop.is_some_and(|stop| stop.is_set()) {
+            let _ = eprint!(rt; "{WIPED}{}", Line::of(extent, progress));
+        }
     }
 }
 

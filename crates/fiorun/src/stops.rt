@@ -1,7 +1,9 @@
 // Why the program ends before its time, and what is worth knowing of it.
-use jr_cli::CliFault;
+use jr_cli::{CliFault, memory_or};
 use jr_files::{FileFault, Refusal};
 use jr_notes::Note;
+use std::alloc::Global;
+use std::io;
 
 // A fault, and what is said behind it where notes are wanted.
 #[derive(Drop)]
@@ -15,7 +17,11 @@ enum Notes {
     None,
     Job(Vec<Note>),
     Files(Refusal),
+    // The trace would go over a file that is read or written otherwise.
     Trace,
+    Pipe,
+    // This couldn't be done to the file of this name.
+    File(&'static str, String, io::Error),
 }
 
 impl From<CliFault> for Stop {
@@ -55,6 +61,39 @@ impl Stop {
         }
     }
 
+    // The pipe whose end would ask the run to stop can't be opened.
+    pub fn pipe() -> Stop {
+        Stop {
+            fault: CliFault::Open,
+            notes: Notes::Pipe,
+        }
+    }
+
+    // The file of this path that the trace goes to can't be made.
+    pub fn trace_file(alloc: Global, path: &str, error: io::Error) -> Stop {
+        Stop::file(
+            memory_or(&error, CliFault::Write),
+            "make",
+            String::from_str(alloc, path).ok(),
+            error,
+        )
+    }
+
+    // What was written to the file of this name can't be synced.
+    pub fn unsynced(name: String, error: io::Error) -> Stop {
+        Stop::file(CliFault::Write, "sync", Some(name), error)
+    }
+
+    fn file(fault: CliFault, act: &'static str, name: Option<String>, error: io::Error) -> Stop {
+        match name {
+            Some(name) if fault != CliFault::Memory => Stop {
+                fault,
+                notes: Notes::File(act, name, error),
+            },
+            _ => Stop::from(fault),
+        }
+    }
+
     // Says it on standard error, with the notes where they are wanted, and gives the exit status.
     pub fn tell<R: Eprint>(&self, rt: &R, has_notes: bool) -> u8 {
         let _ = eprintln!(rt; "fiorun: {}", self.fault);
@@ -73,10 +112,16 @@ impl Notes {
             Notes::Files(refusal) => {
                 let _ = eprintln!(rt; "fiorun: note: {refusal}");
             }
+            Notes::File(act, name, error) => {
+                let _ = eprintln!(rt; "fiorun: note: cannot {act} {name}: {error}");
+            }
             Notes::Trace => {
                 let _ = eprintln!(rt;
                     "fiorun: note: the trace's file is the job file or a file of a job"
                 );
+            }
+            Notes::Pipe => {
+                let _ = eprintln!(rt; "fiorun: note: --stop-fd names no pipe that can be read");
             }
         }
     }

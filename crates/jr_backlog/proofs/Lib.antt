@@ -1,3 +1,4 @@
 pub mod KeptFacts
 pub mod OrderedKeys
 pub mod RoundFacts
+pub mod WalkedFacts

@@ -1,3 +1,4 @@
 pub mod CurrentRound
+pub mod Deferred
 pub mod Kept
 pub mod Rounds

@@ -2,6 +2,8 @@
 // checked next, and when the round is closed.
 #![tactic(auto)]
 
+mod deferred;
 mod rounds;
 
+pub use deferred::DeferredRounds;
 pub use rounds::Rounds;

@@ -23,13 +23,13 @@ use Rattle.jr_model.specs.Rounds.{pass_of}
 use Rattle.jr_model.specs.Tickets.{piece_fits, has_pattern, suits_kind, suits_method, ticket_fits}
 use Rattle.jr_model.proofs.LegalLaws.{choice_is_step, cases_step_of}
 use Rattle.jr_model.proofs.SerialLaws.{EndsWereStarted, ends-more, first_given-append}
-use Rattle.jr_plan.specs.PlanFacts.{IsPlanned}
-use Rattle.jr_steps.specs.Drawn.{FitsPlan}
-use Rattle.jr_steps.proofs.CountLaws.{numbered_of, along_legal}
-use Rattle.jr_steps.proofs.DrawnLaws.{started_fit-law}
-use Rattle.jr_steps.proofs.IdleLaws.{idle_is_over}
-use Rattle.jr_steps.proofs.RestLaws.{each_ended, none_by_length}
-use Rattle.jr_handed.specs.Tickets.{method_of, seed_of, expected_by, ticket_of}
+use Rattle.jr_model.specs.PlanFacts.{IsPlanned}
+use Rattle.jr_laws_steps.specs.Drawn.{FitsPlan}
+use Rattle.jr_laws_steps.proofs.CountLaws.{numbered_of, along_legal}
+use Rattle.jr_laws_steps.proofs.DrawnLaws.{started_fit-law}
+use Rattle.jr_laws_steps.proofs.IdleLaws.{idle_is_over}
+use Rattle.jr_laws_steps.proofs.RestLaws.{each_ended, none_by_length}
+use Rattle.jr_tickets.specs.Tickets.{method_of, seed_of, expected_by, ticket_of}
 use Rattle.jr_board.specs.Takes.{IsChosen, last_started, ticket_for, answer_with, handing, is_fitting, is_finished, WaitsRightly}
 use Rattle.jr_board.proofs.Keeping.{by_is_skip, last-skip, chosen_at, chosen_legal}
 

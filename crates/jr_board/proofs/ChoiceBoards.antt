@@ -22,19 +22,19 @@ use Rattle.jr_model.specs.Tickets.{piece_fits}
 use Rattle.jr_model.proofs.Equality.{write_order_total}
 use Rattle.jr_backlog.specs.Rounds.{Round, is_before, is_due, IsInOrder, next_to_check, next_to_check_after}
 use Rattle.jr_backlog.specs.CurrentRound.{current_round}
-use Rattle.jr_standing.specs.Deferred.{is_settled}
+use Rattle.jr_backlog.specs.Deferred.{is_settled}
 use Rattle.jr_writes.specs.declared.logs.Logged.{Logged}
 use Rattle.jr_writes.specs.LoggedWrites.{logged}
-use Rattle.jr_steps.proofs.DrawnLaws.{started_are_drawn-law, started_fit-law}
-use Rattle.jr_steps.proofs.PlaceLemmas.{made_at, any_at}
-use Rattle.jr_steps.proofs.StartedLemmas.{same_some}
-use Rattle.jr_log_laws.proofs.DrawLaws.{log_is_intact_of_draws}
-use Rattle.jr_round_laws.specs.Rounds.{HasRound}
-use Rattle.jr_round_laws.specs.Standing.{is_under_way, take_up_write}
-use Rattle.jr_round_laws.proofs.StandingLists.{numbered_at}
-use Rattle.jr_handed.specs.Kept.{tickets_of}
-use Rattle.jr_handed.specs.Tickets.{ticket_of}
-use Rattle.jr_handed.proofs.OwnTickets.{got_ticket}
+use Rattle.jr_laws_steps.proofs.DrawnLaws.{started_are_drawn-law, started_fit-law}
+use Rattle.jr_laws_steps.proofs.PlaceLemmas.{made_at, any_at}
+use Rattle.jr_laws_steps.proofs.StartedLemmas.{same_some}
+use Rattle.jr_laws_log.proofs.DrawLaws.{log_is_intact_of_draws}
+use Rattle.jr_laws_rounds.specs.Rounds.{HasRound}
+use Rattle.jr_laws_rounds.specs.Standing.{is_under_way, take_up_write}
+use Rattle.jr_laws_rounds.proofs.StandingLists.{numbered_at}
+use Rattle.jr_tickets.specs.Kept.{tickets_of}
+use Rattle.jr_tickets.specs.Tickets.{ticket_of}
+use Rattle.jr_tickets.proofs.OwnTickets.{got_ticket}
 use Rattle.jr_board.specs.declared.board.Board.{Board}
 use Rattle.jr_board.specs.declared.standings.Issued.{Issued}
 use Rattle.jr_board.specs.declared.standings.Standing.{Standing}

@@ -15,19 +15,19 @@ use Rattle.jr_model.specs.Plan.{Plan, SubJob, clone_of}
 use Rattle.jr_model.specs.Rounds.{pass_of, issued_count, has_rounds, no_issue_flies, pass_finished}
 use Rattle.jr_model.specs.Tickets.{piece_fits}
 use Rattle.jr_model.specs.Words.{pass_words}
-use Rattle.jr_plan.specs.PlanFacts.{IsPlanned}
-use Rattle.jr_draw.proofs.TheLaw.{pass_law, drawable_of}
+use Rattle.jr_model.specs.PlanFacts.{IsPlanned}
+use Rattle.jr_laws_draws.proofs.TheLaw.{pass_law, drawable_of}
 use Rattle.jr_backlog.specs.CurrentRound.{current_round}
-use Rattle.jr_standing.specs.Deferred.{is_settled}
-use Rattle.jr_steps.proofs.DrawnLaws.{all_at}
-use Rattle.jr_steps.proofs.PlaceLemmas.{got_dropped, made_at}
-use Rattle.jr_steps.proofs.StartedLemmas.{same_some}
+use Rattle.jr_backlog.specs.Deferred.{is_settled}
+use Rattle.jr_laws_steps.proofs.DrawnLaws.{all_at}
+use Rattle.jr_laws_steps.proofs.PlaceLemmas.{got_dropped, made_at}
+use Rattle.jr_laws_steps.proofs.StartedLemmas.{same_some}
 use Rattle.jr_tallies.specs.Tallies.{flying_issues, flying_checks}
 use Rattle.jr_tallies.proofs.Compared.{tests_compared}
 use Rattle.jr_tallies.proofs.Few.{counts_few}
-use Rattle.jr_round_laws.specs.Standing.{is_under_way, next_issue, take_up_write, step_in_pass}
-use Rattle.jr_round_laws.proofs.StandingPasses.{done_parts}
-use Rattle.jr_steps.proofs.StartedFew.{started_small}
+use Rattle.jr_laws_rounds.specs.Standing.{is_under_way, next_issue, take_up_write, step_in_pass}
+use Rattle.jr_laws_rounds.proofs.StandingPasses.{done_parts}
+use Rattle.jr_laws_steps.proofs.StartedFew.{started_small}
 use Rattle.jr_tallies.specs.declared.tallies.Counts.{Counts}
 use Rattle.jr_tallies.specs.Tallying.{counts_of}
 use Rattle.jr_board.specs.declared.board.Board.{Board}

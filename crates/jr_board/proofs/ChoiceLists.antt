@@ -11,7 +11,7 @@ use Rattle.std.specs.declared.cmp.Ordering.{Ordering}
 use Rattle.std.specs.declared.cmp.Ordering.TheVariants.{Less, Equal, Greater}
 use Rattle.std.proofs.lemmas.Option.{slice_get_read}
 use Rattle.jr_model.specs.History.{first_given}
-use Rattle.jr_steps.proofs.PlaceLemmas.{cases_place}
+use Rattle.jr_laws_steps.proofs.PlaceLemmas.{cases_place}
 use Rattle.jr_backlog.proofs.OrderedKeys.{find-is}
 
 -- what was read of a list is there

@@ -17,13 +17,13 @@ use Rattle.jr_model.specs.Rounds.{pass_of, write_id, is_write_draw, issued_count
 use Rattle.jr_model.specs.Rounds.{group_of, group_index}
 use Rattle.jr_model.proofs.Equality.{eq_write}
 use Rattle.jr_backlog.specs.CurrentRound.{current_round, round_up_to, is_left, last_issued}
-use Rattle.jr_steps.proofs.PlaceLemmas.{any_found, got_made, got_filtered}
-use Rattle.jr_steps.proofs.CountSteps.{number_of_draw}
-use Rattle.jr_quiet.proofs.Issues.{all_at}
-use Rattle.jr_round_laws.specs.Rounds.{HasRound}
-use Rattle.jr_round_laws.specs.Standing.{is_under_way, issue_of, next_issue, take_up, take_up_write, step_in_pass, ChoiceByStanding}
-use Rattle.jr_round_laws.proofs.ChoiceLaws.{choice_by_standing-law}
-use Rattle.jr_round_laws.proofs.CurrentLaws.{waits-law, left_in_pass-law, left_unsettled-law}
+use Rattle.jr_laws_steps.proofs.PlaceLemmas.{any_found, got_made, got_filtered}
+use Rattle.jr_laws_steps.proofs.CountSteps.{number_of_draw}
+use Rattle.jr_laws_quiet.proofs.Issues.{all_at}
+use Rattle.jr_laws_rounds.specs.Rounds.{HasRound}
+use Rattle.jr_laws_rounds.specs.Standing.{is_under_way, issue_of, next_issue, take_up, take_up_write, step_in_pass, ChoiceByStanding}
+use Rattle.jr_laws_rounds.proofs.ChoiceLaws.{choice_by_standing-law}
+use Rattle.jr_laws_rounds.proofs.CurrentLaws.{waits-law, left_in_pass-law, left_unsettled-law}
 
 when : {X : Type 0} (b : Bool) (x y : X) → b ≡ true → cond b x y ≡ x
 when b x y h = ap (λ t. cond t x y) h

@@ -4,12 +4,12 @@ use Rattle.jr_model.specs.declared.events.Event.{Event}
 use Rattle.jr_model.specs.declared.tickets.Ticket.{Ticket}
 use Rattle.jr_model.specs.Legal.{is_legal}
 use Rattle.jr_model.specs.Plan.{Plan}
-use Rattle.jr_plan.specs.PlanFacts.{IsPlanned}
-use Rattle.jr_steps.proofs.StartedLemmas.{started_below}
+use Rattle.jr_model.specs.PlanFacts.{IsPlanned}
+use Rattle.jr_laws_steps.proofs.StartedLemmas.{started_below}
 use Rattle.jr_tallies.specs.Tallying.{IsTallied}
-use Rattle.jr_handed.specs.Handing.{IsHanded}
-use Rattle.jr_handed.specs.Kept.{IsOwn}
-use Rattle.jr_handed.proofs.HandingMoves.{handed_length}
+use Rattle.jr_tickets.specs.Handing.{IsHanded}
+use Rattle.jr_tickets.specs.Kept.{IsOwn}
+use Rattle.jr_tickets.proofs.HandingMoves.{handed_length}
 use Rattle.jr_board.specs.declared.board.Board.{Board}
 use Rattle.jr_board.specs.Boards.{IsBoard}
 use Rattle.jr_board.specs.Flyings.{IsFlying}
@@ -21,7 +21,7 @@ use Rattle.jr_board.proofs.EndingParts.{OwnParts, own_parts}
 pub board_stays : (plan : Plan) (before after : Board)
     → IsBoard plan before
     → after.history.items ≡ before.history.items
-    → IsHanded plan before.history.items after.handed
+    → IsHanded plan before.history.items after.tickets
     → IsFlying before.history.items after.flying
     → after.log ≡ before.log
     → IsTallied plan before.history.items after.tallies
@@ -32,7 +32,7 @@ board_stays plan before after is history handed flying log tallies standings =
     record {
       planned = is.planned;
       legal = ap (is_legal plan) history ∙ is.legal;
-      handed = subst (λ (h : List Event). IsHanded plan h after.handed) same handed;
+      tickets = subst (λ (h : List Event). IsHanded plan h after.tickets) same handed;
       flying = subst (λ (h : List Event). IsFlying h after.flying) same flying;
       log = log ∙ is.log ∙ ap (log_of_run plan) same;
       tallies = subst (λ (h : List Event). IsTallied plan h after.tallies) same tallies;
@@ -46,16 +46,16 @@ parts_of plan board ticket is own = own_parts plan board.history.items ticket is
 
 -- the ticket's number is one of those that were handed out
 pub own_below : (plan : Plan) (board : Board) (ticket : Ticket) → IsBoard plan board → IsOwn plan board.history.items ticket
-    → ticket.id < length board.handed.progress.items
+    → ticket.id < length board.tickets.states.items
 own_below plan board ticket is own =
     let parts = parts_of plan board ticket is own in
     let below = started_below board.history.items ticket.id parts.io parts.at in
-    omega (arith, below, handed_length plan board.history.items board.handed is.handed)
+    omega (arith, below, handed_length plan board.history.items board.tickets is.tickets)
 
 -- the board of no event
 pub board_begins : (plan : Plan) (board : Board) → board.history.items ≡ []
     → IsPlanned plan
-    → IsHanded plan [] board.handed
+    → IsHanded plan [] board.tickets
     → IsFlying [] board.flying
     → board.log ≡ []
     → IsTallied plan [] board.tallies
@@ -66,7 +66,7 @@ board_begins plan board none planned handed flying log tallies standings =
     record {
       planned = planned;
       legal = ap (is_legal plan) none;
-      handed = subst (λ (h : List Event). IsHanded plan h board.handed) same handed;
+      tickets = subst (λ (h : List Event). IsHanded plan h board.tickets) same handed;
       flying = subst (λ (h : List Event). IsFlying h board.flying) same flying;
       log = log ∙ ap (log_of_run plan) same;
       tallies = subst (λ (h : List Event). IsTallied plan h board.tallies) same tallies;

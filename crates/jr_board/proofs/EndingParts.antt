@@ -13,10 +13,10 @@ use Rattle.jr_model.specs.History.{started}
 use Rattle.jr_model.specs.Legal.{is_legal}
 use Rattle.jr_model.specs.Plan.{Plan, SubJob, clone_of}
 use Rattle.jr_model.specs.Tickets.{piece_fits}
-use Rattle.jr_plan.specs.PlanFacts.{IsPlanned}
-use Rattle.jr_steps.proofs.DrawnLaws.{started_fit-law}
-use Rattle.jr_handed.specs.Kept.{IsOwn}
-use Rattle.jr_handed.proofs.OwnTickets.{own_started}
+use Rattle.jr_model.specs.PlanFacts.{IsPlanned}
+use Rattle.jr_laws_steps.proofs.DrawnLaws.{started_fit-law}
+use Rattle.jr_tickets.specs.Kept.{IsOwn}
+use Rattle.jr_tickets.proofs.OwnTickets.{own_started}
 
 -- the I/O of a ticket of the desk's own, and its clone
 pub record OwnParts (plan : Plan) (history : List Event) (ticket : Ticket) : Type 0 where

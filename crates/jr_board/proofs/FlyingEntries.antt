@@ -14,7 +14,7 @@ use Rattle.jr_model.specs.declared.events.Event.{Event}
 use Rattle.jr_model.specs.declared.events.Started.{Started}
 use Rattle.jr_model.specs.History.{started, outcome_of}
 use Rattle.jr_flight.specs.declared.ios.Io.{Io}
-use Rattle.jr_log_laws.specs.Flying.{io_of, if_flying_entry, flight_of}
+use Rattle.jr_laws_log.specs.Flying.{io_of, if_flying_entry, flight_of}
 
 neither : (a b : Bool) → not (a || b) ≡ true → (a ≡ false) × (not b ≡ true)
 neither true b h = cc

@@ -28,25 +28,25 @@ use Rattle.jr_model.specs.Plan.{Plan, SubJob, clone_of}
 use Rattle.jr_model.specs.Rounds.{pass_of, is_write_draw}
 use Rattle.jr_model.specs.Tickets.{piece_fits}
 use Rattle.jr_model.proofs.LegalLaws.{is_legal-more}
-use Rattle.jr_plan.specs.PlanFacts.{IsPlanned}
+use Rattle.jr_model.specs.PlanFacts.{IsPlanned}
 use Rattle.jr_header.specs.Served.{ticket_expected}
 use Rattle.jr_flight.specs.declared.ios.Io.{Io}
 use Rattle.jr_flight.specs.Flights.{conflicts, is_clear, writes}
 use Rattle.jr_writes.specs.declared.logs.Logged.{Logged}
 use Rattle.jr_writes.specs.LoggedWrites.{logged, settled, unsettled}
 use Rattle.jr_writes.proofs.EntryLemmas.{remove-insert_entry}
-use Rattle.jr_quiet.proofs.Issues.{may_issue_parts, may_take_up_parts}
-use Rattle.jr_steps.proofs.DrawnLaws.{started_fit-law}
-use Rattle.jr_steps.proofs.StartedLemmas.{started_next, same_some}
-use Rattle.jr_steps.proofs.StepLaws.{may_issue_of, may_probe_of}
-use Rattle.jr_log_laws.specs.Flying.{dir_of, io_of, flight_of}
-use Rattle.jr_log_laws.proofs.DrawLaws.{log_is_intact_of_draws}
-use Rattle.jr_log_laws.proofs.FlyingLaws.{next_is_free, clear_is_clear, next_flies, others_fly_on, ended_flies_no_more, flight-skips}
-use Rattle.jr_log_laws.proofs.IntactLaws.{fresh_at_end}
-use Rattle.jr_log_laws.proofs.LogGrowth.{log-same, log-read, log-whole, log-failed}
-use Rattle.jr_steps.specs.Nexts.{IsNext, grown}
-use Rattle.jr_handed.specs.Kept.{IsOwn}
-use Rattle.jr_handed.proofs.OwnTickets.{own_started}
+use Rattle.jr_laws_quiet.proofs.Issues.{may_issue_parts, may_take_up_parts}
+use Rattle.jr_laws_steps.proofs.DrawnLaws.{started_fit-law}
+use Rattle.jr_laws_steps.proofs.StartedLemmas.{started_next, same_some}
+use Rattle.jr_laws_steps.proofs.StepLaws.{may_issue_of, may_probe_of}
+use Rattle.jr_laws_log.specs.Flying.{dir_of, io_of, flight_of}
+use Rattle.jr_laws_log.proofs.DrawLaws.{log_is_intact_of_draws}
+use Rattle.jr_laws_log.proofs.FlyingLaws.{next_is_free, clear_is_clear, next_flies, others_fly_on, ended_flies_no_more, flight-skips}
+use Rattle.jr_laws_log.proofs.IntactLaws.{fresh_at_end}
+use Rattle.jr_laws_log.proofs.LogGrowth.{log-same, log-read, log-whole, log-failed}
+use Rattle.jr_laws_steps.specs.Nexts.{IsNext, grown}
+use Rattle.jr_tickets.specs.Kept.{IsOwn}
+use Rattle.jr_tickets.proofs.OwnTickets.{own_started}
 use Rattle.jr_board.specs.declared.flying.Flying.{Flying}
 use Rattle.jr_board.specs.Flyings.{with_begun, CanBegin, IsFlying}
 use Rattle.jr_board.specs.WriteLogs.{checked_by, log_of_run}

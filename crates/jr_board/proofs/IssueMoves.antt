@@ -24,29 +24,29 @@ use Rattle.jr_model.specs.Legal.{is_halted, takes_up}
 use Rattle.jr_model.specs.Plan.{Plan, SubJob, clone_of}
 use Rattle.jr_model.specs.Rounds.{pass_of, write_id, issued_count, all_issued, waits_for_round, pass_finished, has_rounds, group_of, group_index}
 use Rattle.jr_model.proofs.LegalLaws.{is_legal-more}
-use Rattle.jr_plan.specs.PlanFacts.{IsPlanned}
-use Rattle.jr_steps.proofs.IdleLaws.{numbered_of}
-use Rattle.jr_steps.proofs.PlaceLemmas.{all_from, got_made}
-use Rattle.jr_steps.proofs.StartedLemmas.{got_more, started_next, started_stays}
-use Rattle.jr_quiet.proofs.Groups.{filtered, got_drop}
-use Rattle.jr_quiet.proofs.Issues.{all_at}
+use Rattle.jr_model.specs.PlanFacts.{IsPlanned}
+use Rattle.jr_laws_steps.proofs.IdleLaws.{numbered_of}
+use Rattle.jr_laws_steps.proofs.PlaceLemmas.{all_from, got_made}
+use Rattle.jr_laws_steps.proofs.StartedLemmas.{got_more, started_next, started_stays}
+use Rattle.jr_laws_quiet.proofs.Groups.{filtered, got_drop}
+use Rattle.jr_laws_quiet.proofs.Issues.{all_at}
 use Rattle.jr_backlog.specs.Rounds.{Round, new_round, is_before, is_due, is_closed, takes_writes, comes_last, with_exhausted}
 use Rattle.jr_backlog.specs.CurrentRound.{current_round, round_up_to, last_issued, is_left}
 use Rattle.jr_backlog.specs.Kept.{after_issue, round_after, with_issued}
 use Rattle.jr_backlog.proofs.KeptFacts.{rounds_of-more}
-use Rattle.jr_round_laws.specs.Rounds.{HasRound}
-use Rattle.jr_round_laws.specs.Standing.{IsInPass}
-use Rattle.jr_round_laws.proofs.ChoiceSteps.{CanIssue, can_issue}
-use Rattle.jr_round_laws.proofs.CurrentLast.{issued_here}
-use Rattle.jr_round_laws.proofs.CurrentLaws.{waits-law, closed_at_end-law, left_in_pass-law}
-use Rattle.jr_round_laws.proofs.CurrentRounds.{iff_same}
-use Rattle.jr_round_laws.proofs.CurrentTurns.{IsIssued, its_draw}
-use Rattle.jr_round_laws.proofs.KeptLaws.{kept-law}
-use Rattle.jr_round_laws.proofs.KeptSettled.{or_false, ran_before, taken_issued}
-use Rattle.jr_round_laws.proofs.StandingPasses.{done_parts, issue_in}
-use Rattle.jr_round_laws.proofs.StandingSteps.{starts_in_pass, issue_keeps_pass, next_in_pass, issue_of_pass}
-use Rattle.jr_standing.specs.Deferred.{Deferred, is_settled, round_now, settled_round, with_draw, with_waiting}
-use Rattle.jr_steps.specs.Nexts.{IsNext, grown}
+use Rattle.jr_laws_rounds.specs.Rounds.{HasRound}
+use Rattle.jr_laws_rounds.specs.Standing.{IsInPass}
+use Rattle.jr_laws_rounds.proofs.ChoiceSteps.{CanIssue, can_issue}
+use Rattle.jr_laws_rounds.proofs.CurrentLast.{issued_here}
+use Rattle.jr_laws_rounds.proofs.CurrentLaws.{waits-law, closed_at_end-law, left_in_pass-law}
+use Rattle.jr_laws_rounds.proofs.CurrentRounds.{iff_same}
+use Rattle.jr_laws_rounds.proofs.CurrentPhases.{IsIssued, its_draw}
+use Rattle.jr_laws_rounds.proofs.KeptLaws.{kept-law}
+use Rattle.jr_laws_rounds.proofs.KeptSettled.{or_false, ran_before, taken_issued}
+use Rattle.jr_laws_rounds.proofs.StandingPasses.{done_parts, issue_in}
+use Rattle.jr_laws_rounds.proofs.StandingSteps.{starts_in_pass, issue_keeps_pass, next_in_pass, issue_of_pass}
+use Rattle.jr_backlog.specs.Deferred.{Deferred, is_settled, round_now, settled_round, with_draw, with_waiting}
+use Rattle.jr_laws_steps.specs.Nexts.{IsNext, grown}
 use Rattle.jr_board.specs.declared.standings.Issued.{Issued}
 use Rattle.jr_board.specs.declared.standings.Standing.{Standing}
 use Rattle.jr_board.specs.Standings.{IsStanding, WasIssued, name_of}

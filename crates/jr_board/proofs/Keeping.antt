@@ -1,6 +1,6 @@
 -- What a desk keeps beside its history goes on agreeing with it.
-use Rattle.std.proofs.Common.{◌≡◌, ℕ, ◌+◌, ◌≤◌, List, [], ◌∷◌, ◌++◌, length, map, Bool, true, false, ◌&&◌, not, cond, refl, sym, ◌∙◌, ap, subst, arith, append_assoc, append-nil}
-use Rattle.std.specs.Prelude.{Option, Some, None, slice_get, is_none, is_some, nat_lt, ◌==◌, IfSome}
+use Rattle.std.proofs.Common.{◌≡◌, ℕ, ◌+◌, ◌≤◌, List, [], ◌∷◌, ◌++◌, length, map, Bool, true, false, ◌&&◌, not, refl, sym, ◌∙◌, ap, subst, arith, append_assoc, append-nil}
+use Rattle.std.specs.Prelude.{Option, Some, None, slice_get, is_none, nat_lt, ◌==◌}
 use Rattle.std.specs.Bool.{MatchBool}
 use Rattle.std.specs.List.{enumerate_from, cons_option}
 use Rattle.std.proofs.lemmas.Bool.{and_from, eq-eqb, lt-ltb}
@@ -9,8 +9,6 @@ use Rattle.jr_model.specs.declared.events.Event.{Event}
 use Rattle.jr_model.specs.declared.events.Event.TheVariants.{Issue, Probe, Skip, End, Verdict}
 use Rattle.jr_model.specs.declared.events.Outcome.{Outcome}
 use Rattle.jr_model.specs.declared.events.Started.{Started}
-use Rattle.jr_model.specs.declared.steps.DeskFault.{DeskFault}
-use Rattle.jr_model.specs.declared.steps.DeskFault.TheVariants.{Stranger, Twice, WrongKind, Stopped}
 use Rattle.jr_model.specs.declared.tickets.Ticket.{Ticket}
 use Rattle.jr_model.specs.declared.tickets.TicketKind.{TicketKind}
 use Rattle.jr_model.specs.declared.tickets.TicketKind.TheVariants as ticket
@@ -26,17 +24,14 @@ use Rattle.std.proofs.lemmas.List.Elements.{filter_map-append}
 use Rattle.jr_model.specs.Plan.{Plan, SubJob, IsNumbered, clone_of}
 use Rattle.jr_model.proofs.LegalLaws.{is_legal-more, choice_may_happen}
 use Rattle.jr_model.proofs.MachineLaws.{verdict_of_fits}
-use Rattle.jr_plan.specs.PlanFacts.{IsPlanned}
-use Rattle.jr_header.specs.Served.{is_whole_check}
-use Rattle.jr_steps.proofs.CountLaws.{numbered_of}
-use Rattle.jr_steps.proofs.DrawnLaws.{started_fit-law}
-use Rattle.jr_steps.proofs.StartedLemmas.{started_below}
-use Rattle.jr_handed.specs.Kept.{IsOwn, tickets_of}
-use Rattle.jr_handed.specs.Tickets.{method_of, seed_of, expected_by, ticket_of}
-use Rattle.jr_handed.proofs.HandingLists.{enumerated}
-use Rattle.jr_handed.proofs.OwnTickets.{own_started}
-use Rattle.jr_board.specs.DeskState.{DeskState}
-use Rattle.jr_board.specs.Refusals.{Owns, judge_fault}
+use Rattle.jr_model.specs.PlanFacts.{IsPlanned}
+use Rattle.jr_laws_steps.proofs.CountLaws.{numbered_of}
+use Rattle.jr_laws_steps.proofs.DrawnLaws.{started_fit-law}
+use Rattle.jr_laws_steps.proofs.StartedLemmas.{started_below}
+use Rattle.jr_tickets.specs.Kept.{IsOwn, tickets_of}
+use Rattle.jr_tickets.specs.Tickets.{method_of, seed_of, expected_by, ticket_of}
+use Rattle.jr_tickets.proofs.HandingLists.{enumerated}
+use Rattle.jr_tickets.proofs.OwnTickets.{own_started}
 use Rattle.jr_board.specs.Takes.{IsChosen, last_started, ticket_for}
 
 -- tickets
@@ -162,46 +157,3 @@ may_judge plan history t by bytes planned legal own unjudged whole probe short =
     (subst (λ (o : Option Started). verdict_fits plan said o ≡ true) (sym io.1)
     (and_from (is_probe s.kind) (job_says (clone_of plan s.write.clone) s.piece.len said) is_check
     (subst (λ (o : Option SubJob). job_says o s.piece.len said ≡ true) (sym fits.1.planned) says)))
-
--- refusals
-
-pub end_refused : (stopped : Bool) (o : Option Outcome) → is_some o ≡ true → cond stopped (Some Stopped) (cond true (cond (is_none o) None (Some Twice)) (Some Stranger)) ≡ None → ⊥
-end_refused true o some h = cc
-end_refused false None some h = cc
-end_refused false (Some x) some h = cc
-
-pub none_from : (o : Option Outcome) → is_some o ≡ false → is_none o ≡ true
-none_from None h = refl
-none_from (Some x) h = cc
-
-pub judge_refused_twice : (stopped judged whole : Bool) → judged ≡ true → cond stopped (Some Stopped) (cond true (cond judged (Some Twice) (cond whole None (Some WrongKind))) (Some Stranger)) ≡ None → ⊥
-judge_refused_twice true true whole j h = cc
-judge_refused_twice false true whole j h = cc
-judge_refused_twice stopped false whole j h = cc
-
-pub judge_refused_kind : (stopped judged whole : Bool) → whole ≡ false → cond stopped (Some Stopped) (cond true (cond judged (Some Twice) (cond whole None (Some WrongKind))) (Some Stranger)) ≡ None → ⊥
-judge_refused_kind true judged false w h = cc
-judge_refused_kind false true false w h = cc
-judge_refused_kind false false false w h = cc
-judge_refused_kind stopped judged true w h = cc
-
-pub judged_probe : (kind : TicketKind) (how : Outcome) → is_whole_check kind how ≡ true → is_probe kind ≡ true
-judged_probe ticket.Probe how h = refl
-judged_probe ticket.Read how h = cc
-judged_probe ticket.Write how h = cc
-
-pub judge_free : (stopped judged whole : Bool) → stopped ≡ false → judged ≡ false → whole ≡ true → cond stopped (Some Stopped) (cond true (cond judged (Some Twice) (cond whole None (Some WrongKind))) (Some Stranger)) ≡ None
-judge_free false false true s j w = refl
-judge_free true judged whole s j w = cc
-judge_free false true whole s j w = cc
-judge_free false false false s j w = cc
-
--- a verdict that is taken in is not refused
-pub judge_accepts : (desk : DeskState) (t : Ticket) (P : DeskFault → Type 0) → IsOwn desk.plan desk.history t → desk.is_stopped ≡ false → is_judged desk.history t.id ≡ false → ended_whole (outcome_of desk.history t.id) ≡ true → (own : Bool) → Owns desk t own → IfSome (judge_fault desk t.id own) P
-judge_accepts desk t P is going unjudged whole true owns =
-    subst (λ (o : Option DeskFault). IfSome o P) (sym (judge_free desk.is_stopped (is_judged desk.history t.id) (ended_whole (outcome_of desk.history t.id)) going unjudged whole)) tt
-judge_accepts desk t P is going unjudged whole false owns = absurd (owns is)
-
-pub not_stopped : (stopped : Bool) → (stopped ≡ true → ⊥) → stopped ≡ false
-not_stopped false f = refl
-not_stopped true f = absurd (f refl)

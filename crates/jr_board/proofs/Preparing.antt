@@ -7,10 +7,10 @@ use Rattle.std.proofs.lemmas.List.Sums.{sum_by_more}
 use Rattle.std.proofs.lemmas.Option.{slice_get_within}
 use Rattle.jr_model.specs.declared.events.Event.{Event}
 use Rattle.jr_model.specs.Plan.{Plan, SubJob, clone_of}
-use Rattle.jr_steps.proofs.PlaceLemmas.{item_at}
-use Rattle.jr_steps.proofs.StartedLemmas.{got_more, same_some}
-use Rattle.jr_standing.specs.Deferred.{is_settled}
-use Rattle.jr_steps.proofs.Lists.{got_set, got_set_other}
+use Rattle.jr_laws_steps.proofs.PlaceLemmas.{item_at}
+use Rattle.jr_laws_steps.proofs.StartedLemmas.{got_more, same_some}
+use Rattle.jr_backlog.specs.Deferred.{is_settled}
+use Rattle.jr_laws_steps.proofs.Lists.{got_set, got_set_other}
 use Rattle.jr_board.specs.declared.standings.Standing.{Standing}
 use Rattle.jr_board.specs.Boards.{left_of}
 use Rattle.jr_board.specs.Standings.{ArePrepared, AreStanding, IsPrepared, IsStanding}

@@ -11,17 +11,17 @@ use Rattle.jr_model.specs.Draws.{draws_of_job}
 use Rattle.jr_model.specs.Legal.{is_at_rest, is_complete, is_halted, is_legal, is_over, phase_is_open}
 use Rattle.jr_model.specs.Plan.{Plan, SubJob, clone_of}
 use Rattle.jr_model.specs.Rounds.{pass_of, issued_count, all_issued, has_rounds, nothing_flies_of, pass_finished, clone_finished}
-use Rattle.jr_plan.specs.PlanFacts.{IsPlanned}
+use Rattle.jr_model.specs.PlanFacts.{IsPlanned}
 use Rattle.jr_backlog.specs.Rounds.{Round, is_closed}
 use Rattle.jr_backlog.specs.CurrentRound.{current_round}
-use Rattle.jr_standing.specs.Deferred.{round_now}
-use Rattle.jr_steps.proofs.IdleLaws.{numbered_of}
-use Rattle.jr_steps.proofs.IssueLaws.{issued_at_most}
-use Rattle.jr_steps.proofs.PlaceLemmas.{all_from, item_at, made_at}
-use Rattle.jr_quiet.proofs.Issues.{all_at}
-use Rattle.jr_round_laws.proofs.CurrentLaws.{closed_at_end-law}
-use Rattle.jr_round_laws.proofs.StandingFinished.{finished_by_standing-law, clone_finished_by_standing-law}
-use Rattle.jr_round_laws.proofs.StandingLists.{same_test}
+use Rattle.jr_backlog.specs.Deferred.{round_now}
+use Rattle.jr_laws_steps.proofs.IdleLaws.{numbered_of}
+use Rattle.jr_laws_steps.proofs.IssueLaws.{issued_at_most}
+use Rattle.jr_laws_steps.proofs.PlaceLemmas.{all_from, item_at, made_at}
+use Rattle.jr_laws_quiet.proofs.Issues.{all_at}
+use Rattle.jr_laws_rounds.proofs.CurrentLaws.{closed_at_end-law}
+use Rattle.jr_laws_rounds.proofs.StandingFinished.{finished_by_standing-law, clone_finished_by_standing-law}
+use Rattle.jr_laws_rounds.proofs.StandingLists.{same_test}
 use Rattle.jr_tallies.specs.Tallies.{flying_issues, flying_checks, awaited}
 use Rattle.jr_tallies.proofs.Compared.{nothing_flies_of-counts, is_at_rest-counts, is_complete-counts}
 use Rattle.jr_tallies.specs.declared.tallies.Counts.{Counts}

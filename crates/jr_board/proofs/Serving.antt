@@ -10,7 +10,7 @@ use Rattle.jr_model.specs.Judgement.{verdict_of}
 use Rattle.jr_model.specs.Machine.{content_in_job, content_of_io, verdict_in_job, verdict_on}
 use Rattle.jr_model.specs.Plan.{Plan, SubJob, clone_of}
 use Rattle.jr_header.specs.Served.{is_whole_check, ticket_content}
-use Rattle.jr_handed.specs.Tickets.{method_of, seed_of, expected_by, ticket_of}
+use Rattle.jr_tickets.specs.Tickets.{method_of, seed_of, expected_by, ticket_of}
 
 -- the bytes of a ticket's write are those of its I/O
 pub content_is : (plan : Plan) (id : ℕ) (io : Started) (job : SubJob) → clone_of plan io.write.clone ≡ Some job → ticket_content (ticket_of plan (id, io)) ≡ content_of_io plan io

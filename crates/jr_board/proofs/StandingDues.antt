@@ -22,26 +22,26 @@ use Rattle.jr_model.specs.Rounds.{pass_of, write_id, is_write_draw, issued_count
 use Rattle.jr_model.proofs.LegalLaws.{is_legal-more, same_write_refl}
 use Rattle.jr_model.proofs.SerialLaws.{first_given-append}
 use Rattle.jr_model.proofs.Equality.{eq_write}
-use Rattle.jr_plan.specs.PlanFacts.{IsPlanned}
-use Rattle.jr_steps.proofs.IdleLaws.{numbered_of}
-use Rattle.jr_steps.proofs.OnceLaws.{is_taken_up, started_once-law}
-use Rattle.jr_steps.proofs.StartedLemmas.{by_events, same_some, started-other, started_stays}
-use Rattle.jr_steps.proofs.StepLaws.{may_probe_of, may_skip_of}
-use Rattle.jr_quiet.proofs.Checks.{settled_taken}
-use Rattle.jr_quiet.proofs.Groups.{number_is}
-use Rattle.jr_quiet.proofs.Members.{in_own_group, full_issued}
-use Rattle.jr_quiet.proofs.Turns.{open_parts}
+use Rattle.jr_model.specs.PlanFacts.{IsPlanned}
+use Rattle.jr_laws_steps.proofs.IdleLaws.{numbered_of}
+use Rattle.jr_laws_steps.proofs.OnceLaws.{is_taken_up, started_once-law}
+use Rattle.jr_laws_steps.proofs.StartedLemmas.{by_events, same_some, started-other, started_stays}
+use Rattle.jr_laws_steps.proofs.StepLaws.{may_probe_of, may_skip_of}
+use Rattle.jr_laws_quiet.proofs.Checks.{settled_taken}
+use Rattle.jr_laws_quiet.proofs.Groups.{number_is}
+use Rattle.jr_laws_quiet.proofs.Members.{in_own_group, full_issued}
+use Rattle.jr_laws_quiet.proofs.Phases.{open_parts}
 use Rattle.jr_backlog.specs.Rounds.{is_due, is_to_check}
 use Rattle.jr_backlog.specs.CurrentRound.{current_round}
-use Rattle.jr_round_laws.specs.Rounds.{HasRound}
-use Rattle.jr_round_laws.specs.Standing.{IsInPass}
-use Rattle.jr_round_laws.proofs.ChoiceSteps.{can_take, unbegun_not_taken}
-use Rattle.jr_round_laws.proofs.CurrentLaws.{left_unsettled-law}
-use Rattle.jr_round_laws.proofs.CurrentTurns.{full_longer}
-use Rattle.jr_round_laws.proofs.KeptSettled.{settled_after}
-use Rattle.jr_round_laws.proofs.StandingFlights.{FliesOf, flies_there, flew_or_starts}
-use Rattle.jr_round_laws.proofs.StandingPasses.{TakeIn, take_in, done_parts, none_taken, at_number, started_counts}
-use Rattle.jr_round_laws.proofs.StandingSteps.{finished_before}
+use Rattle.jr_laws_rounds.specs.Rounds.{HasRound}
+use Rattle.jr_laws_rounds.specs.Standing.{IsInPass}
+use Rattle.jr_laws_rounds.proofs.ChoiceSteps.{can_take, unbegun_not_taken}
+use Rattle.jr_laws_rounds.proofs.CurrentLaws.{left_unsettled-law}
+use Rattle.jr_laws_rounds.proofs.CurrentPhases.{full_longer}
+use Rattle.jr_laws_rounds.proofs.KeptSettled.{settled_after}
+use Rattle.jr_laws_rounds.proofs.StandingFlights.{FliesOf, flies_there, flew_or_starts}
+use Rattle.jr_laws_rounds.proofs.StandingPasses.{TakeIn, take_in, done_parts, none_taken, at_number, started_counts}
+use Rattle.jr_laws_rounds.proofs.StandingSteps.{finished_before}
 
 -- a write of the clone whose group is full, and that isn't settled
 pub record IsLeft (job : SubJob) (h : List Event) (w : WriteId) : Type 0 where

@@ -22,26 +22,26 @@ use Rattle.jr_model.specs.Legal.{is_legal, is_halted, end_fits, takes_up}
 use Rattle.jr_model.specs.Plan.{Plan, SubJob, clone_of}
 use Rattle.jr_model.specs.Rounds.{pass_of, issues_of, issued_count, has_rounds}
 use Rattle.jr_model.proofs.LegalLaws.{is_legal-more, same_write_refl}
-use Rattle.jr_plan.specs.PlanFacts.{IsPlanned}
-use Rattle.jr_steps.proofs.IdleLaws.{numbered_of}
-use Rattle.jr_steps.proofs.StartedLemmas.{started_stays}
-use Rattle.jr_steps.proofs.StepLaws.{may_probe_of, may_skip_of}
-use Rattle.jr_quiet.proofs.Issues.{issued_same}
+use Rattle.jr_model.specs.PlanFacts.{IsPlanned}
+use Rattle.jr_laws_steps.proofs.IdleLaws.{numbered_of}
+use Rattle.jr_laws_steps.proofs.StartedLemmas.{started_stays}
+use Rattle.jr_laws_steps.proofs.StepLaws.{may_probe_of, may_skip_of}
+use Rattle.jr_laws_quiet.proofs.Issues.{issued_same}
 use Rattle.jr_backlog.specs.Rounds.{Round, is_to_check, with_passed}
 use Rattle.jr_backlog.specs.CurrentRound.{current_round}
 use Rattle.jr_backlog.specs.Kept.{after_end, after_issue, round_after}
 use Rattle.jr_backlog.proofs.KeptFacts.{rounds_of-more}
-use Rattle.jr_round_laws.specs.Rounds.{HasRound}
-use Rattle.jr_round_laws.specs.Standing.{IsInPass}
-use Rattle.jr_round_laws.proofs.ChoiceSteps.{can_take}
-use Rattle.jr_round_laws.proofs.KeptLaws.{kept-law}
-use Rattle.jr_round_laws.proofs.KeptSettled.{or_false, ran_before}
-use Rattle.jr_round_laws.proofs.StandingFlights.{FliesOf}
-use Rattle.jr_round_laws.proofs.StandingPasses.{TakeIn, take_in}
-use Rattle.jr_round_laws.proofs.StandingSteps.{other_clone, other_keeps_pass}
-use Rattle.jr_standing.specs.Deferred.{Deferred, is_settled, round_now, settled_round}
-use Rattle.jr_steps.specs.Nexts.{IsNext, grown}
-use Rattle.jr_steps.proofs.Lists.{got_set}
+use Rattle.jr_laws_rounds.specs.Rounds.{HasRound}
+use Rattle.jr_laws_rounds.specs.Standing.{IsInPass}
+use Rattle.jr_laws_rounds.proofs.ChoiceSteps.{can_take}
+use Rattle.jr_laws_rounds.proofs.KeptLaws.{kept-law}
+use Rattle.jr_laws_rounds.proofs.KeptSettled.{or_false, ran_before}
+use Rattle.jr_laws_rounds.proofs.StandingFlights.{FliesOf}
+use Rattle.jr_laws_rounds.proofs.StandingPasses.{TakeIn, take_in}
+use Rattle.jr_laws_rounds.proofs.StandingSteps.{other_clone, other_keeps_pass}
+use Rattle.jr_backlog.specs.Deferred.{Deferred, is_settled, round_now, settled_round}
+use Rattle.jr_laws_steps.specs.Nexts.{IsNext, grown}
+use Rattle.jr_laws_steps.proofs.Lists.{got_set}
 use Rattle.jr_board.specs.declared.standings.Issued.{Issued}
 use Rattle.jr_board.specs.declared.standings.Standing.{Standing}
 use Rattle.jr_board.specs.Standings.{IsStanding, WasIssued, name_of}

@@ -5,7 +5,7 @@ use Rattle.std.specs.Prelude.{Some}
 use Rattle.std.proofs.lemmas.List.{get_or-set_same}
 use Rattle.jr_model.specs.declared.events.Event.{Event}
 use Rattle.jr_model.specs.Plan.{Plan, SubJob, clone_of}
-use Rattle.jr_standing.specs.Deferred.{Deferred, round_now}
+use Rattle.jr_backlog.specs.Deferred.{Deferred, round_now}
 use Rattle.jr_board.specs.declared.standings.Standing.{Standing}
 use Rattle.jr_board.specs.Standings.{IsStanding, AreStanding}
 use Rattle.jr_board.proofs.StartingStandings.{standing_moves}

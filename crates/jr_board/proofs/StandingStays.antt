@@ -8,7 +8,7 @@ use Rattle.jr_model.specs.declared.events.Outcome.{Outcome}
 use Rattle.jr_model.specs.declared.events.Verdict.{Verdict}
 use Rattle.jr_model.specs.declared.tickets.Ticket.{Ticket}
 use Rattle.jr_model.specs.Plan.{Plan, SubJob, clone_of}
-use Rattle.jr_steps.specs.Nexts.{IsNext, grown}
+use Rattle.jr_laws_steps.specs.Nexts.{IsNext, grown}
 use Rattle.jr_board.specs.declared.standings.Standing.{Standing}
 use Rattle.jr_board.specs.Standings.{IsStanding, AreStanding}
 use Rattle.jr_board.proofs.EndingParts.{OwnParts}

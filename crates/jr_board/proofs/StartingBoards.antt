@@ -6,9 +6,9 @@ use Rattle.jr_model.specs.declared.events.Event.{Event}
 use Rattle.jr_model.specs.Legal.{is_legal, may_happen}
 use Rattle.jr_model.specs.Plan.{Plan, SubJob, clone_of}
 use Rattle.jr_model.proofs.LegalLaws.{is_legal-more}
-use Rattle.jr_steps.specs.Nexts.{IsNext, grown}
+use Rattle.jr_laws_steps.specs.Nexts.{IsNext, grown}
 use Rattle.jr_tallies.specs.Tallying.{IsTallied}
-use Rattle.jr_handed.specs.Handing.{IsHanded}
+use Rattle.jr_tickets.specs.Handing.{IsHanded}
 use Rattle.jr_board.specs.declared.board.Board.{Board}
 use Rattle.jr_board.specs.declared.standings.Standing.{Standing}
 use Rattle.jr_board.specs.Boards.{IsBoard}
@@ -45,7 +45,7 @@ pub board_grows : (plan : Plan) (before after : Board) (event : Event)
     → IsBoard plan before
     → may_happen plan before.history.items event ≡ true
     → after.history.items ≡ grown before.history.items event
-    → IsHanded plan (grown before.history.items event) after.handed
+    → IsHanded plan (grown before.history.items event) after.tickets
     → IsFlying (grown before.history.items event) after.flying
     → after.log ≡ log_of_run plan (grown before.history.items event)
     → IsTallied plan (grown before.history.items event) after.tallies
@@ -57,7 +57,7 @@ board_grows plan before after event is may history handed flying log tallies sta
       planned = is.planned;
       legal =
           subst (λ (h : List Event). is_legal plan h ≡ true) same (is_legal-more plan before.history.items event is.legal may);
-      handed = subst (λ (h : List Event). IsHanded plan h after.handed) same handed;
+      tickets = subst (λ (h : List Event). IsHanded plan h after.tickets) same handed;
       flying = subst (λ (h : List Event). IsFlying h after.flying) same flying;
       log = subst (λ (h : List Event). after.log ≡ log_of_run plan h) same log;
       tallies = subst (λ (h : List Event). IsTallied plan h after.tallies) same tallies;

@@ -10,8 +10,8 @@ use Rattle.std.proofs.lemmas.List.Sums.{length-filter, sum_by-cons, sum_by-set}
 use Rattle.std.proofs.lemmas.Option.{get_or_from_slice_get, slice_get_within}
 use Rattle.jr_model.specs.declared.events.Event.{Event}
 use Rattle.jr_model.specs.Plan.{Plan, SubJob, clone_of}
-use Rattle.jr_steps.proofs.StartedLemmas.{same_some}
-use Rattle.jr_steps.proofs.Lists.{got_set}
+use Rattle.jr_laws_steps.proofs.StartedLemmas.{same_some}
+use Rattle.jr_laws_steps.proofs.Lists.{got_set}
 use Rattle.jr_board.specs.declared.standings.Standing.{Standing}
 use Rattle.jr_board.specs.Boards.{left_of}
 use Rattle.jr_board.specs.Standings.{ArePrepared, AreStanding, IsPrepared, IsStanding}

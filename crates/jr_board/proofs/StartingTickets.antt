@@ -27,12 +27,12 @@ use Rattle.jr_model.specs.Rounds.{pass_of, write_id}
 use Rattle.jr_writes.specs.declared.logs.Logged.{Logged}
 use Rattle.jr_writes.specs.LoggedWrites.{logged}
 use Rattle.jr_flight.specs.declared.ios.Io.{Io}
-use Rattle.jr_log_laws.specs.Flying.{dir_of, io_of}
-use Rattle.jr_steps.proofs.StepLaws.{IsNamed}
-use Rattle.jr_steps.proofs.StartedLemmas.{same_some}
-use Rattle.jr_handed.specs.Kept.{tickets_of}
-use Rattle.jr_handed.specs.Tickets.{method_of, seed_of, expected_by, ticket_of}
-use Rattle.jr_handed.proofs.HandingMoves.{ticket_started}
+use Rattle.jr_laws_log.specs.Flying.{dir_of, io_of}
+use Rattle.jr_laws_steps.proofs.StepLaws.{IsNamed}
+use Rattle.jr_laws_steps.proofs.StartedLemmas.{same_some}
+use Rattle.jr_tickets.specs.Kept.{tickets_of}
+use Rattle.jr_tickets.specs.Tickets.{method_of, seed_of, expected_by, ticket_of}
+use Rattle.jr_tickets.proofs.HandingMoves.{ticket_started}
 use Rattle.jr_board.specs.declared.board.Board.{Board}
 use Rattle.jr_board.specs.declared.standings.Issued.{Issued}
 use Rattle.jr_board.specs.declared.standings.Standing.{Standing}

@@ -16,9 +16,9 @@ use Rattle.jr_model.specs.Machine.{is_skip}
 use Rattle.jr_model.specs.Plan.{Plan}
 use Rattle.jr_model.specs.Rounds.{pass_of}
 use Rattle.jr_model.proofs.LegalLaws.{choice_is_step, choice_may_happen, cases_step_of}
-use Rattle.jr_plan.specs.PlanFacts.{IsPlanned}
-use Rattle.jr_steps.proofs.CountLaws.{numbered_of}
-use Rattle.jr_handed.specs.Tickets.{ticket_of}
+use Rattle.jr_model.specs.PlanFacts.{IsPlanned}
+use Rattle.jr_laws_steps.proofs.CountLaws.{numbered_of}
+use Rattle.jr_tickets.specs.Tickets.{ticket_of}
 use Rattle.jr_board.specs.declared.board.Board.{Board}
 use Rattle.jr_board.specs.Boards.{IsBoard, IsReady}
 use Rattle.jr_board.specs.Takes.{IsChosen, ticket_for}

@@ -2,9 +2,9 @@
 use Rattle.std.specs.Prelude.{◌≡◌, ◌+◌, ◌<◌, ℕ, true, List, length, sum_by, None, vec_len, vec_capacity}
 use Rattle.jr_model.specs.Legal.{is_legal}
 use Rattle.jr_model.specs.Plan.{Plan}
-use Rattle.jr_plan.specs.PlanFacts.{IsPlanned}
+use Rattle.jr_model.specs.PlanFacts.{IsPlanned}
 use Rattle.jr_tallies.specs.Tallying.{IsTallied}
-use Rattle.jr_handed.specs.Handing.{IsHanded}
+use Rattle.jr_tickets.specs.Handing.{IsHanded}
 use Rattle.jr_board.specs.declared.board.Board.{Board}
 use Rattle.jr_board.specs.declared.standings.Standing.{Standing}
 use Rattle.jr_board.specs.Flyings.{IsFlying}
@@ -15,7 +15,7 @@ use Rattle.jr_board.specs.WriteLogs.{log_of_run}
 pub record IsBoard (plan : Plan) (board : Board) : Type 0 where
   pub planned : IsPlanned plan
   pub legal : is_legal plan board.history.items ≡ true
-  pub handed : IsHanded plan board.history.items board.handed
+  pub tickets : IsHanded plan board.history.items board.tickets
   pub flying : IsFlying board.history.items board.flying
   pub log : board.log ≡ log_of_run plan board.history.items
   pub tallies : IsTallied plan board.history.items board.tallies
@@ -28,8 +28,8 @@ left_of standings = sum_by (λ (standing : Standing). length standing.rounds.rou
 -- a skip of each write that is still to check, and one more step, take no memory
 pub record IsReady (plan : Plan) (board : Board) : Type 0 where
   pub history : vec_len board.history + left_of board.standings.items < vec_capacity board.history
-  pub launches : vec_len board.handed.launches < vec_capacity board.handed.launches
-  pub headers : vec_len board.handed.headers < vec_capacity board.handed.headers
-  pub progress : vec_len board.handed.progress < vec_capacity board.handed.progress
+  pub launches : vec_len board.tickets.launches < vec_capacity board.tickets.launches
+  pub headers : vec_len board.tickets.headers < vec_capacity board.tickets.headers
+  pub states : vec_len board.tickets.states < vec_capacity board.tickets.states
   pub flying : board.flying.begun ≡ None
   pub standings : ArePrepared plan board.standings.items

@@ -6,7 +6,7 @@ use Rattle.jr_model.specs.declared.events.Event.{Event}
 use Rattle.jr_model.specs.Tickets.{piece_fits}
 use Rattle.jr_flight.specs.declared.ios.Io.{Io}
 use Rattle.jr_flight.specs.Flights.{flying_io, is_clear}
-use Rattle.jr_log_laws.specs.Flying.{flight_of}
+use Rattle.jr_laws_log.specs.Flying.{flight_of}
 use Rattle.jr_board.specs.declared.flying.Flying.{Flying}
 
 -- with this I/O, if there is one

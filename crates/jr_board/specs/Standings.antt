@@ -10,8 +10,8 @@ use Rattle.jr_model.specs.Legal.{is_halted, takes_up}
 use Rattle.jr_model.specs.Plan.{Plan, SubJob, clone_of}
 use Rattle.jr_model.specs.Rounds.{pass_of, issued_count, has_rounds}
 use Rattle.jr_backlog.specs.CurrentRound.{current_round}
-use Rattle.jr_round_laws.specs.Standing.{IsInPass}
-use Rattle.jr_standing.specs.Deferred.{is_settled, round_now}
+use Rattle.jr_laws_rounds.specs.Standing.{IsInPass}
+use Rattle.jr_backlog.specs.Deferred.{is_settled, round_now}
 use Rattle.jr_board.specs.declared.standings.Issued.{Issued}
 use Rattle.jr_board.specs.declared.standings.Standing.{Standing}
 

@@ -11,7 +11,7 @@ use Rattle.jr_model.specs.Legal.{is_complete}
 use Rattle.jr_model.specs.Machine.{Appends}
 use Rattle.jr_model.specs.Plan.{Plan}
 use Rattle.jr_model.specs.Tickets.{ticket_fits}
-use Rattle.jr_handed.specs.Tickets.{ticket_of}
+use Rattle.jr_tickets.specs.Tickets.{ticket_of}
 use Rattle.jr_board.specs.declared.takes.Take.{Take}
 use Rattle.jr_board.specs.declared.takes.Take.TheVariants as take
 

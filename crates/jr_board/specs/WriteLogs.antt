@@ -9,8 +9,8 @@ use Rattle.jr_model.specs.Draws.{draws_of}
 use Rattle.jr_model.specs.Machine.{seed_of_draw}
 use Rattle.jr_model.specs.Plan.{Plan, clone_of}
 use Rattle.jr_writes.specs.declared.logs.Logged.{Logged}
-use Rattle.jr_log_laws.specs.Intact.{log_after}
-use Rattle.jr_handed.specs.Tickets.{method_of}
+use Rattle.jr_laws_log.specs.Intact.{log_after}
+use Rattle.jr_tickets.specs.Tickets.{method_of}
 
 -- what a check of a write of the plan is judged by
 abbrev pub checked_by : Plan → WriteId → Piece → Expected

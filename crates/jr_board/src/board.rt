@@ -1,8 +1,8 @@
 use crate::flying::Flying;
 use crate::standings::Standing;
-use jr_handed::Handed;
 use jr_model::Event;
 use jr_tallies::Tallies;
+use jr_tickets::TicketTable;
 use jr_writes::WriteLog;
 
 // What happened in a run, and what is kept of it, so that no call looks at the whole history.
@@ -10,7 +10,7 @@ use jr_writes::WriteLog;
 pub struct Board {
     // All events, the oldest first. It is appended to alone.
     pub history: Vec<Event>,
-    pub handed: Handed,
+    pub tickets: TicketTable,
     pub flying: Flying,
     pub log: WriteLog,
     pub tallies: Tallies,

@@ -7,8 +7,8 @@ ghost use Rattle.jr_model.specs.Plan.{SubJob as Clone, clone_of};
 ghost use Rattle.jr_model.specs.Rounds.{has_rounds, pass_of};
 ghost use Rattle.jr_model.specs.Tickets.{piece_fits};
 ghost use Rattle.jr_backlog.specs.CurrentRound.{current_round};
-ghost use Rattle.jr_standing.specs.Deferred.{is_settled};
-ghost use Rattle.jr_round_laws.specs.Standing.{is_under_way, issue_of, next_issue, take_up_write};
+ghost use Rattle.jr_backlog.specs.Deferred.{is_settled};
+ghost use Rattle.jr_laws_rounds.specs.Standing.{is_under_way, issue_of, next_issue, take_up_write};
 ghost use Rattle.jr_board.specs.Boards.{IsBoard, IsReady};
 ghost use Rattle.jr_board.specs.declared.standings.Standing.{Standing as Stood};
 
@@ -19,7 +19,7 @@ use jr_model::{Dir, Draw, Event, WriteId};
 use jr_plan::Plan;
 
 // What a take by this worker appends next, if it may append anything: the least step of all clones.
-pub fn choose(plan: &Plan, board: &Board, worker: u32) -> Option<Event>
+pub(crate) fn choose(plan: &Plan, board: &Board, worker: u32) -> Option<Event>
     requires board { IsBoard plan.now board.now }
     requires ready { IsReady plan.now board.now }
     ensures { result ≡ choice plan.now board.now.history.items worker }
@@ -104,7 +104,7 @@ fn take_up(
     if issued.is_taken_up {
         return None;
     }
-    let piece = board.handed.piece(issued.id)?;
+    let piece = board.tickets.piece(issued.id)?;
     if !board.flying.is_clear(&piece, Dir::Read) {
         return None;
     }

@@ -8,10 +8,10 @@ ghost use Rattle.jr_model.specs.Legal.{may_happen, is_halted as is_halted_after}
 ghost use Rattle.jr_model.specs.Plan.{Plan as Planned, SubJob as Clone, clone_of};
 ghost use Rattle.jr_header.specs.Served.{ticket_expected};
 ghost use Rattle.jr_backlog.specs.Rounds.{is_to_check};
-ghost use Rattle.jr_standing.specs.Deferred.{is_settled};
+ghost use Rattle.jr_backlog.specs.Deferred.{is_settled};
 ghost use Rattle.jr_board.specs.Boards.{IsBoard};
-ghost use Rattle.jr_handed.specs.Kept.{IsOwn};
-ghost use Rattle.jr_steps.specs.Nexts.{IsNext, grown};
+ghost use Rattle.jr_tickets.specs.Kept.{IsOwn};
+ghost use Rattle.jr_laws_steps.specs.Nexts.{IsNext, grown};
 ghost use Rattle.jr_board.specs.Standings.{IsStanding};
 
 use crate::board::Board;
@@ -48,7 +48,7 @@ pub fn end(
     });
     let is_halted = board.tallies.counts[clone].is_halted;
     check_off(&mut board.standings[clone], ticket, outcome, is_halted);
-    board.handed.end(ticket.id, outcome);
+    board.tickets.end(ticket.id, outcome);
     board.flying.end(ticket.id);
     board
         .tallies
@@ -80,7 +80,7 @@ pub fn judge(
         verdict,
     });
     let is_fatal = plan.clone_at(ticket.write.clone as usize).is_fatal();
-    board.handed.judge(ticket.id);
+    board.tickets.judge(ticket.id);
     board
         .tallies
         .judged(ticket.write, ticket.piece, is_fatal, verdict);

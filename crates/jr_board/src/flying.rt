@@ -8,9 +8,9 @@ ghost use Rattle.jr_model.specs.Legal.{is_clear};
 ghost use Rattle.jr_model.specs.Plan.{Plan};
 ghost use Rattle.jr_model.specs.Tickets.{piece_fits};
 ghost use Rattle.jr_flight.specs.Flights.{writes};
-ghost use Rattle.jr_log_laws.specs.Flying.{io_of};
+ghost use Rattle.jr_laws_log.specs.Flying.{io_of};
 ghost use Rattle.jr_board.specs.Flyings.{CanBegin, IsFlying};
-ghost use Rattle.jr_steps.specs.Nexts.{IsNext, grown};
+ghost use Rattle.jr_laws_steps.specs.Nexts.{IsNext, grown};
 
 use jr_flight::{Flight, Io};
 use jr_model::{Dir, IoId, Memory, Piece};

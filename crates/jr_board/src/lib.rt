@@ -1,10 +1,9 @@
-// The desk: the one shared state of a run. It hands out I/O and takes in results, and its history is the run. What it keeps
-// beside the history are indexes of it, each with a definition over the history, so that no call looks at the whole history.
+// What the desk keeps of a run: its history, and indexes of it, each with a definition over the history, so that no call looks at
+// the whole history. And the steps that the desk takes over them: the desk itself stands in `jr_desk`.
 #![tactic(auto)]
 
 mod board;
 mod choosing;
-mod desk;
 mod ending;
 mod flying;
 mod resting;
@@ -14,7 +13,8 @@ mod takes;
 mod taking;
 mod written;
 
-pub use desk::Desk;
-pub use jr_model::{DeskFault, Totals};
-pub use jr_tallies::Bad;
+pub use board::Board;
+pub use ending::{end, judge};
+pub use resting::is_complete;
 pub use takes::Take;
+pub use taking::{answer_to, new_board, prepare, start_next};

@@ -10,10 +10,11 @@ use crate::standings::has_rounds;
 use jr_plan::Plan;
 
 // Whether the pass that a clone is in is finished, where the clone isn't halted.
-pub fn pass_is_finished(plan: &Plan, board: &Board, clone: usize) -> bool
+pub(crate) fn pass_is_finished(plan: &Plan, board: &Board, clone: usize) -> bool
     requires board { IsBoard plan.now board.now }
     requires runs { (job : Clone) → clone_of plan.now clone ≡ Some job → is_halted board.now.history.items job ≡ false }
-    ensures { (job : Clone) (standing : Stood) → clone_of plan.now clone ≡ Some job → slice_get board.now.standings.items clone ≡ Some standing
+    ensures { (job : Clone) (standing : Stood) → clone_of plan.now clone ≡ Some job
+        → slice_get board.now.standings.items clone ≡ Some standing
         → result ≡ pass_finished board.now.history.items (pass_of job standing.pass) }
 {
     if clone >= plan.clones()
@@ -31,7 +32,7 @@ pub fn pass_is_finished(plan: &Plan, board: &Board, clone: usize) -> bool
 }
 
 // Whether a clone is finished or halted, with nothing in flight and no verdict to come.
-pub fn is_at_rest(plan: &Plan, board: &Board, clone: usize) -> bool
+pub(crate) fn is_at_rest(plan: &Plan, board: &Board, clone: usize) -> bool
     requires board { IsBoard plan.now board.now }
     ensures { (job : Clone) → clone_of plan.now clone ≡ Some job → result ≡ is_at_rest board.now.history.items job }
 {
@@ -58,7 +59,7 @@ pub fn is_at_rest(plan: &Plan, board: &Board, clone: usize) -> bool
 
 // The first phase of which a clone isn't at rest: draws of later phases may not be issued. No phase is later where all
 // clones are at rest.
-pub fn open_phase(plan: &Plan, board: &Board) -> u32
+pub(crate) fn open_phase(plan: &Plan, board: &Board) -> u32
     requires { IsBoard plan.now board.now }
     ensures { (clone : ℕ) (job : Clone) → clone_of plan.now clone ≡ Some job
         → phase_is_open plan.now board.now.history.items job ≡ nat_le job.phase result }

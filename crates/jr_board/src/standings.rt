@@ -1,4 +1,5 @@
-ghost use Rattle.std.specs.Prelude.{◌≡◌, ◌<◌, ℕ, suc, true, false, List, [], length, slice_get, Some, None, IfOk, OnOk, unwrap_or, vec_capacity};
+ghost use Rattle.std.specs.Prelude.{◌≡◌, ◌<◌, ℕ, suc, true, false, List, [], length, slice_get, Some, None, IfOk, OnOk};
+ghost use Rattle.std.specs.Prelude.{unwrap_or, vec_capacity};
 ghost use Rattle.jr_model.specs.declared.blocks.Dir.TheVariants as direction;
 ghost use Rattle.jr_model.specs.declared.blocks.Piece.{Piece as Place};
 ghost use Rattle.jr_model.specs.declared.events.Event.{Event};
@@ -12,15 +13,16 @@ ghost use Rattle.jr_model.specs.Legal.{is_halted};
 ghost use Rattle.jr_model.specs.Machine.{seed_of_draw};
 ghost use Rattle.jr_model.specs.Plan.{Plan as Planned, SubJob as Clone, clone_of};
 ghost use Rattle.jr_model.specs.Rounds.{has_rounds};
-ghost use Rattle.jr_plan.specs.PlanFacts.{IsPlanned};
+ghost use Rattle.jr_model.specs.PlanFacts.{IsPlanned};
 ghost use Rattle.jr_backlog.specs.Rounds.{comes_last, is_to_check, takes_writes};
-ghost use Rattle.jr_standing.specs.Deferred.{is_settled};
-ghost use Rattle.jr_steps.specs.Nexts.{IsNext, grown};
+ghost use Rattle.jr_backlog.specs.Deferred.{is_settled};
+ghost use Rattle.jr_laws_steps.specs.Nexts.{IsNext, grown};
 ghost use Rattle.jr_board.specs.Standings.{IsPrepared, IsStanding};
 
+use jr_backlog::DeferredRounds;
+use jr_draw::DrawsLeft;
 use jr_model::{Dir, IoId, Memory, VerifyKind, WriteId};
 use jr_plan::SubJob;
-use jr_standing::{DeferredRounds, DrawsLeft};
 use std::alloc::Global;
 
 // A draw that was issued: its number, and whether it was checked or skipped.
@@ -80,10 +82,12 @@ impl Standing {
         requires pass { self.old.pass < job.now.passes }
         requires room { has_rounds job.now ≡ true → dir ≡ direction.Write → takes_writes self.old.rounds.round ≡ true }
         requires last { has_rounds job.now ≡ true → dir ≡ direction.Write → comes_last self.old.rounds.round write ≡ true }
-        ensures seed { (plan : Planned) (history : List Event) (worker : ℕ) (piece : Place) → IsNext plan history (Issue worker dir write piece)
+        ensures seed { (plan : Planned) (history : List Event) (worker : ℕ) (piece : Place)
+            → IsNext plan history (Issue worker dir write piece)
             → clone_of plan write.clone ≡ Some job.now → IsStanding history job.now self.old
             → result ≡ seed_of_draw (slice_get (draws_of_job job.now write.pass) write.number) }
-        ensures kept { (plan : Planned) (history : List Event) (worker : ℕ) (piece : Place) → IsNext plan history (Issue worker dir write piece)
+        ensures kept { (plan : Planned) (history : List Event) (worker : ℕ) (piece : Place)
+            → IsNext plan history (Issue worker dir write piece)
             → clone_of plan write.clone ≡ Some job.now → id ≡ length (started history) → IsStanding history job.now self.old
             → IsStanding (grown history (Issue worker dir write piece)) job.now self.new }
     {
@@ -157,7 +161,8 @@ impl Standing {
     pub fn checked(&mut self, write: WriteId)
         requires settled { is_settled self.old.rounds ≡ true }
         requires left { is_to_check self.old.rounds.round write ≡ true }
-        ensures { (plan : Planned) (history : List Event) (job : Clone) (worker id : ℕ) (io : Started) → IsNext plan history (End worker id Whole)
+        ensures { (plan : Planned) (history : List Event) (job : Clone) (worker id : ℕ) (io : Started)
+            → IsNext plan history (End worker id Whole)
             → slice_get (started history) id ≡ Some io → is_probe io.kind ≡ true → io.write ≡ write
             → clone_of plan write.clone ≡ Some job → is_halted history job ≡ false → IsStanding history job self.old
             → IsStanding (grown history (End worker id Whole)) job self.new }
@@ -178,7 +183,7 @@ fn written(dir: Dir, write: WriteId) -> Option<WriteId>
 }
 
 // Whether the clone's writes are checked in rounds.
-pub fn has_rounds(job: &SubJob) -> bool
+pub(crate) fn has_rounds(job: &SubJob) -> bool
     ensures { result ≡ has_rounds job.now }
 {
     job.method().kind != VerifyKind::Plain && job.checks_writes()

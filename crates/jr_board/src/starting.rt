@@ -7,7 +7,7 @@ ghost use Rattle.jr_model.specs.Legal.{may_happen};
 ghost use Rattle.jr_model.specs.Machine.{seed_of_draw};
 ghost use Rattle.jr_model.specs.Plan.{Plan as Planned, SubJob as Clone, clone_of};
 ghost use Rattle.jr_board.specs.Boards.{IsBoard, IsReady, left_of};
-ghost use Rattle.jr_handed.specs.Tickets.{ticket_of};
+ghost use Rattle.jr_tickets.specs.Tickets.{ticket_of};
 ghost use Rattle.jr_board.specs.declared.standings.Standing.{Standing as Stood};
 
 use crate::board::Board;
@@ -16,7 +16,7 @@ use jr_model::{Dir, Event, Expected, Piece, Ticket, TicketKind, WriteId};
 use jr_plan::Plan;
 
 // Skips a write.
-pub fn skip(plan: &Plan, board: &mut Board, worker: u32, write: WriteId)
+pub(crate) fn skip(plan: &Plan, board: &mut Board, worker: u32, write: WriteId)
     requires board { IsBoard plan.now board.old }
     requires ready { IsReady plan.now board.old }
     requires may { may_happen plan.now board.old.history.items (Skip worker write) ≡ true }
@@ -33,7 +33,7 @@ pub fn skip(plan: &Plan, board: &mut Board, worker: u32, write: WriteId)
 }
 
 // Issues a clone's next draw, and gives its ticket.
-pub fn issue(
+pub(crate) fn issue(
     plan: &Plan,
     board: &mut Board,
     worker: u32,
@@ -54,7 +54,7 @@ pub fn issue(
     plan.facts();
     let clone = write.clone as usize;
     let job = plan.clone_at(clone);
-    let id = board.handed.count() as u32;
+    let id = board.tickets.count() as u32;
     let ticket = Ticket {
         id,
         worker,
@@ -71,7 +71,7 @@ pub fn issue(
         write,
         piece,
     });
-    board.handed.hand(&ticket);
+    board.tickets.hand(&ticket);
     board.flying.start(Io {
         id,
         clone: write.clone,
@@ -83,7 +83,13 @@ pub fn issue(
 }
 
 // Checks a write, and gives the check's ticket: that of the write with what its bytes are judged by.
-pub fn probe(plan: &Plan, board: &mut Board, worker: u32, write: WriteId, piece: Piece) -> Ticket
+pub(crate) fn probe(
+    plan: &Plan,
+    board: &mut Board,
+    worker: u32,
+    write: WriteId,
+    piece: Piece,
+) -> Ticket
     requires board { IsBoard plan.now board.old }
     requires ready { IsReady plan.now board.old }
     requires may { may_happen plan.now board.old.history.items (Probe worker write piece) ≡ true }
@@ -96,7 +102,7 @@ pub fn probe(plan: &Plan, board: &mut Board, worker: u32, write: WriteId, piece:
 {
     plan.facts();
     let clone = write.clone as usize;
-    let id = board.handed.count() as u32;
+    let id = board.tickets.count() as u32;
     let ticket = Ticket {
         id,
         worker,
@@ -116,7 +122,7 @@ pub fn probe(plan: &Plan, board: &mut Board, worker: u32, write: WriteId, piece:
         write,
         piece,
     });
-    board.handed.hand(&ticket);
+    board.tickets.hand(&ticket);
     board.flying.start(Io {
         id,
         clone: write.clone,
@@ -141,7 +147,7 @@ fn seed_of(board: &Board, write: WriteId) -> u64
     let Some(issued) = standing.issued.get(write.number as usize) else {
         return 0;
     };
-    match board.handed.seed(issued.id) {
+    match board.tickets.seed(issued.id) {
         None => 0,
         Some(seed) => seed,
     }

@@ -17,7 +17,7 @@ pub enum Take {
 }
 
 // The answer where this ticket is handed out, if any is, and the run is complete or not.
-pub fn answer_with(is_complete: bool, ticket: &Option<Ticket>) -> Take
+pub(crate) fn answer_with(is_complete: bool, ticket: &Option<Ticket>) -> Take
     ensures { result ≡ answer_with is_complete ticket.now }
 {
     match *ticket {

@@ -3,7 +3,7 @@ ghost use Rattle.jr_model.specs.declared.events.Event.{Event as Happening};
 ghost use Rattle.jr_model.specs.History.{started};
 ghost use Rattle.jr_model.specs.declared.events.Started.{Started};
 ghost use Rattle.jr_model.specs.Plan.{SubJob as Clone, clone_of};
-ghost use Rattle.jr_standing.specs.Deferred.{is_settled};
+ghost use Rattle.jr_backlog.specs.Deferred.{is_settled};
 ghost use Rattle.jr_board.specs.Boards.{IsBoard, IsReady, left_of};
 ghost use Rattle.jr_board.specs.Standings.{ArePrepared, AreStanding};
 ghost use Rattle.jr_board.specs.declared.standings.Standing.{Standing as Stood};
@@ -17,10 +17,10 @@ use crate::resting::is_complete;
 use crate::standings::Standing;
 use crate::starting::{issue, probe, skip};
 use crate::takes::{Take, answer_with};
-use jr_handed::Handed;
 use jr_model::{Event, Memory, Ticket};
 use jr_plan::Plan;
 use jr_tallies::Tallies;
+use jr_tickets::TicketTable;
 use jr_writes::WriteLog;
 use std::alloc::Global;
 
@@ -35,7 +35,7 @@ pub fn new_board(alloc: Global, plan: &Plan) -> Result<Board, Memory>
     }
     Ok(Board {
         history: Vec::new(alloc),
-        handed: Handed::new(alloc),
+        tickets: TicketTable::new(alloc),
         flying: Flying::new(alloc)?,
         log: WriteLog::new(alloc),
         tallies: Tallies::new(alloc, plan)?,
@@ -51,7 +51,7 @@ pub fn prepare(alloc: Global, plan: &Plan, board: &mut Board) -> Result<(), Memo
     ensures ready { OnOk result (IsReady plan.now board.new) }
 {
     board.flying.settle()?;
-    board.handed.reserve()?;
+    board.tickets.reserve()?;
     prepare_standings(alloc, plan, &mut board.standings)?;
     let most = left_in(&board.standings).saturating_add(1);
     board.history.reserve(most)?;

@@ -6,8 +6,8 @@ ghost use Rattle.jr_model.specs.Plan.{Plan};
 ghost use Rattle.jr_model.specs.Tickets.{piece_fits};
 ghost use Rattle.jr_header.specs.Served.{ticket_expected};
 ghost use Rattle.jr_writes.specs.LoggedWrites.{logged};
-ghost use Rattle.jr_handed.specs.Kept.{IsOwn};
-ghost use Rattle.jr_steps.specs.Nexts.{IsNext, grown};
+ghost use Rattle.jr_tickets.specs.Kept.{IsOwn};
+ghost use Rattle.jr_laws_steps.specs.Nexts.{IsNext, grown};
 ghost use Rattle.jr_board.specs.WriteLogs.{log_of_run};
 
 use jr_model::{Expected, Memory, Outcome, Ticket, TicketKind};
@@ -15,7 +15,7 @@ use jr_writes::WriteLog;
 
 // Takes the end of an I/O into the log: a write that ended whole is intact from then on, with what its check is judged by,
 // and where one ended otherwise no write of its blocks is. A refused call changes nothing.
-pub fn log_end(
+pub(crate) fn log_end(
     log: &mut WriteLog,
     ticket: &Ticket,
     outcome: Outcome,

@@ -1,3 +1,4 @@
 pub mod CleanRuns
 pub mod CommandLineFacts
+pub mod EndedRuns
 pub mod QuietRuns

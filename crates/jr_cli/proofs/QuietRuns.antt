@@ -17,10 +17,10 @@ use Rattle.jr_model.specs.Plan.{Plan, SubJob}
 use Rattle.jr_model.specs.Report.{all_totals}
 use Rattle.jr_model.specs.Totals.{is_verdict_of, is_fault_of, totals_of}
 use Rattle.jr_model.proofs.LegalLaws.{started_planned}
-use Rattle.jr_plan.specs.PlanFacts.{IsPlanned}
-use Rattle.jr_quiet.specs.Quiet.{is_calm, is_quiet}
-use Rattle.jr_quiet.proofs.Reports.{quiet_run}
-use Rattle.jr_steps.proofs.StartedLemmas.{started_stays, middle_may_happen}
+use Rattle.jr_model.specs.PlanFacts.{IsPlanned}
+use Rattle.jr_laws_quiet.specs.Quiet.{is_calm, is_quiet}
+use Rattle.jr_laws_quiet.proofs.Reports.{quiet_run}
+use Rattle.jr_laws_steps.proofs.StartedLemmas.{started_stays, middle_may_happen}
 use Rattle.jr_cli.specs.Executed.{IsReported, IsQuietlyReported}
 use Rattle.jr_cli.specs.Status.{is_unclean, status_of}
 

@@ -1,8 +1,8 @@
 -- Believed: why the check of a trace prints no totals (of this project).
 use Rattle.std.specs.Prelude.{List, Result, IsOk}
 use Rattle.jr_model.specs.declared.totals.Totals.{Totals}
-use Rattle.jr_stats.specs.declared.faults.TraceFault.{TraceFault}
-use Rattle.jr_stats.specs.TraceChecks.{IsRefusal}
+use Rattle.jr_traces.specs.declared.faults.TraceFault.{TraceFault}
+use Rattle.jr_traces.specs.TraceChecks.{IsRefusal}
 use Rattle.jr_cli.specs.declared.faults.CliFault.{CliFault}
 use Rattle.jr_cli.specs.declared.faults.CliFault.TheVariants as fault
 

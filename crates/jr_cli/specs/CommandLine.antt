@@ -48,14 +48,20 @@ notes_rule = flag_rule (codes "notes")
 abbrev pub drop_pipes_rule : Rule
 drop_pipes_rule = option_rule (codes "drop-pipes")
 
+abbrev pub interrupted_rule : Rule
+interrupted_rule = flag_rule (codes "interrupted")
+
+abbrev pub stop_fd_rule : Rule
+stop_fd_rule = option_rule (codes "stop-fd")
+
 -- a program that tells its version
 abbrev pub with_version : App → App
 with_version app = on_top (λ shape. record shape { has_version = true }) app
 
 unfoldable pub command_line : App
-command_line = with_rule (with_rule (with_rule (with_rule (with_rule (with_rule (with_rule (with_rule (with_rule (with_rule
+command_line = with_rule (with_rule (with_rule (with_rule (with_rule (with_rule (with_rule (with_rule (with_rule (with_rule (with_rule (with_rule
     (with_version (new_app (codes "fiorun"))) job_rule) section_rule) parse_only_rule) workers_rule) trace_rule) check_trace_rule) cached_rule)
-    allow_mounted_write_rule) notes_rule) drop_pipes_rule
+    allow_mounted_write_rule) notes_rule) drop_pipes_rule) interrupted_rule) stop_fd_rule
 
 -- the number that a text of digits writes
 abbrev pub number_in : Text → ℕ
@@ -73,3 +79,5 @@ pub record IsChoiceOf (choice : Choice) (rows : List Row) : Type 0 where
   pub allow_mounted_write : choice.allow_mounted_write ≡ unwrap_or (option_map (bytes_eq (codes "true")) (one_of (codes "allow-mounted-write") rows)) false
   pub notes : choice.notes ≡ unwrap_or (option_map (bytes_eq (codes "true")) (one_of (codes "notes") rows)) false
   pub drop_pipes : option_copied choice.drop_pipes ≡ first_of (codes "drop-pipes") rows
+  pub interrupted : choice.interrupted ≡ unwrap_or (option_map (bytes_eq (codes "true")) (one_of (codes "interrupted") rows)) false
+  pub stop_fd : option_copied choice.stop_fd ≡ first_of (codes "stop-fd") rows

@@ -1,23 +1,24 @@
 -- Believed: what a run of the program is, and how it ends (of this project).
 use Rattle.std.proofs.Common.{inl, inr}
-use Rattle.std.specs.Prelude.{◌≡◌, ◌⊎◌, ℕ, true, List, Option, Some, None}
+use Rattle.std.specs.Prelude.{◌≡◌, ◌⊎◌, ℕ, Bool, true, not, List, Option, Some, None}
 use Rattle.std.specs.Borrow.{MutBor}
 use Rattle.std.specs.Io.KnownBytes.{Appends}
 use Rattle.jr_model.specs.declared.events.Event.{Event}
+use Rattle.jr_model.specs.Legal.{is_complete}
 use Rattle.jr_model.specs.Plan.{Plan}
 use Rattle.jr_model.specs.Replies.{EngineState}
 use Rattle.jr_model.specs.Quiet.{quiet_report}
 use Rattle.jr_model.specs.Report.{all_totals, report_of}
 use Rattle.jr_plan.specs.Files.{are_apart}
-use Rattle.jr_stats.specs.Traces.{trace_of}
+use Rattle.jr_traces.specs.Traces.{trace_of}
 use Rattle.jr_crew.specs.declared.faults.RunFault.TheVariants as run
-use Rattle.jr_crew.specs.declared.books.Done.{Done}
-use Rattle.jr_crew.specs.Whole.{IsRun, IsCrewRun}
+use Rattle.jr_books.specs.declared.books.Done.{Done}
+use Rattle.jr_crew.specs.Whole.{IsRun, IsCrewRun, IsEndedRun, IsEndedCrewRun}
 use Rattle.jr_cli.specs.declared.faults.CliFault.{CliFault}
 use Rattle.jr_cli.specs.declared.faults.CliFault.TheVariants as fault
 use Rattle.jr_cli.specs.Status.{status_of}
 
--- the report of the history was written behind what stood there, and the status is that of its totals
+-- the report of the history was written behind what stood there, and what was found is what its totals say
 pub record IsReported (plan : Plan) (history : List Event) (blank written : Option (List ℕ)) (status : ℕ) : Type 0 where
   pub report : Appends blank written (report_of plan history)
   pub ends : status ≡ status_of (all_totals plan history)
@@ -30,6 +31,16 @@ HasRun plan before after Holds = (history : List Event) × IsRun plan history be
 abbrev pub HasCrewRun : Plan → List EngineState → (List Event → Type 0) → Type 0
 HasCrewRun plan befores Holds =
     (history : List Event) × (afters : List EngineState) × (books : List (List Done)) × IsCrewRun plan history befores afters books × Holds history
+
+-- the same of runs that may have been asked to stop; they were interrupted where the history isn't complete
+abbrev pub HasEndedRun : Plan → EngineState → EngineState → Bool → (List Event → Type 0) → Type 0
+HasEndedRun plan before after interrupted Holds =
+    (history : List Event) × IsEndedRun plan history before after × (interrupted ≡ not (is_complete plan history)) × Holds history
+
+abbrev pub HasEndedCrewRun : Plan → List EngineState → Bool → (List Event → Type 0) → Type 0
+HasEndedCrewRun plan befores interrupted Holds =
+    (history : List Event) × (afters : List EngineState) × (books : List (List Done))
+    × IsEndedCrewRun plan history befores afters books × (interrupted ≡ not (is_complete plan history)) × Holds history
 
 -- where no two clones have one file and the status is clean, what was written is the report that the draws alone give
 abbrev pub IsQuietlyReported : Plan → Option (List ℕ) → Option (List ℕ) → ℕ → Type 0

@@ -1,6 +1,6 @@
 -- Believed: the exit status of the program: 0 where nothing went wrong, 1 where a run found a fault, 2 where what was asked
--- for is refused, 3 where memory, a file or a thread was wanting.
-use Rattle.std.specs.Prelude.{ℕ, nat_lt, Bool, ◌||◌, List, if◌then◌else◌}
+-- for is refused, 3 where memory, a file or a thread was wanting, 130 where a run was stopped halfway and had found nothing.
+use Rattle.std.specs.Prelude.{ℕ, ◌==◌, nat_lt, Bool, ◌||◌, List, if◌then◌else◌}
 use Rattle.std.specs.List.{list_any}
 use Rattle.clap.specs.declared.error.kind.ErrorKind.{ErrorKind}
 use Rattle.clap.specs.declared.error.kind.ErrorKind.TheVariants as kind
@@ -9,8 +9,9 @@ use Rattle.jr_text.specs.declared.faults.TextFault.{TextFault}
 use Rattle.jr_text.specs.declared.faults.TextFault.TheVariants as text
 use Rattle.jr_settings.specs.declared.faults.JobFault.{JobFault}
 use Rattle.jr_settings.specs.declared.faults.JobFault.TheVariants as job
-use Rattle.jr_stats.specs.declared.faults.TraceFault.{TraceFault}
-use Rattle.jr_stats.specs.declared.faults.TraceFault.TheVariants as trace
+use Rattle.jr_traces.specs.declared.faults.TraceFault.{TraceFault}
+use Rattle.jr_traces.specs.declared.faults.TraceFault.TheVariants as trace
+use Rattle.jr_cli.specs.declared.ended.Ended.{Ended}
 use Rattle.jr_cli.specs.declared.faults.CliFault.{CliFault}
 use Rattle.jr_cli.specs.declared.faults.CliFault.TheVariants as fault
 
@@ -21,6 +22,10 @@ is_unclean totals = nat_lt 0 totals.bad || nat_lt 0 totals.faults
 -- 0 where nothing went wrong in any clone, else 1
 abbrev pub status_of : List Totals → ℕ
 status_of totals = if list_any is_unclean totals then 1 else 0
+
+-- of a run that found this, stopped halfway or not
+abbrev pub status_of_ended : Ended → ℕ
+status_of_ended ended = if ended.found == 0 then (if ended.is_interrupted then 130 else 0) else ended.found
 
 -- of a faulty job text and of faulty options
 abbrev pub status_of_text : TextFault → ℕ

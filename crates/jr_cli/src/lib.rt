@@ -1,15 +1,18 @@
 // The program over plain readers and writers: words and a job text in, a report and a status out.
 #![tactic(auto)]
 
+mod ended;
 mod faults;
+mod found;
 mod inputs;
 mod runs;
 mod words;
 mod workers;
 
+pub use ended::Ended;
 pub use faults::CliFault;
 pub use inputs::{memory_or, read_text, read_trace};
-pub use jr_crew::Progress;
-pub use runs::{execute, execute_serial, print_check, print_plan, read_job};
+pub use jr_crew::{Progress, StopFlag, Watch};
+pub use runs::{execute, execute_serial, print_check, print_part, print_plan, read_job};
 pub use words::{Choice, answer_words, choose};
 pub use workers::workers_of;

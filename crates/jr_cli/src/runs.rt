@@ -1,26 +1,32 @@
-ghost use Rattle.std.specs.Prelude.{◌≡◌, ◌⊎◌, ◌<◌, ◌≤◌, ◌^◌, [], map, Err, IfOk, IfErr, IfSome, IsOkAnd, OnOk};
+ghost use Rattle.std.specs.Prelude.{◌≡◌, ◌⊎◌, ◌<◌, ◌≤◌, ◌^◌, [], false, not, map, None, Err, IfOk, IfErr, IfSome, IsOkAnd, OnOk};
 ghost use Rattle.std.specs.List.{list_any};
 ghost use Rattle.std.specs.Option.{option_copied};
 ghost use Rattle.std.specs.Io.KnownBytes.{Appends};
+ghost use Rattle.jr_model.specs.Legal.{is_complete};
 ghost use Rattle.jr_model.specs.Report.{totals_lines};
 ghost use Rattle.jr_model.specs.Serial.{serial_history};
 ghost use Rattle.jr_crew.specs.Runs.{IsFresh};
+ghost use Rattle.jr_faults.specs.Faults.{AreFaultsOf};
 ghost use Rattle.jr_cli.specs.Checked.{IsCheckFault};
-ghost use Rattle.jr_cli.specs.Executed.{HasRun, HasCrewRun, IsCutShort, IsQuietlyReported, IsReported, IsRunFault, IsTraced};
+ghost use Rattle.jr_cli.specs.Executed.{HasRun, HasCrewRun, HasEndedRun, HasEndedCrewRun, IsCutShort, IsQuietlyReported, IsReported, IsRunFault, IsTraced};
 ghost use Rattle.jr_plan.specs.PlanText.{plan_text};
-ghost use Rattle.jr_stats.specs.TraceChecks.{check_of};
-ghost use Rattle.jr_stats.specs.Traces.{trace_of};
+ghost use Rattle.jr_traces.specs.TraceChecks.{check_of, check_of_part};
+ghost use Rattle.jr_traces.specs.Traces.{trace_of};
 ghost use Rattle.jr_cli.specs.JobRefusals.{job_refusal, IsRefusedBy, IsWantOfMemory, IsPlanOf};
 ghost use Rattle.jr_cli.specs.Status.{status_of, is_unclean};
 
+use crate::ended::Ended;
 use crate::faults::CliFault;
-use jr_board::Desk;
-use jr_crew::{Progress, RunFault, run, run_serial};
+use crate::found::faults_found;
+use jr_crew::{RunFault, Watch, run, run_serial};
+use jr_desk::Desk;
 use jr_engines::Engine;
+use jr_faults::Faults;
 use jr_model::Totals;
 use jr_options::{Plan, plan, plan_text};
 use jr_stats::{check_trace, report, totals_text, trace};
 use jr_text::sections;
+use jr_traces::check_part;
 use std::alloc::Global;
 use std::io::Write;
 use std::sync::Wait;
@@ -40,59 +46,75 @@ pub fn read_job(alloc: Global, text: &[u8], only: Option<&str>) -> Result<Plan, 
     Ok(plan)
 }
 
-/// Runs a plan with one worker, writes the report and then the trace where one is asked for, and gives
-/// the exit status: 0 where nothing went wrong, 1 where a block came back wrong or an I/O failed.
+/// Runs a plan with one worker, writes the report and then the trace where one is asked for, and says what was found, the run's
+/// faults among it. Where the run is asked to stop, report and trace are of what it did until then.
 pub fn execute_serial<W: Write, V: Write>(
     alloc: Global,
     plan: Plan,
     engine: &mut dyn Engine,
-    progress: Option<&Progress>,
+    watch: Watch<'_>,
     events: Option<&mut W>,
     out: &mut V,
-) -> Result<u8, CliFault>
+) -> Result<Ended, CliFault>
     requires { (state engine.old).calls ≤ 2 ^ 63 }
 
-    // The report, the trace and the status are those of one run of this engine.
-    ensures run { IfOk result (λ status. HasRun plan (state engine.old) (state engine.new) (λ history.
-        IsReported plan history (V.contents out.old) (V.contents out.new) status
-        × IsTraced W.contents events.entry events.exit history)) }
+    // The report, the trace and what was found are those of one run of this engine, whole or interrupted.
+    ensures ended { IfOk result (λ ended. HasEndedRun plan (state engine.old) (state engine.new) ended.is_interrupted (λ history.
+        IsReported plan history (V.contents out.old) (V.contents out.new) ended.found
+        × IsTraced W.contents events.entry events.exit history × AreFaultsOf plan history ended.faults)) }
 
-    // Over a fresh memory they are those of the history of one worker, and nothing goes wrong.
-    ensures serial { IsFresh plan (state engine.old) → IfOk result (λ status.
-        IsReported plan (serial_history plan) (V.contents out.old) (V.contents out.new) status
+    // Where it isn't interrupted, that is a whole run; and nothing else can be where nobody can stop it.
+    ensures run { IfOk result (λ ended. ended.is_interrupted ≡ false → HasRun plan (state engine.old) (state engine.new) (λ history.
+        IsReported plan history (V.contents out.old) (V.contents out.new) ended.found
+        × IsTraced W.contents events.entry events.exit history × AreFaultsOf plan history ended.faults)) }
+    ensures unasked { watch.entry.stop ≡ None → IfOk result (λ ended. ended.is_interrupted ≡ false) }
+
+    // Over a fresh memory it is the history of one worker, and nothing goes wrong.
+    ensures serial { IsFresh plan (state engine.old) → IfOk result (λ ended. ended.is_interrupted ≡ false
+        → IsReported plan (serial_history plan) (V.contents out.old) (V.contents out.new) ended.found
         × IsTraced W.contents events.entry events.exit (serial_history plan)) }
-    ensures clean { IsFresh plan (state engine.old) → IfOk result (λ status. status ≡ 0) }
-    ensures quiet { IfOk result (IsQuietlyReported plan (V.contents out.old) (V.contents out.new)) }
+    ensures clean { IsFresh plan (state engine.old) → IfOk result (λ ended. ended.is_interrupted ≡ false → ended.found ≡ 0) }
+    ensures quiet { IfOk result (λ ended. ended.is_interrupted ≡ false
+        → IsQuietlyReported plan (V.contents out.old) (V.contents out.new) ended.found) }
     ensures failed { IfErr result IsCutShort }
 {
     // Its contract says what holds of every plan.
     plan.facts();
-    let desk = run_serial(alloc, plan, engine, progress)?;
-    let status = print_report(alloc, &desk, out)?;
+    let desk = run_serial(alloc, plan, engine, watch)?;
+    let faults = faults_found(alloc, &desk)?;
+    let ended = print_report(alloc, &desk, faults, out)?;
     if let Some(events) = events {
         print_trace(alloc, &desk, events)?;
     }
-    Ok(status)
+    Ok(ended)
 }
 
-/// Runs a plan with one worker an engine, all at once, writes the report and then the trace where one is asked for, and gives
-/// the exit status, as `execute_serial` does.
+/// Runs a plan with one worker an engine, all at once, writes the report and then the trace where one is asked for, and says what
+/// was found, as `execute_serial` does.
 pub fn execute<R: Threads + Wait + Sync, W: Write, V: Write>(
     rt: &R,
     alloc: Global,
     plan: Plan,
     engines: Vec<Box<dyn Engine + Send>>,
-    progress: Option<&Progress>,
+    watch: Watch<'_>,
     events: Option<&mut W>,
     out: &mut V,
-) -> Result<u8, CliFault>
-    // The report, the trace and the status are those of one run of these engines.
-    ensures run { IfOk result (λ status. HasCrewRun plan (map (λ engine. state engine) engines.items) (λ history.
-        IsReported plan history (V.contents out.old) (V.contents out.new) status
-        × IsTraced W.contents events.entry events.exit history)) }
+) -> Result<Ended, CliFault>
+    // The report, the trace and what was found are those of one run of these engines, whole or interrupted.
+    ensures ended { IfOk result (λ ended. HasEndedCrewRun plan (map (λ engine. state engine) engines.items) ended.is_interrupted
+        (λ history. IsReported plan history (V.contents out.old) (V.contents out.new) ended.found
+        × IsTraced W.contents events.entry events.exit history × AreFaultsOf plan history ended.faults)) }
+
+    // Where it isn't interrupted, that is a whole run; and nothing else can be where nobody can stop it.
+    ensures run { IfOk result (λ ended. ended.is_interrupted ≡ false
+        → HasCrewRun plan (map (λ engine. state engine) engines.items) (λ history.
+        IsReported plan history (V.contents out.old) (V.contents out.new) ended.found
+        × IsTraced W.contents events.entry events.exit history × AreFaultsOf plan history ended.faults)) }
+    ensures unasked { watch.entry.stop ≡ None → IfOk result (λ ended. ended.is_interrupted ≡ false) }
 
     // So the report is the same for every schedule, where the clones have files of their own and nothing goes wrong.
-    ensures quiet { IfOk result (IsQuietlyReported plan (V.contents out.old) (V.contents out.new)) }
+    ensures quiet { IfOk result (λ ended. ended.is_interrupted ≡ false
+        → IsQuietlyReported plan (V.contents out.old) (V.contents out.new) ended.found) }
     ensures none { engines.items ≡ [] → result ≡ Err (CliFault.Run RunFault.NoEngine) }
     ensures no_engine { IfErr result (λ fault. fault ≡ CliFault.Run RunFault.NoEngine → engines.items ≡ []) }
     ensures thread { IfErr result (λ fault. fault ≡ CliFault.Run RunFault.Thread → 0 < plan.verifiers) }
@@ -100,22 +122,35 @@ pub fn execute<R: Threads + Wait + Sync, W: Write, V: Write>(
 {
     // Its contract says what holds of every plan.
     plan.facts();
-    let ran = run(rt, alloc, plan, engines, progress)?;
-    let status = print_report(alloc, &ran.desk, out)?;
+    let ran = run(rt, alloc, plan, engines, watch)?;
+    let faults = faults_found(alloc, &ran.desk)?;
+    let ended = print_report(alloc, &ran.desk, faults, out)?;
     if let Some(events) = events {
         print_trace(alloc, &ran.desk, events)?;
     }
-    Ok(status)
+    Ok(ended)
 }
 
-// Prints the report of the desk's history, and gives the exit status.
-fn print_report<V: Write>(alloc: Global, desk: &Desk, out: &mut V) -> Result<u8, CliFault>
-    ensures reported { IfOk result (IsReported desk.now.plan desk.now.history (V.contents out.old) (V.contents out.new)) }
+// Prints the report of the desk's history, and says what was found, with these faults, and whether there was more to come.
+fn print_report<V: Write>(
+    alloc: Global,
+    desk: &Desk,
+    faults: Faults,
+    out: &mut V,
+) -> Result<Ended, CliFault>
+    ensures reported { IfOk result (λ ended.
+        IsReported desk.now.plan desk.now.history (V.contents out.old) (V.contents out.new) ended.found) }
+    ensures interrupted { IfOk result (λ ended. ended.is_interrupted ≡ not (is_complete desk.now.plan desk.now.history)) }
+    ensures faults { IfOk result (λ ended. ended.faults ≡ faults) }
     ensures failed { IfErr result IsCutShort }
 {
     let text = report(alloc, desk)?;
     write_out(text.as_slice(), out)?;
-    Ok(status_of(desk.totals()))
+    Ok(Ended {
+        found: status_of(desk.totals()),
+        is_interrupted: !desk.is_complete(),
+        faults,
+    })
 }
 
 fn print_trace<W: Write>(alloc: Global, desk: &Desk, events: &mut W) -> Result<(), CliFault>
@@ -148,6 +183,23 @@ pub fn print_check<V: Write>(
     ensures refused { IfErr result (IsCheckFault (check_of plan.now text.now)) }
 {
     let totals = check_trace(alloc, plan, text)?;
+    let lines = totals_text(alloc, plan, totals.as_slice())?;
+    write_out(lines.as_slice(), out)
+}
+
+/// The same of a run that may have been stopped.
+pub fn print_part<V: Write>(
+    alloc: Global,
+    plan: &Plan,
+    text: &[u8],
+    out: &mut V,
+) -> Result<(), CliFault>
+    // What is printed are the totals of a text that is the trace of a legal run, as far as it came.
+    ensures printed { OnOk result (IsOkAnd (check_of_part plan.now text.now) (λ totals.
+        Appends (V.contents out.old) (V.contents out.new) (totals_lines plan.now totals))) }
+    ensures refused { IfErr result (IsCheckFault (check_of_part plan.now text.now)) }
+{
+    let totals = check_part(alloc, plan, text)?;
     let lines = totals_text(alloc, plan, totals.as_slice())?;
     write_out(lines.as_slice(), out)
 }

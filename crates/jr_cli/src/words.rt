@@ -13,6 +13,8 @@ ghost use Rattle.jr_cli.specs.CommandLine.{
   allow_mounted_write_rule,
   notes_rule,
   drop_pipes_rule,
+  interrupted_rule,
+  stop_fd_rule,
   IsChoiceOf,
 };
 
@@ -48,6 +50,10 @@ pub struct Choice<'a> {
     pub notes: bool,
     /// The pipes by which the launcher is asked to drop the cached pages of a file (`bin/launch`).
     pub drop_pipes: Option<&'a str>,
+    /// The trace to check may be that of a run that was stopped.
+    pub interrupted: bool,
+    /// The number of the open pipe whose end asks the run to stop.
+    pub stop_fd: Option<&'a str>,
 }
 
 /// Reads the words of the command line, of which the first is the program's name. Help and the version are
@@ -71,6 +77,8 @@ pub fn choose<'a, S: AsStr>(alloc: Global, words: &'a [S]) -> Result<Choice<'a>,
         allow_mounted_write: matches.get_flag("allow-mounted-write"),
         notes: matches.get_flag("notes"),
         drop_pipes: matches.get_str("drop-pipes"),
+        interrupted: matches.get_flag("interrupted"),
+        stop_fd: matches.get_str("stop-fd"),
     })
 }
 
@@ -109,7 +117,9 @@ fn command<'a>(alloc: Global) -> Result<Command<'a>, AllocError>
         .arg(cached_arg(alloc))?
         .arg(allow_mounted_write_arg(alloc))?
         .arg(notes_arg(alloc))?
-        .arg(drop_pipes_arg(alloc))
+        .arg(drop_pipes_arg(alloc))?
+        .arg(interrupted_arg(alloc))?
+        .arg(stop_fd_arg(alloc))
 }
 
 fn job_arg<'a>(alloc: Global) -> Arg<'a>
@@ -220,4 +230,26 @@ fn drop_pipes_arg<'a>(alloc: Global) -> Arg<'a>
         .value_name("PIPES")
         .action(ArgAction::Set)
         .help("Pipes to ask for cached pages to be dropped, as the launcher gives them")
+}
+
+fn interrupted_arg<'a>(alloc: Global) -> Arg<'a>
+    ensures rule { rule_of result ≡ interrupted_rule }
+    ensures local { result.global ≡ false }
+{
+    Arg::new(alloc, "interrupted")
+        .long("interrupted")
+        .action(ArgAction::SetTrue)
+        .value_parser(value_parser!(bool))
+        .help("The trace to check may be that of a run that was stopped")
+}
+
+fn stop_fd_arg<'a>(alloc: Global) -> Arg<'a>
+    ensures rule { rule_of result ≡ stop_fd_rule }
+    ensures local { result.global ≡ false }
+{
+    Arg::new(alloc, "stop-fd")
+        .long("stop-fd")
+        .value_name("N")
+        .action(ArgAction::Set)
+        .help("A pipe, by its number: where its other end is closed, the run stops and reports")
 }

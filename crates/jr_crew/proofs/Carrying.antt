@@ -20,14 +20,15 @@ use Rattle.jr_model.specs.Plan.{Plan}
 use Rattle.jr_model.specs.Replies.{EngineState}
 use Rattle.jr_model.proofs.LegalLaws.{is_legal-more}
 use Rattle.jr_model.proofs.SerialLaws.{first_given-append, any-append}
-use Rattle.jr_plan.specs.PlanFacts.{IsPlanned}
+use Rattle.jr_model.specs.PlanFacts.{IsPlanned}
 use Rattle.jr_engines.specs.Answers.{AnswerParts, Answers}
 use Rattle.jr_header.specs.Served.{asked_with, is_whole_check}
-use Rattle.jr_steps.proofs.StartedLemmas.{started-other, started-append}
-use Rattle.jr_handed.specs.Kept.{IsOwn, tickets_of}
-use Rattle.jr_handed.specs.Tickets.{ticket_of}
+use Rattle.jr_laws_steps.proofs.StartedLemmas.{started-other, started-append}
+use Rattle.jr_tickets.specs.Kept.{IsOwn, tickets_of}
+use Rattle.jr_tickets.specs.Tickets.{ticket_of}
 use Rattle.jr_board.specs.Takes.{IsChosen}
-use Rattle.jr_board.proofs.Keeping.{tickets_more, chosen_legal, chosen_started, may_end, may_judge, judged_probe}
+use Rattle.jr_board.proofs.Keeping.{tickets_more, chosen_legal, chosen_started, may_end, may_judge}
+use Rattle.jr_desk.proofs.Refusing.{judged_probe}
 use Rattle.jr_crew.specs.Turns.{ended_by, AreSettled}
 use Rattle.jr_crew.proofs.Chosen.{chosen_unended, chosen_unjudged, chosen_own}
 use Rattle.jr_crew.proofs.Settling.{settled_next}

@@ -7,23 +7,25 @@ use Rattle.jr_model.specs.declared.events.Event.{Event}
 use Rattle.jr_model.specs.Legal.{is_legal, is_complete}
 use Rattle.jr_model.specs.Plan.{Plan}
 use Rattle.jr_model.specs.Replies.{EngineState}
-use Rattle.jr_crew.specs.declared.books.Done.{Done}
-use Rattle.jr_crew.specs.Crews.{is_numbered, judges_inline, IsWorkers}
-use Rattle.jr_crew.specs.Whole.{IsCrewRun}
+use Rattle.jr_books.specs.declared.books.Done.{Done}
+use Rattle.jr_books.specs.Numbers.{is_numbered, judges_inline}
+use Rattle.jr_books.specs.Settled.{HasSettled}
+use Rattle.jr_crew.specs.Crews.{IsWorkers}
+use Rattle.jr_crew.specs.Whole.{IsCrewRun, IsEndedCrewRun}
 use Rattle.jr_crew.proofs.Crewing.{AreOwn, got_mapped}
 
 pub crew_run : {E B : Type 0} (state : E → EngineState) (dones : B → List Done) (engines afters : List E) (books : List B) (plan : Plan) (history : List Event)
     → is_legal plan history ≡ true
-    → is_complete plan history ≡ true
+    → HasSettled history
     → list_all (is_numbered (length engines) plan.verifiers) history ≡ true
     → (judges_inline plan ≡ true → AreOwn plan history)
     → length afters ≡ length engines
     → length books ≡ length engines
     → ((i : ℕ) (before after : E) (book : B) → slice_get engines i ≡ Some before → slice_get afters i ≡ Some after → slice_get books i ≡ Some book → IsWorkers plan history i (state before) (state after) (dones book))
-    → IsCrewRun plan history (map state engines) (map state afters) (map dones books)
-crew_run {E = E} {B = B} state dones engines afters books plan history legal complete numbered own afters_count books_count each = record {
+    → IsEndedCrewRun plan history (map state engines) (map state afters) (map dones books)
+crew_run {E = E} {B = B} state dones engines afters books plan history legal settled numbered own afters_count books_count each = record {
   legal = legal;
-  complete = complete;
+  settled = settled;
   numbered = subst (λ (n : ℕ). list_all (is_numbered n plan.verifiers) history ≡ true) (sym (length-map engines state)) numbered;
   own = own;
   engines_count = length-map afters state ∙ afters_count ∙ sym (length-map engines state);
@@ -36,4 +38,16 @@ crew_run {E = E} {B = B} state dones engines afters books plan history legal com
       (subst (λ (e : EngineState). IsWorkers plan history i (state b.0) e book) a.2
       (subst (λ (ds : List Done). IsWorkers plan history i (state b.0) (state a.0) ds) d.2
       (each i b.0 a.0 d.0 b.1 a.1 d.1)));
+}
+
+-- where it is complete it is a whole one
+pub whole_crew_run : (plan : Plan) (history : List Event) (befores afters : List EngineState) (books : List (List Done)) → IsEndedCrewRun plan history befores afters books → is_complete plan history ≡ true → IsCrewRun plan history befores afters books
+whole_crew_run plan history befores afters books ended complete = record {
+  legal = ended.legal;
+  complete = complete;
+  numbered = ended.numbered;
+  own = ended.own;
+  engines_count = ended.engines_count;
+  books_count = ended.books_count;
+  each = ended.each;
 }

@@ -9,16 +9,17 @@ use Rattle.jr_model.specs.declared.events.Event.{Event}
 use Rattle.jr_model.specs.Legal.{is_legal}
 use Rattle.jr_model.specs.Plan.{Plan}
 use Rattle.jr_model.specs.Replies.{EngineState}
-use Rattle.jr_plan.specs.PlanFacts.{IsPlanned}
-use Rattle.jr_steps.proofs.StartedLemmas.{same_some}
-use Rattle.jr_crew.specs.declared.books.Done.{Done}
-use Rattle.jr_crew.specs.Books.{dones_of}
-use Rattle.jr_crew.specs.Crews.{judges_inline, is_own_verdict, IsWorkers}
+use Rattle.jr_model.specs.PlanFacts.{IsPlanned}
+use Rattle.jr_laws_steps.proofs.StartedLemmas.{same_some}
+use Rattle.jr_books.specs.declared.books.Done.{Done}
+use Rattle.jr_books.specs.Books.{dones_of}
+use Rattle.jr_books.specs.Numbers.{judges_inline, is_own_verdict}
+use Rattle.jr_crew.specs.Crews.{IsWorkers}
 use Rattle.jr_crew.specs.Runs.{IsCovering}
 use Rattle.jr_crew.specs.Working.{AreCallsFor}
 use Rattle.jr_crew.proofs.Matching.{AreSaidOn, walk}
 use Rattle.jr_crew.proofs.Worked.{calls_count, failures_count}
-use Rattle.jr_handed.specs.Kept.{tickets_of}
+use Rattle.jr_tickets.specs.Kept.{tickets_of}
 
 nothing_said : (plan : Plan) (inline : Bool) (history : List Event) (worker : ℕ) → AreSaidOn plan inline history worker [] []
 nothing_said plan inline history worker so io s v at by ended given = cc

@@ -18,12 +18,12 @@ use Rattle.jr_model.specs.Plan.{Plan}
 use Rattle.jr_model.specs.Replies.{FileBytes}
 use Rattle.jr_model.specs.Serial.{carried_out, goes_on, serial_after, serial_history}
 use Rattle.jr_model.proofs.LegalLaws.{is_legal-more, choice_may_happen}
-use Rattle.jr_plan.specs.PlanFacts.{IsPlanned}
-use Rattle.jr_laws.specs.Memory.{HoldsLastWrites}
-use Rattle.jr_steps.proofs.CountLaws.{numbered_of, serial_stops_all}
-use Rattle.jr_laws.proofs.Memories.{holds_on}
-use Rattle.jr_laws.proofs.QuietRuns.{harmless_choice}
-use Rattle.jr_steps.proofs.StartedLemmas.{length-started-other}
+use Rattle.jr_model.specs.PlanFacts.{IsPlanned}
+use Rattle.jr_laws_bytes.specs.Memory.{HoldsLastWrites}
+use Rattle.jr_laws_steps.proofs.CountLaws.{numbered_of, serial_stops_all}
+use Rattle.jr_laws_bytes.proofs.Memories.{holds_on}
+use Rattle.jr_laws_bytes.proofs.QuietRuns.{harmless_choice}
+use Rattle.jr_laws_steps.proofs.StartedLemmas.{length-started-other}
 use Rattle.jr_board.specs.Takes.{last_started}
 use Rattle.jr_board.proofs.Keeping.{by_is_skip, last-skip}
 use Rattle.jr_crew.proofs.Chosen.{IsStep, choice_steps}

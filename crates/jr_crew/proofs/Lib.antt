@@ -6,7 +6,6 @@ pub mod Clearing
 pub mod Counting
 pub mod CrewRuns
 pub mod Crewing
-pub mod Following
 pub mod Going
 pub mod Handing
 pub mod Matching
@@ -15,7 +14,6 @@ pub mod Running
 pub mod Serially
 pub mod Settling
 pub mod Stopping
-pub mod Tables
 pub mod Turning
 pub mod Tying
 pub mod Worked

@@ -23,22 +23,22 @@ use Rattle.jr_model.specs.Replies.{EngineState, FileBytes, covers, asked, next_r
 use Rattle.jr_model.specs.Tied.{KnownEngine, called, IsOnBytes, TiedAlong}
 use Rattle.jr_model.proofs.MachineLaws.{got_front}
 use Rattle.jr_model.proofs.SerialLaws.{first_given-append}
-use Rattle.jr_plan.specs.PlanFacts.{IsPlanned}
+use Rattle.jr_model.specs.PlanFacts.{IsPlanned}
 use Rattle.jr_engines.specs.Answers.{Leaves}
 use Rattle.jr_engines.proofs.MemoryLemmas.{covers_after_asked}
 use Rattle.jr_header.specs.Served.{asked_with, is_whole_check, is_to_judge, answer_verdict}
-use Rattle.jr_laws.specs.Memory.{CoversFiles}
-use Rattle.jr_laws.proofs.Starts.{draw_started, IsDrawOf}
-use Rattle.jr_laws.proofs.Contents.{lies_in_file, length-content_of_io}
-use Rattle.jr_laws.proofs.Memories.{covers_piece}
-use Rattle.jr_steps.proofs.StartedLemmas.{started-append, same_some}
-use Rattle.jr_handed.specs.Kept.{tickets_of}
-use Rattle.jr_handed.specs.Tickets.{ticket_of}
-use Rattle.jr_handed.proofs.OwnTickets.{got_ticket}
+use Rattle.jr_laws_bytes.specs.Memory.{CoversFiles}
+use Rattle.jr_laws_bytes.proofs.Starts.{draw_started, IsDrawOf}
+use Rattle.jr_laws_bytes.proofs.Contents.{lies_in_file, length-content_of_io}
+use Rattle.jr_laws_bytes.proofs.Memories.{covers_piece}
+use Rattle.jr_laws_steps.proofs.StartedLemmas.{started-append, same_some}
+use Rattle.jr_tickets.specs.Kept.{tickets_of}
+use Rattle.jr_tickets.specs.Tickets.{ticket_of}
+use Rattle.jr_tickets.proofs.OwnTickets.{got_ticket}
 use Rattle.jr_board.proofs.Serving.{content_is, verdict_is}
-use Rattle.jr_crew.specs.declared.books.Done.{Done}
-use Rattle.jr_crew.specs.Crews.{is_workers, is_own_verdict}
-use Rattle.jr_crew.specs.Books.{verdict_by, verdict_in, done_with, done_by}
+use Rattle.jr_books.specs.declared.books.Done.{Done}
+use Rattle.jr_books.specs.Numbers.{is_workers, is_own_verdict}
+use Rattle.jr_books.specs.Books.{verdict_by, verdict_in, done_with, done_by}
 use Rattle.jr_crew.specs.Runs.{known_engine}
 use Rattle.jr_crew.specs.Working.{IsCalledFor, AreCallsFor}
 use Rattle.jr_crew.proofs.Calling.{IsCall, is_call}

@@ -2,17 +2,18 @@
 use Rattle.std.proofs.Common.{◌≡◌, ◌-◌, ◌*◌, ◌^◌, ◌<◌, ◌≤◌, List, [], length, false, true, refl, sym, subst, arith}
 use Rattle.jr_model.specs.declared.events.Event.{Event}
 use Rattle.jr_model.specs.History.{started}
-use Rattle.jr_model.specs.Legal.{is_legal}
+use Rattle.jr_model.specs.Legal.{is_legal, is_complete}
 use Rattle.jr_model.specs.Machine.{work_of}
 use Rattle.jr_model.specs.Plan.{Plan}
 use Rattle.jr_model.specs.Replies.{EngineState}
-use Rattle.jr_plan.specs.PlanFacts.{IsPlanned}
-use Rattle.jr_steps.proofs.CountLaws.{started_few}
-use Rattle.jr_steps.proofs.StartedFew.{started_small}
-use Rattle.jr_board.specs.DeskState.{DeskState}
+use Rattle.jr_model.specs.PlanFacts.{IsPlanned}
+use Rattle.jr_laws_steps.proofs.CountLaws.{started_few}
+use Rattle.jr_laws_steps.proofs.StartedFew.{started_small}
+use Rattle.jr_desk.specs.DeskState.{DeskState}
 use Rattle.jr_crew.specs.Runs.{IsCovering}
 use Rattle.jr_crew.specs.Turns.{IsBetweenTurns, IsTurn, IsLastTurn}
-use Rattle.jr_crew.proofs.Settling.{none_settled}
+use Rattle.jr_crew.specs.Whole.{IsEndedRun, IsRun}
+use Rattle.jr_crew.proofs.Settling.{none_settled, settled_rests, settled_judged}
 use Rattle.jr_crew.proofs.Turning.{IsSoFar, turn_keeps, turn_starts, last_keeps}
 
 -- nothing happened so far
@@ -64,3 +65,31 @@ module _ (plan own : Plan) (history after : List Event) (old engine next : Engin
   comes_to_end last =
       let here : IsLastTurn plan history after engine next = subst (λ (p : Plan). IsLastTurn p history after engine next) same last in
       last_keeps plan history old engine next planned sofar after here.chosen here.engine
+
+-- between two turns all that was started has come to its end
+pub ended_run : (plan : Plan) (history : List Event) (old engine : EngineState) → IsSoFar plan history old engine → IsEndedRun plan history old engine
+ended_run plan history old engine sofar = record {
+  legal = sofar.legal;
+  settled = record { flown = settled_rests history sofar.settled; judged = settled_judged history sofar.settled };
+  alone = sofar.alone;
+  calls = sofar.calls;
+  failures = sofar.failures;
+  tied = λ covering. let tied = sofar.tied covering in (tied.read_back, tied.tied);
+}
+
+-- where it is complete it is a whole run
+pub whole_run : (plan : Plan) (history : List Event) (old engine : EngineState) → IsEndedRun plan history old engine → is_complete plan history ≡ true → IsRun plan history old engine
+whole_run plan history old engine ended complete = record {
+  legal = ended.legal;
+  complete = complete;
+  alone = ended.alone;
+  calls = ended.calls;
+  failures = ended.failures;
+  tied = ended.tied;
+}
+
+-- a run that is left halfway isn't complete
+pub left_incomplete : {A : Type 0} (plan own : Plan) (history : List Event) → own ≡ plan → is_complete own history ≡ false → is_complete plan history ≡ true → A
+left_incomplete plan own history same left complete =
+    let kept : is_complete plan history ≡ false = subst (λ (p : Plan). is_complete p history ≡ false) same left in
+    cc

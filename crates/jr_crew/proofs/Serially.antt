@@ -22,17 +22,18 @@ use Rattle.jr_model.specs.Machine.{content_of_io, verdict_on, work_of}
 use Rattle.jr_model.specs.Plan.{Plan, SubJob}
 use Rattle.jr_model.specs.Replies.{EngineState, FileBytes, asked, covers, memory_with, outcome_for, scripted_reply, stored, stored_in}
 use Rattle.jr_model.specs.Serial.{serial_history}
-use Rattle.jr_plan.specs.PlanFacts.{IsPlanned}
+use Rattle.jr_model.specs.PlanFacts.{IsPlanned}
 use Rattle.jr_engines.specs.Answers.{AnswerParts, Answers, Leaves}
 use Rattle.jr_engines.proofs.MemoryLemmas.{covers_after_asked}
 use Rattle.jr_header.specs.Served.{is_whole_check}
-use Rattle.jr_laws.specs.Memory.{CoversFiles, HoldsLastWrites}
-use Rattle.jr_laws.proofs.Starts.{draw_started, IsDrawOf}
-use Rattle.jr_laws.proofs.Contents.{lies_in_file, length-content_of_io}
-use Rattle.jr_laws.proofs.Memories.{has_range, covers_piece, covers-fresh_memory, holds_write, holds_read, holds_on, holds_none, stored_check}
-use Rattle.jr_laws.proofs.Verdicts.{good_on_own}
+use Rattle.jr_laws_bytes.specs.Memory.{CoversFiles, HoldsLastWrites}
+use Rattle.jr_laws_bytes.proofs.Starts.{draw_started, IsDrawOf}
+use Rattle.jr_laws_bytes.proofs.Contents.{lies_in_file, length-content_of_io}
+use Rattle.jr_laws_bytes.proofs.Memories.{has_range, covers_piece, covers-fresh_memory, holds_write, holds_read, holds_on, holds_none, stored_check}
+use Rattle.jr_laws_bytes.proofs.Verdicts.{good_on_own}
 use Rattle.jr_board.specs.Takes.{IsChosen}
-use Rattle.jr_board.proofs.Keeping.{chosen_at, judged_probe}
+use Rattle.jr_board.proofs.Keeping.{chosen_at}
+use Rattle.jr_desk.proofs.Refusing.{judged_probe}
 use Rattle.jr_board.proofs.Serving.{content_is, verdict_is}
 use Rattle.jr_crew.specs.Runs.{IsFresh}
 use Rattle.jr_crew.specs.Turns.{IsTurn, IsLastTurn}

@@ -18,15 +18,15 @@ use Rattle.jr_model.specs.Machine.{bytes_read, verdict_on}
 use Rattle.jr_model.specs.Plan.{Plan, SubJob}
 use Rattle.jr_model.specs.Replies.{EngineState, FileBytes, covers, asked, next_reply}
 use Rattle.jr_model.specs.Tied.{KnownEngine, called, TiedAlong, IsTied}
-use Rattle.jr_plan.specs.PlanFacts.{IsPlanned}
+use Rattle.jr_model.specs.PlanFacts.{IsPlanned}
 use Rattle.jr_engines.specs.Answers.{AnswerParts, Answers, Leaves, is_failed}
 use Rattle.jr_engines.proofs.MemoryLemmas.{covers_after_asked}
 use Rattle.jr_header.specs.Served.{asked_with, ticket_content, is_whole_check}
-use Rattle.jr_laws.specs.Memory.{CoversFiles}
-use Rattle.jr_laws.proofs.Starts.{draw_started, IsDrawOf}
-use Rattle.jr_laws.proofs.Contents.{lies_in_file, length-content_of_io}
-use Rattle.jr_laws.proofs.Memories.{covers_piece}
-use Rattle.jr_steps.proofs.CountLaws.{numbered_of}
+use Rattle.jr_laws_bytes.specs.Memory.{CoversFiles}
+use Rattle.jr_laws_bytes.proofs.Starts.{draw_started, IsDrawOf}
+use Rattle.jr_laws_bytes.proofs.Contents.{lies_in_file, length-content_of_io}
+use Rattle.jr_laws_bytes.proofs.Memories.{covers_piece}
+use Rattle.jr_laws_steps.proofs.CountLaws.{numbered_of}
 use Rattle.jr_board.specs.Takes.{IsChosen}
 use Rattle.jr_board.proofs.Keeping.{chosen_legal, chosen_started, chosen_at}
 use Rattle.jr_board.proofs.Serving.{content_is, verdict_is}

@@ -4,7 +4,7 @@ use Rattle.std.specs.Prelude.{count_by}
 use Rattle.jr_model.specs.declared.events.Outcome.{Outcome}
 use Rattle.jr_model.specs.Replies.{EngineState}
 use Rattle.jr_engines.specs.Answers.{is_failed}
-use Rattle.jr_crew.specs.declared.books.Done.{Done}
+use Rattle.jr_books.specs.declared.books.Done.{Done}
 use Rattle.jr_crew.specs.Crews.{is_failed_done}
 use Rattle.jr_crew.specs.Working.{IsCalledFor, AreCallsFor}
 use Rattle.jr_crew.proofs.Counting.{count-cons}

@@ -1,5 +1,3 @@
-pub mod Accounts
-pub mod Books
 pub mod Crews
 pub mod Ends
 pub mod FaultTexts

@@ -4,7 +4,7 @@ use Rattle.jr_model.specs.declared.events.Event.{Event}
 use Rattle.jr_model.specs.Plan.{Plan}
 use Rattle.jr_model.specs.Replies.{EngineState, fresh_memory}
 use Rattle.jr_model.specs.Tied.{KnownEngine, IsTied}
-use Rattle.jr_laws.specs.Memory.{CoversFiles}
+use Rattle.jr_laws_bytes.specs.Memory.{CoversFiles}
 
 -- the engine as far as it is known, where its calls gave these bytes
 abbrev pub known_engine : EngineState → List (ℕ × List ℕ) → KnownEngine

@@ -10,12 +10,12 @@ use Rattle.jr_model.specs.Legal.{is_legal, is_complete}
 use Rattle.jr_model.specs.Plan.{Plan}
 use Rattle.jr_model.specs.Replies.{EngineState}
 use Rattle.jr_model.specs.Tickets.{ticket_fits}
-use Rattle.jr_plan.specs.PlanFacts.{IsPlanned}
+use Rattle.jr_model.specs.PlanFacts.{IsPlanned}
 use Rattle.jr_engines.specs.Answers.{AnswerParts, Answers}
 use Rattle.jr_header.specs.Served.{asked_with, is_whole_check, is_to_judge, answer_verdict}
-use Rattle.jr_handed.specs.Kept.{IsOwn}
-use Rattle.jr_handed.specs.Tickets.{ticket_of}
-use Rattle.jr_board.specs.DeskState.{DeskState}
+use Rattle.jr_tickets.specs.Kept.{IsOwn}
+use Rattle.jr_tickets.specs.Tickets.{ticket_of}
+use Rattle.jr_desk.specs.DeskState.{DeskState}
 use Rattle.jr_board.specs.Takes.{IsChosen}
 
 -- it has ended, and where it is a check that ended whole it has its verdict

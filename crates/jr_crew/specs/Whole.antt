@@ -1,13 +1,15 @@
--- Believed: what a run that answers a desk has done, with one worker and with several (of this project).
+-- Believed: what a run that answers a desk has done, with one worker and with several, whole or asked to stop (of this project).
 use Rattle.std.specs.Prelude.{◌≡◌, ℕ, ◌+◌, true, List, length, slice_get, Some}
 use Rattle.std.specs.List.{list_all}
 use Rattle.jr_model.specs.declared.events.Event.{Event}
 use Rattle.jr_model.specs.Legal.{is_legal, is_complete}
 use Rattle.jr_model.specs.Plan.{Plan}
 use Rattle.jr_model.specs.Replies.{EngineState}
-use Rattle.jr_handed.specs.Kept.{tickets_of}
-use Rattle.jr_crew.specs.declared.books.Done.{Done}
-use Rattle.jr_crew.specs.Crews.{judges_inline, is_own_verdict, is_numbered, IsWorkers}
+use Rattle.jr_tickets.specs.Kept.{tickets_of}
+use Rattle.jr_books.specs.declared.books.Done.{Done}
+use Rattle.jr_books.specs.Numbers.{judges_inline, is_own_verdict, is_numbered}
+use Rattle.jr_books.specs.Settled.{HasSettled}
+use Rattle.jr_crew.specs.Crews.{IsWorkers}
 use Rattle.jr_crew.specs.Ends.{ends_of, failed_ends_of}
 use Rattle.jr_crew.specs.Runs.{IsCovering, IsTiedRun}
 
@@ -27,6 +29,26 @@ pub record IsRun (plan : Plan) (history : List Event) (before after : EngineStat
 pub record IsCrewRun (plan : Plan) (history : List Event) (befores afters : List EngineState) (books : List (List Done)) : Type 0 where
   pub legal : is_legal plan history ≡ true
   pub complete : is_complete plan history ≡ true
+  pub numbered : list_all (is_numbered (length befores) plan.verifiers) history ≡ true
+  pub own : judges_inline plan ≡ true → list_all (is_own_verdict (tickets_of plan history)) history ≡ true
+  pub engines_count : length afters ≡ length befores
+  pub books_count : length books ≡ length befores
+  pub each : (i : ℕ) (before after : EngineState) (dones : List Done) → slice_get befores i ≡ Some before → slice_get afters i ≡ Some after
+      → slice_get books i ≡ Some dones → IsWorkers plan history i before after dones
+
+-- the same of a run that may have been asked to stop: what was started has come to its end, whether there was more to come or not
+pub record IsEndedRun (plan : Plan) (history : List Event) (before after : EngineState) : Type 0 where
+  pub legal : is_legal plan history ≡ true
+  pub settled : HasSettled history
+  pub alone : list_all (is_numbered 1 0) history ≡ true
+  pub calls : after.calls ≡ before.calls + ends_of history
+  pub failures : after.failures ≡ before.failures + failed_ends_of history
+  pub tied : IsCovering plan before → IsTiedRun plan history before after
+
+-- and of many workers
+pub record IsEndedCrewRun (plan : Plan) (history : List Event) (befores afters : List EngineState) (books : List (List Done)) : Type 0 where
+  pub legal : is_legal plan history ≡ true
+  pub settled : HasSettled history
   pub numbered : list_all (is_numbered (length befores) plan.verifiers) history ≡ true
   pub own : judges_inline plan ≡ true → list_all (is_own_verdict (tickets_of plan history)) history ≡ true
   pub engines_count : length afters ≡ length befores

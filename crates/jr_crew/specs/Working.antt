@@ -2,11 +2,11 @@
 use Rattle.std.specs.Prelude.{◌≡◌, Bool, ◌&&◌, List, [], ◌∷◌, replicate, Some, None, if◌then◌else◌}
 use Rattle.jr_model.specs.Replies.{EngineState}
 use Rattle.jr_engines.specs.Answers.{AnswerParts, Answers}
-use Rattle.jr_handover.specs.declared.parcel.Hand.{Hand}
+use Rattle.jr_handover.specs.declared.parcel.PassState.{PassState}
 use Rattle.jr_handover.specs.declared.parcel.Parcel.TheVariants.{Check}
-use Rattle.jr_handover.specs.Hands.{with_put}
+use Rattle.jr_handover.specs.PassStates.{with_put}
 use Rattle.jr_header.specs.Served.{asked_with, is_to_judge, answer_verdict}
-use Rattle.jr_crew.specs.declared.books.Done.{Done}
+use Rattle.jr_books.specs.declared.books.Done.{Done}
 
 -- the engine was called once for what was done, with a buffer of zeros or the write's bytes; the outcome is the answer's, and
 -- so is the verdict where the worker judges
@@ -23,5 +23,5 @@ AreCallsFor inline before (done ∷ book) after =
     (middle : EngineState) × IsCalledFor inline before done middle × AreCallsFor inline middle book after
 
 -- what a worker has put into the hand-over once this is settled: one parcel more where a check that ended whole is for others
-abbrev pub handed_on : Bool → AnswerParts → Hand → Hand
+abbrev pub handed_on : Bool → AnswerParts → PassState → PassState
 handed_on inline answer before = if is_to_judge answer then (if inline then before else with_put before (Check answer)) else before

@@ -1,26 +1,27 @@
-ghost use Rattle.std.specs.Prelude.{◌≡◌, ℕ, ◌+◌, ◌<◌, ◌++◌, true, [], Some, Ok, Err, IfOk, IfErr, OnOk, IsTrue, IsFalse, map, replicate, length, slice_get, slice_index_or};
+ghost use Rattle.std.specs.Prelude.{◌≡◌, ℕ, ◌+◌, ◌<◌, ◌++◌, true, [], Some, None, Ok, Err, IfOk, IfErr, OnOk, IsTrue, IsFalse, map};
+ghost use Rattle.std.specs.Prelude.{replicate, length, slice_get, slice_index_or};
 ghost use Rattle.std.specs.List.{list_all};
 ghost use Rattle.jr_model.specs.Legal.{is_legal, is_complete};
-ghost use Rattle.jr_handed.specs.Kept.{tickets_of};
-ghost use Rattle.jr_crew.specs.Books.{dones_of};
-ghost use Rattle.jr_crew.specs.Crews.{judges_inline, is_own_verdict, is_numbered};
+ghost use Rattle.jr_tickets.specs.Kept.{tickets_of};
+ghost use Rattle.jr_books.specs.Books.{dones_of};
+ghost use Rattle.jr_books.specs.Numbers.{judges_inline, is_own_verdict, is_numbered};
 ghost use Rattle.jr_crew.specs.Faults.{IsRefusal, IsUnmanned};
-ghost use Rattle.jr_crew.specs.Whole.{IsCrewRun};
+ghost use Rattle.jr_books.specs.Settled.{HasSettled};
+ghost use Rattle.jr_crew.specs.Whole.{IsCrewRun, IsEndedCrewRun};
 ghost use Rattle.jr_handover.specs.declared.parcel.Parcel.TheVariants.{Stop};
-ghost use Rattle.jr_handover.specs.Passes.{hand_of};
+ghost use Rattle.jr_handover.specs.Passes.{pass_state};
 ghost use Rattle.jr_crew.specs.Working.{AreCallsFor};
 
-use crate::accounts::{are_books, are_numbered, are_own_verdicts};
-use crate::books::Done;
+use crate::channels::ChannelEnd;
 use crate::faults::RunFault;
 use crate::halts::Halt;
-use crate::hands::Hand;
 use crate::held::{Naming, Shared};
-use crate::progress::Progress;
-use crate::staff::{Job, Judge, jobs_for, judges_for, push, room_for};
+use crate::staff::{Verifier, Worker, push, room_for, verifiers_for, workers_for};
 use crate::verifier::verify;
+use crate::watch::{StopFlag, Watch, is_asked};
 use crate::work::{Post, work};
-use jr_board::Desk;
+use jr_books::{Account, Done, are_books, are_numbered, are_own_verdicts, has_settled};
+use jr_desk::Desk;
 use jr_engines::Engine;
 use jr_handover::Handoff;
 use jr_plan::Plan;
@@ -45,11 +46,17 @@ pub fn run<R: Threads + Wait + Sync>(
     alloc: Global,
     plan: Plan,
     engines: Vec<Box<dyn Engine + Send>>,
-    progress: Option<&Progress>,
+    watch: Watch<'_>,
 ) -> Result<Ran, RunFault>
     ensures plan { IfOk result (λ ran. ran.desk.plan ≡ plan) }
-    ensures run { IfOk result (λ ran. IsCrewRun plan ran.desk.history (map (λ engine. state engine) engines.items)
+
+    // All that was started has come to its end; and a run that is complete, or that nobody can stop, is a whole one.
+    ensures ended { IfOk result (λ ran. IsEndedCrewRun plan ran.desk.history (map (λ engine. state engine) engines.items)
         (map (λ engine. state engine) ran.engines.items) (map (λ book. book.items) ran.books.items)) }
+    ensures run { IfOk result (λ ran. is_complete plan ran.desk.history ≡ true
+        → IsCrewRun plan ran.desk.history (map (λ engine. state engine) engines.items)
+        (map (λ engine. state engine) ran.engines.items) (map (λ book. book.items) ran.books.items)) }
+    ensures unasked { watch.entry.stop ≡ None → IfOk result (λ ran. is_complete plan ran.desk.history ≡ true) }
     ensures none { engines.items ≡ [] → result ≡ Err RunFault.NoEngine }
     ensures no_engine { IfErr result (λ fault. fault ≡ RunFault.NoEngine → engines.items ≡ []) }
 
@@ -59,7 +66,7 @@ pub fn run<R: Threads + Wait + Sync>(
     if engines.is_empty() {
         return Err(RunFault::NoEngine);
     }
-    run_as::<Brand, R>(rt, alloc, plan, engines, progress)
+    run_as::<Brand, R>(rt, alloc, plan, engines, watch)
 }
 
 // The same, where the plan has its name.
@@ -68,23 +75,27 @@ fn run_as<P: Naming + Send + Sync, R: Threads + Wait + Sync>(
     alloc: Global,
     plan: Plan,
     engines: Vec<Box<dyn Engine + Send>>,
-    progress: Option<&Progress>,
+    watch: Watch<'_>,
 ) -> Result<Ran, RunFault>
     requires { plan ≡ P.plan }
     ensures plan { IfOk result (λ ran. ran.desk.plan ≡ plan) }
-    ensures run { IfOk result (λ ran. IsCrewRun plan ran.desk.history (map (λ engine. state engine) engines.items)
+    ensures ended { IfOk result (λ ran. IsEndedCrewRun plan ran.desk.history (map (λ engine. state engine) engines.items)
         (map (λ engine. state engine) ran.engines.items) (map (λ book. book.items) ran.books.items)) }
+    ensures run { IfOk result (λ ran. is_complete plan ran.desk.history ≡ true
+        → IsCrewRun plan ran.desk.history (map (λ engine. state engine) engines.items)
+        (map (λ engine. state engine) ran.engines.items) (map (λ book. book.items) ran.books.items)) }
+    ensures unasked { watch.entry.stop ≡ None → IfOk result (λ ran. is_complete plan ran.desk.history ≡ true) }
     ensures failed { IfErr result (IsRefusal plan.verifiers) }
 {
     // Its contract says what holds of every plan.
     plan.facts();
-    let verifiers = plan.verifiers();
-    let (handoff, pass) = Handoff::new(rt, alloc, room_for(verifiers))?;
-    let mut hand = Hand::new(&handoff, pass);
-    let judges = judges_for(alloc, engines.len(), verifiers, &mut hand)?;
-    let jobs = jobs_for(alloc, engines, &mut hand)?;
-    let (desk, worked) = run_manned::<P, R>(rt, alloc, plan, jobs, judges, hand, progress)?;
-    let (engines, books) = gathered(alloc, &desk, worked)?;
+    let wanted = plan.verifiers();
+    let (handoff, pass) = Handoff::new(rt, alloc, room_for(wanted))?;
+    let mut channel = ChannelEnd::new(&handoff, pass);
+    let verifiers = verifiers_for(alloc, engines.len(), wanted, &mut channel)?;
+    let workers = workers_for(alloc, engines, &mut channel)?;
+    let (desk, worked) = run_manned::<P, R>(rt, alloc, plan, workers, verifiers, channel, watch)?;
+    let (engines, books) = gathered(alloc, &desk, watch.stop, worked)?;
     Ok(Ran {
         desk,
         engines,
@@ -98,21 +109,23 @@ fn run_manned<'a, P: Naming + Send + Sync, R: Threads + Wait + Sync>(
     rt: &R,
     alloc: Global,
     plan: Plan,
-    jobs: Vec<Job<'a>>,
-    judges: Vec<Judge<'a>>,
-    hand: Hand<'a>,
-    progress: Option<&Progress>,
+    workers: Vec<Worker<'a>>,
+    verifiers: Vec<Verifier<'a>>,
+    channel: ChannelEnd<'a>,
+    watch: Watch<'_>,
 ) -> Result<(Desk, Vec<Worked>), RunFault>
     requires { plan ≡ P.plan }
     ensures plan { IfOk result (λ both. both.0.plan ≡ plan) }
-    ensures len { IfOk result (λ both. length both.1.items ≡ length jobs.entry.items) }
-    ensures each { IfOk result (λ both. (i : ℕ) (job : _) (one : _) → i < length jobs.entry.items
-        → IfOk (slice_index_or both.1.items i one).book (λ book. AreCallsFor (judges_inline plan) (state (slice_index_or jobs.entry.items i job).engine) book.items (state (slice_index_or both.1.items i one).engine))) }
-    ensures failed { IfErr result (IsRefusal (length judges.entry.items)) }
+    ensures len { IfOk result (λ both. length both.1.items ≡ length workers.entry.items) }
+    ensures each { IfOk result (λ both. (i : ℕ) (worker : _) (one : _) → i < length workers.entry.items
+        → IfOk (slice_index_or both.1.items i one).book
+        (λ book. AreCallsFor (judges_inline plan) (state (slice_index_or workers.entry.items i worker).engine)
+        book.items (state (slice_index_or both.1.items i one).engine))) }
+    ensures failed { IfErr result (IsRefusal (length verifiers.entry.items)) }
 {
     let inline = judges_inline(&plan);
-    let shared = Shared::<P>::new(Desk::new(alloc, plan)?, progress);
-    let worked = man(rt, &shared, alloc, inline, jobs, judges, hand);
+    let shared = Shared::<P>::new(Desk::new(alloc, plan)?, watch);
+    let worked = man(rt, &shared, alloc, inline, workers, verifiers, channel);
     let (desk, halt) = shared.into_parts();
     if let Some(halt) = halt {
         return Err(RunFault::from(halt));
@@ -124,12 +137,14 @@ fn run_manned<'a, P: Naming + Send + Sync, R: Threads + Wait + Sync>(
 fn gathered(
     alloc: Global,
     desk: &Desk,
+    stop: Option<&StopFlag>,
     worked: Vec<Worked>,
 ) -> Result<(Vec<Box<dyn Engine + Send>>, Vec<Vec<Done>>), Halt>
     ensures engines { IfOk result (λ both. both.0.items ≡ map (λ one. one.engine) worked.items) }
     ensures books { IfOk result (λ both. map Ok both.1.items ≡ map (λ one. one.book) worked.items) }
     ensures legal { OnOk result (is_legal desk.now.plan desk.now.history ≡ true) }
-    ensures complete { OnOk result (is_complete desk.now.plan desk.now.history ≡ true) }
+    ensures settled { OnOk result (HasSettled desk.now.history) }
+    ensures complete { stop.entry ≡ None → OnOk result (is_complete desk.now.plan desk.now.history ≡ true) }
     ensures own { judges_inline desk.now.plan ≡ true
         → OnOk result (list_all (is_own_verdict (tickets_of desk.now.plan desk.now.history)) desk.now.history ≡ true) }
     ensures each { IfOk result (λ both. (i : ℕ) (book : _) → slice_get both.1.items i ≡ Some book
@@ -138,7 +153,7 @@ fn gathered(
 {
     let inline = judges_inline(desk.plan());
     let (engines, books) = sorted_out(alloc, worked)?;
-    check(alloc, desk, inline, &books)?;
+    check(alloc, desk, stop, inline, &books)?;
     Ok((engines, books))
 }
 
@@ -163,31 +178,35 @@ fn man<'a, P: Naming + Send + Sync, R: Threads + Wait + Sync>(
     shared: &Shared<'_, P>,
     alloc: Global,
     inline: bool,
-    jobs: Vec<Job<'a>>,
-    judges: Vec<Judge<'a>>,
-    hand: Hand<'a>,
+    workers: Vec<Worker<'a>>,
+    verifiers: Vec<Verifier<'a>>,
+    channel: ChannelEnd<'a>,
 ) -> Result<Vec<Worked>, RunFault>
-    ensures failed { IfErr result (IsUnmanned (length judges.entry.items)) }
-    ensures len { IfOk result (λ worked. length worked.items ≡ length jobs.entry.items) }
-    ensures each { IfOk result (λ worked. (i : ℕ) (job : _) (one : _) → i < length jobs.entry.items
-        → IfOk (slice_index_or worked.items i one).book (λ book. AreCallsFor inline (state (slice_index_or jobs.entry.items i job).engine) book.items (state (slice_index_or worked.items i one).engine))) }
+    ensures failed { IfErr result (IsUnmanned (length verifiers.entry.items)) }
+    ensures len { IfOk result (λ worked. length worked.items ≡ length workers.entry.items) }
+    ensures each { IfOk result (λ worked. (i : ℕ) (worker : _) (one : _) → i < length workers.entry.items
+        → IfOk (slice_index_or worked.items i one).book
+        (λ book. AreCallsFor inline (state (slice_index_or workers.entry.items i worker).engine)
+        book.items (state (slice_index_or worked.items i one).engine))) }
 {
     thread::scope(
         thread::scope_env(),
         rt,
         move |scope| -> Result<Vec<Worked>, RunFault>
-            ensures failed { IfErr result (IsUnmanned (length judges.entry.items)) }
-            ensures len { IfOk result (λ worked. length worked.items ≡ length jobs.entry.items) }
-            ensures each { IfOk result (λ worked. (i : ℕ) (job : _) (one : _) → i < length jobs.entry.items
-                → IfOk (slice_index_or worked.items i one).book (λ book. AreCallsFor inline (state (slice_index_or jobs.entry.items i job).engine) book.items (state (slice_index_or worked.items i one).engine))) }
+            ensures failed { IfErr result (IsUnmanned (length verifiers.entry.items)) }
+            ensures len { IfOk result (λ worked. length worked.items ≡ length workers.entry.items) }
+            ensures each { IfOk result (λ worked. (i : ℕ) (worker : _) (one : _) → i < length workers.entry.items
+                → IfOk (slice_index_or worked.items i one).book
+                (λ book. AreCallsFor inline (state (slice_index_or workers.entry.items i worker).engine)
+                book.items (state (slice_index_or worked.items i one).engine))) }
         {
-            let mut hand = hand;
-            let wanted = judges.len();
+            let mut channel = channel;
+            let wanted = verifiers.len();
             let mut started: usize = 0;
-            for judge in judges {
-                let Judge { number, hand } = judge;
+            for verifier in verifiers {
+                let Verifier { number, channel } = verifier;
                 if scope
-                    .spawn(move || verify(rt, shared, number, hand))
+                    .spawn(move || verify(rt, shared, number, channel))
                     .is_ok()
                 {
                     started = started.saturating_add(1);
@@ -195,19 +214,19 @@ fn man<'a, P: Naming + Send + Sync, R: Threads + Wait + Sync>(
             }
             // (where none is wanted, none can be wanting)
             let are_judged = wanted == 0 || started == wanted;
-            let worked = work_all(rt, shared, alloc, inline, jobs, are_judged);
-            stop_all(rt, &mut hand, started);
+            let worked = work_all(rt, shared, alloc, inline, workers, are_judged);
+            stop_all(rt, &mut channel, started);
             worked
         },
     )
 }
 
 // Tells so many verifiers that nothing more comes.
-fn stop_all<R: Wait>(rt: &R, hand: &mut Hand<'_>, verifiers: usize)
-    ensures { (hand_of hand.new.pass).put ≡ (hand_of hand.old.pass).put ++ replicate verifiers Stop }
+fn stop_all<R: Wait>(rt: &R, channel: &mut ChannelEnd<'_>, verifiers: usize)
+    ensures { (pass_state channel.new.pass).put ≡ (pass_state channel.old.pass).put ++ replicate verifiers Stop }
 {
     for told in 0..verifiers {
-        hand.stop(rt);
+        channel.stop(rt);
     }
 }
 
@@ -217,24 +236,26 @@ fn work_all<'a, P: Naming + Send + Sync, R: Threads + Wait + Sync>(
     shared: &Shared<'_, P>,
     alloc: Global,
     inline: bool,
-    jobs: Vec<Job<'a>>,
+    workers: Vec<Worker<'a>>,
     are_judged: bool,
 ) -> Result<Vec<Worked>, RunFault>
     ensures thread { IsFalse are_judged → result ≡ Err RunFault.Thread }
     ensures memory { IsTrue are_judged → IfErr result (λ fault. fault ≡ RunFault.Memory) }
-    ensures len { IfOk result (λ worked. length worked.items ≡ length jobs.entry.items) }
-    ensures each { IfOk result (λ worked. (i : ℕ) (job : _) (one : _) → i < length jobs.entry.items
-        → IfOk (slice_index_or worked.items i one).book (λ book. AreCallsFor inline (state (slice_index_or jobs.entry.items i job).engine) book.items (state (slice_index_or worked.items i one).engine))) }
+    ensures len { IfOk result (λ worked. length worked.items ≡ length workers.entry.items) }
+    ensures each { IfOk result (λ worked. (i : ℕ) (worker : _) (one : _) → i < length workers.entry.items
+        → IfOk (slice_index_or worked.items i one).book
+        (λ book. AreCallsFor inline (state (slice_index_or workers.entry.items i worker).engine)
+        book.items (state (slice_index_or worked.items i one).engine))) }
 {
     if !are_judged {
         return Err(RunFault::Thread);
     }
     let worked = thread::map_vec(
         rt,
-        jobs,
-        &|job: Job| -> Worked
-            ensures { IfOk result.book (λ book. AreCallsFor inline (state job.entry.engine) book.items (state result.engine)) }
-        { worked_by(rt, shared, alloc, inline, job) },
+        workers,
+        &|worker: Worker| -> Worked
+            ensures { IfOk result.book (λ book. AreCallsFor inline (state worker.entry.engine) book.items (state result.engine)) }
+        { worked_by(rt, shared, alloc, inline, worker) },
     )?;
     Ok(worked)
 }
@@ -245,24 +266,24 @@ fn worked_by<'a, P: Naming, R: Wait>(
     shared: &Shared<'_, P>,
     alloc: Global,
     inline: bool,
-    job: Job<'a>,
+    worker: Worker<'a>,
 ) -> Worked
-    ensures { IfOk result.book (λ book. AreCallsFor inline (state job.entry.engine) book.items (state result.engine)) }
+    ensures { IfOk result.book (λ book. AreCallsFor inline (state worker.entry.engine) book.items (state result.engine)) }
 {
-    let Job {
+    let Worker {
         number,
         engine,
-        hand,
-    } = job;
+        channel,
+    } = worker;
     let mut engine = engine;
-    let mut hand = hand;
+    let mut channel = channel;
     let post = Post {
         alloc,
         shared,
         inline,
         number,
     };
-    let book = work(rt, &post, &mut hand, &mut *engine);
+    let book = work(rt, &post, &mut channel, &mut *engine);
     Worked { engine, book }
 }
 
@@ -285,22 +306,44 @@ fn sorted_out(
 }
 
 // Compares what the workers say that they completed with what the desk holds.
-fn check(alloc: Global, desk: &Desk, inline: bool, books: &[Vec<Done>]) -> Result<(), Halt>
+fn check(
+    alloc: Global,
+    desk: &Desk,
+    stop: Option<&StopFlag>,
+    inline: bool,
+    books: &[Vec<Done>],
+) -> Result<(), Halt>
     ensures legal { OnOk result (is_legal desk.now.plan desk.now.history ≡ true) }
-    ensures complete { OnOk result (is_complete desk.now.plan desk.now.history ≡ true) }
-    ensures own { IsTrue inline → OnOk result (list_all (is_own_verdict (tickets_of desk.now.plan desk.now.history)) desk.now.history ≡ true) }
-    ensures each { OnOk result ((i : ℕ) (book : _) → slice_get books.now i ≡ Some book → book.items ≡ dones_of desk.now.plan inline desk.now.history i) }
+    ensures settled { OnOk result (HasSettled desk.now.history) }
+    ensures complete { stop.entry ≡ None → OnOk result (is_complete desk.now.plan desk.now.history ≡ true) }
+    ensures own { IsTrue inline
+        → OnOk result (list_all (is_own_verdict (tickets_of desk.now.plan desk.now.history)) desk.now.history ≡ true) }
+    ensures each { OnOk result ((i : ℕ) (book : _) → slice_get books.now i ≡ Some book
+        → book.items ≡ dones_of desk.now.plan inline desk.now.history i) }
     ensures numbered { OnOk result (list_all (is_numbered (length books.now) desk.now.plan.verifiers) desk.now.history ≡ true) }
 {
-    let _legal = desk.history();
-    if !desk.is_complete() || (inline && !are_own_verdicts(desk)) {
+    let account = Account::new(desk.plan(), desk.history(), desk.tickets());
+    if !has_ended(desk, &account, stop) || (inline && !are_own_verdicts(&account)) {
         return Err(Halt::Books);
     }
-    if !are_numbered(desk, books.len()) {
+    if !are_numbered(&account, books.len()) {
         return Err(Halt::Books);
     }
-    if !are_books(alloc, desk, inline, books)? {
+    if !are_books(alloc, &account, inline, books)? {
         return Err(Halt::Books);
     }
     Ok(())
+}
+
+// Whether the run is complete, or was asked to stop and all that it had started has come to its end.
+fn has_ended(desk: &Desk, account: &Account<'_>, stop: Option<&StopFlag>) -> bool
+    requires history { account.now.history ≡ desk.now.history }
+    requires legal { is_legal account.now.plan account.now.history ≡ true }
+    ensures settled { IsTrue result → HasSettled desk.now.history }
+    ensures complete { stop.entry ≡ None → IsTrue result → is_complete desk.now.plan desk.now.history ≡ true }
+{
+    if desk.is_complete() {
+        return true;
+    }
+    is_asked(stop) && has_settled(account)
 }

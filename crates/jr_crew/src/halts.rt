@@ -15,7 +15,7 @@ pub enum Halt {
 }
 
 // What the run answers.
-pub fn fault_of(halt: Halt) -> RunFault
+pub(crate) fn fault_of(halt: Halt) -> RunFault
     ensures fault { result ≡ fault_of halt }
     ensures engines { result ≡ RunFault.NoEngine → ⊥ }
     ensures thread { result ≡ RunFault.Thread → ⊥ }

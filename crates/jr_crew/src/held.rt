@@ -5,8 +5,9 @@ ghost use Rattle.jr_board.specs.Takes.{is_fitting};
 ghost use Rattle.jr_crew.specs.Halts.{first_cause};
 
 use crate::halts::Halt;
-use crate::progress::{Progress, note_start, note_verdict};
-use jr_board::{Desk, DeskFault, Take};
+use crate::progress::{note_start, note_verdict};
+use crate::watch::{Watch, is_asked};
+use jr_desk::{Desk, DeskFault, Take};
 use jr_header::{Ruling, Served};
 use jr_model::{Event, Ticket};
 use std::marker::{Brand, PhantomData};
@@ -96,16 +97,16 @@ const LOOKS: u32 = 1000;
 
 const EAGER_LOOKS: u32 = 10;
 
-// The desk under its lock, what those wait on that can't go on, and where it is noted how far the run is, if anywhere.
+// The desk under its lock, what those wait on that can't go on, and what another thread has of the run.
 #[derive(Drop)]
 pub struct Shared<'p, P: Naming> {
     held: Mutex<Held<P>>,
     changed: Condvar,
-    progress: Option<&'p Progress>,
+    watch: Watch<'p>,
 }
 
 impl<'p, P: Naming> Shared<'p, P> {
-    pub fn new(desk: Desk, progress: Option<&'p Progress>) -> Shared<'p, P>
+    pub fn new(desk: Desk, watch: Watch<'p>) -> Shared<'p, P>
         requires { desk.plan ≡ P.plan }
     {
         let held = Held {
@@ -116,7 +117,7 @@ impl<'p, P: Naming> Shared<'p, P> {
         Shared {
             held: Mutex::new(held),
             changed: Condvar::new(),
-            progress,
+            watch,
         }
     }
 
@@ -127,7 +128,7 @@ impl<'p, P: Naming> Shared<'p, P> {
         let Shared {
             held,
             changed: _,
-            progress: _,
+            watch: _,
         } = self;
         held.into_inner().into_parts()
     }
@@ -145,8 +146,9 @@ impl<'p, P: Naming> Shared<'p, P> {
         self.held.lock(rt)
     }
 
-    // The ticket of what this worker is to carry out next; none where the run has ended. It waits while nothing may be
-    // started: nothing but an end, a verdict or a stop lets anything start again.
+    // The ticket of what this worker is to carry out next; none where the run has ended, or is asked to stop. It waits while
+    // nothing may be started: nothing but an end, a verdict or a stop lets anything start again. One of these comes as long as
+    // anybody waits, for then something flies or awaits its verdict.
     pub fn next<R: Wait>(&self, rt: &R, worker: u32) -> Result<Option<Ticket>, Halt>
         ensures fits { IfOk result (λ ticket. IfSome ticket (λ t. ticket_fits t ≡ true)) }
         ensures memory { IfErr result (λ halt. halt ≡ Halt.Memory) }
@@ -167,9 +169,12 @@ impl<'p, P: Naming> Shared<'p, P> {
     {
         let mut held = held;
         for _ in rt.forever() {
+            if is_asked(self.watch.stop) {
+                return Ok(None);
+            }
             match held.take(worker) {
                 Ok(Take::Io(ticket)) => {
-                    note_start(self.progress, &ticket);
+                    note_start(self.watch.progress, &ticket);
                     return Ok(Some(ticket));
                 }
                 Ok(Take::Probe(ticket)) => return Ok(Some(ticket)),
@@ -203,7 +208,7 @@ impl<'p, P: Naming> Shared<'p, P> {
         held.end(served)?;
         if let Some(ruling) = ruling {
             held.judge(worker, ruling)?;
-            note_verdict(self.progress, ruling);
+            note_verdict(self.watch.progress, ruling);
         }
         self.changed.notify_all();
         self.next_under(rt, worker, held)
@@ -212,7 +217,7 @@ impl<'p, P: Naming> Shared<'p, P> {
     // Takes in a verdict.
     pub fn judge<R: Wait>(&self, rt: &R, by: u32, ruling: &Ruling<'_>) -> Result<(), Halt> {
         self.enter(rt).judge(by, ruling)?;
-        note_verdict(self.progress, ruling);
+        note_verdict(self.watch.progress, ruling);
         self.changed.notify_all();
         Ok(())
     }

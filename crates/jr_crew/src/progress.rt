@@ -69,14 +69,14 @@ impl Progress {
 }
 
 // Notes that one of the jobs' reads or writes is started, where anybody wants to know.
-pub fn note_start(progress: Option<&Progress>, ticket: &Ticket) {
+pub(crate) fn note_start(progress: Option<&Progress>, ticket: &Ticket) {
     if let Some(progress) = progress {
         progress.start(ticket);
     }
 }
 
 // Notes that a check is judged, where anybody wants to know.
-pub fn note_verdict(progress: Option<&Progress>, ruling: &Ruling<'_>) {
+pub(crate) fn note_verdict(progress: Option<&Progress>, ruling: &Ruling<'_>) {
     if let Some(progress) = progress {
         progress.judge(ruling);
     }

@@ -1,45 +1,65 @@
-ghost use Rattle.std.specs.Prelude.{◌≡◌, ◌-◌, ◌^◌, ◌<◌, ◌≤◌, ◌++◌, ◌∷◌, [], false, Some, IfOk, IfErr, IfSome, OnOk, OnErr, IsFalse};
+ghost use Rattle.std.specs.Prelude.{◌≡◌, ◌-◌, ◌^◌, ◌<◌, ◌≤◌, ◌++◌, ◌∷◌, [], true, false, Some, None, IfOk, IfErr, IfSome, OnOk, OnErr, IsTrue, IsFalse};
 ghost use Rattle.std.specs.Bool.{MatchBool};
 ghost use Rattle.jr_model.specs.History.{outcome_of, is_judged};
+ghost use Rattle.jr_model.specs.Legal.{is_complete};
 ghost use Rattle.jr_model.specs.Serial.{serial_history};
-ghost use Rattle.jr_handed.specs.Kept.{IsOwn};
+ghost use Rattle.jr_tickets.specs.Kept.{IsOwn};
 ghost use Rattle.jr_crew.specs.Runs.{IsFresh};
 ghost use Rattle.jr_crew.specs.Turns.{IsBetweenTurns, IsOpen, IsNext, IsCarriedOut, IsTurn, IsLastTurn, judged_by};
-ghost use Rattle.jr_crew.specs.Whole.{IsRun};
+ghost use Rattle.jr_crew.specs.Whole.{IsRun, IsEndedRun};
 
 use crate::faults::RunFault;
 use crate::progress::{Progress, note_start, note_verdict};
-use jr_board::{Desk, Take};
+use crate::watch::{StopFlag, Watch, is_asked};
+use jr_desk::{Desk, Take};
 use jr_engines::Engine;
 use jr_header::{Served, room_for, rule, serve};
 use jr_model::{Event, Ticket};
 use jr_plan::Plan;
 use std::alloc::Global;
 
-/// Runs a plan with one worker, 0, which waits for nobody and judges its own checks.
+/// Runs a plan with one worker, 0, which waits for nobody and judges its own checks. Where it is asked to stop it does so between
+/// two I/Os: the desk says whether the run is complete.
 pub fn run_serial(
     alloc: Global,
     plan: Plan,
     engine: &mut dyn Engine,
-    progress: Option<&Progress>,
+    watch: Watch<'_>,
 ) -> Result<Desk, RunFault>
     requires { (state engine.old).calls ≤ 2 ^ 63 }
     ensures plan { IfOk result (λ desk. desk.plan ≡ plan) }
-    ensures run { IfOk result (λ desk. IsRun plan desk.history (state engine.old) (state engine.new)) }
+
+    // All that was started has come to its end; and a run that is complete, or that nobody can stop, is a whole one.
+    ensures ended { IfOk result (λ desk. IsEndedRun plan desk.history (state engine.old) (state engine.new)) }
+    ensures run { IfOk result (λ desk. is_complete plan desk.history ≡ true
+        → IsRun plan desk.history (state engine.old) (state engine.new)) }
+    ensures unasked { watch.entry.stop ≡ None → IfOk result (λ desk. is_complete plan desk.history ≡ true) }
     ensures going { IfOk result (λ desk. IsFalse desk.is_stopped) }
 
-    // Over a fresh memory the history is known.
-    ensures serial { IsFresh plan (state engine.old) → IfOk result (λ desk. desk.history ≡ serial_history plan) }
+    // Over a fresh memory the history of a complete run is known.
+    ensures serial { IsFresh plan (state engine.old) → IfOk result (λ desk. is_complete plan desk.history ≡ true
+        → desk.history ≡ serial_history plan) }
     ensures memory { IfErr result (λ fault. fault ≡ RunFault.Memory) }
 {
     // Its contract says what holds of every plan.
     plan.facts();
     let mut desk = Desk::new(alloc, plan)?;
     loop {
-        if !turn(alloc, &mut desk, engine, progress)? {
+        if is_left(&desk, watch.stop) {
+            return Ok(desk);
+        }
+        if !turn(alloc, &mut desk, engine, watch.progress)? {
             return Ok(desk);
         }
     }
+}
+
+// Whether the run is asked to stop before it is complete.
+fn is_left(desk: &Desk, stop: Option<&StopFlag>) -> bool
+    ensures left { IsTrue result → is_complete desk.now.plan desk.now.history ≡ false }
+    ensures unasked { stop.entry ≡ None → result ≡ false }
+{
+    is_asked(stop) && !desk.is_complete()
 }
 
 // Starts what is next, if anything is, and carries it out.
@@ -113,7 +133,8 @@ fn carry_out(
 // Takes in how a ticket ended.
 fn end(desk: &mut Desk, served: &Served) -> Result<(), RunFault>
     requires { IsOpen desk.old served.now.ticket }
-    ensures ok { OnOk result (desk.new ≡ record desk.old { history = desk.old.history ++ Event.End served.now.ticket.worker served.now.ticket.id served.now.outcome ∷ [] }) }
+    ensures ok { OnOk result (desk.new ≡ record desk.old
+        { history = desk.old.history ++ Event.End served.now.ticket.worker served.now.ticket.id served.now.outcome ∷ [] }) }
     ensures err { OnErr result (desk.new ≡ desk.old) }
     ensures memory { IfErr result (λ fault. fault ≡ RunFault.Memory) }
 {

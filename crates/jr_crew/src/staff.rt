@@ -1,75 +1,75 @@
 ghost use Rattle.std.specs.Prelude.{◌≡◌, ◌+◌, ◌*◌, ◌^◌, ◌<◌, ◌≤◌, ◌++◌, ◌∷◌, [], IfOk, IfErr, OnOk, OnErr, map, length};
 ghost use Rattle.jr_crew.specs.Crews.{IsCountedFrom};
 
+use crate::channels::ChannelEnd;
 use crate::halts::Halt;
-use crate::hands::Hand;
 use jr_engines::Engine;
 use std::alloc::Global;
 
 // What a worker begins with: its number, its engine, and what it has of the hand-over.
 #[derive(Drop)]
-pub struct Job<'a> {
+pub struct Worker<'a> {
     pub number: u32,
     pub engine: Box<dyn Engine + Send>,
-    pub hand: Hand<'a>,
+    pub channel: ChannelEnd<'a>,
 }
 
 // What a verifier begins with: its number, and what it has of the hand-over.
 #[derive(Drop)]
-pub struct Judge<'a> {
+pub struct Verifier<'a> {
     pub number: u32,
-    pub hand: Hand<'a>,
+    pub channel: ChannelEnd<'a>,
 }
 
-// A job for each engine; the workers are numbered from 0.
-pub fn jobs_for<'a>(
+// A worker for each engine, numbered from 0.
+pub(crate) fn workers_for<'a>(
     alloc: Global,
     engines: Vec<Box<dyn Engine + Send>>,
-    hand: &mut Hand<'a>,
-) -> Result<Vec<Job<'a>>, Halt>
-    ensures ok { IfOk result (λ jobs. map (λ job. job.engine) jobs.items ≡ engines.items) }
-    ensures numbers { IfOk result (λ jobs. IsCountedFrom 0 (map (λ job. job.number) jobs.items)) }
+    channel: &mut ChannelEnd<'a>,
+) -> Result<Vec<Worker<'a>>, Halt>
+    ensures ok { IfOk result (λ workers. map (λ worker. worker.engine) workers.items ≡ engines.items) }
+    ensures numbers { IfOk result (λ workers. IsCountedFrom 0 (map (λ worker. worker.number) workers.items)) }
     ensures books { IfErr result (λ halt. halt ≡ Halt.Books → 2 ^ 32 < length engines.items) }
 {
-    let mut jobs = Vec::new(alloc);
+    let mut workers = Vec::new(alloc);
     for engine in engines {
-        let number = number_of(jobs.len())?;
-        let hand = hand.another()?;
+        let number = number_of(workers.len())?;
+        let channel = channel.another()?;
         push(
-            &mut jobs,
-            Job {
+            &mut workers,
+            Worker {
                 number,
                 engine,
-                hand,
+                channel,
             },
         )?;
     }
-    Ok(jobs)
+    Ok(workers)
 }
 
 // So many verifiers, numbered on from the workers.
-pub fn judges_for<'a>(
+pub(crate) fn verifiers_for<'a>(
     alloc: Global,
     workers: usize,
     verifiers: u32,
-    hand: &mut Hand<'a>,
-) -> Result<Vec<Judge<'a>>, Halt>
-    ensures ok { IfOk result (λ judges. length judges.items ≡ verifiers) }
-    ensures numbers { IfOk result (λ judges. IsCountedFrom workers (map (λ judge. judge.number) judges.items)) }
+    channel: &mut ChannelEnd<'a>,
+) -> Result<Vec<Verifier<'a>>, Halt>
+    ensures ok { IfOk result (λ all. length all.items ≡ verifiers) }
+    ensures numbers { IfOk result (λ all. IsCountedFrom workers (map (λ one. one.number) all.items)) }
     ensures books { IfErr result (λ halt. halt ≡ Halt.Books → 2 ^ 32 ≤ workers + verifiers) }
 {
     let first = number_of(workers)?;
-    let mut judges = Vec::new(alloc);
+    let mut all = Vec::new(alloc);
     for place in 0..verifiers {
         let number = number_behind(first, place)?;
-        let hand = hand.another()?;
-        push(&mut judges, Judge { number, hand })?;
+        let channel = channel.another()?;
+        push(&mut all, Verifier { number, channel })?;
     }
-    Ok(judges)
+    Ok(all)
 }
 
 // How many parcels the hand-over holds: four for each verifier.
-pub fn room_for(verifiers: u32) -> usize
+pub(crate) fn room_for(verifiers: u32) -> usize
     ensures least { 1 ≤ result }
     ensures room { 1 ≤ verifiers → result ≡ 4 * verifiers }
 {
@@ -100,7 +100,7 @@ fn number_behind(first: u32, place: u32) -> Result<u32, Halt>
 }
 
 // Puts it behind the last one.
-pub fn push<X: Drop>(all: &mut Vec<X>, one: X) -> Result<(), Halt>
+pub(crate) fn push<X: Drop>(all: &mut Vec<X>, one: X) -> Result<(), Halt>
     ensures ok { OnOk result (all.new.items ≡ all.old.items ++ one ∷ []) }
     ensures err { OnErr result (all.new.items ≡ all.old.items) }
     ensures memory { IfErr result (λ halt. halt ≡ Halt.Memory) }

@@ -1,5 +1,5 @@
+use crate::channels::ChannelEnd;
 use crate::halts::Halt;
-use crate::hands::Hand;
 use crate::held::{Naming, Shared};
 use jr_handover::Parcel;
 use jr_header::{Served, rule};
@@ -7,11 +7,16 @@ use std::sync::Wait;
 
 // Judges what is handed over until a stop comes. Where it can't go on it ends the run for all, and drops what still comes, so
 // that no worker waits for room.
-pub fn verify<P: Naming, R: Wait>(rt: &R, shared: &Shared<'_, P>, number: u32, hand: Hand<'_>) {
-    let mut hand = hand;
-    if let Err(halt) = judge_all(rt, shared, number, &mut hand) {
+pub(crate) fn verify<P: Naming, R: Wait>(
+    rt: &R,
+    shared: &Shared<'_, P>,
+    number: u32,
+    channel: ChannelEnd<'_>,
+) {
+    let mut channel = channel;
+    if let Err(halt) = judge_all(rt, shared, number, &mut channel) {
         shared.stop(rt, halt);
-        drop_all(rt, &mut hand);
+        drop_all(rt, &mut channel);
     }
 }
 
@@ -19,10 +24,10 @@ fn judge_all<P: Naming, R: Wait>(
     rt: &R,
     shared: &Shared<'_, P>,
     number: u32,
-    hand: &mut Hand<'_>,
+    channel: &mut ChannelEnd<'_>,
 ) -> Result<(), Halt> {
     for _ in rt.forever() {
-        match hand.take(rt) {
+        match channel.take(rt) {
             Parcel::Check(served) => judge(rt, shared, number, &served)?,
             Parcel::Stop => return Ok(()),
         }
@@ -43,9 +48,9 @@ fn judge<P: Naming, R: Wait>(
     shared.judge(rt, number, &rule(served))
 }
 
-fn drop_all<R: Wait>(rt: &R, hand: &mut Hand<'_>) {
+fn drop_all<R: Wait>(rt: &R, channel: &mut ChannelEnd<'_>) {
     for _ in rt.forever() {
-        if let Parcel::Stop = hand.take(rt) {
+        if let Parcel::Stop = channel.take(rt) {
             return;
         }
     }

@@ -1,13 +1,13 @@
 ghost use Rattle.std.specs.Prelude.{◌≡◌, ◌&&◌, true, replicate, vec_len, IfOk, IfSome, OnOk, Some, None, IfErr, if◌then◌else◌};
 ghost use Rattle.jr_model.specs.Tickets.{ticket_fits};
-ghost use Rattle.jr_handover.specs.Passes.{hand_of};
+ghost use Rattle.jr_handover.specs.Passes.{pass_state};
 ghost use Rattle.jr_header.specs.Served.{is_to_judge, answer_verdict};
 ghost use Rattle.jr_crew.specs.Working.{IsCalledFor, AreCallsFor, handed_on};
 
-use crate::books::Done;
+use crate::channels::ChannelEnd;
 use crate::halts::Halt;
-use crate::hands::Hand;
 use crate::held::{Naming, Shared};
+use jr_books::Done;
 use jr_engines::Engine;
 use jr_header::{Served, rule, serve};
 use jr_model::{Ticket, Verdict};
@@ -25,15 +25,15 @@ pub struct Post<'a, P: Naming> {
 
 // Carries out tickets until the run has ended, and answers all that this worker completed. Where it can't go on it ends the
 // run for all.
-pub fn work<P: Naming, R: Wait>(
+pub(crate) fn work<P: Naming, R: Wait>(
     rt: &R,
     post: &Post<'_, P>,
-    hand: &mut Hand<'_>,
+    channel: &mut ChannelEnd<'_>,
     engine: &mut dyn Engine,
 ) -> Result<Vec<Done>, Halt>
     ensures { IfOk result (λ book. AreCallsFor post.now.inline (state engine.old) book.items (state engine.new)) }
 {
-    let book = work_on(rt, post, hand, engine);
+    let book = work_on(rt, post, channel, engine);
     if let Err(halt) = &book {
         post.shared.stop(rt, *halt);
     }
@@ -44,7 +44,7 @@ pub fn work<P: Naming, R: Wait>(
 fn work_on<P: Naming, R: Wait>(
     rt: &R,
     post: &Post<'_, P>,
-    hand: &mut Hand<'_>,
+    channel: &mut ChannelEnd<'_>,
     engine: &mut dyn Engine,
 ) -> Result<Vec<Done>, Halt>
     ensures { IfOk result (λ book. AreCallsFor post.now.inline (state engine.old) book.items (state engine.new)) }
@@ -56,7 +56,7 @@ fn work_on<P: Naming, R: Wait>(
         let Some(ticket) = next else {
             return Ok(book);
         };
-        let turn = carry_out(rt, post, hand, engine, ticket, buffer)?;
+        let turn = carry_out(rt, post, channel, engine, ticket, buffer)?;
         book.extend_from_slice(&[turn.done])?;
         next = turn.next;
         buffer = turn.buffer;
@@ -66,7 +66,7 @@ fn work_on<P: Naming, R: Wait>(
 
 // What a worker completed, what is next for it (nothing where the run has ended), and a buffer for that.
 #[derive(Drop)]
-pub struct Turn {
+pub struct CarriedOut {
     pub done: Done,
     pub next: Option<Ticket>,
     pub buffer: Vec<u8>,
@@ -84,11 +84,11 @@ pub struct Settled {
 fn carry_out<P: Naming, R: Wait>(
     rt: &R,
     post: &Post<'_, P>,
-    hand: &mut Hand<'_>,
+    channel: &mut ChannelEnd<'_>,
     engine: &mut dyn Engine,
     ticket: Ticket,
     buffer: Vec<u8>,
-) -> Result<Turn, Halt>
+) -> Result<CarriedOut, Halt>
     requires { ticket_fits ticket ≡ true }
     ensures called { IfOk result (λ turn. IsCalledFor post.now.inline (state engine.old) turn.done (state engine.new)) }
     ensures fits { IfOk result (λ turn. IfSome turn.next (λ t. ticket_fits t ≡ true)) }
@@ -104,13 +104,13 @@ fn carry_out<P: Naming, R: Wait>(
         verdict,
         next,
         buffer,
-    } = settle(rt, post, hand, served)?;
+    } = settle(rt, post, channel, served)?;
     let done = Done {
         ticket,
         outcome,
         verdict,
     };
-    Ok(Turn { done, next, buffer })
+    Ok(CarriedOut { done, next, buffer })
 }
 
 // Makes room for the ticket's piece: as many zeros as it has bytes.
@@ -131,12 +131,13 @@ fn clear(buffer: &mut Vec<u8>, ticket: &Ticket) -> Result<(), Halt>
 fn settle<P: Naming, R: Wait>(
     rt: &R,
     post: &Post<'_, P>,
-    hand: &mut Hand<'_>,
+    channel: &mut ChannelEnd<'_>,
     served: Served,
 ) -> Result<Settled, Halt>
-    ensures said { IfOk result (λ settled. settled.verdict ≡ (if post.now.inline && is_to_judge served then Some (answer_verdict served) else None)) }
+    ensures said { IfOk result (λ settled. settled.verdict
+        ≡ (if post.now.inline && is_to_judge served then Some (answer_verdict served) else None)) }
     ensures fits { IfOk result (λ settled. IfSome settled.next (λ t. ticket_fits t ≡ true)) }
-    ensures handed { OnOk result (hand_of hand.new.pass ≡ handed_on post.now.inline served (hand_of hand.old.pass)) }
+    ensures handed { OnOk result (pass_state channel.new.pass ≡ handed_on post.now.inline served (pass_state channel.old.pass)) }
 {
     if !served.to_judge() {
         let next = post.shared.next_after(rt, post.number, &served, None)?;
@@ -150,7 +151,7 @@ fn settle<P: Naming, R: Wait>(
         return judge(rt, post, served);
     }
     post.shared.end(rt, &served)?;
-    hand.put(rt, served);
+    channel.put(rt, served);
     let next = post.shared.next(rt, post.number)?;
     Ok(Settled {
         verdict: None,

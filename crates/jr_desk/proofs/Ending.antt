@@ -23,15 +23,15 @@ use Rattle.jr_engines.specs.Answers.{AnswerParts, Answers, Leaves}
 use Rattle.jr_engines.specs.States.{ScriptedState, scripted_state}
 use Rattle.jr_engines.proofs.MemoryLemmas.{covers_after_asked}
 use Rattle.jr_header.specs.Served.{asked_with}
-use Rattle.jr_laws.specs.Memory.{CoversFiles}
-use Rattle.jr_laws.proofs.Contents.{length-content_of_io, lies_in_file}
-use Rattle.jr_steps.proofs.DrawnLaws.{started_fit-law}
-use Rattle.jr_laws.proofs.Memories.{covers_piece}
-use Rattle.jr_laws.proofs.Starts.{draw_started}
+use Rattle.jr_laws_bytes.specs.Memory.{CoversFiles}
+use Rattle.jr_laws_bytes.proofs.Contents.{length-content_of_io, lies_in_file}
+use Rattle.jr_laws_steps.proofs.DrawnLaws.{started_fit-law}
+use Rattle.jr_laws_bytes.proofs.Memories.{covers_piece}
+use Rattle.jr_laws_bytes.proofs.Starts.{draw_started}
 use Rattle.jr_desk.specs.declared.plays.Player.{Player}
-use Rattle.jr_handed.specs.Kept.{tickets_of}
-use Rattle.jr_handed.specs.Tickets.{ticket_of}
-use Rattle.jr_board.specs.DeskState.{DeskState}
+use Rattle.jr_tickets.specs.Kept.{tickets_of}
+use Rattle.jr_tickets.specs.Tickets.{ticket_of}
+use Rattle.jr_desk.specs.DeskState.{DeskState}
 use Rattle.jr_desk.specs.Plays.{GoesOn, IsReady, KeepsReads, kept_by, read_back_of, state_of}
 use Rattle.jr_desk.proofs.Playing.{known, same_states}
 use Rattle.jr_desk.proofs.Reading.{keeps_ended}

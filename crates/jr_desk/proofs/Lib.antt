@@ -1,4 +1,5 @@
 pub mod Ending
 pub mod Playing
 pub mod Reading
+pub mod Refusing
 pub mod Running

@@ -23,24 +23,24 @@ use Rattle.jr_model.specs.Plan.{Plan}
 use Rattle.jr_model.specs.Tickets.{ticket_fits}
 use Rattle.jr_engines.specs.Answers.{AnswerParts}
 use Rattle.jr_header.specs.Served.{answer_verdict, is_to_judge, is_whole_check}
-use Rattle.jr_steps.proofs.CountLaws.{numbered_of, appends_same, taken_all}
-use Rattle.jr_steps.proofs.DrawnLaws.{started_fit-law}
-use Rattle.jr_steps.proofs.PlaceLemmas.{any_found, item_at}
-use Rattle.jr_steps.proofs.StartedLemmas.{started_below, same_some}
-use Rattle.jr_laws.proofs.Verdicts.{judged_check}
-use Rattle.jr_laws.specs.Memory.{CoversFiles}
+use Rattle.jr_laws_steps.proofs.CountLaws.{numbered_of, appends_same, taken_all}
+use Rattle.jr_laws_steps.proofs.DrawnLaws.{started_fit-law}
+use Rattle.jr_laws_steps.proofs.PlaceLemmas.{any_found, item_at}
+use Rattle.jr_laws_steps.proofs.StartedLemmas.{started_below, same_some}
+use Rattle.jr_laws_bytes.proofs.Verdicts.{judged_check}
+use Rattle.jr_laws_bytes.specs.Memory.{CoversFiles}
 use Rattle.jr_desk.specs.declared.plays.Player.{Player}
-use Rattle.jr_handed.specs.Kept.{tickets_of}
-use Rattle.jr_handed.specs.Tickets.{ticket_of}
-use Rattle.jr_handed.proofs.OwnTickets.{got_ticket, tickets_count}
+use Rattle.jr_tickets.specs.Kept.{tickets_of}
+use Rattle.jr_tickets.specs.Tickets.{ticket_of}
+use Rattle.jr_tickets.proofs.OwnTickets.{got_ticket, tickets_count}
 use Rattle.jr_board.specs.declared.takes.Take.{Take}
 use Rattle.jr_board.specs.declared.takes.Take.TheVariants as take
-use Rattle.jr_board.specs.DeskState.{DeskState}
+use Rattle.jr_desk.specs.DeskState.{DeskState}
 use Rattle.jr_desk.specs.Plays.{GoesOn, IsReady, KeepsReads, is_for, judge_reply, judged_desk, last_read, read_back_of, reply_for, state_of}
-use Rattle.jr_board.specs.Refusals.{judge_fault}
+use Rattle.jr_desk.specs.Refusals.{judge_fault}
 use Rattle.jr_board.specs.Takes.{IsTaken, answer_with, handing, last_started, ticket_for}
 use Rattle.jr_board.proofs.Answering.{fits_by, no_ends}
-use Rattle.jr_board.proofs.Keeping.{judged_probe, none_from}
+use Rattle.jr_desk.proofs.Refusing.{judged_probe, none_from}
 use Rattle.jr_desk.proofs.Reading.{keeps_on, last_read_for}
 use Rattle.jr_board.proofs.Serving.{verdict_is}
 

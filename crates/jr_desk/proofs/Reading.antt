@@ -20,11 +20,11 @@ use Rattle.jr_model.specs.Plan.{Plan}
 use Rattle.jr_model.proofs.SerialLaws.{first_given-append, whole_some}
 use Rattle.jr_engines.specs.Answers.{AnswerParts}
 use Rattle.jr_header.specs.Served.{is_to_judge, is_whole_check}
-use Rattle.jr_steps.proofs.StartedLemmas.{started-other, started-append, started_stays, got_within, same_some}
+use Rattle.jr_laws_steps.proofs.StartedLemmas.{started-other, started-append, started_stays, got_within, same_some}
 use Rattle.jr_desk.specs.Plays.{KeepsReads, kept_by, last_read, is_for}
-use Rattle.jr_handed.specs.Kept.{IsOwn, tickets_of}
-use Rattle.jr_handed.specs.Tickets.{ticket_of}
-use Rattle.jr_handed.proofs.OwnTickets.{own_started}
+use Rattle.jr_tickets.specs.Kept.{IsOwn, tickets_of}
+use Rattle.jr_tickets.specs.Tickets.{ticket_of}
+use Rattle.jr_tickets.proofs.OwnTickets.{own_started}
 use Rattle.jr_board.proofs.Answering.{ends_started}
 
 -- tickets stay the desk's own

@@ -1,7 +1,7 @@
 -- Believed: the desk of a state of the machine (of this project).
 use Rattle.jr_model.specs.Machine.{State}
 use Rattle.jr_model.specs.Plan.{Plan}
-use Rattle.jr_board.specs.DeskState.{DeskState}
+use Rattle.jr_desk.specs.DeskState.{DeskState}
 
 -- the desk has the state's history, and was stopped where the machine was
 abbrev pub desk_in : Plan → State → DeskState

@@ -1,2 +1,4 @@
 pub mod DeskOf
+pub mod DeskState
 pub mod Plays
+pub mod Refusals

@@ -13,15 +13,15 @@ use Rattle.jr_model.specs.Honest.{IsWholeCheck}
 use Rattle.jr_model.specs.Legal.{is_legal}
 use Rattle.jr_model.specs.Machine.{State, Stepped}
 use Rattle.jr_model.specs.Plan.{Plan}
-use Rattle.jr_plan.specs.PlanFacts.{IsPlanned}
+use Rattle.jr_model.specs.PlanFacts.{IsPlanned}
 use Rattle.jr_engines.specs.Answers.{AnswerParts}
 use Rattle.jr_header.specs.Served.{answer_verdict, is_to_judge}
-use Rattle.jr_laws.specs.Memory.{CoversFiles}
+use Rattle.jr_laws_bytes.specs.Memory.{CoversFiles}
 use Rattle.jr_desk.specs.declared.plays.Player.{Player}
-use Rattle.jr_handed.specs.Kept.{IsOwn}
+use Rattle.jr_tickets.specs.Kept.{IsOwn}
 use Rattle.jr_board.specs.declared.takes.Take.{Take}
 use Rattle.jr_board.specs.declared.takes.Take.TheVariants as take
-use Rattle.jr_board.specs.DeskState.{DeskState}
+use Rattle.jr_desk.specs.DeskState.{DeskState}
 
 -- the answer to a step that takes
 abbrev pub reply_for : Take → StepReply

@@ -10,7 +10,7 @@ use jr_model::{Memory, Reply, ReplyBytes, Ticket};
 use std::alloc::Global;
 
 // Carries out a ticket over a scripted engine.
-pub fn carried_out(engine: &mut ScriptedEngine, ticket: Ticket, buffer: Vec<u8>) -> Served
+pub(crate) fn carried_out(engine: &mut ScriptedEngine, ticket: Ticket, buffer: Vec<u8>) -> Served
     requires fits { ticket_fits ticket ≡ true }
     requires room { vec_len buffer ≡ ticket.piece.len }
     requires calls { engine.old.calls < 2 ^ 64 - 1 }
@@ -20,7 +20,7 @@ pub fn carried_out(engine: &mut ScriptedEngine, ticket: Ticket, buffer: Vec<u8>)
 }
 
 // The reply once more.
-pub fn copy_of(alloc: Global, reply: &Reply) -> Result<Reply, Memory>
+pub(crate) fn copy_of(alloc: Global, reply: &Reply) -> Result<Reply, Memory>
     ensures { IfOk result (λ copy. copy ≡ reply.now) }
 {
     match reply {

@@ -1,6 +1,6 @@
 // By what a block device is in use. The kernel's tables are looked at by numbers: a name may be any path.
 use crate::devices::DeviceNumbers;
-use crate::tables::{field_of, mount_of, names_of, place_of, text_of};
+use crate::tables::{field_of, is_anonymous, mount_of, names_of, place_of, source_of, text_of};
 use crate::uses::Use;
 use std::alloc::Global;
 use std::os::unix::fs::{FileTypeExt, MetadataExt};
@@ -25,7 +25,48 @@ pub fn use_of<R: Files>(rt: &R, alloc: Global, device: DeviceNumbers) -> io::Res
             return Ok(found);
         }
     }
+    source_use(rt, alloc, mounts.as_slice(), family.as_slice())
+}
+
+// By the first mount of a file system without a device of its own that names one of these devices as its source.
+fn source_use<R: Files>(
+    rt: &R,
+    alloc: Global,
+    mounts: &[u8],
+    family: &[String],
+) -> io::Result<Option<Use>> {
+    for line in mounts.split(|byte| *byte == b'\n') {
+        if is_anonymous(line) && is_from(rt, alloc, line, family)? {
+            return Ok(Some(mounted(alloc, line)?));
+        }
+    }
     Ok(None)
+}
+
+// Whether the source of a mount is one of these devices. Only a whole path is taken for the name of one.
+fn is_from<R: Files>(rt: &R, alloc: Global, line: &[u8], family: &[String]) -> io::Result<bool> {
+    let Some(source) = source_of(line) else {
+        return Ok(false);
+    };
+    let path = String::from_utf8_lossy(alloc, source)?;
+    if !path.as_str().starts_with('/') {
+        return Ok(false);
+    }
+    let Some(device) = device_at(rt, path.as_str()) else {
+        return Ok(false);
+    };
+    let numbers = device.text(alloc)?;
+    Ok(
+        family
+            .iter()
+            .any(|member| member.as_str() == numbers.as_str()),
+    )
+}
+
+// The use by a mount.
+fn mounted(alloc: Global, line: &[u8]) -> io::Result<Use> {
+    let place = place_of(line).unwrap_or(line);
+    Ok(Use::Mounted(String::from_utf8_lossy(alloc, place)?))
 }
 
 // By what the device with these numbers is in use, itself.
@@ -37,8 +78,7 @@ fn use_of_one<R: Files>(
     swaps: &[String],
 ) -> io::Result<Option<Use>> {
     if let Some(line) = mount_of(mounts, device.as_bytes()) {
-        let place = place_of(line).unwrap_or(line);
-        return Ok(Some(Use::Mounted(String::from_utf8_lossy(alloc, place)?)));
+        return Ok(Some(mounted(alloc, line)?));
     }
     for swap in swaps {
         if swap.as_str() == device {

@@ -1,7 +1,8 @@
 // Texts that the kernel makes: of mounts (/proc/self/mountinfo), of swap (/proc/swaps), and the names in a folder.
-ghost use Rattle.std.specs.Prelude.{◌≡◌, ◌↔◌, IsTrue, IfSome};
+ghost use Rattle.std.specs.Prelude.{◌≡◌, ◌==◌, ◌≤◌, ◌↔◌, IsTrue, IfSome, length, position};
+ghost use Rattle.std.specs.List.{slice_split};
 ghost use Rattle.std.specs.Option.{option_map};
-ghost use Rattle.jr_devices.specs.Devices.{IsMountOf, field_of};
+ghost use Rattle.jr_devices.specs.Devices.{IsMountOf, field_of, is_anonymous, is_driverless, is_hyphen, source_of};
 
 use std::alloc::Global;
 use std::fs::File;
@@ -18,15 +19,16 @@ const MOUNT_POINT: usize = 4;
 const MOST_READ: u64 = 1 << 20;
 
 /// What the system answers for a file, or nothing where it can't be read. The one error is want of memory.
-pub fn text_of<R: Files>(rt: &R, alloc: Global, path: &str) -> io::Result<Vec<u8>> {
+pub(crate) fn text_of<R: Files>(rt: &R, alloc: Global, path: &str) -> io::Result<Vec<u8>> {
     match File::open(rt, path) {
         Ok(file) => taken(alloc, file),
         Err(_) => Ok(Vec::new(alloc)),
     }
 }
 
-/// The names in a folder, each ended by a NUL, or nothing where it can't be read. A link is followed where the path ends in a slash. The one error is want of memory.
-pub fn names_of<R: Files>(rt: &R, alloc: Global, path: &str) -> io::Result<Vec<u8>> {
+/// The names in a folder, each ended by a NUL, or nothing where it can't be read. A link is followed where the path ends in a slash.
+/// The one error is want of memory.
+pub(crate) fn names_of<R: Files>(rt: &R, alloc: Global, path: &str) -> io::Result<Vec<u8>> {
     match rt.open_dir(path) {
         Ok(folder) => taken(alloc, folder),
         Err(_) => Ok(Vec::new(alloc)),
@@ -43,7 +45,7 @@ fn taken<S: Read + Drop>(alloc: Global, source: S) -> io::Result<Vec<u8>> {
 }
 
 /// The first line of a table of mounts that has these numbers.
-pub fn mount_of<'a>(mounts: &'a [u8], device: &[u8]) -> Option<&'a [u8]>
+pub(crate) fn mount_of<'a>(mounts: &'a [u8], device: &[u8]) -> Option<&'a [u8]>
     ensures { IfSome result (λ line. IsMountOf device.now line.now) }
 {
     for line in mounts.split(|byte| *byte == b'\n') {
@@ -55,7 +57,7 @@ pub fn mount_of<'a>(mounts: &'a [u8], device: &[u8]) -> Option<&'a [u8]>
 }
 
 /// Where a mount stands.
-pub fn place_of(line: &[u8]) -> Option<&[u8]>
+pub(crate) fn place_of(line: &[u8]) -> Option<&[u8]>
     ensures { option_map (λ field. field.now) result ≡ field_of line.now 4 }
 {
     field_of(line, MOUNT_POINT)
@@ -71,8 +73,56 @@ fn is_mount_of(line: &[u8], device: &[u8]) -> bool
     }
 }
 
+/// Whether a mount is of a file system that has no device of its own, as one of btrfs.
+pub(crate) fn is_anonymous(line: &[u8]) -> bool
+    ensures { result ≡ is_anonymous line.now }
+{
+    match field_of(line, DEVICE) {
+        Some(numbers) => is_driverless(numbers),
+        None => false,
+    }
+}
+
+// Whether these numbers are `0:MINOR`.
+fn is_driverless(numbers: &[u8]) -> bool
+    ensures { result ≡ is_driverless numbers.now }
+{
+    match numbers {
+        [driver, colon, ..] => *driver == b'0' && *colon == b':',
+        _ => false,
+    }
+}
+
+/// What is mounted, as the mount names it: a device, where the file system is on one.
+pub(crate) fn source_of(line: &[u8]) -> Option<&[u8]>
+    ensures { option_map (λ field. field.now) result ≡ source_of line.now }
+{
+    match hyphen_of(line) {
+        Some(hyphen) => field_of(line, hyphen + 2),
+        None => None,
+    }
+}
+
+// The place of the hyphen behind which a mount says what is mounted.
+fn hyphen_of(line: &[u8]) -> Option<usize>
+    ensures value { result ≡ position is_hyphen (slice_split (λ b. b == 32) line.now) }
+    ensures few { IfSome result (λ place. place ≤ length line.now) }
+{
+    line.split(|byte| *byte == b' ')
+        .position(|field| is_hyphen(field))
+}
+
+fn is_hyphen(field: &[u8]) -> bool
+    ensures { result ≡ is_hyphen field.now }
+{
+    match field {
+        [byte] => *byte == b'-',
+        _ => false,
+    }
+}
+
 /// The field at this place of a line, if it has so many.
-pub fn field_of(line: &[u8], place: usize) -> Option<&[u8]>
+pub(crate) fn field_of(line: &[u8], place: usize) -> Option<&[u8]>
     ensures { option_map (λ field. field.now) result ≡ field_of line.now place }
 {
     line.split(|byte| *byte == b' ').nth(place)

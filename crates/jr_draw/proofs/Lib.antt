@@ -1,6 +1,2 @@
-pub mod ChoiceLaws
-pub mod CoverLaws
-pub mod DrawLaws
-pub mod PassLaws
-pub mod TheLaw
+pub mod ComingFacts
 pub mod WordLaws

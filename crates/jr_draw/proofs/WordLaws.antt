@@ -4,7 +4,7 @@ use Rattle.jr_model.specs.Draws.{draws_over}
 use Rattle.jr_model.specs.Plan.{SubJob}
 use Rattle.jr_model.specs.Words.{words_from, state_after}
 use Rattle.jr_words.proofs.WordLemmas.{length-words_from}
-use Rattle.jr_draw.specs.PassLaw.{PassLaw}
+use Rattle.jr_laws_draws.specs.PassLaw.{PassLaw}
 
 pub words_from-add : (m n : ℕ) (state : List ℕ) → words_from state (m + n) ≡ words_from state m ++ words_from (state_after state m) n
 unfolding words_from state_after

@@ -1,11 +1,11 @@
 -- Internal: a pass on its way, as its clone and how far it has come.
 use Rattle.std.specs.Prelude.{false, [], None}
 use Rattle.jr_model.specs.declared.contents.VerifyKind.TheVariants as verify
-use Rattle.jr_model.specs.Draws.{Progress}
+use Rattle.jr_model.specs.Draws.{PassProgress}
 use Rattle.jr_model.specs.Plan.{SubJob}
 use Rattle.jr_draw.specs.declared.course.Course.TheInside.{Inside}
 use Rattle.jr_draw.specs.PlacesSeen.{places_of}
-use Rattle.jr_draw.specs.DrawFacts.{CourseRecord, IsSound}
+use Rattle.jr_laws_draws.specs.DrawFacts.{CourseRecord, IsSound}
 
 abbrev pub job_of : Inside → SubJob
 job_of a = record {
@@ -30,7 +30,7 @@ job_of a = record {
   is_fatal = false;
 }
 
-abbrev pub progress_of : Inside → Progress
+abbrev pub progress_of : Inside → PassProgress
 progress_of a = record { number = a.number; places = places_of a.places; reads = a.reads; writes = a.writes }
 
 abbrev pub course_of : Inside → CourseRecord

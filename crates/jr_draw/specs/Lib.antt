@@ -1,5 +1,4 @@
+pub mod ComingDraws
 pub mod Courses
-pub mod DrawFacts
 pub mod Drawing
-pub mod PassLaw
 pub mod PlacesSeen

@@ -1,6 +1,7 @@
 ghost use Rattle.std.specs.Prelude.{◌≡◌, ◌/◌, ◌%◌, ◌≤◌, false, IfOk};
-ghost use Rattle.jr_model.specs.Draws.{fresh_progress, pass_over, cells_left, direction_of, by_direction, size_at, chosen_cells, draw_at, progress_after};
-ghost use Rattle.jr_draw.specs.DrawFacts.{part_of, ChoiceFits};
+ghost use Rattle.jr_model.specs.Draws.{fresh_progress, pass_over, cells_left, direction_of, by_direction, size_at, chosen_cells};
+ghost use Rattle.jr_model.specs.Draws.{draw_at, progress_after};
+ghost use Rattle.jr_laws_draws.specs.DrawFacts.{part_of, DrawnCellsFit};
 
 use crate::places::Places;
 use jr_model::{Dir, Draw, IoType, Memory, Piece};
@@ -10,16 +11,16 @@ use std::marker::Model;
 
 /// The cells of a draw.
 #[derive(Drop)]
-pub struct Choice {
+pub struct DrawnCells {
     dir: Dir,
     first: u32,
     count: u32,
 }
 
-impl Model for Choice {
-    ghost use Rattle.jr_model.specs.Draws.{Choice as ChoiceRecord};
+impl Model for DrawnCells {
+    ghost use Rattle.jr_model.specs.Draws.{DrawnCells as DrawnCellsRecord};
 
-    ghost Value = { ChoiceRecord };
+    ghost Value = { DrawnCellsRecord };
 
     ghost view = { λ choice. record { dir = choice.dir; first = choice.first; count = choice.count } };
 }
@@ -42,7 +43,7 @@ pub struct Course {
 }
 
 impl Model for Course {
-    ghost use Rattle.jr_draw.specs.DrawFacts.{CourseRecord};
+    ghost use Rattle.jr_laws_draws.specs.DrawFacts.{CourseRecord};
 
     ghost Value = { CourseRecord };
 
@@ -141,22 +142,22 @@ impl Course {
     }
 
     // The cells that a draw takes.
-    fn choose(&self, direction: u64, size: u64, place: u64) -> Choice
+    fn choose(&self, direction: u64, size: u64, place: u64) -> DrawnCells
         requires { pass_over self.now.job self.now.done ≡ false }
         ensures cells { result ≡ chosen_cells self.now.job self.now.done direction size place }
-        ensures fits { ChoiceFits self.now.job self.now.done result }
+        ensures fits { DrawnCellsFit self.now.job self.now.done result }
     {
         let dir = self.direction(direction);
         let want = self.wanted(dir, size);
         let (first, count) = self
             .places
             .choose(self.cells, self.drawn(dir), self.left(), want, place);
-        Choice { dir, first, count }
+        DrawnCells { dir, first, count }
     }
 
     // The draw of these cells.
-    fn draw_at(&self, choice: &Choice, seed: u64) -> Draw
-        requires { ChoiceFits self.now.job self.now.done choice.now }
+    fn draw_at(&self, choice: &DrawnCells, seed: u64) -> Draw
+        requires { DrawnCellsFit self.now.job self.now.done choice.now }
         ensures { result ≡ draw_at self.now.job self.now.done choice.now seed }
     {
         Draw {
@@ -172,8 +173,8 @@ impl Course {
     }
 
     // Goes on past the draw of these cells.
-    fn advance(&mut self, choice: &Choice)
-        requires { ChoiceFits self.old.job self.old.done choice.now }
+    fn advance(&mut self, choice: &DrawnCells)
+        requires { DrawnCellsFit self.old.job self.old.done choice.now }
         ensures job { self.new.job ≡ self.old.job }
         ensures done { self.new.done ≡ progress_after self.old.done choice.now }
     {

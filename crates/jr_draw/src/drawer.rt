@@ -2,7 +2,7 @@ ghost use Rattle.std.specs.Prelude.{◌≡◌, ◌≤◌, ℕ, suc, ◌*◌, tru
 ghost use Rattle.jr_model.specs.Draws.{draws_over, draws_of_job};
 ghost use Rattle.jr_model.specs.Words.{words_from, pass_words};
 ghost use Rattle.jr_draw.specs.Drawing.{draws_left, pass_of};
-ghost use Rattle.jr_draw.specs.PassLaw.{is_mapped, CoversOnce, PassLaw};
+ghost use Rattle.jr_laws_draws.specs.PassLaw.{is_mapped, CoversOnce, PassLaw};
 
 use crate::course::Course;
 use jr_model::{Draw, Memory};

@@ -3,6 +3,8 @@
 
 mod course;
 mod drawer;
+mod draws_left;
 mod places;
 
 pub use drawer::Drawer;
+pub use draws_left::DrawsLeft;

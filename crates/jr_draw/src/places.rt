@@ -1,6 +1,6 @@
 ghost use Rattle.std.specs.Prelude.{◌≡◌, ◌≤◌, ◌^◌, false, IfOk};
 ghost use Rattle.jr_model.specs.Draws.{fresh_places, all_drawn, first_cell, cell_count, places_after};
-ghost use Rattle.jr_draw.specs.DrawFacts.{HasCells, AreFree};
+ghost use Rattle.jr_laws_draws.specs.DrawFacts.{HasCells, AreFree};
 ghost use Rattle.jr_draw.specs.PlacesSeen.{places_of};
 
 use jr_map::CellMap;

@@ -1,5 +1,5 @@
 pub mod Answers
+pub mod CallCounts
 pub mod Calls
 pub mod Files
 pub mod States
-pub mod Tally

@@ -2,7 +2,7 @@
 use Rattle.std.specs.Prelude.{ℕ, true, false, List, [], ◌++◌, Option, option_to_list}
 use Rattle.jr_model.specs.declared.replies.Reply.{Reply}
 use Rattle.jr_model.specs.Replies.{EngineState, FileBytes}
-use Rattle.jr_engines.specs.Tally.{Tally}
+use Rattle.jr_engines.specs.CallCounts.{CallCounts}
 
 -- a memory engine: its calls so far, how many of them failed, and its files
 pub record MemoryState : Type 0 where
@@ -43,6 +43,6 @@ abbrev pub null_state : NullState → EngineState
 null_state engine = record { calls = engine.calls; failures = 0; is_known = false; memory = []; script = [] }
 
 -- an engine whose bytes others may change too: its calls so far, and how many of them failed, are all that is known
-abbrev pub counted_state : Tally → EngineState
+abbrev pub counted_state : CallCounts → EngineState
 counted_state engine =
     record { calls = engine.calls; failures = engine.failures; is_known = false; memory = []; script = [] }

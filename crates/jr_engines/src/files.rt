@@ -102,7 +102,7 @@ impl MemoryFile {
 }
 
 // The files of a plan, with zeros.
-pub fn fresh_files(alloc: Global, specs: &[FileSpec]) -> Result<Vec<MemoryFile>, Memory>
+pub(crate) fn fresh_files(alloc: Global, specs: &[FileSpec]) -> Result<Vec<MemoryFile>, Memory>
     ensures { IfOk result (λ files. files.items ≡ fresh_memory specs.now) }
 {
     let mut files = Vec::new(alloc);
@@ -113,7 +113,7 @@ pub fn fresh_files(alloc: Global, specs: &[FileSpec]) -> Result<Vec<MemoryFile>,
 }
 
 // Reads of the files: none where there is no such file.
-pub fn read_files(
+pub(crate) fn read_files(
     files: &[MemoryFile],
     file: u32,
     offset: u64,
@@ -130,7 +130,7 @@ pub fn read_files(
 }
 
 // Whether the memory has this file, and all of these bytes of it.
-pub fn has_range(files: &[MemoryFile], file: u32, offset: u64, len: usize) -> bool
+pub(crate) fn has_range(files: &[MemoryFile], file: u32, offset: u64, len: usize) -> bool
     ensures { result ≡ covers files.now file offset len }
 {
     let index = file as usize;
@@ -142,7 +142,7 @@ pub fn has_range(files: &[MemoryFile], file: u32, offset: u64, len: usize) -> bo
 }
 
 // Reads from the files by a reply.
-pub fn read_files_by(
+pub(crate) fn read_files_by(
     reply: &Reply,
     files: &[MemoryFile],
     file: u32,
@@ -158,7 +158,7 @@ pub fn read_files_by(
 
 // Writes to the files by a reply.
 #[tactic(auto, using(crate::proofs::MemoryLemmas::memory_after_set, crate::proofs::MemoryLemmas::file_of_covered))]
-pub fn write_files_by(
+pub(crate) fn write_files_by(
     reply: &Reply,
     files: &mut [MemoryFile],
     file: u32,
@@ -175,7 +175,7 @@ pub fn write_files_by(
 
 // Writes to the files: all of the buffer or, where a byte of it has no place, none.
 #[tactic(auto, using(crate::proofs::MemoryLemmas::memory_after_set))]
-pub fn write_files(
+pub(crate) fn write_files(
     files: &mut [MemoryFile],
     file: u32,
     offset: u64,

@@ -2,6 +2,7 @@
 #![tactic(auto)]
 
 mod answers;
+mod call_counts;
 mod engines;
 mod faults;
 mod files;
@@ -10,9 +11,9 @@ mod null_engine;
 mod scripted_engine;
 mod shared_memory;
 mod slices;
-mod tallies;
 
 pub use answers::{Answer, ask};
+pub use call_counts::CallCounts;
 pub use engines::Engine;
 pub use faults::EngineFault;
 pub use jr_model::{Reply, ReplyBytes};
@@ -20,4 +21,3 @@ pub use memory_engine::MemoryEngine;
 pub use null_engine::NullEngine;
 pub use scripted_engine::ScriptedEngine;
 pub use shared_memory::SharedMemory;
-pub use tallies::Tally;

@@ -4,10 +4,10 @@ ghost use Rattle.jr_engines.specs.Calls.{Counts, ReadsInside, WritesInside};
 ghost use Rattle.jr_engines.specs.Files.{IsMemoryRead, write_answer};
 ghost use Rattle.jr_engines.specs.States.{memory_state};
 
+use crate::call_counts::CallCounts;
 use crate::engines::Engine;
 use crate::faults::EngineFault;
 use crate::files::{MemoryFile, fresh_files, read_files, write_files};
-use crate::tallies::Tally;
 use jr_model::Memory;
 use jr_plan::Plan;
 use std::alloc::Global;
@@ -17,7 +17,7 @@ use std::marker::Model;
 #[derive(Debug, Drop)]
 pub struct MemoryEngine {
     files: Vec<MemoryFile>,
-    tally: Tally,
+    counts: CallCounts,
 }
 
 impl Model for MemoryEngine {
@@ -25,7 +25,7 @@ impl Model for MemoryEngine {
 
     ghost Value = { MemoryState };
 
-    ghost view = { λ a. record { calls = a.tally.calls; failures = a.tally.failures; memory = a.files.items } };
+    ghost view = { λ a. record { calls = a.counts.calls; failures = a.counts.failures; memory = a.files.items } };
 }
 
 impl MemoryEngine {
@@ -37,7 +37,7 @@ impl MemoryEngine {
         let files = fresh_files(alloc, plan.files())?;
         Ok(MemoryEngine {
             files,
-            tally: Tally::new(),
+            counts: CallCounts::new(),
         })
     }
 
@@ -45,7 +45,7 @@ impl MemoryEngine {
     pub fn into_files(self) -> Vec<MemoryFile>
         ensures { result.items ≡ self.memory }
     {
-        let MemoryEngine { files, tally: _ } = self;
+        let MemoryEngine { files, counts: _ } = self;
         files
     }
 }
@@ -63,7 +63,7 @@ impl Engine for MemoryEngine {
         ensures replies { ReadsInside (memory_state self.old) file offset buf.old result (memory_state self.new) buf.new }
     {
         let result = read_files(self.files.as_slice(), file, offset, buf);
-        self.tally.note(&result);
+        self.counts.note(&result);
         result
     }
 
@@ -78,15 +78,15 @@ impl Engine for MemoryEngine {
         ensures replies { WritesInside (memory_state self.old) file offset buf.now result (memory_state self.new) }
     {
         let result = write_files(self.files.as_mut_slice(), file, offset, buf);
-        self.tally.note(&result);
+        self.counts.note(&result);
         result
     }
 
     fn calls(&self) -> u64 {
-        self.tally.calls()
+        self.counts.calls()
     }
 
     fn failures(&self) -> u64 {
-        self.tally.failures()
+        self.counts.failures()
     }
 }

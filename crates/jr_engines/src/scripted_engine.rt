@@ -6,11 +6,11 @@ ghost use Rattle.jr_engines.specs.Calls.{Counts, ReadsInside, RepliesToRead, Wri
 ghost use Rattle.jr_engines.specs.Files.{IsMemoryRead};
 ghost use Rattle.jr_engines.specs.States.{scripted_state};
 
+use crate::call_counts::CallCounts;
 use crate::engines::Engine;
 use crate::faults::EngineFault;
 use crate::files::{MemoryFile, has_range, read_files, read_files_by, write_files, write_files_by};
 use crate::memory_engine::MemoryEngine;
-use crate::tallies::Tally;
 use jr_model::Reply;
 use std::marker::Model;
 
@@ -20,7 +20,7 @@ use std::marker::Model;
 #[derive(Debug, Drop)]
 pub struct ScriptedEngine {
     files: Vec<MemoryFile>,
-    tally: Tally,
+    counts: CallCounts,
     set: Option<(u64, Reply)>,
     script: Vec<(u64, Reply)>,
 }
@@ -30,7 +30,7 @@ impl Model for ScriptedEngine {
 
     ghost Value = { ScriptedState };
 
-    ghost view = { λ a. record { calls = a.tally.calls; failures = a.tally.failures; memory = a.files.items; set = a.set; script = a.script.items } };
+    ghost view = { λ a. record { calls = a.counts.calls; failures = a.counts.failures; memory = a.files.items; set = a.set; script = a.script.items } };
 }
 
 impl ScriptedEngine {
@@ -42,7 +42,7 @@ impl ScriptedEngine {
     {
         ScriptedEngine {
             files: memory.into_files(),
-            tally: Tally::new(),
+            counts: CallCounts::new(),
             set: None,
             script,
         }
@@ -52,7 +52,7 @@ impl ScriptedEngine {
     pub fn set_next(&mut self, reply: Reply)
         ensures { self.new ≡ record self.old { set = Some (self.old.calls, reply) } }
     {
-        self.set = Some((self.tally.calls(), reply));
+        self.set = Some((self.counts.calls(), reply));
     }
 }
 
@@ -71,9 +71,9 @@ impl Engine for ScriptedEngine {
         ensures most { IfOk result (λ n. n ≤ length buf.old) }
         ensures replies { ReadsInside (scripted_state self.old) file offset buf.old result (scripted_state self.new) buf.new }
     {
-        let reply = next_reply(&self.set, self.script.as_slice(), self.tally.calls());
+        let reply = next_reply(&self.set, self.script.as_slice(), self.counts.calls());
         let result = read_scripted(reply, self.files.as_slice(), file, offset, buf);
-        self.tally.note(&result);
+        self.counts.note(&result);
         result
     }
 
@@ -90,18 +90,18 @@ impl Engine for ScriptedEngine {
         ensures most { IfOk result (λ n. n ≤ length buf.now) }
         ensures replies { WritesInside (scripted_state self.old) file offset buf.now result (scripted_state self.new) }
     {
-        let reply = next_reply(&self.set, self.script.as_slice(), self.tally.calls());
+        let reply = next_reply(&self.set, self.script.as_slice(), self.counts.calls());
         let result = write_scripted(reply, self.files.as_mut_slice(), file, offset, buf);
-        self.tally.note(&result);
+        self.counts.note(&result);
         result
     }
 
     fn calls(&self) -> u64 {
-        self.tally.calls()
+        self.counts.calls()
     }
 
     fn failures(&self) -> u64 {
-        self.tally.failures()
+        self.counts.failures()
     }
 }
 

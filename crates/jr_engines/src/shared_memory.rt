@@ -2,10 +2,10 @@ ghost use Rattle.std.specs.Prelude.{◌≡◌, ◌-◌, ◌^◌, ◌<◌, ◌≤
 ghost use Rattle.jr_engines.specs.Calls.{Counts, ReadsInside, WritesInside};
 ghost use Rattle.jr_engines.specs.States.{counted_state};
 
+use crate::call_counts::CallCounts;
 use crate::engines::Engine;
 use crate::faults::EngineFault;
 use crate::files::{MemoryFile, fresh_files, read_files, write_files};
-use crate::tallies::Tally;
 use jr_model::Memory;
 use jr_plan::Plan;
 use std::alloc::Global;
@@ -19,15 +19,15 @@ use std::sync::{Arc, Mutex, Wait};
 pub struct SharedMemory<R: Wait> {
     rt: R,
     files: Arc<Mutex<Vec<MemoryFile>>>,
-    tally: Tally,
+    counts: CallCounts,
 }
 
 impl<R: Wait> Model for SharedMemory<R> {
-    ghost use Rattle.jr_engines.specs.Tally.{Tally as TallyRecord};
+    ghost use Rattle.jr_engines.specs.CallCounts.{CallCounts as CallCountsRecord};
 
-    ghost Value = { TallyRecord };
+    ghost Value = { CallCountsRecord };
 
-    ghost view = { λ a. a.tally };
+    ghost view = { λ a. a.counts };
 }
 
 impl<R: Wait + Clone> SharedMemory<R> {
@@ -39,7 +39,7 @@ impl<R: Wait + Clone> SharedMemory<R> {
         Ok(SharedMemory {
             rt,
             files: Arc::new(alloc, files)?,
-            tally: Tally::new(),
+            counts: CallCounts::new(),
         })
     }
 
@@ -47,11 +47,11 @@ impl<R: Wait + Clone> SharedMemory<R> {
     pub fn share(&self) -> Result<SharedMemory<R>, Memory>
         ensures { IfOk result (λ share. share ≡ record { calls = 0; failures = 0 }) }
     {
-        let tally = Tally::new();
+        let counts = CallCounts::new();
         Ok(SharedMemory {
             rt: self.rt.clone()?,
             files: Arc::try_clone(&self.files)?,
-            tally,
+            counts,
         })
     }
 }
@@ -69,7 +69,7 @@ impl<R: Wait + Drop> Engine for SharedMemory<R> {
         ensures replies { ReadsInside (counted_state self.old) file offset buf.old result (counted_state self.new) buf.new }
     {
         let result = read_files(self.files.lock(&self.rt).as_slice(), file, offset, buf);
-        self.tally.note(&result);
+        self.counts.note(&result);
         result
     }
 
@@ -83,15 +83,15 @@ impl<R: Wait + Drop> Engine for SharedMemory<R> {
         ensures replies { WritesInside (counted_state self.old) file offset buf.now result (counted_state self.new) }
     {
         let result = write_files(self.files.lock(&self.rt).as_mut_slice(), file, offset, buf);
-        self.tally.note(&result);
+        self.counts.note(&result);
         result
     }
 
     fn calls(&self) -> u64 {
-        self.tally.calls()
+        self.counts.calls()
     }
 
     fn failures(&self) -> u64 {
-        self.tally.failures()
+        self.counts.failures()
     }
 }

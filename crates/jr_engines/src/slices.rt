@@ -6,7 +6,7 @@ use crate::faults::EngineFault;
 use jr_model::Reply;
 
 // Writes the bytes over those of a slice from `start` on.
-pub fn copy_at(all: &mut [u8], start: usize, bytes: &[u8])
+pub(crate) fn copy_at(all: &mut [u8], start: usize, bytes: &[u8])
     requires { start + length bytes.now ≤ length all.old }
     ensures { all.new ≡ placed all.old start bytes.now }
 {
@@ -14,7 +14,7 @@ pub fn copy_at(all: &mut [u8], start: usize, bytes: &[u8])
 }
 
 // Inverts the byte at this place, if there is one.
-pub fn flip(bytes: &mut [u8], place: usize)
+pub(crate) fn flip(bytes: &mut [u8], place: usize)
     ensures { bytes.new ≡ flipped bytes.old place }
 {
     if place < bytes.len() {
@@ -23,7 +23,7 @@ pub fn flip(bytes: &mut [u8], place: usize)
 }
 
 // Reads these stored bytes by a reply.
-pub fn read_by(reply: &Reply, stored: &[u8], buf: &mut [u8]) -> Result<usize, EngineFault>
+pub(crate) fn read_by(reply: &Reply, stored: &[u8], buf: &mut [u8]) -> Result<usize, EngineFault>
     requires { length stored.now ≡ length buf.old }
     ensures { RepliesToRead reply.now stored.now buf.old result buf.new }
 {
@@ -54,7 +54,7 @@ pub fn read_by(reply: &Reply, stored: &[u8], buf: &mut [u8]) -> Result<usize, En
 }
 
 // Writes the bytes over those of a slice from `start` on, by a reply.
-pub fn write_by(
+pub(crate) fn write_by(
     reply: &Reply,
     all: &mut [u8],
     start: usize,

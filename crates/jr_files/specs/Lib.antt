@@ -1,5 +1,7 @@
 pub mod Engines
+pub mod Failures
 pub mod Moves
 pub mod Parts
 pub mod Regions
+pub mod Sectors
 pub mod Uses

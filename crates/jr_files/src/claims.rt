@@ -1,6 +1,7 @@
 ghost use Rattle.std.specs.Prelude.{◌≡◌, ◌<◌, length, IfOk, IfErr};
 ghost use Rattle.jr_files.specs.Engines.{IsFresh, IsOpenFault};
 
+use crate::directs::Directs;
 use crate::faults::FileFault;
 use crate::file_engine::FileEngine;
 use crate::making::opened_file;
@@ -41,8 +42,25 @@ pub fn claim<R: Files<File = File>>(
     ensures ok { IfOk result (λ engine. IsFresh engine (length plan.now.files)) }
     ensures err { IfErr result (λ refusal. IsOpenFault refusal.fault (length plan.now.files)) }
 {
+    claim_direct(rt, alloc, plan, claims, Directs::none())
+}
+
+/// The same, where some of the files are to go past the system's cache. What is read of those comes from the device, with no sync before;
+/// those that can't go past it are as the others.
+///
+/// Refused is also a file whose file system takes no such calls, and one of which a clone would use parts of sectors.
+pub fn claim_direct<R: Files<File = File>>(
+    rt: &R,
+    alloc: Global,
+    plan: &Plan,
+    claims: Claims,
+    directs: Directs<'_>,
+) -> Result<FileEngine<SharedFile>, Refusal>
+    ensures ok { IfOk result (λ engine. IsFresh engine (length plan.now.files)) }
+    ensures err { IfErr result (λ refusal. IsOpenFault refusal.fault (length plan.now.files)) }
+{
     let mut made = Vec::new(alloc);
-    let claimed = claimed(rt, alloc, plan, claims, &mut made);
+    let claimed = claimed(rt, alloc, plan, claims, directs, &mut made);
     if claimed.is_err() {
         for path in made.as_slice() {
             let _ = fs::remove_file(rt, path.as_str());
@@ -57,6 +75,7 @@ fn claimed<R: Files<File = File>>(
     alloc: Global,
     plan: &Plan,
     claims: Claims,
+    directs: Directs<'_>,
     made: &mut Vec<String>,
 ) -> Result<FileEngine<SharedFile>, Refusal>
     ensures ok { IfOk result (λ engine. IsFresh engine (length plan.now.files)) }
@@ -64,7 +83,8 @@ fn claimed<R: Files<File = File>>(
 {
     let mut files = Vec::new(alloc);
     for index in 0..plan.files().len() {
-        files.push(opened_file(rt, alloc, plan, index, claims.reads, made)?)?;
+        let reads = claims.reads;
+        files.push(opened_file(rt, alloc, plan, index, reads, directs, made)?)?;
     }
     apart(alloc, plan, files.as_slice())?;
     if !claims.devices_in_use {
@@ -145,7 +165,8 @@ fn extended<R: Files<File = File>>(
 {
     for (index, file) in files.iter().enumerate() {
         let spec = &plan.files()[index];
-        let end = if is_written(plan, index) {
+        // (a byte is no sector: a direct file is opened anew for it)
+        let end = if is_written(plan, index) && !file.goes_direct() {
             file.lengthen(spec.high())
         } else {
             file.lengthen_by_name(rt, spec.name(), spec.high())

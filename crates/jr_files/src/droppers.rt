@@ -10,6 +10,20 @@ use std::sync::atomic::{AtomicBool, Ordering};
 // The byte that says that a request was done.
 const DONE: u8 = b'.';
 
+// The byte that says that the file can't be so.
+const REFUSED: u8 = b'-';
+
+/// What the launcher did about a file that is to be direct.
+#[derive(Clone, Copy, Debug, PartialEq, Eq)]
+pub enum Made {
+    /// Its calls go past the system's cache from now on.
+    Direct,
+    /// Its file system takes no such calls.
+    Refused,
+    /// Nothing: there is no answer, or the system doesn't let the launcher do it.
+    Nothing,
+}
+
 /// The launcher that started the program, if one did. It takes files out of the system's cache, for which std has no call.
 #[derive(Drop)]
 pub struct Launcher<'a> {
@@ -82,18 +96,32 @@ impl Dropper {
         if self.has_ended.load(Ordering::SeqCst) {
             return;
         }
-        let answer = self.ask(file);
-        if answer.is_err() {
-            self.has_ended.store(true, Ordering::SeqCst);
-        }
-        if answer.ok() != Some(DONE) {
+        if self.answer("drop", file) != Some(DONE) {
             self.has_failed.store(true, Ordering::SeqCst);
         }
     }
 
+    /// Has all calls of this open file go past the system's cache.
+    pub fn make_direct(&self, file: &File) -> Made {
+        match self.answer("direct", file) {
+            Some(DONE) => Made::Direct,
+            Some(REFUSED) => Made::Refused,
+            _ => Made::Nothing,
+        }
+    }
+
+    // The answer to a request of this word, if one came.
+    fn answer(&self, word: &str, file: &File) -> Option<u8> {
+        let answer = self.ask(word, file);
+        if answer.is_err() {
+            self.has_ended.store(true, Ordering::SeqCst);
+        }
+        answer.ok()
+    }
+
     // Asks for it, and gives the answer.
-    fn ask(&self, file: &File) -> io::Result<u8> {
-        let request = format!(in self.alloc; "drop {}\n", file.as_raw_fd())?;
+    fn ask(&self, word: &str, file: &File) -> io::Result<u8> {
+        let request = format!(in self.alloc; "{word} {}\n", file.as_raw_fd())?;
         let (mut requests, mut answers) = (&self.requests, &self.answers);
         requests.write_all(request.as_bytes())?;
         let mut answer = [0];

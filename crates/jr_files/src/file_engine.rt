@@ -5,8 +5,9 @@ ghost use Rattle.jr_files.specs.Engines.{IsFresh, IsOpenFault, ReadsKnown, Write
 use crate::faults::FileFault;
 use crate::moving::{LARGEST_OFFSET, read_whole, write_whole};
 use crate::positioned::Positioned;
+use crate::rooms::Room;
 use crate::uses::is_written;
-use jr_engines::{Engine, EngineFault, Tally};
+use jr_engines::{CallCounts, Engine, EngineFault};
 use jr_plan::Plan;
 use std::alloc::Global;
 use std::fs::{File, OpenOptions};
@@ -16,12 +17,13 @@ use std::rt::Files;
 
 /// An engine over open files, those of the system where nothing else is said.
 ///
-/// Bytes go between the caller's buffer and the file with no copy between. Of a file of the system nothing is claimed
-/// of them: others may change it too.
+/// Bytes go between the caller's buffer and the file with no copy between, unless the file is direct. Of a file of the system nothing
+/// is claimed of them: others may change it too.
 #[derive(Drop)]
 pub struct FileEngine<F: Positioned = File> {
     files: Vec<F>,
-    tally: Tally,
+    counts: CallCounts,
+    room: Room,
 }
 
 impl<F: Positioned> Model for FileEngine<F> {
@@ -30,7 +32,7 @@ impl<F: Positioned> Model for FileEngine<F> {
 
     ghost Value = { FilesState };
 
-    ghost view = { λ a. record { calls = a.tally.calls; failures = a.tally.failures; files = map F.view a.files.items } };
+    ghost view = { λ a. record { calls = a.counts.calls; failures = a.counts.failures; files = map F.view a.files.items } };
 }
 
 impl<F: Positioned> FileEngine<F> {
@@ -38,9 +40,17 @@ impl<F: Positioned> FileEngine<F> {
     pub fn over(files: Vec<F>) -> FileEngine<F>
         ensures { result ≡ record { calls = 0; failures = 0; files = map F.view files.items } }
     {
+        FileEngine::by_room(files, Room::none())
+    }
+
+    /// The same, with room for the blocks of files that are direct.
+    pub fn by_room(files: Vec<F>, room: Room) -> FileEngine<F>
+        ensures { result ≡ record { calls = 0; failures = 0; files = map F.view files.items } }
+    {
         FileEngine {
             files,
-            tally: Tally::new(),
+            counts: CallCounts::new(),
+            room,
         }
     }
 
@@ -88,8 +98,8 @@ impl<F: Positioned> Engine for FileEngine<F> {
         ensures most { IfOk result (λ n. n ≤ length buf.old) }
         ensures replies { ReadsInside (files_state self.old) file offset buf.old result (files_state self.new) buf.new }
     {
-        let result = read_files(self.files.as_mut_slice(), file, offset, buf);
-        self.tally.note(&result);
+        let result = read_files(self.files.as_mut_slice(), &mut self.room, file, offset, buf);
+        self.counts.note(&result);
         result
     }
 
@@ -105,22 +115,26 @@ impl<F: Positioned> Engine for FileEngine<F> {
         ensures most { IfOk result (λ n. n ≤ length buf.now) }
         ensures replies { WritesInside (files_state self.old) file offset buf.now result (files_state self.new) }
     {
-        let result = write_files(self.files.as_mut_slice(), file, offset, buf);
-        self.tally.note(&result);
+        let result = write_files(self.files.as_mut_slice(), &mut self.room, file, offset, buf);
+        self.counts.note(&result);
         result
     }
 
     fn calls(&self) -> u64 {
-        self.tally.calls()
+        self.counts.calls()
     }
 
     fn failures(&self) -> u64 {
-        self.tally.failures()
+        self.counts.failures()
     }
 }
 
 // Opens a file that is there, for reading alone where it isn't written.
-pub fn open<R: Files<File = File>>(rt: &R, name: &str, is_written: bool) -> io::Result<File> {
+pub(crate) fn open<R: Files<File = File>>(
+    rt: &R,
+    name: &str,
+    is_written: bool,
+) -> io::Result<File> {
     OpenOptions::new()
         .read(true)
         .write(is_written)
@@ -137,6 +151,7 @@ fn has_place(count: usize, file: u32, offset: u64, len: usize) -> bool
 // Reads from the files: none where there is no such place.
 fn read_files<F: Positioned>(
     files: &mut [F],
+    room: &mut Room,
     file: u32,
     offset: u64,
     buf: &mut [u8],
@@ -151,12 +166,13 @@ fn read_files<F: Positioned>(
     if !has_place(files.len(), file, offset, buf.len()) {
         return Err(EngineFault::Outside);
     }
-    read_whole(&mut files[file as usize], offset, buf)
+    read_whole(&mut files[file as usize], room, offset, buf)
 }
 
 // Writes to the files: nothing where there is no such place.
 fn write_files<F: Positioned>(
     files: &mut [F],
+    room: &mut Room,
     file: u32,
     offset: u64,
     buf: &[u8],
@@ -171,5 +187,5 @@ fn write_files<F: Positioned>(
     if !has_place(files.len(), file, offset, buf.len()) {
         return Err(EngineFault::Outside);
     }
-    write_whole(&mut files[file as usize], offset, buf)
+    write_whole(&mut files[file as usize], room, offset, buf)
 }

@@ -38,7 +38,7 @@ fn has_length<R: Files>(rt: &R, name: &str, high: u64) -> bool {
 }
 
 // Makes the file if it is missing, and lets it have at least so many bytes.
-pub fn extend<R: Files>(rt: &R, name: &str, high: u64) -> io::Result<()> {
+pub(crate) fn extend<R: Files>(rt: &R, name: &str, high: u64) -> io::Result<()> {
     let mut file = OpenOptions::new()
         .read(true)
         .write(true)
@@ -48,7 +48,7 @@ pub fn extend<R: Files>(rt: &R, name: &str, high: u64) -> io::Result<()> {
 }
 
 // Writes a zero byte as the last of so many bytes, where the file is shorter. Any other isn't written to.
-pub fn lengthen<F: Write + Seek>(file: &mut F, high: u64) -> io::Result<()>
+pub(crate) fn lengthen<F: Write + Seek>(file: &mut F, high: u64) -> io::Result<()>
     ensures { IsSome (F.stream_position file.old) → IfSome (F.stream_bytes file.old)
         (λ bytes. high ≤ length bytes → Keeps (F.stream_bytes file.old) (F.stream_bytes file.new)) }
 {

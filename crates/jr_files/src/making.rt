@@ -2,6 +2,8 @@
 ghost use Rattle.std.specs.Prelude.{◌≡◌, ◌<◌, length, IfErr};
 ghost use Rattle.jr_files.specs.Engines.{IsOpenFault};
 
+use crate::directs::{Directs, as_wanted};
+use crate::failures::Failures;
 use crate::faults::FileFault;
 use crate::file_engine::open;
 use crate::marks::Marks;
@@ -19,13 +21,15 @@ use std::path::Path;
 use std::rt::Files;
 use std::{fs, io};
 
-/// Opens this file of the plan, for reading alone where no clone writes it, and adds its path to `made` where it had to be made.
-pub fn opened_file<R: Files<File = File>>(
+/// Opens this file of the plan, for reading alone where no clone writes it, and past the system's cache where that is wanted; and adds
+/// its path to `made` where it had to be made.
+pub(crate) fn opened_file<R: Files<File = File>>(
     rt: &R,
     alloc: Global,
     plan: &Plan,
     index: usize,
     reads: Reads,
+    directs: Directs<'_>,
     made: &mut Vec<String>,
 ) -> Result<SharedFile, Refusal>
     requires { index < length plan.now.files }
@@ -34,6 +38,7 @@ pub fn opened_file<R: Files<File = File>>(
     let spec = &plan.files()[index];
     let syncs = reads == Reads::Synced && is_checked(plan, index);
     let marks = Marks::new(alloc, if syncs { spec.high() } else { 0 })?;
+    let failures = Failures::new(alloc)?;
     let name = String::from_str(alloc, spec.name())?;
     let mut act = Act::Open;
     let opened = open_or_make(
@@ -44,8 +49,11 @@ pub fn opened_file<R: Files<File = File>>(
         &mut act,
         made,
     );
-    match opened.and_then(|file| OpenedFile::new(file, marks, syncs)) {
-        Ok(file) => Ok(SharedFile::new(alloc, file)?),
+    match opened.and_then(|file| OpenedFile::new(file, marks, failures, syncs)) {
+        Ok(file) => {
+            let file = as_wanted(rt, alloc, plan, index, file, directs)?;
+            Ok(SharedFile::new(alloc, file)?)
+        }
         Err(error) if error.kind() == ErrorKind::OutOfMemory => Err(Refusal::memory()),
         Err(error) => Err(Refusal {
             fault: FileFault::File(index),

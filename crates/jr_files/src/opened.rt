@@ -1,14 +1,17 @@
 ghost use Rattle.std.specs.Prelude.{◌≡◌, ◌≤◌, IfOk, length};
 
 use crate::droppers::Dropper;
+use crate::failures::Failures;
 use crate::layouts::{extend, lengthen};
 use crate::marks::{FileSync, Marks, Stage};
+use crate::sectors::is_whole;
 use jr_devices::FileNumbers;
 use std::fs::{File, TryLockError};
 use std::io;
 use std::io::{ErrorKind, Seek, SeekFrom};
 use std::os::unix::fs::FileExt;
 use std::rt::Files;
+use std::sync::OnceLock;
 use std::sync::atomic::{AtomicBool, Ordering};
 
 /// An open file of the system, as several engines share it: where it was written, and whether the system lost any of it.
@@ -22,11 +25,29 @@ pub struct OpenedFile {
     has_cache: bool,
     is_checked: bool,
     is_lost: AtomicBool,
+    lost_by: OnceLock<io::Error>,
+    failures: Failures,
+    direct: Option<Sectors>,
+}
+
+/// How a file is direct: in what its calls are counted, and how long they are.
+#[derive(Clone, Copy, Debug)]
+pub struct Sectors {
+    /// The bytes of a sector of its device: all calls are of whole ones.
+    pub sector: u64,
+    /// The most bytes of a block.
+    pub most: usize,
 }
 
 impl OpenedFile {
-    /// The file with these marks. What is read of one that is checked was synced, if the system keeps the file in a cache.
-    pub fn new(file: File, marks: Marks, is_checked: bool) -> io::Result<OpenedFile> {
+    /// The file with these marks, no call of which has failed. What is read of one that is checked was synced, if the system keeps the
+    /// file in a cache.
+    pub fn new(
+        file: File,
+        marks: Marks,
+        failures: Failures,
+        is_checked: bool,
+    ) -> io::Result<OpenedFile> {
         let metadata = file.metadata()?;
         let numbers = FileNumbers::of(&metadata);
         // The system keeps the bytes of a plain file and of a block device in a cache.
@@ -38,7 +59,34 @@ impl OpenedFile {
             has_cache,
             is_checked,
             is_lost: AtomicBool::new(false),
+            lost_by: OnceLock::new(),
+            failures,
+            direct: None,
         })
+    }
+
+    /// The same file, whose calls go past the system's cache now: nothing of it has to be synced or dropped before it is read.
+    pub fn past_cache(self, sectors: Sectors) -> OpenedFile {
+        OpenedFile {
+            is_checked: false,
+            direct: Some(sectors),
+            ..self
+        }
+    }
+
+    /// How it is direct, if it is.
+    pub fn direct(&self) -> Option<Sectors> {
+        self.direct
+    }
+
+    /// The open file itself.
+    pub fn file(&self) -> &File {
+        &self.file
+    }
+
+    /// The calls on it that the system refused.
+    pub fn failures(&self) -> &Failures {
+        &self.failures
     }
 
     /// The numbers by which the system knows the file.
@@ -71,7 +119,7 @@ impl OpenedFile {
     }
 
     /// Reads bytes from `offset` on, and of a file that is checked none that weren't synced, and then dropped, since they were
-    /// written.
+    /// written. Of one that is direct it reads whole sectors alone.
     pub fn read_at(
         &self,
         buf: &mut [u8],
@@ -80,16 +128,23 @@ impl OpenedFile {
     ) -> io::Result<usize>
         ensures { IfOk result (λ n. n ≤ length buf.old) }
     {
+        if self.is_broken(offset, buf.len()) {
+            return Ok(0);
+        }
         if self.has_cache && self.is_checked {
             self.sync_before(offset, buf.len(), dropper)?;
         }
         FileExt::read_at(&self.file, buf, offset)
     }
 
-    /// Writes bytes from `offset` on, and notes it once the call has ended, whatever it answers.
+    /// Writes bytes from `offset` on, and notes it once the call has ended, whatever it answers. To one that is direct it writes whole
+    /// sectors alone.
     pub fn write_at(&self, buf: &[u8], offset: u64) -> io::Result<usize>
         ensures { IfOk result (λ n. n ≤ length buf.now) }
     {
+        if self.is_broken(offset, buf.len()) {
+            return Ok(0);
+        }
         let result = FileExt::write_at(&self.file, buf, offset);
         self.marks.note(offset, buf.len());
         result
@@ -115,6 +170,12 @@ impl OpenedFile {
         synced
     }
 
+    // Whether these bytes of a direct file aren't whole sectors, as what is left of a block of which the device took a part.
+    fn is_broken(&self, offset: u64, len: usize) -> bool {
+        self.direct.is_some_and(|it| !is_whole(it.sector, offset)
+            || !is_whole(it.sector, len as u64))
+    }
+
     // Sees to it that these bytes were synced and dropped since they were written, and that no sync has failed.
     fn sync_before(&self, offset: u64, len: usize, dropper: Option<&Dropper>) -> io::Result<()> {
         self.keeps()?;
@@ -131,10 +192,11 @@ impl OpenedFile {
         }
     }
 
-    // An error once a sync has failed: what the system has lost then it doesn't report twice.
+    // The error of the sync that has failed, if one has: what the system has lost then it doesn't report twice.
     fn keeps(&self) -> io::Result<()> {
         if self.is_lost.load(Ordering::SeqCst) {
-            return Err(io::Error::from(ErrorKind::Other));
+            let by = self.lost_by.get().copied();
+            return Err(by.unwrap_or(io::Error::from(ErrorKind::Other)));
         }
         Ok(())
     }
@@ -145,6 +207,7 @@ impl OpenedFile {
         ensures { IfOk result (λ sync. sync.stage ≡ Stage.Synced) }
     {
         if let Err(error) = self.file.sync_data() {
+            let _ = self.lost_by.try_set(error);
             self.is_lost.store(true, Ordering::SeqCst);
             return Err(error);
         }

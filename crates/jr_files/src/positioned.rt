@@ -1,6 +1,7 @@
 ghost use Rattle.std.specs.Prelude.{◌≡◌, ◌+◌, ◌<◌, ◌≤◌, IsTrue, IsOk, IfOk, length};
 ghost use Rattle.jr_files.specs.Parts.{FileView, GetsPart, after_part};
 
+use crate::failures::FailedCall;
 use std::fs::File;
 use std::io;
 use std::os::unix::fs::FileExt;
@@ -27,6 +28,14 @@ pub trait Positioned: Drop {
         ensures takes { IsTrue (view self.old).is_sound → IfOk result (λ n. 0 < length buf.now → 0 < n) }
         ensures part { IsTrue (view self.old).is_known → offset + length buf.now ≤ length (view self.old).bytes
             → (view self.new).bytes ≡ after_part (view self.old).bytes offset buf.now result };
+
+    /// Whether its calls go past the system's cache, so that memory, offset and length have to be whole sectors.
+    fn is_direct(&self) -> bool {
+        false
+    }
+
+    /// Takes in that a whole read or write ended so. What is made of it is the file's.
+    fn failed(&self, _call: FailedCall) {}
 }
 
 impl Positioned for File {

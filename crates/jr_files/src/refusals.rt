@@ -27,6 +27,11 @@ pub enum Why {
     InUse(String, Use),
     /// Another run holds the lock of the file of this name.
     Locked(String),
+    /// The file of this name is to be direct, and its file system takes no such calls.
+    NotDirect(String),
+    /// The file of this name is to be direct, and its device has sectors of so many bytes, of which a clone of the job of this name
+    /// would use parts.
+    Sectors(String, u64, String),
     /// A request for memory was refused.
     Memory,
 }
@@ -49,6 +54,14 @@ impl fmt::Display for Refusal {
             Why::OneFile(first, second) => write!(f, "{first} and {second} are one file"),
             Why::InUse(name, by) => write!(f, "{name} is in use: {by}"),
             Why::Locked(name) => write!(f, "{name} is locked by another run"),
+            Why::NotDirect(name) => write!(
+                f,
+                "direct=1 can't be had of {name}: its file system takes no direct I/O"
+            ),
+            Why::Sectors(name, sector, job) => write!(
+                f,
+                "direct=1 needs whole sectors, of {sector} bytes in {name}: not in [{job}]"
+            ),
             Why::Memory => write!(f, "out of memory"),
         }
     }

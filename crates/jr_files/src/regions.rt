@@ -42,7 +42,8 @@ impl Regions {
         ensures first { result.0 ≡ region_of self.size self.count offset }
         ensures some { result.0 < result.1 }
         ensures inside { result.1 ≤ self.count }
-        ensures covers { offset + len < 2 ^ 64 → (place : ℕ) → offset ≤ place → place < offset + len → region_of self.size self.count place < result.1 }
+        ensures covers { offset + len < 2 ^ 64 → (place : ℕ) → offset ≤ place → place < offset + len
+            → region_of self.size self.count place < result.1 }
     {
         let last = offset.saturating_add((len as u64).saturating_sub(1));
         (self.region_of(offset), self.region_of(last) + 1)

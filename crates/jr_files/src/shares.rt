@@ -1,12 +1,16 @@
-ghost use Rattle.std.specs.Prelude.{◌≡◌, ◌<◌, length, IfOk, IfErr};
+ghost use Rattle.std.specs.Prelude.{◌≡◌, ◌<◌, length, IfOk, IfErr, IfSome};
 ghost use Rattle.jr_files.specs.Engines.{IsFresh, NamesFile};
+ghost use Rattle.jr_files.specs.Failures.{IsCallFor};
 
 use crate::droppers::Dropper;
+use crate::failures::FailedCall;
 use crate::faults::FileFault;
 use crate::file_engine::FileEngine;
 use crate::opened::OpenedFile;
 use crate::positioned::Positioned;
+use crate::rooms::Room;
 use jr_devices::{FileNumbers, Identity};
+use jr_model::Dir;
 use std::alloc::{AllocError, AllocFailed, Global};
 use std::io;
 use std::rt::Files;
@@ -31,6 +35,23 @@ impl Positioned for SharedFile {
     fn write_at(&mut self, buf: &[u8], offset: u64) -> io::Result<usize> {
         self.file.write_at(buf, offset)
     }
+
+    fn is_direct(&self) -> bool {
+        self.goes_direct()
+    }
+
+    fn failed(&self, call: FailedCall) {
+        self.file.failures().keep(call);
+    }
+}
+
+/// A file that the system couldn't sync.
+#[derive(Debug, Drop)]
+pub struct Unsynced {
+    /// Which it is.
+    pub fault: FileFault,
+    /// The system's reason.
+    pub error: io::Error,
 }
 
 /// What is read of a file that a clone checks.
@@ -58,6 +79,11 @@ impl SharedFile {
     /// The numbers by which the system knows it.
     pub(crate) fn numbers(&self) -> FileNumbers {
         self.file.numbers()
+    }
+
+    /// Whether its calls go past the system's cache.
+    pub(crate) fn goes_direct(&self) -> bool {
+        self.file.direct().is_some()
     }
 
     /// What it is, whatever its name.
@@ -112,19 +138,29 @@ impl FileEngine<SharedFile> {
             let dropper = shared_dropper(dropper.as_ref())?;
             files.push(SharedFile { file, dropper })?;
         }
-        Ok(FileEngine::over(files))
+        let room = room_for(alloc, self.files())?;
+        Ok(FileEngine::by_room(files, room))
+    }
+
+    /// Whether the calls of the file at this place go past the system's cache.
+    pub fn is_direct(&self, index: usize) -> bool {
+        self.files()
+            .get(index)
+            .is_some_and(|shared| shared.goes_direct())
     }
 
     /// Syncs each file, and drops what the system keeps of it, before anything of it is read or written.
     ///
     /// A fault names the first file of which the system can't store what was written before.
-    pub fn begin(&self) -> Result<(), FileFault>
-        ensures { IfErr result (λ fault. NamesFile fault (length self.now.files)) }
+    pub fn begin(&self) -> Result<(), Unsynced>
+        ensures { IfErr result (λ failed. NamesFile failed.fault (length self.now.files)) }
     {
         let mut begun = Ok(());
         for (index, shared) in self.files().iter().enumerate() {
-            if shared.file.begin(shared.dropper.as_deref()).is_err() && begun.is_ok() {
-                begun = Err(FileFault::File(index));
+            if let Err(error) = shared.file.begin(shared.dropper.as_deref())
+                && begun.is_ok()
+            {
+                begun = Err(failed_sync(index, error));
             }
         }
         begun
@@ -133,16 +169,38 @@ impl FileEngine<SharedFile> {
     /// Syncs each file that was written, by any engine that shares it, since it was synced last.
     ///
     /// A fault names the first file of which the system can't store all that was written, where no read has failed for that.
-    pub fn settle(&self) -> Result<(), FileFault>
-        ensures { IfErr result (λ fault. NamesFile fault (length self.now.files)) }
+    pub fn settle(&self) -> Result<(), Unsynced>
+        ensures { IfErr result (λ failed. NamesFile failed.fault (length self.now.files)) }
     {
         let mut settled = Ok(());
         for (index, shared) in self.files().iter().enumerate() {
-            if shared.file.settle().is_err() && settled.is_ok() {
-                settled = Err(FileFault::File(index));
+            if let Err(error) = shared.file.settle()
+                && settled.is_ok()
+            {
+                settled = Err(failed_sync(index, error));
             }
         }
         settled
+    }
+
+    /// The read or write of these bytes of a file that the system refused, by any engine that shares it, with its reason. Some of the
+    /// first are kept of each file; none is of what ended short.
+    pub fn failed_call(&self, file: u32, dir: Dir, offset: u64, len: u32) -> Option<FailedCall>
+        ensures { IfSome result (IsCallFor dir offset len) }
+    {
+        match self.files().get(file as usize) {
+            Some(shared) => shared.file.failures().found(dir, offset, u64::from(len)),
+            None => None,
+        }
+    }
+}
+
+fn failed_sync(index: usize, error: io::Error) -> Unsynced
+    ensures { result.fault ≡ FileFault.File index }
+{
+    Unsynced {
+        fault: FileFault::File(index),
+        error,
     }
 }
 
@@ -151,5 +209,19 @@ fn shared_dropper(dropper: Option<&Arc<Dropper>>) -> Result<Option<Arc<Dropper>>
     match dropper {
         Some(dropper) => Ok(Some(Arc::try_clone(dropper)?)),
         None => Ok(None),
+    }
+}
+
+// Room for the largest block of the files that are direct, if any is.
+fn room_for(alloc: Global, files: &[SharedFile]) -> Result<Room, AllocError> {
+    let mut most = None;
+    for shared in files {
+        if let Some(sectors) = shared.file.direct() {
+            most = Some(sectors.most.max(most.unwrap_or(0)));
+        }
+    }
+    match most {
+        Some(most) => Room::new(alloc, most),
+        None => Ok(Room::none()),
     }
 }

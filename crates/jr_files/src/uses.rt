@@ -5,7 +5,7 @@ ghost use Rattle.jr_files.specs.Uses.{checks_file, writes_file};
 use jr_plan::{Plan, SubJob};
 
 /// Whether a clone of the plan writes this file.
-pub fn is_written(plan: &Plan, file: usize) -> bool
+pub(crate) fn is_written(plan: &Plan, file: usize) -> bool
     ensures { result ≡ list_any (writes_file file) plan.now.clones }
 {
     for i in 0..plan.clones() {
@@ -17,7 +17,7 @@ pub fn is_written(plan: &Plan, file: usize) -> bool
 }
 
 /// Whether a clone of the plan reads back what it writes to this file.
-pub fn is_checked(plan: &Plan, file: usize) -> bool
+pub(crate) fn is_checked(plan: &Plan, file: usize) -> bool
     ensures { result ≡ list_any (checks_file file) plan.now.clones }
 {
     for i in 0..plan.clones() {

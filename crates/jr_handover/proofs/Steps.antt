@@ -9,27 +9,27 @@ use lib.ListN.{get_elem?}
 use Rattle.crossbeam_channel.specs.Fifo.{Pushes, Pops, Forks, Merges, Learns}
 use Rattle.jr_handover.specs.contracts.parcel.Parcel as parcel
 use Rattle.jr_handover.specs.declared.parcel.Parcel.{Parcel}
-use Rattle.jr_handover.specs.declared.parcel.Hand.{Hand}
-use Rattle.jr_handover.specs.Hands.{PARTS, first_hand, IsWhole, with_put, with_taken, cut_parts, cut_of, kept_of, given_of, joined_parts, joined_of_parts, joined_of, spent_hand}
+use Rattle.jr_handover.specs.declared.parcel.PassState.{PassState}
+use Rattle.jr_handover.specs.PassStates.{PARTS, first_state, IsWhole, with_put, with_taken, cut_parts, cut_of, kept_of, given_of, joined_parts, joined_of_parts, joined_of, spent_state}
 use Rattle.jr_handover.specs.Shares.{IsShare, IsShared}
 use Rattle.jr_handover.specs.Balance.{all_put, all_taken, IsBalanced}
 use Rattle.jr_handover.proofs.Weights.{weigh_same, flat_map-set, flat_map-snoc}
 use Rattle.jr_handover.proofs.Portions.{portion, Alone, times, sum-times, sum-snoc, each-times, each-snoc}
 
 -- what all views put weighs what they took and what the channel holds
-abbrev WeighSame : (Parcel → ℕ) → List Parcel → List Hand → Type 0
+abbrev WeighSame : (Parcel → ℕ) → List Parcel → List PassState → Type 0
 WeighSame h items views = sum_by h (all_put views) ≡ sum_by h (all_taken views) + sum_by h items
 
-weighs : (items : List Parcel) (views : List Hand) → IsPermutation (all_put views) (all_taken views ++ items) → (h : Parcel → ℕ) → WeighSame h items views
+weighs : (items : List Parcel) (views : List PassState) → IsPermutation (all_put views) (all_taken views ++ items) → (h : Parcel → ℕ) → WeighSame h items views
 weighs items views p h =
     sym (sum_by-IsPermutation h (all_put views) (all_taken views ++ items) p) ∙ sum_by-append h (all_taken views) items
 
-balances : (items : List Parcel) (views : List Hand) → ((h : Parcel → ℕ) → WeighSame h items views) → IsPermutation (all_put views) (all_taken views ++ items)
+balances : (items : List Parcel) (views : List PassState) → ((h : Parcel → ℕ) → WeighSame h items views) → IsPermutation (all_put views) (all_taken views ++ items)
 balances items views e =
     weigh_same (parcel.the_row).coded (all_put views) (all_taken views ++ items) (λ h. e h ∙ sym (sum_by-append h (all_taken views) items))
 
 -- one view changes by as much as the channel does
-changed : (old new : List Parcel) (views : List Hand) (i : ℕ) (v w : Hand) → get_elem? views i ≡ some v
+changed : (old new : List Parcel) (views : List PassState) (i : ℕ) (v w : PassState) → get_elem? views i ≡ some v
     → ((h : Parcel → ℕ) → sum_by h w.put + sum_by h v.taken + sum_by h old ≡ sum_by h v.put + sum_by h w.taken + sum_by h new)
     → IsPermutation (all_put views) (all_taken views ++ old) → IsPermutation (all_put (set views i w)) (all_taken (set views i w) ++ new)
 changed old new views i v w at e p =
@@ -37,7 +37,7 @@ changed old new views i v w at e p =
     (λ h. omega (arith, e h, weighs old views p h, flat_map-set (λ u. u.put) h views i v w at, flat_map-set (λ u. u.taken) h views i v w at))
 
 -- a view that keeps its parts keeps its share
-kept_share : (views : List Hand) (i : ℕ) (v w : Hand) → get_elem? views i ≡ some v → 0 < v.parts → w.parts ≡ v.parts → w.of ≡ v.of → IsShared views → IsShared (set views i w)
+kept_share : (views : List PassState) (i : ℕ) (v w : PassState) → get_elem? views i ≡ some v → 0 < v.parts → w.parts ≡ v.parts → w.of ≡ v.of → IsShared views → IsShared (set views i w)
 kept_share views i v w at has parts of s = let p = portion s.whole s.shares views i v s.each at in record {
   whole = s.whole;
   shares = set s.shares i p.share;
@@ -50,7 +50,7 @@ kept_share views i v w at has parts of s = let p = portion s.whole s.shares view
   });
 }
 
-pub begins : IsBalanced [] (first_hand ∷ [])
+pub begins : IsBalanced [] (first_state ∷ [])
 begins = record {
   parcels = IsPermutation-refl [];
   parts = record {
@@ -62,7 +62,7 @@ begins = record {
   };
 }
 
-pub puts : (room i : ℕ) (v : Hand) (x : Parcel) → 0 < v.parts → Pushes IsBalanced room i v x (λ w. w ≡ with_put v x)
+pub puts : (room i : ℕ) (v : PassState) (x : Parcel) → 0 < v.parts → Pushes IsBalanced room i v x (λ w. w ≡ with_put v x)
 puts room i v x has items views fits b at = (
   with_put v x,
   record {
@@ -72,7 +72,7 @@ puts room i v x has items views fits b at = (
   refl,
 )
 
-pub takes : (i : ℕ) (v : Hand) → 0 < v.parts → Pops IsBalanced i v (λ x w. w ≡ with_taken v x)
+pub takes : (i : ℕ) (v : PassState) → 0 < v.parts → Pops IsBalanced i v (λ x w. w ≡ with_taken v x)
 takes i v has x items views b at = (
   with_taken v x,
   record {
@@ -99,7 +99,7 @@ cuts_by true whole share parts of e has cut exact = record { exact = exact; some
 cuts_by false whole share parts of e has cut exact =
     record { exact = more_parts whole share parts of exact; some_more = omega (arith, has); cut = omega (arith, cut) }
 
-pub cuts : (whole share : ℕ) (v : Hand) → 0 < v.parts → IsShare whole share v → Cuts whole share (cut_parts v) (cut_of v)
+pub cuts : (whole share : ℕ) (v : PassState) → 0 < v.parts → IsShare whole share v → Cuts whole share (cut_parts v) (cut_of v)
 cuts whole share v has s = cuts_by (nat_lt 1 v.parts) whole share v.parts v.of refl has s.cut s.exact
 
 less_one : (parts whole : ℕ) → 0 < parts → parts * whole ≡ (parts - 1) * whole + whole
@@ -107,7 +107,7 @@ less_one zero whole h = absurd (omega (arith, h))
 less_one (suc parts) whole h = let back : suc parts - 1 ≡ parts = omega arith in suc-mul parts whole ∙ ap (λ n. n * whole + whole) (sym back)
 
 -- one part less for a pass, and one part for a new one
-given_share : (views : List Hand) (i : ℕ) (v : Hand) → get_elem? views i ≡ some v → 0 < v.parts → IsShared views → IsShared (set views i (kept_of v) ++ given_of v ∷ [])
+given_share : (views : List PassState) (i : ℕ) (v : PassState) → get_elem? views i ≡ some v → 0 < v.parts → IsShared views → IsShared (set views i (kept_of v) ++ given_of v ∷ [])
 given_share views i v at has s =
     let of = cut_of v in
     let parts = cut_parts v in
@@ -135,7 +135,7 @@ given_share views i v at has s =
       each = each-snoc whole s.whole (given_of v) (set shares i kept) (set views i (kept_of v)) (p.each (kept_of v) kept kept_is) given_is;
     }
 
-pub splits : (i : ℕ) (v : Hand) → 0 < v.parts → Forks IsBalanced i v (kept_of v) (given_of v)
+pub splits : (i : ℕ) (v : PassState) → 0 < v.parts → Forks IsBalanced i v (kept_of v) (given_of v)
 splits i v has items views b at =
     let vs = set views i (kept_of v) in
     record {
@@ -168,12 +168,12 @@ sums_by false whole s p d t q e same one other has d_some e_some = record {
   cut = mul-pos d_some e_some;
 }
 
-pub sums : (whole s t : ℕ) (v w : Hand) → 0 < v.parts → IsShare whole s v → IsShare whole t w → Sums whole (s + t) (joined_parts v w) (joined_of_parts v w)
+pub sums : (whole s t : ℕ) (v w : PassState) → 0 < v.parts → IsShare whole s v → IsShare whole t w → Sums whole (s + t) (joined_parts v w) (joined_of_parts v w)
 sums whole s t v w has one other =
     sums_by (v.of == w.of) whole s v.parts v.of t w.parts w.of refl one.exact other.exact has one.cut other.cut
 
-joined_share : (views : List Hand) (i j : ℕ) (v w : Hand) → get_elem? views i ≡ some v → get_elem? views j ≡ some w
-    → get_elem? (set views i (joined_of v w)) j ≡ some w → 0 < v.parts → IsShared views → IsShared (set (set views i (joined_of v w)) j spent_hand)
+joined_share : (views : List PassState) (i j : ℕ) (v w : PassState) → get_elem? views i ≡ some v → get_elem? views j ≡ some w
+    → get_elem? (set views i (joined_of v w)) j ≡ some w → 0 < v.parts → IsShared views → IsShared (set (set views i (joined_of v w)) j spent_state)
 joined_share views i j v w at at_other still has s =
     let one = portion s.whole s.shares views i v s.each at in
     let other = portion s.whole s.shares views j w s.each at_other in
@@ -192,32 +192,32 @@ joined_share views i j v w at at_other still has s =
       shares = set shares j 0;
       positive = s.positive;
       all = omega (arith, left.all 0, one.all share, same, s.all);
-      each = left.each spent_hand 0 (record { exact = zero-mul 1 ∙ sym (zero-mul s.whole); cut = lit< tt; idle = λ none. (refl, refl) });
+      each = left.each spent_state 0 (record { exact = zero-mul 1 ∙ sym (zero-mul s.whole); cut = lit< tt; idle = λ none. (refl, refl) });
     }
 
 -- what the lists of all views weigh after two were joined
-joined_weight : (f : Hand → List Parcel) (h : Parcel → ℕ) (views : List Hand) (i j : ℕ) (v w both spent : Hand) → get_elem? views i ≡ some v
+joined_weight : (f : PassState → List Parcel) (h : Parcel → ℕ) (views : List PassState) (i j : ℕ) (v w both spent : PassState) → get_elem? views i ≡ some v
     → get_elem? (set views i both) j ≡ some w → f both ≡ f v ++ f w → f spent ≡ []
     → sum_by h (flat_map f (set (set views i both) j spent)) ≡ sum_by h (flat_map f views)
 joined_weight f h views i j v w both spent at still lists none =
     omega (arith, flat_map-set f h views i v both at, flat_map-set f h (set views i both) j w spent still, ap (sum_by h) lists, ap (sum_by h) none, sum_by-append h (f v) (f w))
 
-pub joins : (i : ℕ) (v : Hand) (j : ℕ) (w : Hand) → 0 < v.parts → Merges IsBalanced i v j w (joined_of v w) spent_hand
+pub joins : (i : ℕ) (v : PassState) (j : ℕ) (w : PassState) → 0 < v.parts → Merges IsBalanced i v j w (joined_of v w) spent_state
 joins i v j w has items views b at two still =
     let at_other : get_elem? views j ≡ some w = ⊎_elim (λ x. absurd (two x.0)) (λ x. x.1) (at_set views i j (joined_of v w) w still) in
     record {
-      parcels = balances items (set (set views i (joined_of v w)) j spent_hand) (λ h.
+      parcels = balances items (set (set views i (joined_of v w)) j spent_state) (λ h.
           omega (
             arith,
             weighs items views b.parcels h,
-            joined_weight (λ u. u.put) h views i j v w (joined_of v w) spent_hand at still refl refl,
-            joined_weight (λ u. u.taken) h views i j v w (joined_of v w) spent_hand at still refl refl,
+            joined_weight (λ u. u.put) h views i j v w (joined_of v w) spent_state at still refl refl,
+            joined_weight (λ u. u.taken) h views i j v w (joined_of v w) spent_state at still refl refl,
           ));
       parts = joined_share views i j v w at at_other still has b.parts;
     }
 
 -- the pass with every part is alone, so its lists are all that was put and taken
-pub accounts : (i : ℕ) (v : Hand) → IsWhole v → Learns IsBalanced i v (λ items. IsPermutation v.put (v.taken ++ items))
+pub accounts : (i : ℕ) (v : PassState) → IsWhole v → Learns IsBalanced i v (λ items. IsPermutation v.put (v.taken ++ items))
 accounts i v every items views b at =
     let s = b.parts in
     let p = portion s.whole s.shares views i v s.each at in
@@ -235,9 +235,9 @@ pub settles : (put taken left : List Parcel) → length taken ≡ length put →
 settles put taken left e p = subst (IsPermutation put) (nothing_left taken left (length_permutation put (taken ++ left) p ∙ sym e)) p
 
 -- a pass that has parts to give isn't cut further
-pub cut-many : (v : Hand) → 1 < v.parts → (cut_parts v - 1 + 1 ≡ v.parts) × (cut_of v ≡ v.of)
+pub cut-many : (v : PassState) → 1 < v.parts → (cut_parts v - 1 + 1 ≡ v.parts) × (cut_of v ≡ v.of)
 cut-many v more = let e : nat_lt 1 v.parts ≡ true = lt-ltb 1 v.parts more in (rw e (omega (arith, more)), rw e refl)
 
 -- parts that are as large as one another add up
-pub joined-alike : (v w : Hand) → v.of ≡ w.of → (joined_parts v w ≡ v.parts + w.parts) × (joined_of_parts v w ≡ v.of)
+pub joined-alike : (v w : PassState) → v.of ≡ w.of → (joined_parts v w ≡ v.parts + w.parts) × (joined_of_parts v w ≡ v.of)
 joined-alike v w same = let e : (v.of == w.of) ≡ true = eq-eqb v.of w.of same in (rw e refl, rw e refl)

@@ -2,18 +2,18 @@
 use Rattle.std.specs.Prelude.{List, ◌++◌, flat_map}
 use Rattle.std.specs.List.Sorted.{IsPermutation}
 use Rattle.jr_handover.specs.declared.parcel.Parcel.{Parcel}
-use Rattle.jr_handover.specs.declared.parcel.Hand.{Hand}
+use Rattle.jr_handover.specs.declared.parcel.PassState.{PassState}
 use Rattle.jr_handover.specs.Shares.{IsShared}
 
 -- what all threads put
-abbrev pub all_put : List Hand → List Parcel
+abbrev pub all_put : List PassState → List Parcel
 all_put views = flat_map (λ v. v.put) views
 
 -- what all threads took
-abbrev pub all_taken : List Hand → List Parcel
+abbrev pub all_taken : List PassState → List Parcel
 all_taken views = flat_map (λ v. v.taken) views
 
 -- what was put is, in some order, what was taken and what the channel holds
-pub record IsBalanced (items : List Parcel) (views : List Hand) : Type 0 where
+pub record IsBalanced (items : List Parcel) (views : List PassState) : Type 0 where
   pub parcels : IsPermutation (all_put views) (all_taken views ++ items)
   pub parts : IsShared views

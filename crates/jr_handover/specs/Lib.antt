@@ -1,4 +1,4 @@
-pub mod Hands
-pub mod Shares
 pub mod Balance
+pub mod PassStates
 pub mod Passes
+pub mod Shares

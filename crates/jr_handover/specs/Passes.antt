@@ -2,12 +2,12 @@
 use Rattle.std.specs.Prelude.{ℕ, ◌<◌}
 use Rattle.crossbeam_channel.specs.Claims.{view, IsSeatAt}
 use Rattle.crossbeam_channel.specs.Ends.{sends_on, ruled_capacity}
-use Rattle.jr_handover.specs.declared.parcel.Hand.{Hand}
+use Rattle.jr_handover.specs.declared.parcel.PassState.{PassState}
 use Rattle.jr_handover.specs.declared.handoff.Handoff.{Handoff}
 use Rattle.jr_handover.specs.declared.handoff.Pass.{Pass}
 
-abbrev pub hand_of : Pass → Hand
-hand_of p = view p.seat
+abbrev pub pass_state : Pass → PassState
+pass_state p = view p.seat
 
 -- how many parcels the channel has room for
 abbrev pub room_of : Handoff → ℕ
@@ -16,5 +16,5 @@ room_of h = ruled_capacity (sends_on h.sender)
 -- a pass of this hand-over, with some part
 pub record IsPassOf (h : Handoff) (p : Pass) : Type 0 where
   pub seat : IsSeatAt (sends_on h.sender) p.seat
-  pub parts : 0 < (hand_of p).parts
-  pub of : 0 < (hand_of p).of
+  pub parts : 0 < (pass_state p).parts
+  pub of : 0 < (pass_state p).of

@@ -1,48 +1,48 @@
 // The rule that every step of the hand-over keeps.
-use crate::parcel::{Hand, Parcel};
+use crate::parcel::{Parcel, PassState};
 use crossbeam_channel::protocol::{Join, Lesson, Outcome, Protocol, Split};
 
 pub struct Balance;
 
-impl Protocol<Parcel, Hand> for Balance {
-    ghost use Rattle.jr_handover.specs.Hands.{first_hand};
+impl Protocol<Parcel, PassState> for Balance {
+    ghost use Rattle.jr_handover.specs.PassStates.{first_state};
     ghost use Rattle.jr_handover.specs.Balance.{IsBalanced};
 
     ghost holds = { IsBalanced };
 
-    ghost first = { first_hand };
+    ghost first = { first_state };
 }
 
 // A pass is cut in two, or takes in another.
 pub struct Cut;
 
-impl Split<Hand> for Cut {
-    ghost use Rattle.jr_handover.specs.Hands.{kept_of, given_of};
+impl Split<PassState> for Cut {
+    ghost use Rattle.jr_handover.specs.PassStates.{kept_of, given_of};
 
     ghost left = { kept_of };
 
     ghost right = { given_of };
 }
 
-impl Join<Hand> for Cut {
-    ghost use Rattle.jr_handover.specs.Hands.{joined_of, spent_hand};
+impl Join<PassState> for Cut {
+    ghost use Rattle.jr_handover.specs.PassStates.{joined_of, spent_state};
 
     ghost both = { joined_of };
 
-    ghost spent = { spent_hand };
+    ghost spent = { spent_state };
 }
 
 // A parcel is put at the back.
 pub struct Puts;
 
-impl Outcome<Parcel, Hand> for Puts {
+impl Outcome<Parcel, PassState> for Puts {
     ghost use Rattle.std.specs.Prelude.{◌≡◌};
-    ghost use Rattle.jr_handover.specs.Hands.{with_put};
+    ghost use Rattle.jr_handover.specs.PassStates.{with_put};
 
     ghost then = { λ v x w. w ≡ with_put v x };
 }
 
-impl Lesson<Parcel, Hand> for Puts {
+impl Lesson<Parcel, PassState> for Puts {
     ghost use Rattle.std.specs.Prelude.{⊤};
 
     ghost fact = { λ v items. ⊤ };
@@ -51,14 +51,14 @@ impl Lesson<Parcel, Hand> for Puts {
 // A parcel is taken from the front.
 pub struct Takes;
 
-impl Outcome<Parcel, Hand> for Takes {
+impl Outcome<Parcel, PassState> for Takes {
     ghost use Rattle.std.specs.Prelude.{◌≡◌};
-    ghost use Rattle.jr_handover.specs.Hands.{with_taken};
+    ghost use Rattle.jr_handover.specs.PassStates.{with_taken};
 
     ghost then = { λ v x w. w ≡ with_taken v x };
 }
 
-impl Lesson<Parcel, Hand> for Takes {
+impl Lesson<Parcel, PassState> for Takes {
     ghost use Rattle.std.specs.Prelude.{⊤};
 
     ghost fact = { λ v items. ⊤ };
@@ -67,7 +67,7 @@ impl Lesson<Parcel, Hand> for Takes {
 // What a pass with every part knows of the parcels that are left.
 pub struct Account;
 
-impl Lesson<Parcel, Hand> for Account {
+impl Lesson<Parcel, PassState> for Account {
     ghost use Rattle.std.specs.Prelude.{◌++◌};
     ghost use Rattle.std.specs.List.Sorted.{IsPermutation};
 

@@ -2,7 +2,7 @@ ghost use Rattle.std.specs.Prelude.{◌≡◌};
 ghost use Rattle.crossbeam_channel.specs.Ends.{sends_on, receives_on};
 
 use crate::balance::{Account, Balance, Cut, Puts, Takes};
-use crate::parcel::{Hand, Parcel};
+use crate::parcel::{Parcel, PassState};
 use crossbeam_channel::{RuledReceiver, RuledSender, bounded_with};
 use jr_model::Memory;
 use std::alloc::Global;
@@ -11,28 +11,28 @@ use std::sync::Wait;
 /// The channel from workers to verifiers, which threads share by reference.
 #[derive(Drop)]
 pub struct Handoff {
-    sender: RuledSender<Parcel, Hand, Balance>,
-    receiver: RuledReceiver<Parcel, Hand, Balance>,
+    sender: RuledSender<Parcel, PassState, Balance>,
+    receiver: RuledReceiver<Parcel, PassState, Balance>,
     ghost joined: { receives_on receiver ≡ sends_on sender },
 }
 
 /// What one thread knows of a hand-over: what it put and what it took. It has no bytes.
 #[derive(Drop)]
 pub struct Pass {
-    seat: crossbeam_channel::Pass<Parcel, Hand>,
+    seat: crossbeam_channel::Pass<Parcel, PassState>,
 }
 
 impl Handoff {
     ghost use Rattle.std.specs.Prelude.{◌≡◌, ◌+◌, ◌++◌, ◌<◌, ◌≤◌, List, length, IfErr, IfNone, IfOk, IfSome, IsOkAnd, OnErr, OnOk};
     ghost use Rattle.std.specs.List.Sorted.{IsPermutation};
-    ghost use Rattle.jr_handover.specs.Hands.{first_hand, kept_of, given_of, joined_of, with_put, with_taken, IsWhole};
-    ghost use Rattle.jr_handover.specs.Passes.{IsPassOf, hand_of, room_of};
+    ghost use Rattle.jr_handover.specs.PassStates.{first_state, kept_of, given_of, joined_of, with_put, with_taken, IsWhole};
+    ghost use Rattle.jr_handover.specs.Passes.{IsPassOf, pass_state, room_of};
 
     /// A channel for so many parcels, and the pass of the thread that makes it.
     pub fn new<R>(_rt: &R, alloc: Global, capacity: usize) -> Result<(Handoff, Pass), Memory>
         requires { 1 ≤ capacity }
         ensures pass { IfOk result (λ made. IsPassOf made.0 made.1) }
-        ensures nothing { IfOk result (λ made. hand_of made.1 ≡ first_hand) }
+        ensures nothing { IfOk result (λ made. pass_state made.1 ≡ first_state) }
         ensures capacity { IfOk result (λ made. room_of made.0 ≡ capacity) }
     {
         let (sender, receiver, seat) = bounded_with(alloc, capacity)?;
@@ -43,26 +43,26 @@ impl Handoff {
     pub fn split(&self, pass: &mut Pass) -> Result<Pass, Memory>
         requires { IsPassOf self.now pass.old }
         ensures pass { IsPassOf self.now pass.new }
-        ensures kept { hand_of pass.new ≡ kept_of (hand_of pass.old) }
+        ensures kept { pass_state pass.new ≡ kept_of (pass_state pass.old) }
 
         // While a pass has parts to give, they are as large as before.
-        ensures parts { let old = hand_of pass.old in let new = hand_of pass.new in
+        ensures parts { let old = pass_state pass.old in let new = pass_state pass.new in
             1 < old.parts → (new.parts + 1 ≡ old.parts) × (new.of ≡ old.of) }
-        ensures given { IsOkAnd result (λ given. IsPassOf self.now given × (hand_of given ≡ given_of (hand_of pass.old))) }
+        ensures given { IsOkAnd result (λ given. IsPassOf self.now given × (pass_state given ≡ given_of (pass_state pass.old))) }
     {
         let seat = self.sender.another::<Cut>(&mut pass.seat);
         Ok(Pass { seat })
     }
 
-    /// Takes in the pass of a thread that has ended: its lists come behind this one's.
+    /// Takes in the pass of a thread that has ended: its lists come behind this one's. Runs don't need it, tests call it.
     pub fn join(&self, pass: &mut Pass, other: Pass)
         requires pass { IsPassOf self.now pass.old }
         requires other { IsPassOf self.now other }
         ensures pass { IsPassOf self.now pass.new }
-        ensures joined { hand_of pass.new ≡ joined_of (hand_of pass.old) (hand_of other) }
+        ensures joined { pass_state pass.new ≡ joined_of (pass_state pass.old) (pass_state other) }
 
         // Parts that are as large as one another add up.
-        ensures parts { let old = hand_of pass.old in let new = hand_of pass.new in let more = hand_of other in
+        ensures parts { let old = pass_state pass.old in let new = pass_state pass.new in let more = pass_state other in
             old.of ≡ more.of → (new.parts ≡ old.parts + more.parts) × (new.of ≡ old.of) }
     {
         let Pass { seat } = other;
@@ -73,7 +73,7 @@ impl Handoff {
     pub fn put<R: Wait>(&self, rt: &R, pass: &mut Pass, parcel: Parcel)
         requires { IsPassOf self.now pass.old }
         ensures pass { IsPassOf self.now pass.new }
-        ensures put { hand_of pass.new ≡ with_put (hand_of pass.old) parcel }
+        ensures put { pass_state pass.new ≡ with_put (pass_state pass.old) parcel }
     {
         let mut parcel = parcel;
         for _ in rt.forever() {
@@ -89,8 +89,8 @@ impl Handoff {
     fn try_put<R: Wait>(&self, rt: &R, pass: &mut Pass, parcel: Parcel) -> Result<(), Parcel>
         requires { IsPassOf self.now pass.old }
         ensures pass { IsPassOf self.now pass.new }
-        ensures put { OnOk result (hand_of pass.new ≡ with_put (hand_of pass.old) parcel) }
-        ensures same { OnErr result (hand_of pass.new ≡ hand_of pass.old) }
+        ensures put { OnOk result (pass_state pass.new ≡ with_put (pass_state pass.old) parcel) }
+        ensures same { OnErr result (pass_state pass.new ≡ pass_state pass.old) }
         ensures refused { IfErr result (λ refused. refused ≡ parcel) }
     {
         match self.sender.send_as::<Puts, R>(rt, &mut pass.seat, parcel) {
@@ -103,7 +103,7 @@ impl Handoff {
     pub fn take<R: Wait>(&self, rt: &R, pass: &mut Pass) -> Parcel
         requires { IsPassOf self.now pass.old }
         ensures pass { IsPassOf self.now pass.new }
-        ensures taken { hand_of pass.new ≡ with_taken (hand_of pass.old) result }
+        ensures taken { pass_state pass.new ≡ with_taken (pass_state pass.old) result }
     {
         for _ in rt.forever() {
             if let Some(parcel) = self.try_take(rt, pass) {
@@ -117,8 +117,8 @@ impl Handoff {
     fn try_take<R: Wait>(&self, rt: &R, pass: &mut Pass) -> Option<Parcel>
         requires { IsPassOf self.now pass.old }
         ensures pass { IsPassOf self.now pass.new }
-        ensures taken { IfSome result (λ parcel. hand_of pass.new ≡ with_taken (hand_of pass.old) parcel) }
-        ensures same { IfNone result (hand_of pass.new ≡ hand_of pass.old) }
+        ensures taken { IfSome result (λ parcel. pass_state pass.new ≡ with_taken (pass_state pass.old) parcel) }
+        ensures same { IfNone result (pass_state pass.new ≡ pass_state pass.old) }
     {
         match self.receiver.recv_as::<Takes, R>(rt, &mut pass.seat) {
             Ok(parcel) => Some(parcel),
@@ -126,15 +126,15 @@ impl Handoff {
         }
     }
 
-    /// What holds once every pass was joined into this one.
+    /// What holds once every pass was joined into this one. Runs don't need it, tests call it.
     pub fn account(&self, pass: &mut Pass)
         requires pass { IsPassOf self.now pass.old }
-        requires whole { IsWhole (hand_of pass.old) }
+        requires whole { IsWhole (pass_state pass.old) }
         ensures pass { IsPassOf self.now pass.new }
-        ensures same { hand_of pass.new ≡ hand_of pass.old }
-        ensures left { (left : List Parcel) × IsPermutation (hand_of pass.new).put ((hand_of pass.new).taken ++ left) }
-        ensures all_taken { length (hand_of pass.new).taken ≡ length (hand_of pass.new).put
-            → IsPermutation (hand_of pass.new).put (hand_of pass.new).taken }
+        ensures same { pass_state pass.new ≡ pass_state pass.old }
+        ensures left { (left : List Parcel) × IsPermutation (pass_state pass.new).put ((pass_state pass.new).taken ++ left) }
+        ensures all_taken { length (pass_state pass.new).taken ≡ length (pass_state pass.new).put
+            → IsPermutation (pass_state pass.new).put (pass_state pass.new).taken }
     {
         self.sender.learn_as::<Account>(&mut pass.seat);
     }

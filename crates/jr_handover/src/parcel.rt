@@ -11,7 +11,7 @@ pub enum Parcel {
 }
 
 // What a pass knows: how many parts of how many it holds, and what its thread put and took. No value of it is made.
-pub struct Hand {
+pub struct PassState {
     pub parts: u64,
     pub of: u64,
     pub put: LinkedList<Parcel>,

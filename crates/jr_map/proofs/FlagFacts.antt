@@ -11,7 +11,7 @@ use Rattle.std.proofs.lemmas.Option.{slice_get-get_or, slice_get_within, get_or_
 use Rattle.jr_model.specs.CellSet.{first_free, free_cell_from, free_run, with_cells, no_cells, free_count}
 use Rattle.jr_map.specs.Words.{is_set, Adds, IsSetFrom, IsLeastClear, AllSet, IsClearRun}
 use Rattle.jr_map.specs.Levels.{flags_of, MarksCells}
-use Rattle.jr_map.proofs.CellFacts.{free_run-within, length-with_cells}
+use Rattle.jr_model.proofs.CellFacts.{free_run-within, length-with_cells}
 
 pub length-flags_of : (ws : List ℕ) (n : ℕ) → length (flags_of ws n) ≡ n
 unfolding flags_of

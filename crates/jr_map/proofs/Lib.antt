@@ -1,6 +1,5 @@
-pub mod CellFacts
-pub mod WordFacts
+pub mod FlagFacts
+pub mod LevelFacts
 pub mod MarkFacts
 pub mod RunFacts
-pub mod LevelFacts
-pub mod FlagFacts
+pub mod WordFacts

@@ -12,7 +12,7 @@ use std::alloc::Global;
 pub const BITS: usize = 64;
 
 /// Words with so many bits, all clear; what the last word has beyond them is set.
-pub fn clear_words(alloc: Global, count: usize) -> Result<Vec<u64>, Memory>
+pub(crate) fn clear_words(alloc: Global, count: usize) -> Result<Vec<u64>, Memory>
     ensures bits { IfOk result (λ words. IsSetFrom count words.items) }
     ensures len { IfOk result (λ words. length words.items ≡ words_for count) }
 {
@@ -22,7 +22,7 @@ pub fn clear_words(alloc: Global, count: usize) -> Result<Vec<u64>, Memory>
 }
 
 /// Clears so many bits; what the last word has beyond them is set.
-pub fn clear_all(words: &mut [u64], count: usize)
+pub(crate) fn clear_all(words: &mut [u64], count: usize)
     requires { length words.old ≡ words_for count }
     ensures bits { IsSetFrom count words.new }
     ensures len { length words.new ≡ length words.old }
@@ -44,7 +44,7 @@ fn set_spare(words: &mut [u64], count: usize)
 }
 
 /// The least clear bit from `from` on in the word of bit `from`.
-pub fn next_in_word(words: &[u64], from: usize) -> Option<usize>
+pub(crate) fn next_in_word(words: &[u64], from: usize) -> Option<usize>
     ensures { NextInWord words.now from result }
 {
     if from / BITS >= words.len() {
@@ -58,7 +58,7 @@ pub fn next_in_word(words: &[u64], from: usize) -> Option<usize>
 }
 
 /// The least clear bit of a word that isn't full.
-pub fn first_in_word(words: &[u64], word: usize) -> usize
+pub(crate) fn first_in_word(words: &[u64], word: usize) -> usize
     requires few { 64 * length words.now < 2 ^ 64 }
     requires clear { is_full words.now word ≡ false }
     ensures bit { IsLeastClear words.now (64 * word) result }
@@ -68,7 +68,7 @@ pub fn first_in_word(words: &[u64], word: usize) -> usize
 }
 
 /// How many bits from the clear bit `from` on are clear without a gap, at most `want`.
-pub fn clear_run(words: &[u64], from: usize, want: usize) -> usize
+pub(crate) fn clear_run(words: &[u64], from: usize, want: usize) -> usize
     requires few { 64 * length words.now < 2 ^ 64 }
     requires clear { is_set words.now from ≡ false }
     ensures { IsClearRun words.now from want result }
@@ -88,7 +88,7 @@ pub fn clear_run(words: &[u64], from: usize, want: usize) -> usize
 
 /// Sets the bits from `start` up to `end`. The words from the first number given up to the second are
 /// full now; every other word is full where it was.
-pub fn mark(words: &mut [u64], start: usize, end: usize) -> (usize, usize)
+pub(crate) fn mark(words: &mut [u64], start: usize, end: usize) -> (usize, usize)
     requires { start < end → end ≤ 64 * length words.old }
     ensures set { Adds is_set words.old words.new start end }
     ensures full { Adds is_full words.old words.new result.0 result.1 }

@@ -4,7 +4,7 @@ use Rattle.jr_model.specs.declared.blocks.Dir.TheVariants.{Write}
 use Rattle.jr_model.specs.declared.workloads.Draw.{Draw}
 use Rattle.jr_model.specs.declared.workloads.IoType.{IoType}
 use Rattle.jr_model.specs.declared.workloads.IoType.TheVariants as io
-use Rattle.jr_model.specs.Draws.{Progress, mapped, draws_from, draws_over}
+use Rattle.jr_model.specs.Draws.{PassProgress, mapped, draws_from, draws_over}
 use Rattle.jr_model.specs.CellSet.{free_cell_from, no_cells, with_cells}
 use Rattle.jr_model.specs.Plan.{SubJob}
 use Rattle.jr_model.proofs.ExamplePlans.{no_verify}
@@ -53,7 +53,7 @@ unfolding random place_words offsets
 mapped_writes_end = refl
 
 -- eight cells of 1024 of which cell 3 is taken, before the first draw of a pass
-one_taken : Progress
+one_taken : PassProgress
 one_taken = record { number = 0; places = mapped (with_cells (no_cells 8) 3 1); reads = 0; writes = 1 }
 
 -- a draw of 4096 bytes from cell 1 on is cut there

@@ -13,7 +13,7 @@ use Rattle.jr_model.specs.declared.events.Started.{Started}
 use Rattle.jr_model.specs.declared.events.WriteId.{WriteId}
 use Rattle.jr_model.specs.declared.workloads.Draw.{Draw}
 use Rattle.jr_model.specs.Choice.{choice, choice_of_clone, choice_of_pass}
-use Rattle.jr_model.specs.Draws.{Progress, draws_from, draws_of_job, fresh_progress, pass_over, chosen_cells, draw_at, progress_after}
+use Rattle.jr_model.specs.Draws.{PassProgress, draws_from, draws_of_job, fresh_progress, pass_over, chosen_cells, draw_at, progress_after}
 use Rattle.jr_model.specs.History.{first_given, started, started_by, same_write, same_piece}
 use Rattle.jr_model.specs.LastWrite.{is_intact}
 use Rattle.jr_model.specs.Legal.{may_happen, may_take_up, may_issue, legal_after, is_legal, step_of, step_of_draw, step_of_clone, step_at, same_dir, is_this_issue, is_this_probe, is_this_skip}
@@ -68,7 +68,7 @@ from_cond true xs k x h = cc
 from_cond false xs k x h = h
 
 -- draws are numbered on from the draws made
-pub number-draws_from : (job : SubJob) (done : Progress) (words : List ℕ) (k : ℕ) (d : Draw) → slice_get (draws_from job done words) k ≡ Some d → d.number ≡ done.number + k
+pub number-draws_from : (job : SubJob) (done : PassProgress) (words : List ℕ) (k : ℕ) (d : Draw) → slice_get (draws_from job done words) k ≡ Some d → d.number ≡ done.number + k
 number-draws_from job done [] k d h = cc
 number-draws_from job done (a ∷ []) k d h = cc
 number-draws_from job done (a ∷ b ∷ []) k d h = cc

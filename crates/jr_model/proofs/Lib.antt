@@ -1,7 +1,9 @@
-pub mod SerialLaws
-pub mod MachineLaws
-pub mod LegalLaws
 mod DrawRows
+pub mod CellFacts
+pub mod DigitLemmas
 pub mod Equality
 pub mod ExamplePlans
 pub mod ExampleRuns
+pub mod LegalLaws
+pub mod MachineLaws
+pub mod SerialLaws

@@ -81,14 +81,14 @@ by_direction Read x y = x
 by_direction Write x y = y
 
 -- how far a pass has come: the draws made, where it may go on, and how many cells each direction drew
-pub record Progress : Type 0 where
+pub record PassProgress : Type 0 where
   pub number : ℕ
   pub places : Places
   pub reads : ℕ
   pub writes : ℕ
 
 -- at the start of a pass
-abbrev pub fresh_progress : SubJob → Progress
+abbrev pub fresh_progress : SubJob → PassProgress
 fresh_progress job = record {
   number = 0;
   places = fresh_places job.io_type job.has_map job.cells;
@@ -97,11 +97,11 @@ fresh_progress job = record {
 }
 
 -- how many cells are still to be drawn
-abbrev pub cells_left : SubJob → Progress → ℕ
+abbrev pub cells_left : SubJob → PassProgress → ℕ
 cells_left job done = job.cells - (done.reads + done.writes)
 
 -- all cells of the pass are drawn
-abbrev pub pass_over : SubJob → Progress → Bool
+abbrev pub pass_over : SubJob → PassProgress → Bool
 pass_over job done = all_drawn done.places (cells_left job done)
 
 -- the cells of a clone as a piece of its file: m of them from cell x on
@@ -109,13 +109,13 @@ abbrev pub cell_piece : SubJob → ℕ → ℕ → Piece
 cell_piece job x m = record { file = job.file; offset = job.start + x * job.cell; len = m * job.cell }
 
 -- one draw as a choice of cells
-pub record Choice : Type 0 where
+pub record DrawnCells : Type 0 where
   pub dir : Dir
   pub first : ℕ
   pub count : ℕ
 
 -- the cells that the draw takes, by its words for direction, size and place
-abbrev pub chosen_cells : SubJob → Progress → ℕ → ℕ → ℕ → Choice
+abbrev pub chosen_cells : SubJob → PassProgress → ℕ → ℕ → ℕ → DrawnCells
 chosen_cells job done direction size place =
     let dir = direction_of job.io_type job.read_percent (direction % 100) in
     let want = size_at (by_direction dir job.read_split job.write_split) (size % 100) / job.cell in
@@ -123,7 +123,7 @@ chosen_cells job done direction size place =
     record { dir = dir; first = x; count = cell_count done.places job.cells (cells_left job done) x want }
 
 -- the draw itself
-abbrev pub draw_at : SubJob → Progress → Choice → ℕ → Draw
+abbrev pub draw_at : SubJob → PassProgress → DrawnCells → ℕ → Draw
 draw_at job done choice seed = record {
   number = done.number;
   dir = choice.dir;
@@ -132,7 +132,7 @@ draw_at job done choice seed = record {
 }
 
 -- how far the pass is after a draw
-abbrev pub progress_after : Progress → Choice → Progress
+abbrev pub progress_after : PassProgress → DrawnCells → PassProgress
 progress_after done choice = record {
   number = suc done.number;
   places = places_after done.places choice.first choice.count;
@@ -141,7 +141,7 @@ progress_after done choice = record {
 }
 
 -- the draws still to come, from these words on
-abbrev pub draws_from : SubJob → Progress → List ℕ → List Draw
+abbrev pub draws_from : SubJob → PassProgress → List ℕ → List Draw
 draws_from job done (direction ∷ size ∷ place ∷ seed ∷ words) =
     let choice = chosen_cells job done direction size place in
     let rest = draws_from job (progress_after done choice) words in

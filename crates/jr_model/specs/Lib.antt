@@ -14,6 +14,7 @@ pub mod Machine
 pub mod PatternBytes
 pub mod Pieces
 pub mod Plan
+pub mod PlanFacts
 pub mod Quiet
 pub mod Replies
 pub mod Report

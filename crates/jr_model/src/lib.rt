@@ -4,6 +4,7 @@
 
 mod blocks;
 mod contents;
+mod digits;
 mod events;
 mod laws;
 mod limits;
@@ -11,12 +12,14 @@ mod memory;
 mod replies;
 mod sameness;
 mod steps;
+mod texts;
 mod tickets;
 mod totals;
 mod workloads;
 
 pub use blocks::{Dir, Piece, overlaps};
 pub use contents::{Expected, Method, Pattern, VerifyKind};
+pub use digits::{all_digits, digits_number};
 pub use events::{Event, IoId, Outcome, Started, Verdict, What, WriteId};
 pub use laws::{
     choice_may_happen, every_run_is_legal, front_is_legal, legal_goes_on, serial_is_legal,
@@ -30,6 +33,7 @@ pub use memory::Memory;
 pub use replies::{Reply, ReplyBytes};
 pub use sameness::{is_same, same_piece, same_write};
 pub use steps::{DeskFault, Step, StepReply};
+pub use texts::{push_field, push_number, push_text};
 pub use tickets::{Ticket, TicketKind};
 pub use totals::Totals;
 pub use workloads::{Draw, EngineKind, IoType};

@@ -8,7 +8,7 @@ use std::alloc::{AllocError, Global};
 
 // A planned job: its name as it is shown, the line that opens its section, and what its lines say.
 #[derive(Debug, Drop)]
-pub(crate) struct Job {
+pub struct Job {
     pub(crate) name: String,
     pub(crate) line: u32,
     pub(crate) options: JobOptions,

@@ -4,7 +4,7 @@ use jr_text::Line;
 
 // What a row speaks of, why it is refused, and what to write instead. A row speaks of several words with spaces between them: keys, or
 // keys with values behind `=`. A `*` in front of a word or behind it stands for any text.
-pub(crate) type Row = (&'static str, &'static str, &'static str);
+pub type Row = (&'static str, &'static str, &'static str);
 
 // The keys that aren't read.
 const KEYS: [Row; 33] = [

@@ -12,7 +12,7 @@ use std::alloc::{AllocError, Global};
 use std::slice;
 
 /// The most characters of a name or a key that a note has.
-pub(crate) const MOST_SHOWN: usize = 26;
+pub const MOST_SHOWN: usize = 26;
 
 // The section's lines count for the jobs below it; it is no job.
 pub(crate) fn is_global(section: &Section) -> bool

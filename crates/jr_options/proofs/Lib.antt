@@ -1,8 +1,10 @@
 pub mod BuildLemmas
 pub mod CloneLemmas
+pub mod CountLemmas
 pub mod FileEnds
 pub mod FileNaming
 pub mod LimitLemmas
+pub mod ReadingLemmas
 pub mod RefusalLemmas
 pub mod Rows
 pub mod SectionLemmas

@@ -8,7 +8,7 @@ use Rattle.jr_settings.specs.declared.shapes.Shape.{Shape}
 use Rattle.jr_settings.specs.Options.{AreInRange}
 use Rattle.jr_settings.specs.Shapes.{HasShape}
 use Rattle.jr_plan.specs.Drafts.{Clones, clone_fault}
-use Rattle.jr_plan.specs.PlanFacts.{SizesFit, has_reads, has_writes, work_of}
+use Rattle.jr_model.specs.PlanFacts.{SizesFit, has_reads, has_writes, work_of}
 use Rattle.jr_plan.specs.Sizes.{split_fits}
 use Rattle.jr_plan.specs.Workloads.{is_cut, numbers_fit}
 use Rattle.jr_plan.proofs.LimitLemmas.{sizes_fit, if_needed}

@@ -9,7 +9,7 @@ use Rattle.jr_plan.specs.declared.faults.Bound.TheVariants as bound
 use Rattle.jr_settings.specs.declared.faults.JobFault.{JobFault}
 use Rattle.jr_settings.specs.declared.faults.JobFault.TheVariants as fault
 use Rattle.jr_settings.specs.declared.options.JobOptions.{JobOptions}
-use Rattle.jr_options.specs.declared.reading.Tally.{Tally}
+use Rattle.jr_options.specs.declared.tallies.Tally.{Tally}
 use Rattle.jr_settings.specs.declared.shapes.Shape.{Shape}
 use Rattle.jr_options.specs.PlanOf.{JobAsked, engine_of, verifiers_of}
 use Rattle.jr_settings.specs.Shapes.{shape_of, shape_in}

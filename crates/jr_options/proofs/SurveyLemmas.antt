@@ -3,8 +3,8 @@ use Rattle.std.proofs.Common.{◌≡◌, ℕ, Bool, true, false, not, ◌&&◌, 
 use Rattle.jr_text.specs.Records.{LineText, SectionText}
 use Rattle.jr_settings.specs.declared.faults.JobFault.{JobFault}
 use Rattle.jr_settings.specs.declared.options.JobOptions.{JobOptions}
-use Rattle.jr_options.specs.declared.reading.Survey.{Survey}
-use Rattle.jr_options.specs.declared.reading.Tally.{Tally}
+use Rattle.jr_options.specs.declared.surveys.Survey.{Survey}
+use Rattle.jr_options.specs.declared.tallies.Tally.{Tally}
 use Rattle.jr_options.specs.Jobs.{global_lines, effective_lines, options_of}
 use Rattle.jr_settings.specs.Options.{default_options, options_from}
 use Rattle.jr_options.specs.PlanOf.{JobAsked, job_asked, jobs_below}
@@ -24,7 +24,7 @@ AreRead only above [] = Unit {0}
 AreRead only above (section ∷ rest) =
     (is_planned only section ≡ true → options_of above section ≡ Ok (job_asked above section).options) × AreRead only (above ++ section ∷ []) rest
 
-global_lines-more : (above : List SectionText) (section : SectionText) → global_lines (above ++ section ∷ []) ≡ global_lines above ++ cond (is_global section) section.lines []
+pub global_lines-more : (above : List SectionText) (section : SectionText) → global_lines (above ++ section ∷ []) ≡ global_lines above ++ cond (is_global section) section.lines []
 global_lines-more [] section = append-nil (cond (is_global section) section.lines [])
 global_lines-more (other ∷ above) section =
     ap (λ (ls : List LineText). cond (is_global other) other.lines [] ++ ls) (global_lines-more above section)

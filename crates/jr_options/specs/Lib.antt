@@ -4,5 +4,6 @@ pub mod Jobs
 pub mod PlanOf
 pub mod Planned
 pub mod Refusals
+pub mod Sections
 pub mod Surveys
 pub use Rattle.jr_settings.specs.FaultTexts

@@ -1,6 +1,6 @@
 -- Believed: the plan that the sections of a job file ask for (fio's manual, "Job file format"; the names and the numbers of clones
 -- and files are of this project).
-use Rattle.std.specs.Prelude.{ℕ, ◌+◌, ◌-◌, ◌*◌, ◌^◌, ◌≤◌, ◌==◌, max, Bool, List, [], ◌∷◌, ◌++◌, length, take, replicate, map, flat_map, fold, count_by, slice_index, Option, Some, None, unwrap_or, if◌then◌else◌, codes, decimal}
+use Rattle.std.specs.Prelude.{ℕ, ◌+◌, ◌-◌, ◌*◌, ◌≤◌, ◌==◌, max, Bool, List, [], ◌∷◌, ◌++◌, length, take, replicate, map, flat_map, fold, count_by, slice_index, Option, Some, None, unwrap_or, if◌then◌else◌, codes, decimal}
 use Rattle.std.specs.List.{enumerate_from}
 use Rattle.jr_model.specs.declared.workloads.EngineKind.{EngineKind}
 use Rattle.jr_model.specs.declared.workloads.EngineKind.TheVariants as engine
@@ -14,7 +14,7 @@ use Rattle.jr_options.specs.Planned.{workload_of}
 use Rattle.jr_model.specs.declared.limits.TheConstants.{LARGEST_END, MOST_CELLS, MOST_CLONES, MOST_WORK}
 use Rattle.jr_options.specs.Jobs.{effective_lines}
 use Rattle.jr_settings.specs.Lookups.{options_in, last_value}
-use Rattle.jr_plan.specs.PlanFacts.{work_of}
+use Rattle.jr_model.specs.PlanFacts.{work_of}
 use Rattle.jr_settings.specs.Shapes.{shape_in}
 use Rattle.jr_options.specs.Surveys.{is_planned, start_of}
 

@@ -1,6 +1,6 @@
 -- Believed: why the sections of a job file make no plan (the faults and the limits are of this project): the first faulty line, else the
 -- first job at fault, else what is wrong with all jobs together.
-use Rattle.std.specs.Prelude.{ℕ, ◌+◌, ◌-◌, ◌*◌, ◌^◌, nat_lt, ◌==◌, Bool, not, ◌||◌, List, [], filter, flat_map, sum_by, Option, Some, None, if◌then◌else◌}
+use Rattle.std.specs.Prelude.{ℕ, ◌+◌, ◌-◌, ◌*◌, nat_lt, ◌==◌, Bool, not, ◌||◌, List, [], filter, flat_map, sum_by, Option, Some, None, if◌then◌else◌}
 use Rattle.std.specs.List.{list_any}
 use Rattle.std.specs.Option.{option_or}
 use Rattle.std.specs.Result.{result_err}

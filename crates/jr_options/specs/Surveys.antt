@@ -9,8 +9,8 @@ use Rattle.jr_plan.specs.declared.faults.Bound.TheVariants as bound
 use Rattle.jr_settings.specs.declared.faults.JobFault.{JobFault}
 use Rattle.jr_settings.specs.declared.faults.JobFault.TheVariants as fault
 use Rattle.jr_settings.specs.declared.options.JobOptions.{JobOptions}
-use Rattle.jr_options.specs.declared.reading.Survey.{Survey}
-use Rattle.jr_options.specs.declared.reading.Tally.{Tally}
+use Rattle.jr_options.specs.declared.surveys.Survey.{Survey}
+use Rattle.jr_options.specs.declared.tallies.Tally.{Tally}
 use Rattle.jr_settings.specs.declared.shapes.Shape.{Shape}
 use Rattle.jr_plan.specs.Files.{same_text}
 use Rattle.jr_settings.specs.Options.{default_options, options_from}

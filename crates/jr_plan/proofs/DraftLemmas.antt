@@ -5,7 +5,7 @@ use Rattle.std.proofs.lemmas.List.Sums.{sum_by-append}
 use Rattle.jr_model.specs.Plan.{SubJob, FileSpec}
 use Rattle.jr_plan.specs.Files.{same_text}
 use Rattle.jr_plan.specs.Files.{file_place, with_file, widened}
-use Rattle.jr_plan.specs.PlanFacts.{IsPlaced, KeepsLimits, AreDrafted, work_of}
+use Rattle.jr_model.specs.PlanFacts.{IsPlaced, KeepsLimits, AreDrafted, work_of}
 
 -- an element of a list with one more is one of the list, or the last
 pub slice_get-push : {X : Type 0} (xs : List X) (y : X) (i : ℕ) (x : X) → slice_get (xs ++ y ∷ []) i ≡ Some x → (slice_get xs i ≡ Some x) ⊎ ((i ≡ length xs) × (y ≡ x))

@@ -12,7 +12,7 @@ use Rattle.jr_plan.specs.declared.faults.PlanFault.TheVariants as fault
 use Rattle.jr_plan.specs.declared.workloads.Workload.{Workload}
 use Rattle.jr_plan.specs.Clones.{planned_clone}
 use Rattle.jr_plan.specs.Drafts.{Clones, clone_fault, limit_fault}
-use Rattle.jr_plan.specs.PlanFacts.{SizesFit, KeepsLimits, work_of}
+use Rattle.jr_model.specs.PlanFacts.{SizesFit, KeepsLimits, work_of}
 use Rattle.jr_plan.specs.Sizes.{entry_fits, split_fits}
 use Rattle.jr_plan.specs.SplitEntries.{percents_total}
 use Rattle.jr_plan.specs.Workloads.{is_cut, numbers_fit, workload_fault}

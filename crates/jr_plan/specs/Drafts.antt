@@ -8,7 +8,7 @@ use Rattle.jr_plan.specs.declared.faults.PlanFault.{PlanFault}
 use Rattle.jr_plan.specs.declared.faults.PlanFault.TheVariants as fault
 use Rattle.jr_plan.specs.declared.workloads.Workload.{Workload}
 use Rattle.jr_plan.specs.Files.{file_place, with_file}
-use Rattle.jr_plan.specs.PlanFacts.{work_of}
+use Rattle.jr_model.specs.PlanFacts.{work_of}
 pub use Rattle.jr_plan.specs.Clones.{planned_clone}
 use Rattle.jr_plan.specs.Workloads.{workload_fault}
 

@@ -2,7 +2,6 @@ pub mod Clones
 pub mod Drafts
 pub mod FaultTexts
 pub mod Files
-pub mod PlanFacts
 pub mod PlanText
 pub mod Sizes
 pub mod SplitEntries

@@ -1,5 +1,5 @@
 ghost use Rattle.std.specs.Prelude.{◌≡◌};
-ghost use Rattle.jr_plan.specs.PlanFacts.{KeepsLimits};
+ghost use Rattle.jr_model.specs.PlanFacts.{KeepsLimits};
 
 use crate::splits::Split;
 use crate::workloads::Workload;
@@ -20,7 +20,7 @@ impl Model for SubJob {
     ghost use Rattle.std.specs.Prelude.{string_bytes};
     ghost use Rattle.jr_model.specs.Plan.{SubJob as JobRecord};
     ghost use Rattle.jr_plan.specs.Clones.{planned_clone};
-    ghost use Rattle.jr_plan.specs.PlanFacts.{KeepsLimits};
+    ghost use Rattle.jr_model.specs.PlanFacts.{KeepsLimits};
 
     ghost Value = { JobRecord };
 

@@ -22,7 +22,7 @@ pub struct Draft {
 
 impl Model for Draft {
     ghost use Rattle.std.specs.Prelude.{◌≡◌};
-    ghost use Rattle.jr_plan.specs.PlanFacts.{AreDrafted, work_of};
+    ghost use Rattle.jr_model.specs.PlanFacts.{AreDrafted, work_of};
     ghost use Rattle.jr_plan.specs.Drafts.{Clones};
 
     ghost Value = { Clones };

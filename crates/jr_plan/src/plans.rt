@@ -1,7 +1,7 @@
 ghost use Rattle.std.specs.Prelude.{◌≡◌, ◌≤◌, ◌<◌, ◌==◌, length, slice_get, Some};
 ghost use Rattle.std.specs.List.{list_any};
 ghost use Rattle.jr_plan.specs.Files.{are_apart};
-ghost use Rattle.jr_plan.specs.PlanFacts.{AreDrafted, IsPlanned, IsPlaced, KeepsLimits};
+ghost use Rattle.jr_model.specs.PlanFacts.{AreDrafted, IsPlanned, IsPlaced, KeepsLimits};
 
 use crate::clones::SubJob;
 use crate::files::FileSpec;
@@ -19,7 +19,7 @@ pub struct Plan {
 
 impl Model for Plan {
     ghost use Rattle.jr_model.specs.Plan.{Plan as PlanRecord};
-    ghost use Rattle.jr_plan.specs.PlanFacts.{IsPlanned};
+    ghost use Rattle.jr_model.specs.PlanFacts.{IsPlanned};
 
     ghost Value = { PlanRecord };
 

@@ -1,4 +1,4 @@
 pub mod Halts
 pub mod PassLemmas
+pub mod PhaseLaws
 pub mod RoundLemmas
-pub mod TurnLaws

@@ -1,2 +1,2 @@
+pub mod Phases
 pub mod Rounds
-pub mod Turns

@@ -1,16 +1,18 @@
 ghost use Rattle.std.specs.Prelude.{◌≡◌, ◌&&◌, not, ◌==◌, IfOk, length, slice_get};
 ghost use Rattle.std.specs.List.{list_all};
 ghost use Rattle.jr_model.specs.History.{started, flies, outcome_of, is_judged, ended_whole, in_flight, awaiting};
-ghost use Rattle.jr_model.specs.Legal.{step_of_draw, step_of_clone, step_at, same_dir, is_this_issue, is_this_probe, is_this_skip, outcome_fits, end_fits, is_header_finding, is_byte_finding, kind_finds, kind_says, job_says, verdict_fits, may_happen, is_over, is_complete};
+ghost use Rattle.jr_model.specs.Legal.{step_of_draw, step_of_clone, step_at, same_dir, is_this_issue, is_this_probe};
+ghost use Rattle.jr_model.specs.Legal.{is_this_skip, outcome_fits, end_fits, is_header_finding, is_byte_finding, kind_finds};
+ghost use Rattle.jr_model.specs.Legal.{kind_says, job_says, verdict_fits, may_happen, is_over, is_complete};
 ghost use Rattle.jr_model.specs.Plan.{clone_of};
 
 use crate::legal::{is_over, step_of};
-use jr_agenda::{Agenda, Pass, PlannedClone};
+use jr_history::{Past, ended_whole, is_probe};
 use jr_model::{
     Dir, Draw, Event, Memory, Outcome, Piece, Started, Verdict, VerifyKind, What, WriteId,
     same_piece, same_write,
 };
-use jr_past::{Past, ended_whole, is_probe};
+use jr_passes::{Agenda, PlannedClone, PlannedPass};
 use jr_plan::Plan;
 use std::alloc::Global;
 
@@ -20,7 +22,7 @@ fn step_of_draw(
     past: &Past,
     worker: u32,
     clone: &PlannedClone<'_>,
-    pass: &Pass<'_>,
+    pass: &PlannedPass<'_>,
     draw: Option<Draw>,
 ) -> Option<Event>
     requires { pass.now.job ≡ clone.now }
@@ -48,13 +50,13 @@ pub(crate) fn step_of_clone(
         let draw = pass.draw_at(write.number);
         return Ok(step_of_draw(work, past, worker, clone, pass, draw));
     }
-    let pass = Pass::new(alloc, clone.job(), write.pass)?;
+    let pass = PlannedPass::new(alloc, clone.job(), write.pass)?;
     let draw = pass.draw_at(write.number);
     Ok(step_of_draw(work, past, worker, clone, &pass, draw))
 }
 
 /// What may happen with the draw of this name now, if anything.
-pub fn step_at(
+pub(crate) fn step_at(
     alloc: Global,
     work: &Agenda<'_>,
     past: &Past,

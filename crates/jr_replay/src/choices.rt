@@ -2,9 +2,9 @@ ghost use Rattle.std.specs.Prelude.{◌≡◌, IfOk};
 ghost use Rattle.jr_model.specs.Choice.{choice_of_pass, choice_of_clone, choice};
 
 use crate::legal::step_of;
-use jr_agenda::{Agenda, Pass, PlannedClone};
+use jr_history::Past;
 use jr_model::{Event, Memory};
-use jr_past::Past;
+use jr_passes::{Agenda, PlannedClone, PlannedPass};
 use jr_plan::Plan;
 use std::alloc::Global;
 
@@ -14,7 +14,7 @@ fn choice_of_pass(
     past: &Past,
     worker: u32,
     clone: &PlannedClone<'_>,
-    pass: &Pass<'_>,
+    pass: &PlannedPass<'_>,
 ) -> Option<Event>
     requires { pass.now.job ≡ clone.now }
     ensures { result ≡ choice_of_pass work.now past.now worker pass.now }
@@ -47,7 +47,7 @@ fn choice_of_clone(
 }
 
 /// What is started next, if anything may be: the least step by clone, pass and number.
-pub fn choice_among(work: &Agenda<'_>, past: &Past, worker: u32) -> Option<Event>
+pub(crate) fn choice_among(work: &Agenda<'_>, past: &Past, worker: u32) -> Option<Event>
     ensures { result ≡ choice work.now past.now worker }
 {
     for clone in work.clones() {

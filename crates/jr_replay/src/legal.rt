@@ -1,15 +1,17 @@
 ghost use Rattle.std.specs.Prelude.{◌≡◌, false, nat_le, ◌==◌, not, ◌&&◌, ◌||◌, take};
 ghost use Rattle.std.specs.List.{list_any, list_all};
 ghost use Rattle.jr_model.specs.History.{is_of_clone, awaiting, in_flight};
-ghost use Rattle.jr_model.specs.Legal.{is_halted, is_over, is_at_rest, phase_is_open, has_room, conflicts, is_clear, takes_up, may_take_up, may_issue, check_or_skip, step_of};
-ghost use Rattle.jr_model.specs.Rounds.{write_id, is_write_draw, issued_count, has_rounds, clone_finished, is_current, pass_finished, passes_of};
+ghost use Rattle.jr_model.specs.Legal.{is_halted, is_over, is_at_rest, phase_is_open, has_room, conflicts, is_clear, takes_up};
+ghost use Rattle.jr_model.specs.Legal.{may_take_up, may_issue, check_or_skip, step_of};
+ghost use Rattle.jr_model.specs.Rounds.{write_id, is_write_draw, issued_count, has_rounds, clone_finished, is_current};
+ghost use Rattle.jr_model.specs.Rounds.{pass_finished, passes_of};
 
 use crate::rounds::{
     flying_count, is_open, issued_count, nothing_flies_of, pass_finished, waits_for_round,
 };
-use jr_agenda::{Agenda, Pass, PlannedClone, has_rounds, is_write_draw};
+use jr_history::{Past, is_intact, is_of_clone, is_write};
 use jr_model::{Draw, Event, Piece, Started, overlaps};
-use jr_past::{Past, is_intact, is_of_clone, is_write};
+use jr_passes::{Agenda, PlannedClone, PlannedPass, has_rounds, is_write_draw};
 use jr_plan::SubJob;
 
 // Whether a clone is halted, by whether it has a fault, and a bad verdict that is fatal.
@@ -20,7 +22,7 @@ fn halts(faulty: bool, fatal: bool, condemned: bool) -> bool
 }
 
 /// Whether a fault, or a bad verdict where that is fatal, has halted a clone.
-pub fn is_halted(past: &Past, job: &SubJob) -> bool
+pub(crate) fn is_halted(past: &Past, job: &SubJob) -> bool
     ensures { result ≡ is_halted past.now job.now }
 {
     let clone = job.clone_number();
@@ -31,20 +33,20 @@ pub fn is_halted(past: &Past, job: &SubJob) -> bool
 }
 
 /// Whether all passes of a clone are finished.
-pub fn clone_finished(past: &Past, clone: &PlannedClone<'_>) -> bool
+pub(crate) fn clone_finished(past: &Past, clone: &PlannedClone<'_>) -> bool
     ensures { result ≡ clone_finished past.now clone.now }
 {
     all_finished(past, clone.passes())
 }
 
-fn all_finished(past: &Past, passes: &[Pass<'_>]) -> bool
+fn all_finished(past: &Past, passes: &[PlannedPass<'_>]) -> bool
     ensures { result ≡ list_all (pass_finished past.now) passes.now }
 {
     passes.iter().all(|pass| pass_finished(past, pass))
 }
 
 /// Whether a clone is finished or halted.
-pub fn is_over(past: &Past, clone: &PlannedClone<'_>) -> bool
+pub(crate) fn is_over(past: &Past, clone: &PlannedClone<'_>) -> bool
     ensures { result ≡ is_over past.now clone.now }
 {
     is_halted(past, clone.job()) || clone_finished(past, clone)
@@ -58,7 +60,7 @@ pub(crate) fn awaits_verdict(past: &Past, clone: u32) -> bool
 }
 
 /// Whether a clone is over, with nothing in flight and no verdict to come.
-pub fn is_at_rest(past: &Past, clone: &PlannedClone<'_>) -> bool
+pub(crate) fn is_at_rest(past: &Past, clone: &PlannedClone<'_>) -> bool
     ensures { result ≡ is_at_rest past.now clone.now }
 {
     let number = clone.job().clone_number();
@@ -73,7 +75,7 @@ fn lets_begin(past: &Past, phase: u32, other: &PlannedClone<'_>) -> bool
 }
 
 /// Whether all clones of earlier phases are at rest.
-pub fn phase_is_open(work: &Agenda<'_>, past: &Past, job: &SubJob) -> bool
+pub(crate) fn phase_is_open(work: &Agenda<'_>, past: &Past, job: &SubJob) -> bool
     ensures { result ≡ phase_is_open work.now past.now job.now }
 {
     let phase = job.phase();
@@ -83,7 +85,7 @@ pub fn phase_is_open(work: &Agenda<'_>, past: &Past, job: &SubJob) -> bool
 }
 
 /// Whether a clone has fewer I/Os in flight than its depth.
-pub fn has_room(past: &Past, job: &SubJob) -> bool
+pub(crate) fn has_room(past: &Past, job: &SubJob) -> bool
     ensures { result ≡ has_room past.now job.now }
 {
     flying_count(past, job.clone_number()) < job.depth() as usize
@@ -105,7 +107,7 @@ fn any_conflicts(past: &Past, writes: bool, piece: &Piece) -> bool
 }
 
 /// Whether nothing in flight overlaps a piece where one of the two writes.
-pub fn is_clear(past: &Past, writes: bool, piece: &Piece) -> bool
+pub(crate) fn is_clear(past: &Past, writes: bool, piece: &Piece) -> bool
     ensures { result ≡ is_clear past.now writes piece.now }
 {
     !any_conflicts(past, writes, piece)
@@ -123,7 +125,7 @@ fn earlier_finished(past: &Past, clone: &PlannedClone<'_>, number: u32) -> bool
 }
 
 /// Whether a pass is the first of its clone that isn't finished.
-pub fn is_current(past: &Past, clone: &PlannedClone<'_>, pass: &Pass<'_>) -> bool
+pub(crate) fn is_current(past: &Past, clone: &PlannedClone<'_>, pass: &PlannedPass<'_>) -> bool
     requires { pass.now.job ≡ clone.now }
     ensures { result ≡ is_current past.now pass.now }
 {
@@ -134,7 +136,7 @@ pub fn is_current(past: &Past, clone: &PlannedClone<'_>, pass: &Pass<'_>) -> boo
 
 // Whether a draw is the next of its pass, of a clone that isn't halted and has room, with nothing in
 // flight in its way.
-pub(crate) fn is_next(past: &Past, pass: &Pass<'_>, draw: &Draw) -> bool
+pub(crate) fn is_next(past: &Past, pass: &PlannedPass<'_>, draw: &Draw) -> bool
     ensures { result
         ≡ ((draw.now.number == issued_count past.now pass.now)
         && not (is_halted past.now pass.now.job)
@@ -148,11 +150,11 @@ pub(crate) fn is_next(past: &Past, pass: &Pass<'_>, draw: &Draw) -> bool
 }
 
 /// Whether a draw of a pass may be issued.
-pub fn may_issue(
+pub(crate) fn may_issue(
     work: &Agenda<'_>,
     past: &Past,
     clone: &PlannedClone<'_>,
-    pass: &Pass<'_>,
+    pass: &PlannedPass<'_>,
     draw: &Draw,
 ) -> bool
     requires { pass.now.job ≡ clone.now }
@@ -166,7 +168,7 @@ pub fn may_issue(
 
 // Whether a draw is a write that wasn't checked or skipped, of a clone that has rounds, isn't halted
 // and has room, with nothing in flight in its check's way.
-pub(crate) fn is_left(past: &Past, pass: &Pass<'_>, draw: &Draw) -> bool
+pub(crate) fn is_left(past: &Past, pass: &PlannedPass<'_>, draw: &Draw) -> bool
     ensures { result
         ≡ (is_write_draw draw.now
         && has_rounds pass.now.job
@@ -184,14 +186,14 @@ pub(crate) fn is_left(past: &Past, pass: &Pass<'_>, draw: &Draw) -> bool
 }
 
 /// Whether the write of a draw may be checked, or skipped, now.
-pub fn may_take_up(past: &Past, pass: &Pass<'_>, draw: &Draw) -> bool
+pub(crate) fn may_take_up(past: &Past, pass: &PlannedPass<'_>, draw: &Draw) -> bool
     ensures { result ≡ may_take_up past.now pass.now draw.now }
 {
     is_left(past, pass, draw) && is_open(past, pass, pass.group_index(draw.number))
 }
 
 // The check of a write where it is intact, else its skip.
-pub(crate) fn check_or_skip(past: &Past, worker: u32, pass: &Pass<'_>, draw: &Draw) -> Event
+pub(crate) fn check_or_skip(past: &Past, worker: u32, pass: &PlannedPass<'_>, draw: &Draw) -> Event
     ensures { result ≡ check_or_skip past.now worker pass.now draw.now }
 {
     let write = pass.write_id(draw);
@@ -207,7 +209,7 @@ pub(crate) fn check_or_skip(past: &Past, worker: u32, pass: &Pass<'_>, draw: &Dr
 }
 
 // The issue of a draw.
-pub(crate) fn issue_of(worker: u32, pass: &Pass<'_>, draw: &Draw) -> Event
+pub(crate) fn issue_of(worker: u32, pass: &PlannedPass<'_>, draw: &Draw) -> Event
     ensures { result ≡ Event.Issue worker draw.now.dir (write_id pass.now draw.now) draw.now.piece }
 {
     Event::Issue {
@@ -219,12 +221,12 @@ pub(crate) fn issue_of(worker: u32, pass: &Pass<'_>, draw: &Draw) -> Event
 }
 
 /// What may happen with a draw of a pass now, if anything: its check or skip, or its issue.
-pub fn step_of(
+pub(crate) fn step_of(
     work: &Agenda<'_>,
     past: &Past,
     worker: u32,
     clone: &PlannedClone<'_>,
-    pass: &Pass<'_>,
+    pass: &PlannedPass<'_>,
     draw: &Draw,
 ) -> Option<Event>
     requires { pass.now.job ≡ clone.now }

@@ -5,9 +5,9 @@
 mod answers;
 mod choices;
 mod legal;
+mod phases;
 mod rounds;
-mod turns;
 
 pub use answers::{allowed, complete, complete_among, may_end, may_judge};
 pub use choices::choice;
-pub use turns::legal_step_at;
+pub use phases::legal_step_at;

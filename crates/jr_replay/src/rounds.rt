@@ -2,15 +2,17 @@ ghost use Rattle.std.specs.Prelude.{◌≡◌, ◌==◌, ◌&&◌, not, length, 
 ghost use Rattle.std.specs.List.{list_any, list_all, range_with_len};
 ghost use Rattle.jr_model.specs.declared.events.Started.{Started};
 ghost use Rattle.jr_model.specs.History.{in_flight_of};
-ghost use Rattle.jr_model.specs.Rounds.{write_id, group_of, group_count, issued_count, all_issued, is_full, is_settled, is_closed, no_issue_flies, is_open, waits_for_round, rounds_closed, nothing_flies_of, nothing_flies_in, pass_finished};
+ghost use Rattle.jr_model.specs.Rounds.{write_id, group_of, group_count, issued_count, all_issued, is_full, is_settled};
+ghost use Rattle.jr_model.specs.Rounds.{is_closed, no_issue_flies, is_open, waits_for_round, rounds_closed, nothing_flies_of};
+ghost use Rattle.jr_model.specs.Rounds.{nothing_flies_in, pass_finished};
 ghost use Rattle.jr_replay.specs.Rounds.{is_full_at};
 
-use jr_agenda::{Pass, has_rounds};
+use jr_history::{Past, is_of_clone, is_probe};
 use jr_model::{Draw, WriteId};
-use jr_past::{Past, is_of_clone, is_probe};
+use jr_passes::{PlannedPass, has_rounds};
 
 /// How many I/Os and checks a clone has in flight.
-pub fn flying_count(past: &Past, clone: u32) -> usize
+pub(crate) fn flying_count(past: &Past, clone: u32) -> usize
     ensures { result ≡ length (in_flight_of past.now clone) }
 {
     past.in_flight()
@@ -20,7 +22,7 @@ pub fn flying_count(past: &Past, clone: u32) -> usize
 }
 
 /// How many draws of a pass were issued.
-pub fn issued_count(past: &Past, pass: &Pass<'_>) -> usize
+pub(crate) fn issued_count(past: &Past, pass: &PlannedPass<'_>) -> usize
     ensures { result ≡ issued_count past.now pass.now }
 {
     past.ledger()
@@ -28,7 +30,7 @@ pub fn issued_count(past: &Past, pass: &Pass<'_>) -> usize
 }
 
 /// Whether all draws of a pass were issued.
-pub fn all_issued(past: &Past, pass: &Pass<'_>) -> bool
+pub(crate) fn all_issued(past: &Past, pass: &PlannedPass<'_>) -> bool
     ensures { result ≡ all_issued past.now pass.now }
 {
     issued_count(past, pass) == pass.draws().len()
@@ -36,28 +38,28 @@ pub fn all_issued(past: &Past, pass: &Pass<'_>) -> bool
 
 // Whether a group has as many issued writes as it can have, where so many draws of its pass were
 // issued.
-fn is_full_at(issued: usize, pass: &Pass<'_>, g: usize) -> bool
+fn is_full_at(issued: usize, pass: &PlannedPass<'_>, g: usize) -> bool
     ensures { result ≡ is_full_at issued pass.now g }
 {
     issued == pass.draws().len() || pass.is_reached(g, issued)
 }
 
 /// Whether a group has as many issued writes as it can have: all, or as many as the backlog.
-pub fn is_full(past: &Past, pass: &Pass<'_>, g: usize) -> bool
+pub(crate) fn is_full(past: &Past, pass: &PlannedPass<'_>, g: usize) -> bool
     ensures { result ≡ is_full past.now pass.now g }
 {
     is_full_at(issued_count(past, pass), pass, g)
 }
 
 /// Whether a write was skipped, or its check ended.
-pub fn is_settled(past: &Past, write: &WriteId) -> bool
+pub(crate) fn is_settled(past: &Past, write: &WriteId) -> bool
     ensures { result ≡ is_settled past.now write.now }
 {
     past.ledger().is_settled(write)
 }
 
 // Whether each write of some draws is settled; the last ones are the least likely to be.
-fn all_settled(past: &Past, pass: &Pass<'_>, draws: &[Draw]) -> bool
+fn all_settled(past: &Past, pass: &PlannedPass<'_>, draws: &[Draw]) -> bool
     ensures { result
         ≡ list_all (λ draw. is_settled past.now (write_id pass.now draw)) (reverse draws.now) }
 {
@@ -68,7 +70,7 @@ fn all_settled(past: &Past, pass: &Pass<'_>, draws: &[Draw]) -> bool
 }
 
 // Whether each write of a group is settled.
-fn group_settled(past: &Past, pass: &Pass<'_>, g: usize) -> bool
+fn group_settled(past: &Past, pass: &PlannedPass<'_>, g: usize) -> bool
     ensures { result
         ≡ list_all (λ draw. is_settled past.now (write_id pass.now draw)) (group_of pass.now g) }
 {
@@ -76,14 +78,14 @@ fn group_settled(past: &Past, pass: &Pass<'_>, g: usize) -> bool
 }
 
 /// Whether a group is full and each of its writes is settled.
-pub fn is_closed(past: &Past, pass: &Pass<'_>, g: usize) -> bool
+pub(crate) fn is_closed(past: &Past, pass: &PlannedPass<'_>, g: usize) -> bool
     ensures { result ≡ is_closed past.now pass.now g }
 {
     is_full(past, pass, g) && group_settled(past, pass, g)
 }
 
 /// Whether no read or write of the clone is in flight; checks may be.
-pub fn no_issue_flies(past: &Past, clone: u32) -> bool
+pub(crate) fn no_issue_flies(past: &Past, clone: u32) -> bool
     ensures { result ≡ no_issue_flies past.now clone }
 {
     past.in_flight()
@@ -93,7 +95,7 @@ pub fn no_issue_flies(past: &Past, clone: u32) -> bool
 }
 
 /// Whether the writes of a group are to be checked or skipped now.
-pub fn is_open(past: &Past, pass: &Pass<'_>, g: usize) -> bool
+pub(crate) fn is_open(past: &Past, pass: &PlannedPass<'_>, g: usize) -> bool
     ensures { result ≡ is_open past.now pass.now g }
 {
     is_full(past, pass, g)
@@ -102,14 +104,14 @@ pub fn is_open(past: &Past, pass: &Pass<'_>, g: usize) -> bool
 }
 
 // Whether a group is full and not closed, where so many draws of its pass were issued.
-pub(crate) fn is_pending(past: &Past, pass: &Pass<'_>, issued: usize, g: usize) -> bool
+pub(crate) fn is_pending(past: &Past, pass: &PlannedPass<'_>, issued: usize, g: usize) -> bool
     requires { issued ≡ issued_count past.now pass.now }
     ensures { result ≡ (is_full past.now pass.now g && not (is_closed past.now pass.now g)) }
 {
     is_full_at(issued, pass, g) && !group_settled(past, pass, g)
 }
 
-fn any_pending(past: &Past, pass: &Pass<'_>, issued: usize) -> bool
+fn any_pending(past: &Past, pass: &PlannedPass<'_>, issued: usize) -> bool
     requires { issued ≡ issued_count past.now pass.now }
     ensures { result
         ≡ list_any (λ g. is_full past.now pass.now g && not (is_closed past.now pass.now g))
@@ -119,21 +121,21 @@ fn any_pending(past: &Past, pass: &Pass<'_>, issued: usize) -> bool
 }
 
 /// Whether some group of the pass is full and not closed.
-pub fn waits_for_round(past: &Past, pass: &Pass<'_>) -> bool
+pub(crate) fn waits_for_round(past: &Past, pass: &PlannedPass<'_>) -> bool
     ensures { result ≡ waits_for_round past.now pass.now }
 {
     has_rounds(pass.job()) && any_pending(past, pass, issued_count(past, pass))
 }
 
 // Whether a group is closed, where so many draws of its pass were issued.
-fn is_closed_at(past: &Past, pass: &Pass<'_>, issued: usize, g: usize) -> bool
+fn is_closed_at(past: &Past, pass: &PlannedPass<'_>, issued: usize, g: usize) -> bool
     requires { issued ≡ issued_count past.now pass.now }
     ensures { result ≡ is_closed past.now pass.now g }
 {
     is_full_at(issued, pass, g) && group_settled(past, pass, g)
 }
 
-fn all_closed(past: &Past, pass: &Pass<'_>, issued: usize) -> bool
+fn all_closed(past: &Past, pass: &PlannedPass<'_>, issued: usize) -> bool
     requires { issued ≡ issued_count past.now pass.now }
     ensures { result
         ≡ list_all (λ g. is_closed past.now pass.now g) (range_with_len 0 (group_count pass.now)) }
@@ -142,14 +144,14 @@ fn all_closed(past: &Past, pass: &Pass<'_>, issued: usize) -> bool
 }
 
 /// Whether each group of the pass is closed.
-pub fn rounds_closed(past: &Past, pass: &Pass<'_>) -> bool
+pub(crate) fn rounds_closed(past: &Past, pass: &PlannedPass<'_>) -> bool
     ensures { result ≡ rounds_closed past.now pass.now }
 {
     !has_rounds(pass.job()) || all_closed(past, pass, issued_count(past, pass))
 }
 
 /// Whether nothing of the clone is in flight.
-pub fn nothing_flies_of(past: &Past, clone: u32) -> bool
+pub(crate) fn nothing_flies_of(past: &Past, clone: u32) -> bool
     ensures { result ≡ nothing_flies_of past.now clone }
 {
     flying_count(past, clone) == 0
@@ -167,14 +169,14 @@ fn flies_in(past: &Past, clone: u32, pass: u32) -> bool
 }
 
 /// Whether nothing of the pass is in flight.
-pub fn nothing_flies_in(past: &Past, pass: &Pass<'_>) -> bool
+pub(crate) fn nothing_flies_in(past: &Past, pass: &PlannedPass<'_>) -> bool
     ensures { result ≡ nothing_flies_in past.now pass.now }
 {
     !flies_in(past, pass.job().clone_number(), pass.number())
 }
 
 /// Whether all draws of the pass were issued, none is in flight, and its rounds are closed.
-pub fn pass_finished(past: &Past, pass: &Pass<'_>) -> bool
+pub(crate) fn pass_finished(past: &Past, pass: &PlannedPass<'_>) -> bool
     ensures { result ≡ pass_finished past.now pass.now }
 {
     all_issued(past, pass) && nothing_flies_in(past, pass) && rounds_closed(past, pass)

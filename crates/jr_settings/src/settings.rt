@@ -1,6 +1,7 @@
 ghost use Rattle.std.specs.Prelude.{◌≡◌, ◌≤◌, IfOk, IfSome, option_copied};
 ghost use Rattle.std.specs.Option.{option_map};
-ghost use Rattle.jr_settings.specs.Settings.{IsInRange, setting_number_range, setting_of, valued_setting, choice_setting, flag_setting, number_made, number_setting, text_setting, form_setting, name_setting};
+ghost use Rattle.jr_settings.specs.Settings.{IsInRange, setting_number_range, setting_of, valued_setting, choice_setting};
+ghost use Rattle.jr_settings.specs.Settings.{flag_setting, number_made, number_setting, text_setting, form_setting, name_setting};
 
 use crate::faults::JobFault;
 use crate::keys::{ChoiceKey, FlagKey, Key, NumberKey, TextKey};

@@ -2,10 +2,11 @@ ghost use Rattle.std.specs.Prelude.{◌≡◌, ◌≤◌, ◌<◌, ◌+◌, ◌/
 ghost use Rattle.std.specs.List.{slice_split, list_all};
 ghost use Rattle.std.specs.Char.{is_ascii_digit};
 ghost use Rattle.std.specs.Option.{option_map};
-ghost use Rattle.jr_settings.specs.OptionValues.{number_within, flag_of, is_comma, by_direction, values_in, block_size, block_sizes, split_part, splits, pattern_of, decimal_pattern, hex_digit, hex_byte, hex_pairs, hex_pattern, with_bytes};
+ghost use Rattle.jr_settings.specs.OptionValues.{number_within, flag_of, is_comma, by_direction, values_in, block_size};
+ghost use Rattle.jr_settings.specs.OptionValues.{block_sizes, split_part, splits, pattern_of, decimal_pattern, hex_digit};
+ghost use Rattle.jr_settings.specs.OptionValues.{hex_byte, hex_pairs, hex_pattern, with_bytes};
 
-use jr_digits::all_digits;
-use jr_model::Pattern;
+use jr_model::{Pattern, all_digits};
 use jr_sizes::{ReadSplit, Split};
 use jr_text::number;
 
@@ -32,7 +33,8 @@ pub(crate) fn flag(value: Option<&str>) -> Option<bool>
 
 // What stands before and behind the first comma.
 fn cut(text: &str) -> Option<(&str, &str)>
-    ensures { MatchOption result (slice_split is_comma text.now ≡ text.now ∷ []) (λ p. slice_split is_comma text.now ≡ p.0.now ∷ slice_split is_comma p.1.now) }
+    ensures { MatchOption result (slice_split is_comma text.now ≡ text.now ∷ []) (λ p. slice_split is_comma text.now
+        ≡ p.0.now ∷ slice_split is_comma p.1.now) }
 {
     text.split_once(',')
 }

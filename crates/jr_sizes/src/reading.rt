@@ -1,21 +1,23 @@
-ghost use Rattle.std.specs.Prelude.{◌≡◌, ◌≤◌, ◌<◌, ◌+◌, ◌*◌, ◌^◌, ◌++◌, List, ℕ, Option, length, take, MatchResult, IfOk, IfErr, IfSome, All, count_by, Ok, Err};
+ghost use Rattle.std.specs.Prelude.{◌≡◌, ◌≤◌, ◌<◌, ◌+◌, ◌*◌, ◌^◌, ◌++◌, List, ℕ, Option, length, take, MatchResult, IfOk, IfErr};
+ghost use Rattle.std.specs.Prelude.{IfSome, All, count_by, Ok, Err};
 ghost use Rattle.std.specs.List.{slice_split};
 ghost use Rattle.jr_text.specs.Number.{number_of};
 ghost use Rattle.jr_plan.specs.SplitEntries.{padded};
-ghost use Rattle.jr_sizes.specs.Splits.{is_colon, small_size, percent_in, entry_with, entry_of, entries_of, given_total, blank_count, share, share_step};
+ghost use Rattle.jr_sizes.specs.Splits.{is_colon, small_size, percent_in, entry_with, entry_of, entries_of, given_total};
+ghost use Rattle.jr_sizes.specs.Splits.{blank_count, share, share_step};
 
 use crate::faults::SplitFault;
 use jr_text::number;
 
 /// The most entries that a split may have.
-pub(crate) const MOST_ENTRIES: usize = 64;
+pub const MOST_ENTRIES: usize = 64;
 
 // A size and a percent, which may be left open.
-pub(crate) type Entry = (u32, Option<u8>);
+pub type Entry = (u32, Option<u8>);
 
 // The entries of a text, in an array of which only the first ones count.
 #[derive(Clone, Copy)]
-pub(crate) struct Entries {
+pub struct Entries {
     pub(crate) entries: [Entry; 64],
     pub(crate) count: usize,
 }

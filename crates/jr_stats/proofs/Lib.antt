@@ -1,14 +1,3 @@
-pub mod Accepted
-pub mod EntryReading
-pub mod EventLemmas
-pub mod FieldLemmas
-pub mod LineEnds
-pub mod LineReading
 pub mod Lines
-pub mod LineWriting
-pub mod Numbers
-pub mod ReadingLemmas
-pub mod RoundTrip
-pub mod TraceLemmas
 pub mod ReportLemmas
 pub mod SortedBads

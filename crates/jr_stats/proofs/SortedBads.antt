@@ -17,12 +17,12 @@ use Rattle.jr_model.specs.Legal.{is_legal}
 use Rattle.jr_model.specs.Plan.{Plan}
 use Rattle.jr_model.specs.Report.{Miscompare, in_order, miscompares}
 use Rattle.jr_model.proofs.Equality.{write_order_total, eq_write}
-use Rattle.jr_plan.specs.PlanFacts.{IsPlanned}
-use Rattle.jr_report_laws.specs.InOrder.{by_write}
-use Rattle.jr_report_laws.proofs.FlatMaps.{all_weaker}
-use Rattle.jr_report_laws.proofs.Found.{all_distinct}
-use Rattle.jr_report_laws.proofs.Reported.{sorted_lines}
-use Rattle.jr_report_laws.proofs.Writes.{AreDistinct, NoneIsOn}
+use Rattle.jr_model.specs.PlanFacts.{IsPlanned}
+use Rattle.jr_laws_report.specs.InOrder.{by_write}
+use Rattle.jr_laws_report.proofs.FlatMaps.{all_weaker}
+use Rattle.jr_laws_report.proofs.Found.{all_distinct}
+use Rattle.jr_laws_report.proofs.Reported.{sorted_lines}
+use Rattle.jr_laws_report.proofs.Writes.{AreDistinct, NoneIsOn}
 use Rattle.jr_tallies.specs.declared.tallies.Bad.{Bad}
 use Rattle.jr_tallies.specs.Tallying.{miscompare_of}
 

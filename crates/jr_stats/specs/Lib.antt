@@ -1,7 +1,1 @@
-pub mod FaultTexts
-pub mod TraceChecks
-pub mod TraceLaws
-pub mod TraceLines
-pub mod TraceSteps
-pub mod Traces
 pub mod Miscompares

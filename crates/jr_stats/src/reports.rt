@@ -3,10 +3,9 @@ ghost use Rattle.jr_model.specs.Report.{file_name, in_order, miscompares, report
 ghost use Rattle.jr_tallies.specs.Tallying.{miscompare_of};
 ghost use Rattle.jr_stats.specs.Miscompares.{bad_line, named_fields, place_fields};
 
-use crate::texts::{push_field, push_number, push_text};
 use crate::totals::totals_text;
-use jr_board::{Bad, Desk};
-use jr_model::{Memory, Piece, What, WriteId};
+use jr_desk::{Bad, Desk};
+use jr_model::{Memory, Piece, What, WriteId, push_field, push_number, push_text};
 use jr_plan::Plan;
 use std::alloc::Global;
 

@@ -1,8 +1,7 @@
 ghost use Rattle.std.specs.Prelude.{◌≡◌, ◌++◌, IfOk, OnOk, length};
 ghost use Rattle.jr_model.specs.Report.{totals_line, totals_lines, moved_fields, judged_fields};
 
-use crate::texts::{push_field, push_text};
-use jr_model::{Memory, Totals};
+use jr_model::{Memory, Totals, push_field, push_text};
 use jr_plan::{Plan, SubJob};
 use std::alloc::Global;
 

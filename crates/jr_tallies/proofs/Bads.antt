@@ -14,7 +14,7 @@ use Rattle.jr_model.specs.Plan.{Plan, SubJob}
 use Rattle.jr_model.specs.Report.{Miscompare, miscompare_on, miscompare_by, miscompares}
 use Rattle.jr_tallies.specs.Tallies.{named_in, miscompare_in}
 use Rattle.jr_tallies.specs.After.{IsAfter, EndsCounted, JudgesCounted}
-use Rattle.jr_steps.proofs.Grown.{Agrees, got_longer, kept-more, end_names, verdict_names}
+use Rattle.jr_laws_steps.proofs.Grown.{Agrees, got_longer, kept-more, end_names, verdict_names}
 use Rattle.jr_tallies.proofs.Moved.{is_halted-more, totals-more}
 use Rattle.jr_tallies.proofs.Counted.{tally-more, end_falls-issue, end_falls-check, verdict_falls}
 

@@ -11,9 +11,9 @@ use Rattle.jr_model.specs.Legal.{is_complete, is_legal, is_over, is_at_rest, has
 use Rattle.jr_model.specs.Plan.{Plan, SubJob}
 use Rattle.jr_model.specs.Rounds.{no_issue_flies, nothing_flies_of}
 use Rattle.jr_model.proofs.LegalLaws.{started_planned}
-use Rattle.jr_plan.specs.PlanFacts.{IsPlanned}
-use Rattle.jr_steps.proofs.PlaceLemmas.{all_from, keeps_none}
-use Rattle.jr_steps.proofs.RestLaws.{none_by_length, length_by_none}
+use Rattle.jr_model.specs.PlanFacts.{IsPlanned}
+use Rattle.jr_laws_steps.proofs.PlaceLemmas.{all_from, keeps_none}
+use Rattle.jr_laws_steps.proofs.RestLaws.{none_by_length, length_by_none}
 use Rattle.jr_tallies.specs.Tallies.{flying_issues, flying_checks, awaited}
 use Rattle.jr_tallies.specs.After.{AreCompared, AreAll}
 use Rattle.jr_tallies.proofs.Tallied.{counted, tallied, tallied_least, count_kept, kept_by, length_split, all_as_count, none_as_count}

@@ -19,14 +19,14 @@ use Rattle.jr_model.specs.Plan.{Plan, SubJob, clone_of}
 use Rattle.jr_model.specs.Report.{all_totals}
 use Rattle.jr_model.specs.Tickets.{piece_fits}
 use Rattle.jr_model.specs.Totals.{is_read, if_wanted, moved_by, totals_of}
-use Rattle.jr_plan.specs.PlanFacts.{IsPlanned}
-use Rattle.jr_steps.proofs.CountLaws.{numbered_of, issued_within, untaken_first}
-use Rattle.jr_steps.proofs.CountSteps.{all_untaken, all_untaken_most, skip_falls}
-use Rattle.jr_steps.proofs.DrawnLaws.{started_fit-law}
-use Rattle.jr_steps.proofs.StartedLemmas.{by_events, length-started-starts, length-started-other}
+use Rattle.jr_model.specs.PlanFacts.{IsPlanned}
+use Rattle.jr_laws_steps.proofs.CountLaws.{numbered_of, issued_within, untaken_first}
+use Rattle.jr_laws_steps.proofs.CountSteps.{all_untaken, all_untaken_most, skip_falls}
+use Rattle.jr_laws_steps.proofs.DrawnLaws.{started_fit-law}
+use Rattle.jr_laws_steps.proofs.StartedLemmas.{by_events, length-started-starts, length-started-other}
 use Rattle.jr_tallies.specs.Tallies.{flying_issues, flying_checks, awaited, named_in, concerns, totals_after}
 use Rattle.jr_tallies.specs.After.{AreFew}
-use Rattle.jr_steps.proofs.Grown.{end_names, verdict_names}
+use Rattle.jr_laws_steps.proofs.Grown.{end_names, verdict_names}
 use Rattle.jr_tallies.proofs.Tallied.{counted}
 use Rattle.jr_tallies.proofs.Counted.{flying-stays, flying-starts, flying-end, awaited-stays, awaited-starts, awaited-end, awaited-verdict}
 use Rattle.jr_tallies.proofs.Moved.{ones, bytes, gain, end_gain, named_gain, totals_added, all_totals-more}

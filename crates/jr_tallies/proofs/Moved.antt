@@ -20,8 +20,8 @@ use Rattle.jr_model.specs.Plan.{Plan, SubJob, IsNumbered, clone_of}
 use Rattle.jr_model.specs.Report.{all_totals}
 use Rattle.jr_model.specs.Totals.{is_read, if_wanted, moved_by, moved, bytes_of, is_verdict_of, is_skip_of, is_fault_of, totals_of}
 use Rattle.jr_tallies.specs.Tallies.{named_in, concerns, totals_ended, totals_judged, totals_after_end, totals_after, halted_by}
-use Rattle.jr_steps.proofs.Grown.{Agrees, got_longer, kept-more, found-more, counted-more}
-use Rattle.jr_steps.proofs.Lists.{map_set}
+use Rattle.jr_laws_steps.proofs.Grown.{Agrees, got_longer, kept-more, found-more, counted-more}
+use Rattle.jr_laws_steps.proofs.Lists.{map_set}
 
 -- what an event says by the I/O that it names stays where more I/Os are started
 

@@ -24,17 +24,17 @@ use Rattle.jr_model.specs.Legal.{is_legal, may_happen, is_halted, is_fault, is_b
 use Rattle.jr_model.specs.Plan.{Plan, SubJob, IsNumbered, clone_of}
 use Rattle.jr_model.specs.Report.{Miscompare, miscompare_on, miscompares}
 use Rattle.jr_model.specs.Totals.{totals_of}
-use Rattle.jr_plan.specs.PlanFacts.{IsPlanned}
-use Rattle.jr_steps.proofs.CountLaws.{numbered_of}
-use Rattle.jr_steps.proofs.StartedLemmas.{same_some}
+use Rattle.jr_model.specs.PlanFacts.{IsPlanned}
+use Rattle.jr_laws_steps.proofs.CountLaws.{numbered_of}
+use Rattle.jr_laws_steps.proofs.StartedLemmas.{same_some}
 use Rattle.jr_tallies.specs.Tallies.{Tally, flying_issues, flying_checks, awaited, tally_of, named_in, concerns, tally_ended, tally_after, totals_ended, totals_judged, totals_after, halted_by, miscompare_in}
 use Rattle.jr_tallies.proofs.Bads.{miscompares-more, ends_counted, verdicts_counted}
 use Rattle.jr_tallies.proofs.Counted.{tally-more}
 use Rattle.jr_tallies.proofs.Few.{counts_few}
-use Rattle.jr_steps.proofs.Lists.{map_set}
+use Rattle.jr_laws_steps.proofs.Lists.{map_set}
 use Rattle.jr_tallies.proofs.Moved.{is_halted-more, concerns_one, all_totals-more}
-use Rattle.jr_steps.specs.Nexts.{IsNext, grown}
-use Rattle.jr_steps.proofs.StartedFew.{started_small, work-same}
+use Rattle.jr_laws_steps.specs.Nexts.{IsNext, grown}
+use Rattle.jr_laws_steps.proofs.StartedFew.{started_small, work-same}
 use Rattle.jr_tallies.specs.declared.tallies.Bad.{Bad}
 use Rattle.jr_tallies.specs.declared.tallies.Counts.{Counts}
 use Rattle.jr_tallies.specs.declared.tallies.Tallies.{Tallies}

@@ -16,7 +16,7 @@ use Rattle.jr_model.specs.Plan.{Plan, SubJob, clone_of}
 use Rattle.jr_model.specs.Report.{miscompares, all_totals}
 use Rattle.jr_model.specs.Rounds.{no_issue_flies, nothing_flies_of}
 use Rattle.jr_model.specs.Totals.{totals_of}
-use Rattle.jr_plan.specs.PlanFacts.{IsPlanned}
+use Rattle.jr_model.specs.PlanFacts.{IsPlanned}
 use Rattle.jr_tallies.specs.Tallies.{flying_issues, flying_checks, awaited, tally_of, tally_after, totals_after, named_in, halted_by, miscompare_in, concerns}
 
 -- the tests of a clone, as comparisons of its counts

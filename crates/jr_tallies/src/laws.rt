@@ -1,4 +1,5 @@
-ghost use Rattle.jr_tallies.specs.After.{TestsAreCompared, ClonesAreAll, OneEventMore, EndsAreCounted, VerdictsAreCounted, CountsAreFew, OneCloneChanges};
+ghost use Rattle.jr_tallies.specs.After.{TestsAreCompared, ClonesAreAll, OneEventMore, EndsAreCounted, VerdictsAreCounted};
+ghost use Rattle.jr_tallies.specs.After.{CountsAreFew, OneCloneChanges};
 
 /// The tests of a clone are comparisons of its counts.
 pub fn tests_are_compared()

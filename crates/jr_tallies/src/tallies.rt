@@ -11,7 +11,7 @@ ghost use Rattle.jr_model.specs.Legal.{is_fault, is_bad};
 ghost use Rattle.jr_model.specs.Plan.{Plan as Planned, SubJob, clone_of};
 ghost use Rattle.jr_model.specs.Totals.{totals_of};
 ghost use Rattle.jr_tallies.specs.Tallies.{tally_ended, totals_ended, totals_judged};
-ghost use Rattle.jr_steps.specs.Nexts.{IsNext, grown};
+ghost use Rattle.jr_laws_steps.specs.Nexts.{IsNext, grown};
 ghost use Rattle.jr_tallies.specs.Tallying.{AreLow, AreSmall, CanCount, IsTallied, counts_with, flying_in, tally_in, tally_judged};
 ghost use Rattle.jr_tallies.specs.declared.tallies.Counts.{Counts as Kept};
 

@@ -1,6 +1,6 @@
 use crate::asserts::same;
 use crate::plans::plan_of;
-use jr_crew::{Ran, RunFault, run};
+use jr_crew::{Ran, RunFault, Watch, run};
 use jr_engines::{Engine, EngineFault};
 use jr_model::{EngineKind, IoType, Method, Pattern, VerifyKind};
 use jr_plan::{Plan, Workload};
@@ -93,7 +93,7 @@ fn dropped_by<R: Threads + Wait + Sync>(
     let plan = plan_with(alloc, verifiers)?;
     let dropped = Arc::new(alloc, AtomicU64::new(0))?;
     let engines = engines_for(alloc, workers, calls, &dropped)?;
-    let fault = fault_of(run(rt, alloc, plan, engines, None), &dropped)?;
+    let fault = fault_of(run(rt, alloc, plan, engines, Watch::none()), &dropped)?;
     Ok((dropped.load(Ordering::SeqCst), fault))
 }
 

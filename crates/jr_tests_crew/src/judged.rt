@@ -1,8 +1,8 @@
 // What one engine's bytes come to, whoever judges them, and whose faults a run counts.
 use crate::asserts::same;
 use crate::plans::{checked, plan_of};
-use jr_board::{Bad, Desk};
-use jr_crew::{Ran, run};
+use jr_crew::{Ran, Watch, run};
+use jr_desk::{Bad, Desk};
 use jr_engines::{Engine, MemoryEngine, NullEngine, Reply, ScriptedEngine};
 use jr_model::{EngineKind, IoType, Method, Totals, VerifyKind, What};
 use jr_plan::{Plan, Workload};
@@ -34,7 +34,7 @@ fn ran_once<R: Threads + Wait + Sync>(
 ) -> Result<(Totals, Bad), Fail> {
     let mut engines: Vec<Box<dyn Engine + Send>> = Vec::new(alloc);
     engines.push(engine)?;
-    let ran = run(rt, alloc, plan, engines, None)?;
+    let ran = run(rt, alloc, plan, engines, Watch::none())?;
     match (ran.desk.totals(), ran.desk.bads()) {
         ([totals], [bad]) => Ok((*totals, *bad)),
         _ => Err(Fail::from("one clone with one bad verdict")),
@@ -129,7 +129,7 @@ fn faults_are_what_the_engines_failed(rt: HostRuntime) -> Result<(), Fail> {
         let work = Workload::plain(IoType::Write, 4096, 16);
         let plan = plan_of(rt.alloc(), &work, 4, EngineKind::Memory, (n % 3) as u32)?;
         let engines = one_that_fails(rt.alloc(), &plan, n)?;
-        let ran = run(&rt, rt.alloc(), plan, engines, None)?;
+        let ran = run(&rt, rt.alloc(), plan, engines, Watch::none())?;
         same(&rt, faults_of(&ran.desk), failures_of(&ran));
     }
     Ok(())

@@ -16,3 +16,5 @@ mod plans;
 mod progress;
 #[cfg(test)]
 mod runs;
+#[cfg(test)]
+mod stops;

@@ -5,7 +5,7 @@ use std::alloc::Global;
 use std::test::Fail;
 
 // So many clones with this work, all in one file, with so many verifiers.
-pub fn plan_of(
+pub(crate) fn plan_of(
     alloc: Global,
     workload: &Workload,
     clones: u32,
@@ -23,7 +23,7 @@ pub fn plan_of(
 }
 
 // So many writes of 4096 bytes that are checked by a pattern of one byte.
-pub fn checked(cells: u32, byte: u8) -> Workload {
+pub(crate) fn checked(cells: u32, byte: u8) -> Workload {
     Workload {
         method: Method {
             kind: VerifyKind::Pattern,

@@ -1,8 +1,8 @@
 use crate::asserts::same;
 use crate::plans::plan_of;
-use jr_board::Desk;
-use jr_crew::run;
-use jr_engines::{Engine, EngineFault, Tally};
+use jr_crew::{Watch, run};
+use jr_desk::Desk;
+use jr_engines::{CallCounts, Engine, EngineFault};
 use jr_model::{EngineKind, IoType};
 use jr_plan::{Plan, Workload};
 use std::alloc::Global;
@@ -16,14 +16,14 @@ use std::thread;
 #[derive(Drop)]
 struct Gate {
     inside: Arc<AtomicU64, Global>,
-    tally: Tally,
+    counts: CallCounts,
 }
 
 impl Gate {
     fn new(inside: Arc<AtomicU64, Global>) -> Gate {
         Gate {
             inside,
-            tally: Tally::new(),
+            counts: CallCounts::new(),
         }
     }
 
@@ -43,11 +43,11 @@ impl Gate {
 impl Engine for Gate {
     ghost use Rattle.jr_engines.specs.States.{counted_state};
 
-    ghost state = { λ gate. counted_state gate.tally };
+    ghost state = { λ gate. counted_state gate.counts };
 
     fn read(&mut self, _file: u32, _offset: u64, buf: &mut [u8]) -> Result<usize, EngineFault> {
         let result = Ok(buf.len());
-        self.tally.note(&result);
+        self.counts.note(&result);
         result
     }
 
@@ -57,16 +57,16 @@ impl Engine for Gate {
         } else {
             Err(EngineFault::Device)
         };
-        self.tally.note(&result);
+        self.counts.note(&result);
         result
     }
 
     fn calls(&self) -> u64 {
-        self.tally.calls()
+        self.counts.calls()
     }
 
     fn failures(&self) -> u64 {
-        self.tally.failures()
+        self.counts.failures()
     }
 }
 
@@ -92,7 +92,7 @@ fn two_gates(alloc: Global) -> Result<Vec<Box<dyn Engine + Send>>, Fail> {
 fn two_are_inside_their_engines_at_once(rt: HostRuntime) -> Result<(), Fail> {
     let plan = two_at_once(rt.alloc())?;
     let engines = two_gates(rt.alloc())?;
-    let ran = run(&rt, rt.alloc(), plan, engines, None)?;
+    let ran = run(&rt, rt.alloc(), plan, engines, Watch::none())?;
     assert_both_wrote(&rt, &ran.desk);
     Ok(())
 }

@@ -6,14 +6,14 @@ use std::fmt::Debug;
 use std::process::Abort;
 
 // Fails the test where the two differ, and says both.
-pub fn same<T: Copy + PartialEq + Debug>(rt: &impl Abort, found: T, wanted: T)
+pub(crate) fn same<T: Copy + PartialEq + Debug>(rt: &impl Abort, found: T, wanted: T)
     ensures { T.eq found wanted ≡ true }
 {
     assert_eq!(rt; found, wanted);
 }
 
 // Fails the test where this doesn't hold, and says what it is.
-pub fn holds(rt: &impl Abort, it: bool, what: &str)
+pub(crate) fn holds(rt: &impl Abort, it: bool, what: &str)
     ensures { it ≡ true }
 {
     assert!(rt; it, "{what}");

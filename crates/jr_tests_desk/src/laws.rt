@@ -1,21 +1,21 @@
 // A law does nothing when it is called: that each can be called is all that there is to see.
 
-use jr_laws::{
+use jr_laws_bytes::{
     checks_stay_intact, honest_is_good, keeps_last_writes, miscompares_exactly, quiet_play,
     serial_is_clean, serial_is_quiet,
 };
-use jr_log_laws::{
+use jr_laws_log::{
     clear_is_clear, ended_flies_no_more, flies_is_flying, flying_is_started, log_grows,
     log_is_by_started, log_is_intact, log_is_intact_of_draws, logged_is_intact, next_flies,
     next_is_free, others_fly_on, unended_is_unlogged,
 };
-use jr_quiet::{checks_stay_last, last_is_latest, quiet_report, write_waits};
-use jr_round_laws::{
+use jr_laws_quiet::{checks_stay_last, last_is_latest, quiet_report, write_waits};
+use jr_laws_rounds::{
     choice_by_standing, clone_finished_by_standing, closed_at_end, finished_by_standing,
     kept_is_current, left_are_unsettled, left_in_pass, open_is_latest, taken_up_is_latest,
     waits_under_way,
 };
-use jr_steps::{
+use jr_laws_steps::{
     appends_one, choice_is_least, idle_is_complete, no_block_twice, nothing_without_choice,
     serial_ends, serial_is_complete, started_are_drawn, started_are_few, started_fit, started_once,
     taken_is_all,

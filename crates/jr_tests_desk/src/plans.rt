@@ -11,7 +11,7 @@ fn add(alloc: Global, draft: &mut Draft, clone: &(Workload, &str, u64)) -> Resul
 }
 
 // A plan over memory: of clones with this work, in these files from these places on.
-pub fn plan_of(alloc: Global, clones: &[(Workload, &str, u64)]) -> Result<Plan, Fail> {
+pub(crate) fn plan_of(alloc: Global, clones: &[(Workload, &str, u64)]) -> Result<Plan, Fail> {
     let mut draft = Draft::new(alloc);
     for clone in clones {
         add(alloc, &mut draft, clone)?;
@@ -23,7 +23,7 @@ pub fn plan_of(alloc: Global, clones: &[(Workload, &str, u64)]) -> Result<Plan, 
 }
 
 // Writes of 4096 bytes, so many, that are checked by a pattern.
-pub fn checked(cells: u32) -> Workload {
+pub(crate) fn checked(cells: u32) -> Workload {
     Workload {
         method: Method {
             kind: VerifyKind::Pattern,

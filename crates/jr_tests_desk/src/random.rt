@@ -7,7 +7,7 @@ use std::alloc::Global;
 use std::test::Fail;
 
 // A number below `count`, from a generator (SplitMix64).
-pub fn draw(seed: &mut u64, count: u32) -> u32
+pub(crate) fn draw(seed: &mut u64, count: u32) -> u32
     requires { 0 < count }
     ensures { result < count }
 {
@@ -85,7 +85,7 @@ fn draw_workload(seed: &mut u64) -> Workload {
 }
 
 // A plan of 1 to 3 clones over one file or two, whose regions overlap.
-pub fn draw_plan(alloc: Global, seed: &mut u64) -> Result<Plan, Fail> {
+pub(crate) fn draw_plan(alloc: Global, seed: &mut u64) -> Result<Plan, Fail> {
     let mut draft = Draft::new(alloc);
     let files = 1 + draw(seed, 2);
     for _ in 0..1 + draw(seed, 3) {
@@ -101,7 +101,7 @@ pub fn draw_plan(alloc: Global, seed: &mut u64) -> Result<Plan, Fail> {
 }
 
 // Mostly the call is carried out.
-pub fn draw_reply(seed: &mut u64) -> Reply {
+pub(crate) fn draw_reply(seed: &mut u64) -> Reply {
     match draw(seed, 40) {
         0 => Reply::Fail,
         1 => Reply::Short(512),

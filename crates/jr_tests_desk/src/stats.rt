@@ -1,6 +1,6 @@
 use crate::asserts::same;
 use crate::plans::{checked, plan_of};
-use jr_board::Desk;
+use jr_desk::Desk;
 use jr_model::Totals;
 use jr_plan::Plan;
 use jr_stats::{accepted_is_a_trace, numbers_fit, report, totals_text, trace, trace_is_accepted};

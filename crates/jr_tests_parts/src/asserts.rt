@@ -6,7 +6,7 @@ use std::fmt::Debug;
 use std::process::Abort;
 
 // Fails the test where the two differ, and says both.
-pub fn same<T: Copy + PartialEq + Debug>(rt: &impl Abort, found: T, wanted: T)
+pub(crate) fn same<T: Copy + PartialEq + Debug>(rt: &impl Abort, found: T, wanted: T)
     ensures { T.eq found wanted ≡ true }
 {
     assert_eq!(rt; found, wanted);

@@ -5,8 +5,8 @@ use crate::asserts::same;
 use crate::plans::in_sectors;
 use jr_engines::{Engine, EngineFault};
 use jr_files::{
-    Claims, FileEngine, FileFault, Positioned, Reads, Refusal, SharedFile, claim, lay_out,
-    read_whole, write_whole,
+    Claims, Directs, FileEngine, FileFault, Positioned, Reads, Refusal, Room, SharedFile, claim,
+    claim_direct, lay_out, read_whole, write_whole,
 };
 use jr_model::{EngineKind, IoType, VerifyKind};
 use jr_plan::{Draft, Plan, Workload};
@@ -67,9 +67,9 @@ fn assert_shared(
 ) -> Result<(), Fail> {
     let mut first = first;
     let mut second = first.share(alloc)?;
-    same(rt, first.settle(), Ok(()));
+    same(rt, first.settle().is_ok(), true);
     assert_fresh(rt, &mut first, &mut second);
-    same(rt, second.settle(), Ok(()));
+    same(rt, second.settle().is_ok(), true);
     Ok(())
 }
 
@@ -93,6 +93,23 @@ fn shared<R: Files<File = File>>(
     claim(rt, alloc, plan, claims)
 }
 
+// The same of files that are to be direct, where no launcher can be asked.
+fn unasked<R: Files<File = File>>(
+    rt: &R,
+    alloc: Global,
+    plan: &Plan,
+) -> Result<FileEngine<SharedFile>, Refusal> {
+    let claims = Claims {
+        reads: Reads::Synced,
+        devices_in_use: false,
+    };
+    let directs = Directs {
+        wanted: &[true],
+        asked: None,
+    };
+    claim_direct(rt, alloc, plan, claims, directs)
+}
+
 // Engines of files in this folder, each over the file of its own.
 fn assert_opened<R: Files<File = File> + Abort>(
     rt: &R,
@@ -105,6 +122,9 @@ fn assert_opened<R: Files<File = File> + Abort>(
     let engine = shared(rt, alloc, &checked(alloc, folder, "b.0.0")?, Reads::Synced)?;
     assert_shared(rt, alloc, engine)?;
     let engine = shared(rt, alloc, &checked(alloc, folder, "c.0.0")?, Reads::Cached)?;
+    assert_shared(rt, alloc, engine)?;
+    let engine = unasked(rt, alloc, &checked(alloc, folder, "d.0.0")?)?;
+    same(rt, engine.is_direct(0), false);
     assert_shared(rt, alloc, engine)
 }
 
@@ -201,13 +221,29 @@ impl Positioned for Piecemeal {
 fn parts_are_gone_on_with(rt: HostRuntime) {
     let mut file = Piecemeal::new(99);
     let mut buf = [9; 5];
-    same(&rt, read_whole(&mut file, 1, &mut buf), Ok(5));
+    same(
+        &rt,
+        read_whole(&mut file, &mut Room::none(), 1, &mut buf),
+        Ok(5),
+    );
     same(&rt, (buf, file.calls), ([2, 3, 4, 5, 6], 6));
-    same(&rt, read_whole(&mut file, 5, &mut buf), Ok(3));
+    same(
+        &rt,
+        read_whole(&mut file, &mut Room::none(), 5, &mut buf),
+        Ok(3),
+    );
     same(&rt, buf, [6, 7, 8, 5, 6]);
-    same(&rt, write_whole(&mut file, 2, &[21, 22, 23]), Ok(3));
+    same(
+        &rt,
+        write_whole(&mut file, &mut Room::none(), 2, &[21, 22, 23]),
+        Ok(3),
+    );
     same(&rt, file.bytes, [1, 2, 21, 22, 23, 6, 7, 8]);
-    same(&rt, write_whole(&mut file, 6, &[24, 25, 26]), Ok(2));
+    same(
+        &rt,
+        write_whole(&mut file, &mut Room::none(), 6, &[24, 25, 26]),
+        Ok(2),
+    );
 }
 
 #[test]
@@ -215,9 +251,17 @@ fn a_failed_part_fails_its_call(rt: HostRuntime) {
     let failed = Err(EngineFault::Device);
     let mut file = Piecemeal::new(3);
     let mut buf = [9; 5];
-    same(&rt, read_whole(&mut file, 0, &mut buf), failed);
+    same(
+        &rt,
+        read_whole(&mut file, &mut Room::none(), 0, &mut buf),
+        failed,
+    );
     let mut file = Piecemeal::new(3);
-    same(&rt, write_whole(&mut file, 0, &[11, 12, 13]), failed);
+    same(
+        &rt,
+        write_whole(&mut file, &mut Room::none(), 0, &[11, 12, 13]),
+        failed,
+    );
     same(&rt, file.bytes, [11, 12, 3, 4, 5, 6, 7, 8]);
 }
 
@@ -274,9 +318,88 @@ fn files_of_another_kind(rt: HostRuntime) -> Result<(), Fail> {
     assert_files(&rt, &mut two_files(rt.alloc())?);
     let mut file = Kept { bytes: [0; 4] };
     let mut buf = [9; 4];
-    same(&rt, write_whole(&mut file, 1, &[1, 2]), Ok(2));
-    same(&rt, read_whole(&mut file, 1, &mut buf), Ok(3));
+    same(
+        &rt,
+        write_whole(&mut file, &mut Room::none(), 1, &[1, 2]),
+        Ok(2),
+    );
+    same(
+        &rt,
+        read_whole(&mut file, &mut Room::none(), 1, &mut buf),
+        Ok(3),
+    );
     same(&rt, buf, [1, 2, 0, 9]);
+    Ok(())
+}
+
+// A file that is direct, and refuses its first calls as a device refuses places of memory.
+#[derive(Drop)]
+struct Particular {
+    bytes: [u8; 8],
+    refusals: u64,
+}
+
+impl Particular {
+    fn take(&mut self) -> io::Result<()> {
+        if self.refusals == 0 {
+            return Ok(());
+        }
+        self.refusals -= 1;
+        Err(io::Error::from(ErrorKind::InvalidInput))
+    }
+}
+
+impl Positioned for Particular {
+    ghost use Rattle.jr_files.specs.Parts.{unknown_view};
+
+    ghost view = { λ _. unknown_view };
+
+    fn read_at(&mut self, buf: &mut [u8], offset: u64) -> io::Result<usize> {
+        self.take()?;
+        let start = offset.min(8) as usize;
+        let count = buf.len().min(8 - start);
+        buf[..count].copy_from_slice(&self.bytes[start..start + count]);
+        Ok(count)
+    }
+
+    fn write_at(&mut self, buf: &[u8], offset: u64) -> io::Result<usize> {
+        self.take()?;
+        let start = offset.min(8) as usize;
+        let count = buf.len().min(8 - start);
+        self.bytes[start..start + count].copy_from_slice(&buf[..count]);
+        Ok(count)
+    }
+
+    fn is_direct(&self) -> bool {
+        true
+    }
+}
+
+// A file that refuses so many calls first.
+fn refusing(refusals: u64) -> Particular {
+    Particular {
+        bytes: [1, 2, 3, 4, 5, 6, 7, 8],
+        refusals,
+    }
+}
+
+#[test]
+fn places_of_a_room_are_tried_in_turn(rt: HostRuntime) -> Result<(), Fail> {
+    let mut room = Room::new(rt.alloc(), 4)?;
+    let mut file = refusing(256);
+    let mut buf = [9; 4];
+    same(&rt, read_whole(&mut file, &mut room, 2, &mut buf), Ok(4));
+    same(&rt, (buf, file.refusals), ([3, 4, 5, 6], 0));
+    same(&rt, write_whole(&mut file, &mut room, 1, &[12, 13]), Ok(2));
+    same(&rt, file.bytes, [1, 12, 13, 4, 5, 6, 7, 8]);
+    let failed = Err(EngineFault::Device);
+    let mut file = refusing(257);
+    same(&rt, write_whole(&mut file, &mut room, 1, &[12, 13]), failed);
+    same(
+        &rt,
+        read_whole(&mut refusing(1), &mut Room::none(), 1, &mut buf),
+        failed,
+    );
     Ok(())
 }
 

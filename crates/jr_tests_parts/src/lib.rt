@@ -5,6 +5,8 @@
 #[cfg(test)]
 mod asserts;
 #[cfg(test)]
+mod deferred;
+#[cfg(test)]
 mod draws;
 #[cfg(test)]
 mod engines;
@@ -16,7 +18,5 @@ mod header;
 mod map;
 #[cfg(test)]
 mod plans;
-#[cfg(test)]
-mod standing;
 #[cfg(test)]
 mod words;

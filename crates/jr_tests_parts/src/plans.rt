@@ -19,7 +19,7 @@ fn finished(draft: Draft) -> Result<Plan, Fail> {
 }
 
 // A plan over memory: of clones with this work, in these files from these places on.
-pub fn plan_of(alloc: Global, clones: &[(Workload, &str, u64)]) -> Result<Plan, Fail> {
+pub(crate) fn plan_of(alloc: Global, clones: &[(Workload, &str, u64)]) -> Result<Plan, Fail> {
     let mut draft = Draft::new(alloc);
     for clone in clones {
         add(alloc, &mut draft, clone)?;
@@ -28,7 +28,7 @@ pub fn plan_of(alloc: Global, clones: &[(Workload, &str, u64)]) -> Result<Plan, 
 }
 
 // A plan over memory: of clones with sectors, in these files from these places on, so many.
-pub fn in_sectors(
+pub(crate) fn in_sectors(
     alloc: Global,
     io_type: IoType,
     clones: &[(&str, u64, u32)],
@@ -42,7 +42,7 @@ pub fn in_sectors(
 }
 
 // A memory of one file of so many sectors.
-pub fn memory_of(alloc: Global, sectors: u32) -> Result<MemoryEngine, Fail> {
+pub(crate) fn memory_of(alloc: Global, sectors: u32) -> Result<MemoryEngine, Fail> {
     let plan = in_sectors(alloc, IoType::Write, &[("f", 0, sectors)])?;
     Ok(MemoryEngine::new(alloc, &plan)?)
 }

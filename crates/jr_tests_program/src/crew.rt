@@ -1,5 +1,5 @@
 use crate::asserts::same;
-use jr_cli::{CliFault, execute, read_job, workers_of};
+use jr_cli::{CliFault, Watch, execute, read_job, workers_of};
 use jr_crew::RunFault;
 use jr_engines::{Engine, MemoryEngine, Reply, ScriptedEngine};
 use std::process::Abort;
@@ -24,8 +24,8 @@ fn flipped<R: AllocGlobal + Threads + Wait + Sync>(
     engines.push(Box::new(rt.alloc(), ScriptedEngine::new(memory, script))?)?;
     let mut out = Vec::new(rt.alloc());
     let none = None::<&mut Vec<u8>>;
-    let status = execute(rt, rt.alloc(), plan, engines, None, none, &mut out)?;
-    Ok((status, out))
+    let ended = execute(rt, rt.alloc(), plan, engines, Watch::none(), none, &mut out)?;
+    Ok((ended.status(), out))
 }
 
 #[test]
@@ -49,11 +49,12 @@ fn a_crew_wants_an_engine(rt: HostRuntime) -> Result<(), Fail> {
         rt.alloc(),
         plan,
         engines,
-        None,
+        Watch::none(),
         None::<&mut Vec<u8>>,
         &mut out,
     );
-    same(&rt, refused, Err(CliFault::Run(RunFault::NoEngine)));
+    let fault = refused.err();
+    same(&rt, fault, Some(CliFault::Run(RunFault::NoEngine)));
     same(&rt, out.is_empty(), true);
     Ok(())
 }

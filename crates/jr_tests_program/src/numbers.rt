@@ -1,5 +1,5 @@
 use crate::asserts::same;
-use jr_digits::{all_digits, digits_number};
+use jr_model::{all_digits, digits_number};
 use jr_text::{NumFault, number};
 use std::process::Abort;
 use std::test::Fail;

@@ -1,6 +1,9 @@
 use crate::asserts::same;
 use crate::texts::assert_said;
-use jr_cli::{CliFault, execute_serial, print_check, print_plan, read_job, read_text, read_trace};
+use jr_cli::{
+    CliFault, Watch, execute_serial, print_check, print_part, print_plan, read_job, read_text,
+    read_trace,
+};
 use jr_engines::MemoryEngine;
 use std::alloc::Global;
 use std::io;
@@ -65,12 +68,18 @@ const LINE_OF_A: &str =
     "a: clone=0 phase=0 file=a.0.0 start=0 size=32768 cell=8192 cells=4 rw=write iodepth=1 loops=1 verify=none\n";
 
 #[test]
-fn a_plan_is_printed_whole_or_not(rt: HostRuntime) -> Result<(), Fail> {
+fn a_plan_is_printed(rt: HostRuntime) -> Result<(), Fail> {
     let text = read_text(rt.alloc(), TWO.as_bytes())?;
     let plan = read_job(rt.alloc(), text.as_slice(), Some("a"))?;
     let mut out = Vec::new(rt.alloc());
     print_plan(rt.alloc(), &plan, &mut out)?;
     same(&rt, out.as_slice(), LINE_OF_A.as_bytes());
+    Ok(())
+}
+
+#[test]
+fn a_plan_that_cannot_be_written_is_a_fault(rt: HostRuntime) -> Result<(), Fail> {
+    let plan = read_job(rt.alloc(), TWO.as_bytes(), Some("a"))?;
     let cut = print_plan(rt.alloc(), &plan, &mut full());
     same(&rt, cut, Err(CliFault::Write));
     Ok(())
@@ -123,7 +132,8 @@ fn written<W: Write, V: Write>(
 ) -> Result<u8, CliFault> {
     let plan = read_job(alloc, CHECKED.as_bytes(), None)?;
     let mut engine = MemoryEngine::new(alloc, &plan)?;
-    execute_serial(alloc, plan, &mut engine, None, events, out)
+    let ended = execute_serial(alloc, plan, &mut engine, Watch::none(), events, out)?;
+    Ok(ended.status())
 }
 
 #[test]
@@ -149,6 +159,18 @@ fn checked(alloc: Global, events: &str) -> Result<Vec<u8>, CliFault> {
 fn a_trace_is_checked(rt: HostRuntime) -> Result<(), Fail> {
     let out = checked(rt.alloc(), EVENTS)?;
     same(&rt, out.as_slice(), TOTALS.as_bytes());
+    Ok(())
+}
+
+#[test]
+fn a_trace_of_a_stopped_run_is_checked(rt: HostRuntime) -> Result<(), Fail> {
+    let plan = read_job(rt.alloc(), CHECKED.as_bytes(), None)?;
+    let mut out = Vec::new(rt.alloc());
+    let begun = "I 0 0 0 0 0\nE 0 0 whole\n";
+    print_part(rt.alloc(), &plan, begun.as_bytes(), &mut out)?;
+    let totals =
+        "w: clone=0 reads=0 rbytes=0 writes=1 wbytes=4096 checks=0 good=0 bad=0 skipped=0 void=0 faults=0\n";
+    same(&rt, out.as_slice(), totals.as_bytes());
     Ok(())
 }
 

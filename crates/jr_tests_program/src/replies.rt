@@ -1,5 +1,5 @@
 use crate::asserts::same;
-use jr_cli::{execute_serial, read_job};
+use jr_cli::{Watch, execute_serial, read_job};
 use jr_engines::{MemoryEngine, Reply, ReplyBytes, ScriptedEngine};
 use std::alloc::Global;
 use std::process::Abort;
@@ -12,15 +12,15 @@ fn answered(alloc: Global, text: &str, call: u64, reply: Reply) -> Result<(Vec<u
     let script = Vec::from_array(alloc, [(call, reply)])?;
     let mut engine = ScriptedEngine::new(memory, script);
     let mut out = Vec::new(alloc);
-    let status = execute_serial(
+    let ended = execute_serial(
         alloc,
         plan,
         &mut engine,
-        None,
+        Watch::none(),
         None::<&mut Vec<u8>>,
         &mut out,
     )?;
-    Ok((out, status))
+    Ok((out, ended.status()))
 }
 
 // Is this what it writes, and does it end so?

@@ -8,7 +8,7 @@ use std::process::Abort;
 use std::test::Fail;
 
 // Does the fault say this, and end the program so?
-pub fn assert_said(
+pub(crate) fn assert_said(
     rt: &(impl AllocGlobal + Abort),
     fault: CliFault,
     status: u8,

@@ -15,6 +15,8 @@ const NOTHING: Choice<'static> = Choice {
     allow_mounted_write: false,
     notes: false,
     drop_pipes: None,
+    interrupted: false,
+    stop_fd: None,
 };
 
 #[test]
@@ -31,6 +33,8 @@ fn each_word_goes_to_its_field(rt: HostRuntime) -> Result<(), Fail> {
         "--allow-mounted-write",
         "--notes",
         "--drop-pipes=3:4",
+        "--interrupted",
+        "--stop-fd=5",
     ];
     let want = Choice {
         job: Some("disk.fio"),
@@ -43,6 +47,8 @@ fn each_word_goes_to_its_field(rt: HostRuntime) -> Result<(), Fail> {
         allow_mounted_write: true,
         notes: true,
         drop_pipes: Some("3:4"),
+        interrupted: true,
+        stop_fd: Some("5"),
     };
     same(&rt, choose(rt.alloc(), &words)?, want);
     Ok(())

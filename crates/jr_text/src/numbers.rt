@@ -4,7 +4,7 @@ ghost use Rattle.std.specs.Str.Parse.{digits_value};
 ghost use Rattle.jr_text.specs.Number.{binary_fault, digits_in, is_hexadecimal, number_of, power_of, small_number, unit_of};
 
 use crate::faults::NumFault;
-use jr_digits::digits_number;
+use jr_model::digits_number;
 
 /// The number that a text writes: decimal digits, then nothing, `b`, or one of `k m g t p` with an
 /// optional `b`, in any case, for the powers 1 to 5 of 1024.

@@ -2,7 +2,8 @@ ghost use Rattle.std.specs.Prelude.{◌≡◌, ◌^◌, ◌<◌, ◌≤◌, Some
 ghost use Rattle.std.specs.BTreeMap.{IsOrdered};
 ghost use Rattle.jr_model.specs.Pieces.{piece_end};
 ghost use Rattle.jr_model.specs.History.{write_order};
-ghost use Rattle.jr_writes.specs.Index.{AreDisjoint, IsIndexed, IsLastBefore, IsLastOther, IsOverlapped, StandsHere, is_kept, piece_at, place_order, spot_at, stays};
+ghost use Rattle.jr_writes.specs.Index.{AreDisjoint, IsIndexed, IsLastBefore, IsLastOther, IsOverlapped, StandsHere, is_kept};
+ghost use Rattle.jr_writes.specs.Index.{piece_at, place_order, spot_at, stays};
 ghost use Rattle.jr_writes.specs.LoggedWrites.{logged, settled};
 
 use crate::logs::Logged;
@@ -18,7 +19,7 @@ pub struct Spot {
 
 // Puts a new write into both maps, in place of one whose piece begins where its piece does. Pieces
 // that it overlaps stay.
-pub fn put(
+pub(crate) fn put(
     writes: &mut BTreeMap<WriteId, Logged>,
     spots: &mut BTreeMap<(u32, u64), Spot>,
     write: WriteId,
@@ -55,7 +56,7 @@ pub fn put(
 }
 
 // Takes out every write, other than the kept one, whose piece shares a byte with this one.
-pub fn take_out(
+pub(crate) fn take_out(
     writes: &mut BTreeMap<WriteId, Logged>,
     spots: &mut BTreeMap<(u32, u64), Spot>,
     piece: &Piece,

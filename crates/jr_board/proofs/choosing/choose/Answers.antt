@@ -1,7 +1,7 @@
 use Rattle.std.proofs.Common.{sym, ◌∙◌, ap, arith, add-one}
 use Rattle.std.specs.Prelude.{is_some}
 use Rattle.jr_model.specs.Choice.{choice_of_clone}
-use Rattle.jr_steps.proofs.PlaceLemmas.{item_at}
+use Rattle.jr_laws_steps.proofs.PlaceLemmas.{item_at}
 use Rattle.jr_board.proofs.ChoiceLists.{given_here, given_behind}
 use Rattle.jr_board.proofs.choosing.choose.Goals as goal
 

@@ -5,9 +5,9 @@ use Rattle.jr_model.specs.declared.events.Event.{Event}
 use Rattle.jr_model.specs.declared.workloads.Draw.{Draw}
 use Rattle.jr_model.specs.Plan.{SubJob}
 use Rattle.jr_model.specs.Rounds.{pass_of}
-use Rattle.jr_round_laws.specs.Standing.{issue_of, next_issue}
-use Rattle.jr_steps.proofs.PlaceLemmas.{item_at}
-use Rattle.jr_steps.proofs.StartedLemmas.{same_some}
+use Rattle.jr_laws_rounds.specs.Standing.{issue_of, next_issue}
+use Rattle.jr_laws_steps.proofs.PlaceLemmas.{item_at}
+use Rattle.jr_laws_steps.proofs.StartedLemmas.{same_some}
 use Rattle.jr_board.specs.declared.standings.Standing.{Standing}
 use Rattle.jr_board.proofs.ChoiceMoves.{next_here, next_later, next_none}
 use Rattle.jr_board.proofs.ChoiceCounts.{standing_at, draw_here, fits_here, pass_below, later_is, fits_later, later_made}

@@ -2,8 +2,8 @@ use Rattle.std.proofs.Common.{◌≡◌, ◌+◌, ◌<◌, ◌≤◌, true, fals
 use Rattle.jr_model.specs.Plan.{SubJob}
 use Rattle.jr_model.specs.Rounds.{has_rounds}
 use Rattle.jr_backlog.specs.CurrentRound.{current_round}
-use Rattle.jr_round_laws.specs.Standing.{is_under_way}
-use Rattle.jr_steps.proofs.StartedLemmas.{same_some}
+use Rattle.jr_laws_rounds.specs.Standing.{is_under_way}
+use Rattle.jr_laws_steps.proofs.StartedLemmas.{same_some}
 use Rattle.jr_board.proofs.ChoiceCounts.{standing_at, counts_at, few, runs_on, none_halted, none_full, waits_now, none_barred}
 use Rattle.jr_board.proofs.ChoiceCounts.{checks_first, none_waits, no_rounds, issues_next, none_unopened}
 use Rattle.jr_board.proofs.choosing.step_of_clone.Goals as goal

@@ -4,7 +4,7 @@ use Rattle.jr_model.specs.declared.blocks.Piece.{Piece}
 use Rattle.jr_model.specs.declared.events.Event.{Event}
 use Rattle.jr_model.specs.declared.events.Event.TheVariants.{Probe, Skip}
 use Rattle.jr_model.specs.Legal.{is_clear}
-use Rattle.jr_steps.proofs.StartedLemmas.{same_some}
+use Rattle.jr_laws_steps.proofs.StartedLemmas.{same_some}
 use Rattle.jr_board.proofs.ChoiceLists.{read_at}
 use Rattle.jr_board.proofs.ChoiceMoves.{taken_already, barred, taken_now}
 use Rattle.jr_board.proofs.ChoiceBoards.{handed_fits, entry_there, entry, piece_there, intact_is}
@@ -42,14 +42,14 @@ returns-in_err-piece c clone job there at rounds runs left =
     let found = c.in_ok-issued.ensures.lookup in
     let its = entry plan board c.requires.board clone job there standing at rounds runs write left issued
     (read_at c.deref.result.now standing.issued.items write.number issued c.deref.ensures.value found.3.0 found.1) in
-    let piece : ◌≡◌ {A = Option Piece} None (Some its.draw.piece) = c.in_err-piece.ensures plan board.history.items c.requires.board.handed
+    let piece : ◌≡◌ {A = Option Piece} None (Some its.draw.piece) = c.in_err-piece.ensures plan board.history.items c.requires.board.tickets
     ∙ piece_there plan board c.requires.board clone job there standing at rounds runs write left issued its in
     cc
 
 pub is_clear-requires-clause-fits : goal.is_clear-requires-clause-fits
 is_clear-requires-clause-fits c =
     handed_fits c.args.plan.now c.args.board.now c.in_ok-issued.field-0.now.id c.in_ok-piece.piece c.requires.board
-    (sym (c.in_ok-piece.ensures c.args.plan.now c.args.board.now.history.items c.requires.board.handed))
+    (sym (c.in_ok-piece.ensures c.args.plan.now c.args.board.now.history.items c.requires.board.tickets))
 
 pub returns-then-not-is_clear : goal.returns-then-not-is_clear
 returns-then-not-is_clear c clone job there at rounds runs left =
@@ -63,7 +63,7 @@ returns-then-not-is_clear c clone job there at rounds runs left =
     (read_at c.deref.result.now standing.issued.items write.number issued c.deref.ensures.value found.3.0 found.1) in
     let history = board.history.items in
     let piece : c.in_ok-piece.piece ≡ its.draw.piece = same_some c.in_ok-piece.piece its.draw.piece
-    (c.in_ok-piece.ensures plan history c.requires.board.handed ∙ piece_there plan board c.requires.board clone job there standing at rounds runs write left issued its) in
+    (c.in_ok-piece.ensures plan history c.requires.board.tickets ∙ piece_there plan board c.requires.board clone job there standing at rounds runs write left issued its) in
     let unclear = ap (is_clear history false) (sym piece) ∙ sym (c.if-not-is_clear.ensures history c.requires.board.flying) in
     sym (barred history c.args.worker job write its.draw its.clone its.drawn unclear)
 
@@ -79,7 +79,7 @@ returns-then-intact c clone job there at rounds runs left =
     (read_at c.deref.result.now standing.issued.items write.number issued c.deref.ensures.value found.3.0 found.1) in
     let history = board.history.items in
     let piece : c.in_ok-piece.piece ≡ its.draw.piece = same_some c.in_ok-piece.piece its.draw.piece
-    (c.in_ok-piece.ensures plan history c.requires.board.handed ∙ piece_there plan board c.requires.board clone job there standing at rounds runs write left issued its) in
+    (c.in_ok-piece.ensures plan history c.requires.board.tickets ∙ piece_there plan board c.requires.board clone job there standing at rounds runs write left issued its) in
     let untaken = sym its.taken ∙ c.if-issued.false in
     let clear = ap (is_clear history false) (sym piece) ∙ sym (c.if-not-is_clear.ensures history c.requires.board.flying) in
     let intact = sym (intact_is plan board c.requires.board clone job there standing at rounds runs write left its.draw its.drawn)
@@ -101,7 +101,7 @@ returns-else-intact c clone job there at rounds runs left =
     (read_at c.deref.result.now standing.issued.items write.number issued c.deref.ensures.value found.3.0 found.1) in
     let history = board.history.items in
     let piece : c.in_ok-piece.piece ≡ its.draw.piece = same_some c.in_ok-piece.piece its.draw.piece
-    (c.in_ok-piece.ensures plan history c.requires.board.handed ∙ piece_there plan board c.requires.board clone job there standing at rounds runs write left issued its) in
+    (c.in_ok-piece.ensures plan history c.requires.board.tickets ∙ piece_there plan board c.requires.board clone job there standing at rounds runs write left issued its) in
     let untaken = sym its.taken ∙ c.if-issued.false in
     let clear = ap (is_clear history false) (sym piece) ∙ sym (c.if-not-is_clear.ensures history c.requires.board.flying) in
     let broken = sym (intact_is plan board c.requires.board clone job there standing at rounds runs write left its.draw its.drawn)

@@ -7,7 +7,7 @@ use Rattle.jr_model.specs.declared.events.Outcome.TheVariants.{Whole, Failed, Sh
 use Rattle.jr_model.specs.declared.events.WriteId.{WriteId}
 use Rattle.jr_model.specs.History.{is_probe, ended_whole}
 use Rattle.jr_model.specs.Plan.{clone_of}
-use Rattle.jr_steps.specs.Nexts.{IsNext, grown}
+use Rattle.jr_laws_steps.specs.Nexts.{IsNext, grown}
 use Rattle.jr_board.specs.Standings.{IsStanding}
 use Rattle.jr_board.proofs.StandingMoves.{clone_there, stays_end_fault, stays_end_halted, stays_end_issue}
 use Rattle.jr_board.proofs.ending.check_off.Goals as goal

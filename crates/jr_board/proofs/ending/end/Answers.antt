@@ -11,13 +11,13 @@ use Rattle.jr_model.specs.Legal.{is_halted}
 use Rattle.jr_model.specs.Plan.{Plan, SubJob, clone_of}
 use Rattle.jr_model.specs.declared.blocks.Piece.{Piece}
 use Rattle.jr_writes.specs.LoggedWrites.{logged}
-use Rattle.jr_steps.specs.Nexts.{IsNext, grown}
+use Rattle.jr_laws_steps.specs.Nexts.{IsNext, grown}
 use Rattle.jr_tallies.specs.declared.tallies.Counts.{Counts}
 use Rattle.jr_tallies.proofs.TallyMoves.{can_count, can_end, counts_are}
 use Rattle.jr_board.specs.declared.board.Board.{Board}
 use Rattle.jr_board.specs.Boards.{IsBoard}
 use Rattle.jr_backlog.specs.Rounds.{is_to_check}
-use Rattle.jr_standing.specs.Deferred.{is_settled, round_now}
+use Rattle.jr_backlog.specs.Deferred.{is_settled, round_now}
 use Rattle.jr_board.specs.declared.standings.Standing.{Standing}
 use Rattle.jr_board.specs.Standings.{IsStanding}
 use Rattle.jr_board.proofs.EndingBoards.{board_stays, own_below, parts_of}
@@ -48,7 +48,7 @@ index_mut-requires c =
 pub returns-in_err-reserve-clause-board : goal.returns-in_err-reserve-clause-board
 returns-in_err-reserve-clause-board c =
     let is = c.requires.board in
-    board_stays c.args.plan.now c.args.board.now _ is c.reserve.ensures.items is.handed is.flying refl is.tallies is.standings
+    board_stays c.args.plan.now c.args.board.now _ is c.reserve.ensures.items is.tickets is.flying refl is.tallies is.standings
 
 pub returns-in_err-settle-clause-board : goal.returns-in_err-settle-clause-board
 returns-in_err-settle-clause-board c =
@@ -59,7 +59,7 @@ returns-in_err-settle-clause-board c =
     let old = c.index_mut.result.now in
     let is = c.requires.board in
     let parts = parts_of plan board c.args.ticket.now is c.requires.own in
-    board_stays plan board _ is c.reserve.ensures.items is.handed is.flying refl is.tallies
+    board_stays plan board _ is c.reserve.ensures.items is.tickets is.flying refl is.tallies
     (standings_set plan history clone parts.job board.standings.items (record old { rounds = c.settle.new.self }) parts.planned is.standings
     (standing_resettled history parts.job old c.settle.new.self (ap round_now c.in_err-settle.ensures.err)
     (stands_now plan board clone parts.job old is parts.planned c.index_mut.ensures.value)))
@@ -86,7 +86,7 @@ returns-in_err-log_end-clause-board c =
     let old = c.index_mut.result.now in
     let is = c.requires.board in
     let parts = parts_of plan board c.args.ticket.now is c.requires.own in
-    board_stays plan board _ is c.reserve.ensures.items is.handed is.flying c.in_err-log_end.ensures.err is.tallies
+    board_stays plan board _ is c.reserve.ensures.items is.tickets is.flying c.in_err-log_end.ensures.err is.tallies
     (standings_set plan history clone parts.job board.standings.items (record old { rounds = c.settle.new.self }) parts.planned is.standings
     (standing_resettled history parts.job old c.settle.new.self (ap round_now c.in_ok-settle.ensures.ok)
     (stands_now plan board clone parts.job old is parts.planned c.index_mut.ensures.value)))
@@ -193,7 +193,7 @@ returns-clause-board c =
     (sym (read_after_set board.standings.items clone new c.index_mut-2.result.now there c.index_mut-2.ensures.value)) stands in
     board_grows plan board _ event is c.requires.may
     (c.push_reserved.ensures.items ∙ ap (λ (h : List Event). grown h event) c.reserve.ensures.items)
-    (c.end.ensures plan history ticket.worker next is.handed)
+    (c.end.ensures plan history ticket.worker next is.tickets)
     (c.end-2.ensures plan history ticket.worker outcome next is.flying)
     (c.in_ok-log_end.ensures.kept plan history next c.requires.own is.log)
     (c.ended.ensures plan history ticket.worker ticket.id parts.io parts.at parts.clone parts.kind

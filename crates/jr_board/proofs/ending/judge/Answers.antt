@@ -4,8 +4,8 @@ use Rattle.std.proofs.lemmas.Option.{slice_get_within}
 use Rattle.jr_model.specs.declared.events.Event.{Event}
 use Rattle.jr_model.specs.declared.events.Event.TheVariants.{Verdict as Judged}
 use Rattle.jr_model.specs.Plan.{SubJob}
-use Rattle.jr_steps.proofs.StartedLemmas.{same_some}
-use Rattle.jr_steps.specs.Nexts.{grown}
+use Rattle.jr_laws_steps.proofs.StartedLemmas.{same_some}
+use Rattle.jr_laws_steps.specs.Nexts.{grown}
 use Rattle.jr_tallies.proofs.TallyMoves.{can_count, can_judge, tallied_same}
 use Rattle.jr_board.proofs.EndingBoards.{board_stays, own_below, parts_of}
 use Rattle.jr_board.proofs.FlyingMoves.{flying_verdict, log_verdict}
@@ -16,14 +16,14 @@ use Rattle.jr_board.proofs.ending.judge.Goals as goal
 pub returns-in_err-reserve-clause-board : goal.returns-in_err-reserve-clause-board
 returns-in_err-reserve-clause-board c =
     let is = c.requires.board in
-    board_stays c.args.plan.now c.args.board.now _ is c.reserve.ensures.items is.handed is.flying refl is.tallies is.standings
+    board_stays c.args.plan.now c.args.board.now _ is c.reserve.ensures.items is.tickets is.flying refl is.tallies is.standings
 
 pub returns-in_err-reserve-2-clause-board : goal.returns-in_err-reserve-2-clause-board
 returns-in_err-reserve-2-clause-board c =
     let plan = c.args.plan.now in
     let board = c.args.board.now in
     let is = c.requires.board in
-    board_stays plan board _ is c.reserve.ensures.items is.handed is.flying refl
+    board_stays plan board _ is c.reserve.ensures.items is.tickets is.flying refl
     (tallied_same plan board.history.items board.tallies c.reserve-2.new.self is.tallies c.reserve-2.ensures.counts
     c.reserve-2.ensures.totals c.reserve-2.ensures.bads) is.standings
 
@@ -74,7 +74,7 @@ returns-clause-board c =
     ∙ sym c.is_fatal-is_fatal.ensures in
     board_grows plan board _ (Judged by ticket.id verdict) is c.requires.may
     (c.push_reserved.ensures.items ∙ ap (λ (h : List Event). grown h (Judged by ticket.id verdict)) c.reserve.ensures.items)
-    (c.judge.ensures plan history by verdict next is.handed)
+    (c.judge.ensures plan history by verdict next is.tickets)
     (flying_verdict plan history by ticket.id verdict board.flying next is.flying)
     (is.log ∙ sym (log_verdict plan history by ticket.id verdict next))
     (c.judged.ensures plan history by ticket.id parts.io parts.job parts.at parts.write parts.piece parts.planned fatal next

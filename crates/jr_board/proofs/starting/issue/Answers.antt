@@ -6,10 +6,10 @@ use Rattle.jr_model.specs.declared.events.Started.{Started}
 use Rattle.jr_model.specs.History.{kind_for, started}
 use Rattle.jr_model.specs.Rounds.{has_rounds}
 use Rattle.jr_backlog.specs.Rounds.{comes_last, takes_writes}
-use Rattle.jr_steps.specs.Nexts.{IsNext, grown}
-use Rattle.jr_steps.proofs.StartedFew.{started_small}
+use Rattle.jr_laws_steps.specs.Nexts.{IsNext, grown}
+use Rattle.jr_laws_steps.proofs.StartedFew.{started_small}
 use Rattle.jr_tallies.proofs.TallyMoves.{can_count}
-use Rattle.jr_handed.proofs.HandingMoves.{headers_within}
+use Rattle.jr_tickets.proofs.HandingMoves.{headers_within}
 use Rattle.jr_board.proofs.FlyingMoves.{log_issue}
 use Rattle.jr_board.proofs.IssueMoves.{issue_fills}
 use Rattle.jr_board.proofs.StandingMoves.{clone_is, clone_there, stays_other_issue}
@@ -23,7 +23,7 @@ overflow_cast-id c =
     let plan = c.args.plan.now in
     let history = c.args.board.now.history.items in
     let is = c.requires.board in
-    omega (arith, c.count-id.ensures plan history is.handed, started_small plan history is.planned is.legal)
+    omega (arith, c.count-id.ensures plan history is.tickets, started_small plan history is.planned is.legal)
 
 pub index_mut-requires : goal.index_mut-requires
 index_mut-requires c =
@@ -85,7 +85,7 @@ hand-requires-clause-few c =
     let plan = c.args.plan.now in
     let history = c.args.board.now.history.items in
     let is = c.requires.board in
-    omega (arith, headers_within plan history c.args.board.now.handed is.handed, started_small plan history is.planned is.legal)
+    omega (arith, headers_within plan history c.args.board.now.tickets is.tickets, started_small plan history is.planned is.legal)
 
 pub returns-clause-ticket : goal.returns-clause-ticket
 returns-clause-ticket c =
@@ -101,7 +101,7 @@ returns-clause-ticket c =
     let planned = c.clone_at-job.ensures.value in
     let next = next_of plan board (Issue worker dir write piece) is c.requires.may in
     issue_ticket plan (length (started history)) worker dir c.kind_for.result write piece c.count-id.result c.issue.result
-    c.method.result job planned c.kind_for.ensures (c.count-id.ensures plan history is.handed)
+    c.method.result job planned c.kind_for.ensures (c.count-id.ensures plan history is.tickets)
     (c.issue.ensures.seed plan history worker piece next planned
     (stands_now plan board write.clone job c.index_mut.result.now is planned c.index_mut.ensures.value))
     c.method.ensures
@@ -121,9 +121,9 @@ returns-clause-board c =
     let e = Issue worker dir write piece in
     let io : Started = record { worker = worker; kind = kind_for dir; write = write; piece = piece } in
     let next = next_of plan board e is c.requires.may in
-    let id = c.count-id.ensures plan history is.handed in
+    let id = c.count-id.ensures plan history is.tickets in
     board_grows plan board _ e is c.requires.may c.push_reserved.ensures.items
-    (c.hand.ensures plan history e io next refl (returns-clause-ticket c) is.handed)
+    (c.hand.ensures plan history e io next refl (returns-clause-ticket c) is.tickets)
     (c.start.ensures plan history e io next refl
     (issue_io (length (started history)) worker dir write piece c.count-id.result _ refl id) is.flying)
     (is.log ∙ sym (log_issue plan history worker dir write piece next))

@@ -8,13 +8,13 @@ use Rattle.jr_model.specs.declared.events.Started.{Started}
 use Rattle.jr_model.specs.declared.tickets.TicketKind.TheVariants as kind
 use Rattle.jr_model.specs.History.{started}
 use Rattle.jr_model.specs.Plan.{SubJob}
-use Rattle.jr_log_laws.specs.Flying.{io_of}
-use Rattle.jr_steps.proofs.StartedLemmas.{same_some}
-use Rattle.jr_steps.proofs.StepLaws.{may_probe_of}
-use Rattle.jr_steps.specs.Nexts.{grown}
-use Rattle.jr_steps.proofs.StartedFew.{started_small}
+use Rattle.jr_laws_log.specs.Flying.{io_of}
+use Rattle.jr_laws_steps.proofs.StartedLemmas.{same_some}
+use Rattle.jr_laws_steps.proofs.StepLaws.{may_probe_of}
+use Rattle.jr_laws_steps.specs.Nexts.{grown}
+use Rattle.jr_laws_steps.proofs.StartedFew.{started_small}
 use Rattle.jr_tallies.proofs.TallyMoves.{can_count}
-use Rattle.jr_handed.proofs.HandingMoves.{headers_within}
+use Rattle.jr_tickets.proofs.HandingMoves.{headers_within}
 use Rattle.jr_board.proofs.FlyingMoves.{log_probe}
 use Rattle.jr_board.proofs.StandingMoves.{clone_is, clone_there, taken_up_here, stays_other_probe}
 use Rattle.jr_board.proofs.StartingBoards.{board_grows, clone_stands, next_of, stands_at, stands_now}
@@ -27,7 +27,7 @@ overflow_cast-id c =
     let plan = c.args.plan.now in
     let history = c.args.board.now.history.items in
     let is = c.requires.board in
-    omega (arith, c.count-id.ensures plan history is.handed, started_small plan history is.planned is.legal)
+    omega (arith, c.count-id.ensures plan history is.tickets, started_small plan history is.planned is.legal)
 
 pub clone_at-requires : goal.clone_at-requires
 clone_at-requires c =
@@ -71,7 +71,7 @@ hand-requires-clause-few c =
     let plan = c.args.plan.now in
     let history = c.args.board.now.history.items in
     let is = c.requires.board in
-    omega (arith, headers_within plan history c.args.board.now.handed is.handed, started_small plan history is.planned is.legal)
+    omega (arith, headers_within plan history c.args.board.now.tickets is.tickets, started_small plan history is.planned is.legal)
 
 pub returns-clause-ticket : goal.returns-clause-ticket
 returns-clause-ticket c =
@@ -92,7 +92,7 @@ returns-clause-ticket c =
     let read = same_some c.clone_at.result.now job (sym c.clone_at.ensures.value ∙ planned) in
     let at = stands_at plan board write.clone job standing is planned c.index_mut.ensures.value in
     ticket_made plan (length (started history)) worker kind.Probe write piece c.count-id.result c.seed_of.result c.method.result
-    c.unwrap_or.result (c.count-id.ensures plan history is.handed)
+    c.unwrap_or.result (c.count-id.ensures plan history is.tickets)
     (c.seed_of.ensures plan job standing is planned at (sym here.0) here.1)
     (method_planned plan write.clone job c.method.result planned (c.method.ensures ∙ ap (λ (j : SubJob). j.method) read))
     (c.unwrap_or.ensures
@@ -116,9 +116,9 @@ returns-clause-board c =
     let e = Probe worker write piece in
     let io : Started = record { worker = worker; kind = kind.Probe; write = write; piece = piece } in
     let next = next_of plan board e is c.requires.may in
-    let id = c.count-id.ensures plan history is.handed in
+    let id = c.count-id.ensures plan history is.tickets in
     board_grows plan board _ e is c.requires.may c.push_reserved.ensures.items
-    (c.hand.ensures plan history e io next refl (returns-clause-ticket c) is.handed)
+    (c.hand.ensures plan history e io next refl (returns-clause-ticket c) is.tickets)
     (c.start.ensures plan history e io next refl (ap (λ (i : ℕ). io_of i io) id) is.flying)
     (is.log ∙ sym (log_probe plan history worker write piece next))
     (c.probed.ensures plan history worker write piece refl next is.tallies)

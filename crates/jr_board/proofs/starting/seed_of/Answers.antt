@@ -11,7 +11,7 @@ returns-in-None c plan job standing is planned at here below =
     absurd (ticket_missing plan board.history.items write issued.id
     (has_read plan board write job standing c.in-Some.standing.now issued c.deref.result.now c.deref-2.result.now is planned at here
     c.deref.ensures.value stood.0 stood.1 c.deref-2.ensures.value drawn.0 drawn.1)
-    (c.in-None.ensures plan board.history.items is.handed))
+    (c.in-None.ensures plan board.history.items is.tickets))
 
 pub returns-in-Some-seed : goal.returns-in-Some-seed
 returns-in-Some-seed c plan job standing is planned at here below =
@@ -23,4 +23,4 @@ returns-in-Some-seed c plan job standing is planned at here below =
     seed_read plan board.history.items write issued.id c.in-Some-seed.seed
     (has_read plan board write job standing c.in-Some.standing.now issued c.deref.result.now c.deref-2.result.now is planned at here
     c.deref.ensures.value stood.0 stood.1 c.deref-2.ensures.value drawn.0 drawn.1)
-    (c.in-Some-seed.ensures plan board.history.items is.handed)
+    (c.in-Some-seed.ensures plan board.history.items is.tickets)

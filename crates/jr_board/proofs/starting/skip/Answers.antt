@@ -1,9 +1,9 @@
 use Rattle.std.proofs.Common.{◌≡◌, refl, sym, ◌∙◌, arith}
 use Rattle.jr_model.specs.declared.events.Event.TheVariants.{Skip}
-use Rattle.jr_steps.proofs.StepLaws.{may_skip_of}
-use Rattle.jr_steps.specs.Nexts.{grown}
+use Rattle.jr_laws_steps.proofs.StepLaws.{may_skip_of}
+use Rattle.jr_laws_steps.specs.Nexts.{grown}
 use Rattle.jr_tallies.proofs.TallyMoves.{can_count}
-use Rattle.jr_handed.proofs.HandingMoves.{handed_skip}
+use Rattle.jr_tickets.proofs.HandingMoves.{handed_skip}
 use Rattle.jr_board.proofs.FlyingMoves.{flying_skip, log_skip}
 use Rattle.jr_board.proofs.StandingMoves.{clone_is, clone_there, skip_left, skipped_here, stays_other_skip}
 use Rattle.jr_board.proofs.StartingBoards.{board_grows, clone_stands, next_of, stands_at, stands_now}
@@ -72,7 +72,7 @@ returns-clause-board c =
     let planned = (may_skip_of plan history worker write c.requires.may).named.planned in
     let next = next_of plan board (Skip worker write) is c.requires.may in
     board_grows plan board _ (Skip worker write) is c.requires.may c.push_reserved.ensures.items
-    (handed_skip plan history worker write board.handed next is.handed)
+    (handed_skip plan history worker write board.tickets next is.tickets)
     (flying_skip plan history worker write board.flying next is.flying)
     (is.log ∙ sym (log_skip plan history worker write next))
     (c.skipped.ensures plan history worker write refl next is.tallies)
@@ -110,7 +110,7 @@ returns-clause-ready c =
       history = omega (arith, ready.history, c.push_reserved.ensures.len, c.push_reserved.ensures.capacity, fewer);
       launches = ready.launches;
       headers = ready.headers;
-      progress = ready.progress;
+      states = ready.states;
       flying = ready.flying;
       standings =
           prepared_moves plan board.standings.items write.clone job c.skip.new.self ready.standings planned

@@ -17,9 +17,9 @@ returns-in_err-prepare_standings-clause-board c =
     let is = c.requires in
     board_stays c.args.plan.now board _ is refl
     (record {
-      launches = c.reserve.ensures.launches ∙ is.handed.launches;
-      headers = c.reserve.ensures.headers ∙ is.handed.headers;
-      progress = c.reserve.ensures.progress ∙ is.handed.progress;
+      launches = c.reserve.ensures.launches ∙ is.tickets.launches;
+      headers = c.reserve.ensures.headers ∙ is.tickets.headers;
+      states = c.reserve.ensures.states ∙ is.tickets.states;
     })
     (c.in_ok-settle.ensures.kept history is.flying) refl is.tallies (c.prepare_standings.ensures.kept history is.standings)
 
@@ -39,9 +39,9 @@ returns-in_err-reserve-2-clause-board c =
     let is = c.requires in
     board_stays c.args.plan.now board _ is c.reserve-2.ensures.items
     (record {
-      launches = c.reserve.ensures.launches ∙ is.handed.launches;
-      headers = c.reserve.ensures.headers ∙ is.handed.headers;
-      progress = c.reserve.ensures.progress ∙ is.handed.progress;
+      launches = c.reserve.ensures.launches ∙ is.tickets.launches;
+      headers = c.reserve.ensures.headers ∙ is.tickets.headers;
+      states = c.reserve.ensures.states ∙ is.tickets.states;
     })
     (c.in_ok-settle.ensures.kept history is.flying) refl is.tallies (c.prepare_standings.ensures.kept history is.standings)
 
@@ -52,8 +52,8 @@ returns-clause-board c =
     let is = c.requires in
     board_stays c.args.plan.now board _ is c.reserve-2.ensures.items
     (record {
-      launches = c.reserve.ensures.launches ∙ is.handed.launches;
-      headers = c.reserve.ensures.headers ∙ is.handed.headers;
-      progress = c.reserve.ensures.progress ∙ is.handed.progress;
+      launches = c.reserve.ensures.launches ∙ is.tickets.launches;
+      headers = c.reserve.ensures.headers ∙ is.tickets.headers;
+      states = c.reserve.ensures.states ∙ is.tickets.states;
     })
     (c.in_ok-settle.ensures.kept history is.flying) refl is.tallies (c.prepare_standings.ensures.kept history is.standings)

@@ -1,27 +1,55 @@
 use Rattle.std.proofs.Common.{◌∙◌, refl}
 use Rattle.jr_model.specs.Serial.{serial_history}
-use Rattle.jr_laws.proofs.CleanLaws.{serial_clean}
+use Rattle.jr_laws_bytes.proofs.CleanLaws.{serial_clean}
 use Rattle.jr_cli.proofs.CleanRuns.{clean_status}
+use Rattle.jr_cli.proofs.EndedRuns.{interrupted_on, complete_on, uninterrupted_on, faults_on}
 use Rattle.jr_cli.proofs.QuietRuns.{reported_on, quietly_reported}
 use Rattle.jr_cli.proofs.runs.execute_serial.Goals as goal
 use Rattle.jr_cli.proofs.runs.execute_serial.Goals.{in-Some+in_ok-print_trace, in_default}
 
-pub returns-clause-run : goal.returns-clause-run
-returns-clause-run g c =
-    let history = c.in_ok-desk.desk.history in
+pub returns-clause-ended : goal.returns-clause-ended
+returns-clause-ended g c =
+    let desk = c.in_ok-desk.desk in
+    let history = desk.history in
     let done = c.in_ok-desk.ensures in
-    let reported = reported_on c.in_ok-desk.desk.plan c.args.plan history history _ _ _ done.plan refl c.in_ok-status.ensures.reported in
+    let told = c.in_ok-ended.ensures in
+    let reported = reported_on desk.plan c.args.plan history history _ _ _ done.plan refl told.reported in
+    let found = faults_on desk.plan c.args.plan history c.in_ok-faults.faults c.in_ok-ended.ended.faults done.plan c.in_ok-faults.ensures told.faults in
+    let left = interrupted_on desk.plan c.args.plan history _ done.plan told.interrupted in
     elim c.match-events.branch [
       | in-Some+in_ok-print_trace w ↦
-          rw (w.events-is, w.in-Some.is) (history, done.run, (reported, w.in_ok-print_trace.ensures.printed))
-      | in_default w ↦ rw w.in_default.is (history, done.run, (reported, tt))
+          rw (w.events-is, w.in-Some.is) (history, done.ended, left, (reported, w.in_ok-print_trace.ensures.printed, found))
+      | in_default w ↦ rw w.in_default.is (history, done.ended, left, (reported, tt, found))
     ]
 
-pub returns-clause-serial : goal.returns-clause-serial
-returns-clause-serial g c fresh =
+pub returns-clause-run : goal.returns-clause-run
+returns-clause-run g c whole =
+    let desk = c.in_ok-desk.desk in
+    let history = desk.history in
     let done = c.in_ok-desk.ensures in
-    let same = done.serial fresh in
-    let reported = reported_on c.in_ok-desk.desk.plan c.args.plan c.in_ok-desk.desk.history (serial_history c.args.plan) _ _ _ done.plan same c.in_ok-status.ensures.reported in
+    let told = c.in_ok-ended.ensures in
+    let reported = reported_on desk.plan c.args.plan history history _ _ _ done.plan refl told.reported in
+    let found = faults_on desk.plan c.args.plan history c.in_ok-faults.faults c.in_ok-ended.ended.faults done.plan c.in_ok-faults.ensures told.faults in
+    let run = done.run (complete_on desk.plan c.args.plan history _ done.plan told.interrupted whole) in
+    elim c.match-events.branch [
+      | in-Some+in_ok-print_trace w ↦
+          rw (w.events-is, w.in-Some.is) (history, run, (reported, w.in_ok-print_trace.ensures.printed, found))
+      | in_default w ↦ rw w.in_default.is (history, run, (reported, tt, found))
+    ]
+
+pub returns-clause-unasked : goal.returns-clause-unasked
+returns-clause-unasked g c unasked =
+    let desk = c.in_ok-desk.desk in
+    let done = c.in_ok-desk.ensures in
+    uninterrupted_on desk.plan c.args.plan desk.history _ done.plan c.in_ok-ended.ensures.interrupted (done.unasked unasked)
+
+pub returns-clause-serial : goal.returns-clause-serial
+returns-clause-serial g c fresh whole =
+    let desk = c.in_ok-desk.desk in
+    let done = c.in_ok-desk.ensures in
+    let told = c.in_ok-ended.ensures in
+    let same = done.serial fresh (complete_on desk.plan c.args.plan desk.history _ done.plan told.interrupted whole) in
+    let reported = reported_on desk.plan c.args.plan desk.history (serial_history c.args.plan) _ _ _ done.plan same told.reported in
     elim c.match-events.branch [
       | in-Some+in_ok-print_trace w ↦
           rw (w.events-is, w.in-Some.is) (reported, rw same at w.in_ok-print_trace.ensures.printed)
@@ -29,13 +57,15 @@ returns-clause-serial g c fresh =
     ]
 
 pub returns-clause-clean : goal.returns-clause-clean
-returns-clause-clean g c fresh =
+returns-clause-clean g c fresh whole =
     let clean = serial_clean c.args.plan in
-    (returns-clause-serial g c fresh).0.ends ∙ clean_status (serial_history c.args.plan) clean.0 clean.1 c.args.plan
+    (returns-clause-serial g c fresh whole).0.ends ∙ clean_status (serial_history c.args.plan) clean.0 clean.1 c.args.plan
 
 pub returns-clause-quiet : goal.returns-clause-quiet
-returns-clause-quiet g c =
+returns-clause-quiet g c whole =
+    let desk = c.in_ok-desk.desk in
     let done = c.in_ok-desk.ensures in
-    let history = c.in_ok-desk.desk.history in
-    quietly_reported c.args.plan history _ _ _ c.facts.ensures done.run.legal done.run.complete
-    (reported_on c.in_ok-desk.desk.plan c.args.plan history history _ _ _ done.plan refl c.in_ok-status.ensures.reported)
+    let told = c.in_ok-ended.ensures in
+    let complete = complete_on desk.plan c.args.plan desk.history _ done.plan told.interrupted whole in
+    quietly_reported c.args.plan desk.history _ _ _ c.facts.ensures done.ended.legal complete
+    (reported_on desk.plan c.args.plan desk.history desk.history _ _ _ done.plan refl told.reported)

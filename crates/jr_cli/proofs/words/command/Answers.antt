@@ -19,4 +19,6 @@ returns c =
     let with_cached = c.in_ok-arg-7.ensures.shape c.cached_arg.ensures.local ∙ ap₂ with_rule with_check c.cached_arg.ensures.rule in
     let with_allowed = c.in_ok-arg-8.ensures.shape c.allow_mounted_write_arg.ensures.local ∙ ap₂ with_rule with_cached c.allow_mounted_write_arg.ensures.rule in
     let with_notes = c.in_ok-arg-9.ensures.shape c.notes_arg.ensures.local ∙ ap₂ with_rule with_allowed c.notes_arg.ensures.rule in
-    IfOk-weaker c.arg-10.result _ _ (λ r added. added.shape c.drop_pipes_arg.ensures.local ∙ ap₂ with_rule with_notes c.drop_pipes_arg.ensures.rule) c.arg-10.ensures
+    let with_pipes = c.in_ok-arg-10.ensures.shape c.drop_pipes_arg.ensures.local ∙ ap₂ with_rule with_notes c.drop_pipes_arg.ensures.rule in
+    let with_interrupted = c.in_ok-arg-11.ensures.shape c.interrupted_arg.ensures.local ∙ ap₂ with_rule with_pipes c.interrupted_arg.ensures.rule in
+    IfOk-weaker c.arg-12.result _ _ (λ r added. added.shape c.stop_fd_arg.ensures.local ∙ ap₂ with_rule with_interrupted c.stop_fd_arg.ensures.rule) c.arg-12.ensures

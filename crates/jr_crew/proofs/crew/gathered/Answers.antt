@@ -1,8 +1,8 @@
 use Rattle.std.proofs.Common.{◌∙◌, ap, Bool, List}
 use Rattle.std.specs.Prelude.{slice_get}
 use Rattle.jr_model.specs.Plan.{Plan}
-use Rattle.jr_crew.specs.Books.{dones_of}
-use Rattle.jr_crew.specs.Crews.{judges_inline}
+use Rattle.jr_books.specs.Books.{dones_of}
+use Rattle.jr_books.specs.Numbers.{judges_inline}
 use Rattle.jr_crew.proofs.crew.gathered.Goals as goal
 
 pub returns-clause-each : goal.returns-clause-each

@@ -1,8 +1,8 @@
 use Rattle.std.proofs.Common.{◌≡◌, ◌++◌, replicate}
 use Rattle.jr_handover.specs.declared.parcel.Parcel.TheVariants.{Stop}
-use Rattle.jr_handover.specs.Passes.{hand_of}
+use Rattle.jr_handover.specs.Passes.{pass_state}
 use Rattle.jr_crew.proofs.crew.stop_all.Given as goal
 
 -- so many were told so far
 abbrev pub invariant-loop-told : goal.invariant-loop-told
-invariant-loop-told g l = (hand_of l.hand.pass).put ≡ (hand_of l.initial.hand.pass).put ++ replicate l.told Stop
+invariant-loop-told g l = (pass_state l.channel.pass).put ≡ (pass_state l.initial.channel.pass).put ++ replicate l.told Stop

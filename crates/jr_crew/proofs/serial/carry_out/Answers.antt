@@ -1,8 +1,8 @@
 use Rattle.std.proofs.Common.{[], sym, ◌∙◌, ap, subst}
 use Rattle.jr_model.specs.declared.tickets.Ticket.{Ticket}
 use Rattle.jr_model.specs.History.{outcome_of}
-use Rattle.jr_handed.specs.Kept.{IsOwn}
-use Rattle.jr_board.specs.DeskState.{DeskState}
+use Rattle.jr_tickets.specs.Kept.{IsOwn}
+use Rattle.jr_desk.specs.DeskState.{DeskState}
 use Rattle.jr_crew.proofs.Carrying.{own_then, outcome_then}
 use Rattle.jr_crew.proofs.serial.carry_out.Goals as goal
 

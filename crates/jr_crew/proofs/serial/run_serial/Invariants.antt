@@ -1,15 +1,15 @@
 use Rattle.std.proofs.Common.{◌≡◌, ◌-◌, ◌*◌, length, false}
 use Rattle.jr_model.specs.History.{started}
 use Rattle.jr_model.specs.Machine.{work_of}
-use Rattle.jr_plan.specs.PlanFacts.{IsPlanned}
+use Rattle.jr_model.specs.PlanFacts.{IsPlanned}
 use Rattle.jr_crew.specs.Runs.{IsFresh}
 use Rattle.jr_crew.proofs.Serially.{IsSerialSoFar}
 use Rattle.jr_crew.proofs.Turning.{IsSoFar}
 use Rattle.jr_crew.proofs.serial.run_serial.Given as goal
 
 -- the desk is that of the plan, and the run so far keeps what is to hold between two turns
-abbrev pub invariant-loop-desk : goal.invariant-loop-desk
-invariant-loop-desk g l = record {
+abbrev pub invariant-loop-alloc : goal.invariant-loop-alloc
+invariant-loop-alloc g l = record {
   planned : IsPlanned l.fn.plan;
   plan : l.desk.plan ≡ l.fn.plan;
   going : l.desk.is_stopped ≡ false;
@@ -18,5 +18,5 @@ invariant-loop-desk g l = record {
 }
 
 -- each turn but the last starts one more of what the plan can start
-abbrev pub decreases-loop-desk : goal.decreases-loop-desk
-decreases-loop-desk g l = 2 * work_of l.fn.plan - length (started l.desk.history)
+abbrev pub decreases-loop-alloc : goal.decreases-loop-alloc
+decreases-loop-alloc g l = 2 * work_of l.fn.plan - length (started l.desk.history)

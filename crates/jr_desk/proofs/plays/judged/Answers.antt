@@ -2,7 +2,7 @@ use Rattle.std.proofs.Common.{◌≡◌, true, sym, ◌∙◌, ap}
 use Rattle.std.proofs.lemmas.Bool.{false≢true}
 use Rattle.jr_model.specs.declared.steps.DeskFault.TheVariants.{Memory}
 use Rattle.jr_desk.specs.Plays.{judge_reply, judged_desk}
-use Rattle.jr_board.specs.Refusals.{judge_fault}
+use Rattle.jr_desk.specs.Refusals.{judge_fault}
 use Rattle.jr_desk.proofs.Playing.{none_said, fault_said}
 use Rattle.jr_desk.proofs.plays.judged.Goals as goal
 

@@ -16,17 +16,17 @@ loop-preserved g c =
     let most : c.loop.done ≤ length c.args.buf.now = c.loop.invariant.most in
     let rest = take_rest c.args.buf.now c.loop.done in
     let left = length-drop c.loop.done c.args.buf.now in
-    elim c.match-write_at.branch [
+    elim c.match-write.branch [
       | in-Ok w ↦
           let taken : w.in-Ok.taken ≤ length (drop c.loop.done c.args.buf.now) =
           subst (λ (z : List ℕ). w.in-Ok.taken ≤ length z) rest w.in-Ok.ensures.most
           in
-          written_more _ _ _ c.args.offset c.loop.counter c.loop.done w.in-Ok.taken c.match-write_at.done c.args.buf.now c.loop.invariant c.write_at.ensures.known c.write_at.ensures.stays w.done-is
+          written_more _ _ _ c.args.offset c.loop.counter c.loop.done w.in-Ok.taken c.match-write.done c.args.buf.now c.loop.invariant c.write.ensures.known c.write.ensures.stays w.done-is
           (λ sound. omega (arith, w.in-Ok.taken-test.1))
           (omega (arith, taken, left, most))
           (λ known. of_the_rest _ _ (c.args.offset + c.loop.done) c.loop.done w.in-Ok.taken c.args.buf.now (w.in-Ok.ensures.part known))
       | in-Err w ↦
-          written_more _ _ _ c.args.offset c.loop.counter c.loop.done 0 c.match-write_at.done c.args.buf.now c.loop.invariant c.write_at.ensures.known c.write_at.ensures.stays (omega (arith, w.done-is))
+          written_more _ _ _ c.args.offset c.loop.counter c.loop.done 0 c.match-write.done c.args.buf.now c.loop.invariant c.write.ensures.known c.write.ensures.stays (omega (arith, w.done-is))
           (λ sound. absurd (false≢true (w.in-Err.ensures.sound sound)))
           (omega (arith, most))
           (λ known. of_the_rest _ _ (c.args.offset + c.loop.done) c.loop.done 0 c.args.buf.now (w.in-Err.ensures.part known))

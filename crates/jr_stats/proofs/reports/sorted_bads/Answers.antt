@@ -1,6 +1,6 @@
 use Rattle.std.proofs.Common.{List, rules, subst, IsPermutation}
 use Rattle.std.proofs.lemmas.Fn.{always_returns_same}
-use Rattle.jr_plan.specs.PlanFacts.{IsPlanned}
+use Rattle.jr_model.specs.PlanFacts.{IsPlanned}
 use Rattle.jr_stats.proofs.SortedBads.{sorted_by_writes}
 use Rattle.jr_stats.proofs.reports.sorted_bads.Goals as goal
 use Rattle.jr_tallies.specs.declared.tallies.Bad.{Bad}

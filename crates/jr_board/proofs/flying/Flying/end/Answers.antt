@@ -2,8 +2,8 @@
 use Rattle.std.proofs.Common.{◌≡◌, List, ℕ, Some, sym, ap, subst, ◌∙◌}
 use Rattle.jr_model.specs.declared.events.Event.TheVariants.{End}
 use Rattle.jr_flight.specs.declared.ios.Io.{Io}
-use Rattle.jr_steps.proofs.StartedLemmas.{same_some}
-use Rattle.jr_steps.specs.Nexts.{grown}
+use Rattle.jr_laws_steps.proofs.StartedLemmas.{same_some}
+use Rattle.jr_laws_steps.specs.Nexts.{grown}
 use Rattle.jr_board.specs.Flyings.{IsFlying}
 use Rattle.jr_board.proofs.flying.Flying.end.Goals as goal
 use Rattle.jr_board.proofs.flying.Flying.end.Goals.{in_default-via-in-Some+else-io-id, in_default-via-in_default}

@@ -4,8 +4,8 @@ use Rattle.jr_model.specs.declared.events.Outcome.TheVariants.{Whole}
 use Rattle.jr_model.specs.declared.events.WriteId.{WriteId}
 use Rattle.jr_model.specs.Plan.{clone_of}
 use Rattle.jr_backlog.specs.Rounds.{with_passed}
-use Rattle.jr_standing.specs.Deferred.{Deferred, settled_round}
-use Rattle.jr_steps.specs.Nexts.{grown}
+use Rattle.jr_backlog.specs.Deferred.{Deferred, settled_round}
+use Rattle.jr_laws_steps.specs.Nexts.{grown}
 use Rattle.jr_board.specs.Standings.{IsStanding}
 use Rattle.jr_board.proofs.StandingMoves.{check_moves}
 use Rattle.jr_board.proofs.standings.Standing.checked.Goals as goal

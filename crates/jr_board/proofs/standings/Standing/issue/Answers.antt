@@ -3,7 +3,7 @@ use Rattle.std.specs.Prelude.{Option}
 use Rattle.std.proofs.lemmas.Bool.{false≢true}
 use Rattle.jr_model.specs.declared.events.WriteId.{WriteId}
 use Rattle.jr_model.specs.Machine.{seed_of_draw}
-use Rattle.jr_standing.specs.Deferred.{Deferred, with_draw}
+use Rattle.jr_backlog.specs.Deferred.{Deferred, with_draw}
 use Rattle.jr_board.proofs.IssueMoves.{IsReady, ready_rounds, at_draw, seed_at, stands_after, written, written_is}
 use Rattle.jr_board.proofs.standings.Standing.issue.Goals.{then-is_over, else-is_over}
 use Rattle.jr_board.proofs.standings.Standing.issue.Goals as goal

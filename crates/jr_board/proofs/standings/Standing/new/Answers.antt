@@ -1,6 +1,6 @@
 use Rattle.std.proofs.Common.{ℕ, refl, ap, ◌∙◌, None}
 use Rattle.jr_backlog.specs.Rounds.{new_round}
-use Rattle.jr_standing.specs.Deferred.{settled_round}
+use Rattle.jr_backlog.specs.Deferred.{settled_round}
 use Rattle.jr_board.proofs.IssueMoves.{first_standing}
 use Rattle.jr_board.proofs.standings.Standing.new.Goals as goal
 

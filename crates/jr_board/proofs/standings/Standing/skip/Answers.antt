@@ -3,8 +3,8 @@ use Rattle.std.specs.Vec.{with_item}
 use Rattle.std.proofs.lemmas.Option.{slice_get_read}
 use Rattle.jr_model.specs.declared.events.Event.TheVariants.{Skip}
 use Rattle.jr_model.specs.History.{same_write}
-use Rattle.jr_standing.specs.Deferred.{Deferred}
-use Rattle.jr_steps.specs.Nexts.{grown}
+use Rattle.jr_backlog.specs.Deferred.{Deferred}
+use Rattle.jr_laws_steps.specs.Nexts.{grown}
 use Rattle.jr_board.specs.Standings.{IsStanding}
 use Rattle.jr_board.proofs.StandingMoves.{skip_moves}
 use Rattle.jr_board.proofs.StartingStandings.{fewer_without}

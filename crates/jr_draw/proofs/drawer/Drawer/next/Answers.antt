@@ -1,5 +1,5 @@
 use Rattle.std.proofs.Common.{◌*◌, sym, ◌∙◌}
-use Rattle.jr_draw.proofs.DrawLaws.{draws_from-step, four_words}
+use Rattle.jr_laws_draws.proofs.DrawLaws.{draws_from-step, four_words}
 use Rattle.jr_draw.proofs.drawer.Drawer.next.Goals as goal
 
 pub returns-clause-draws : goal.returns-clause-draws

@@ -1,5 +1,5 @@
 use Rattle.std.proofs.Common.{◌==◌, ℕ, sym, ap, ◌∙◌}
-use Rattle.jr_draw.proofs.ChoiceLaws.{over-free_count}
+use Rattle.jr_laws_draws.proofs.DrawnCellsLaws.{over-free_count}
 use Rattle.jr_draw.proofs.places.Places.are_drawn.Goals as goal
 
 pub returns-in-Mapped : goal.returns-in-Mapped

@@ -3,4 +3,4 @@ use Rattle.jr_files.specs.Engines.{NamesFile}
 use Rattle.jr_files.proofs.shares.FileEngine+SharedFile.begin.Given as goal
 
 abbrev pub invariant-loop-index : goal.invariant-loop-index
-invariant-loop-index l = IfErr l.begun (λ fault. NamesFile fault (length l.self.files))
+invariant-loop-index l = IfErr l.begun (λ failed. NamesFile failed.fault (length l.self.files))

@@ -1,5 +1,5 @@
 use Rattle.std.proofs.Common.{◌++◌, IsPermutation, sym, subst}
-use Rattle.jr_handover.specs.declared.parcel.Hand.{Hand}
+use Rattle.jr_handover.specs.declared.parcel.PassState.{PassState}
 use Rattle.jr_handover.proofs.Steps.{accounts, settles}
 use Rattle.jr_handover.proofs.handoff.Handoff.account.Goals as goal
 
@@ -10,4 +10,4 @@ pub returns-clause-all_taken : goal.returns-clause-all_taken
 returns-clause-all_taken c =
     let left = c.learn_as.ensures.rule in
     λ as_many. settles _ _ left.0 as_many
-    (subst (λ (v : Hand). IsPermutation v.put (v.taken ++ left.0)) (sym c.learn_as.ensures.channel.2) left.1)
+    (subst (λ (v : PassState). IsPermutation v.put (v.taken ++ left.0)) (sym c.learn_as.ensures.channel.2) left.1)

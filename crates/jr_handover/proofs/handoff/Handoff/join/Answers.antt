@@ -1,6 +1,6 @@
 use Rattle.std.proofs.Common.{ap, ◌∙◌}
-use Rattle.jr_handover.specs.declared.parcel.Hand.{Hand}
-use Rattle.jr_handover.specs.Passes.{hand_of}
+use Rattle.jr_handover.specs.declared.parcel.PassState.{PassState}
+use Rattle.jr_handover.specs.Passes.{pass_state}
 use Rattle.jr_handover.proofs.Steps.{joins, joined-alike}
 use Rattle.jr_handover.proofs.handoff.Handoff.join.Goals as goal
 
@@ -10,5 +10,5 @@ absorb-requires-clause-rule c = joins _ _ _ _ c.requires.pass.parts
 pub returns-clause-parts : goal.returns-clause-parts
 returns-clause-parts c =
     let joined = c.absorb.ensures.rule in
-    λ alike. let same = joined-alike (hand_of c.args.pass.now) (hand_of c.args.other) alike in
-    (ap (λ (v : Hand). v.parts) joined ∙ same.0, ap (λ (v : Hand). v.of) joined ∙ same.1)
+    λ alike. let same = joined-alike (pass_state c.args.pass.now) (pass_state c.args.other) alike in
+    (ap (λ (v : PassState). v.parts) joined ∙ same.0, ap (λ (v : PassState). v.of) joined ∙ same.1)

@@ -1,6 +1,6 @@
 use Rattle.std.proofs.Common.{◌+◌, ap, ◌∙◌}
-use Rattle.jr_handover.specs.declared.parcel.Hand.{Hand}
-use Rattle.jr_handover.specs.Passes.{hand_of}
+use Rattle.jr_handover.specs.declared.parcel.PassState.{PassState}
+use Rattle.jr_handover.specs.Passes.{pass_state}
 use Rattle.jr_handover.proofs.Steps.{splits, cut-many}
 use Rattle.jr_handover.proofs.handoff.Handoff.split.Goals as goal
 
@@ -10,5 +10,5 @@ another-seat-requires-clause-rule c = splits _ _ c.requires.parts
 pub returns-clause-parts : goal.returns-clause-parts
 returns-clause-parts c =
     let kept = c.another-seat.ensures.rule.0 in
-    λ more. let same = cut-many (hand_of c.args.pass.now) more in
-    (ap (λ (v : Hand). v.parts + 1) kept ∙ same.0, ap (λ (v : Hand). v.of) kept ∙ same.1)
+    λ more. let same = cut-many (pass_state c.args.pass.now) more in
+    (ap (λ (v : PassState). v.parts + 1) kept ∙ same.0, ap (λ (v : PassState). v.of) kept ∙ same.1)

@@ -1,7 +1,7 @@
 use Rattle.std.proofs.Common.{◌≡◌, Bool, List, length, sym, ap, ◌∙◌, arith}
 use Rattle.jr_model.specs.CellSet.{free_run, with_cells, free_count}
 use Rattle.jr_map.specs.Levels.{flags_of}
-use Rattle.jr_map.proofs.CellFacts.{free_run-within, free_count-with_cells}
+use Rattle.jr_model.proofs.CellFacts.{free_run-within, free_count-with_cells}
 use Rattle.jr_map.proofs.MarkFacts.{grown}
 use Rattle.jr_map.proofs.FlagFacts.{length-flags_of, marked_beyond, MarksCells-beyond, taken_flags}
 use Rattle.jr_map.proofs.cells.CellMap.take.Goals as goal

@@ -5,7 +5,7 @@ use Rattle.jr_model.specs.Plan.{SubJob}
 use Rattle.jr_plan.specs.Clones.{planned_clone}
 use Rattle.jr_plan.specs.Drafts.{Clones, clone_fault}
 use Rattle.jr_plan.specs.Files.{with_file}
-use Rattle.jr_plan.specs.PlanFacts.{work_of}
+use Rattle.jr_model.specs.PlanFacts.{work_of}
 use Rattle.jr_plan.proofs.DraftLemmas.{lengths, drafted-push}
 use Rattle.jr_plan.proofs.LimitLemmas.{IsTaken, taken_of, limits_kept}
 use Rattle.jr_plan.proofs.drafts.Draft.push.Goals as goal

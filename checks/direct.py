@@ -1,0 +1,308 @@
+#!/usr/bin/env python3
+"""checks/direct.py [PROGRAM [CASE..]] runs the program (the built one where none is given) below bin/launch with direct=1, as root over loop
+devices, and looks that a device gets each block of the job as a request of its own and that what can't be direct is refused or said. What
+can't be tried here is skipped with a word. The status is 1 where something is wrong."""
+
+import contextlib
+import os
+import shutil
+import subprocess
+import sys
+import tempfile
+
+from disk import MIB, Skipped, Wrong, expect, job_of, loop_device, run, tmpfs, totals_of
+from drop import Launcher, launched
+from program import TOP, UNDROPPED
+
+PAGE = 4096
+REFUSED = "fiorun: cannot open the files\nfiorun: note: "
+# The places of a device's counts in its stat file. A flush stands among the writes too, with no sectors.
+FIELDS = {"reads": 0, "read_merges": 1, "read_sectors": 2, "writes": 4, "write_merges": 5, "write_sectors": 6, "flushes": 15}
+
+
+def requests_of(device):
+    """How many requests the device has had, and how many sectors of 512 bytes they had, each way."""
+    with open(f"/sys/block/{os.path.basename(device)}/stat", encoding="ascii") as it:
+        numbers = [int(word) for word in it.read().split()]
+    return {name: numbers[place] for name, place in FIELDS.items()}
+
+
+def counted(device, start):
+    before = requests_of(device)
+    ran = start()
+    after = requests_of(device)
+    got = {name: after[name] - before[name] for name in FIELDS}
+    got["writes"] -= got["flushes"]
+    return ran, got
+
+
+def device_job(device, size="1m", more=(), direct=1, **kinds):
+    lines = ["directory=/dev", f"direct={direct}", *more]
+    return job_of(size, lines, filename=os.path.basename(device), **kinds)
+
+
+@contextlib.contextmanager
+def sectors_of(image, size, sector):
+    """A loop device with sectors of so many bytes."""
+    with loop_device(image, size) as device:
+        subprocess.run(["losetup", "-d", device], capture_output=True, check=False)
+        words = ["losetup", "-b", str(sector), "-f", "--show", image]
+        made = subprocess.run(words, capture_output=True, text=True, check=False)
+        if made.returncode:
+            raise Skipped(f"no loop device with such sectors: {made.stderr.strip()}")
+        device = made.stdout.strip()
+        try:
+            yield device
+        finally:
+            subprocess.run(["losetup", "-d", device], capture_output=True, check=False)
+
+
+def went_well(ran, what):
+    expect((ran.returncode, ran.stderr) == (0, ""), f"{what}: status {ran.returncode}: {ran.stdout[:300]}{ran.stderr}")
+    return totals_of(ran.stdout)
+
+
+# What the device gets.
+
+JOBS = [
+    ("1m", ["bs=4k"]),
+    ("4m", ["bs=64k"]),
+    ("2m", ["bssplit=4k/50:16k/30:64k/20"]),
+    ("1m", ["bs=4k", "rw=randwrite", "iodepth=16"]),
+    ("1m", ["bs=512", "size=128k"]),
+    ("1m", ["bs=4k", "rw=randrw", "iodepth=8", "verify_backlog=7"]),
+]
+
+
+def each_block_is_a_request(program, room):
+    with loop_device(os.path.join(room, "image"), 16 * MIB) as device:
+        for size, more in JOBS:
+            for workers in (1, 8):
+                job = device_job(device, size, more)
+                ran, got = counted(device, lambda job=job, workers=workers: launched(program, room, job, f"--workers={workers}"))
+                what = f"{more}, {workers} workers"
+                totals = went_well(ran, what)
+                expect(totals["checks"] == totals["writes"] > 0, f"{what}: {ran.stdout}")
+                checked = totals["wbytes"]
+                wanted = {
+                    "reads": totals["reads"] + totals["checks"],
+                    "read_merges": 0,
+                    "read_sectors": (totals["rbytes"] + checked) // 512,
+                    "writes": totals["writes"],
+                    "write_merges": 0,
+                    "write_sectors": totals["wbytes"] // 512,
+                    # (before the run, and at its end)
+                    "flushes": 2,
+                }
+                expect(got == wanted, f"{what}: the device got {got}, and not {wanted}")
+
+
+def large_blocks_are_split_by_the_device_alone(program, room):
+    """Blocks of 1 MiB are one request each, or as many as the device's limits and the pages of memory make of them."""
+    with loop_device(os.path.join(room, "image"), 16 * MIB) as device:
+        with open(f"/sys/block/{os.path.basename(device)}/queue/max_segments", encoding="ascii") as it:
+            most = MIB // PAGE // min(int(it.read()), MIB // PAGE) + 2
+        for workers in (1, 8):
+            job = device_job(device, "8m", ["bs=1m", "iodepth=8"])
+            ran, got = counted(device, lambda job=job, workers=workers: launched(program, room, job, f"--workers={workers}"))
+            what = f"{workers} workers"
+            went_well(ran, what)
+            expect(got["write_sectors"] == got["read_sectors"] == 8 * MIB // 512, f"{what}: {got}")
+            expect(got["write_merges"] == got["read_merges"] == 0, f"{what}: {got}")
+            expect(all(8 <= got[way] <= 8 * most for way in ("writes", "reads")), f"{what}: {got}, at most {most} a block")
+
+
+def through_the_cache_it_gets_others(program, room):
+    with loop_device(os.path.join(room, "image"), 16 * MIB) as device:
+        job = device_job(device, direct=0)
+        ran, got = counted(device, lambda: launched(program, room, job, "--workers=1"))
+        went_well(ran, "direct=0")
+        expect(got["writes"] < 64, f"direct=0: {got}")
+        ran, got = counted(device, lambda: launched(program, room, device_job(device), "--cached", "--notes", "--workers=1"))
+        went_well(ran, "--cached")
+        expect(got["writes"] < 64, f"--cached: {got}")
+
+
+def all_else_is_the_same(program, room):
+    """Plan, report, trace and status are those of direct=0."""
+    with loop_device(os.path.join(room, "image"), 16 * MIB) as device:
+        for more in (["bs=4k"], ["bssplit=4k/50:16k/30:64k/20", "rw=randwrite", "verify_backlog=9"], ["bs=8k", "rw=randrw", "loops=2"]):
+            seen = []
+            for direct in (0, 1):
+                job = device_job(device, "1m", more, direct)
+                plan = launched(program, room, job, "--parse-only")
+                ran = launched(program, room, job, "--trace=trace", "--workers=1", "--notes")
+                went_well(ran, f"{more}")
+                with open(os.path.join(room, "trace"), encoding="ascii") as it:
+                    seen.append((plan.stdout, ran.stdout, it.read()))
+            expect(seen[0] == seen[1], f"{more}: direct=1 prints another plan, report or trace")
+
+
+def plain_files_go_past_the_cache(program, room):
+    """Files that are missing, too short, full and sparse, where the file system takes direct I/O."""
+    for kind in ("missing", "short", "full", "sparse"):
+        path = os.path.join(room, kind)
+        if kind != "missing":
+            with open(path, "wb") as it:
+                it.write(bytes({"short": 100, "full": MIB}.get(kind, 0)))
+                it.truncate({"short": 100}.get(kind, MIB))
+        for workers in (1, 4):
+            ran = launched(program, room, job_of("1m", ["direct=1"], filename=kind), "--notes", f"--workers={workers}")
+            if "takes no direct I/O" in ran.stderr:
+                raise Skipped("the file system takes none")
+            totals = went_well(ran, kind)
+            expect(totals["good"] == 256, f"{kind}: {ran.stdout}")
+
+
+# What can't be.
+
+
+def refused(ran, note, what):
+    got = (ran.returncode, ran.stdout, ran.stderr)
+    expect(got == (3, "", REFUSED + note + "\n"), f"{what}: status {ran.returncode}: {ran.stdout}{ran.stderr}")
+
+
+def parts_of_sectors_are_refused(program, room):
+    with sectors_of(os.path.join(room, "image"), 4 * MIB, PAGE) as device:
+        note = f"direct=1 needs whole sectors, of 4096 bytes in {device}: not in [w]"
+        for more in (["bs=512"], ["bs=4k", "offset=512"], ["bssplit=512/50:4k/50"], ["bs=4k", "numjobs=2", "offset_increment=4608"]):
+            ran, got = counted(device, lambda more=more: launched(program, room, device_job(device, "1m", more), "--notes"))
+            refused(ran, note, f"{more}")
+            expect(got["writes"] == 0, f"{more}: {got}")
+        for workers in (1, 8):
+            job = device_job(device, "1m", ["bs=4k"])
+            ran, got = counted(device, lambda job=job, workers=workers: launched(program, room, job, f"--workers={workers}"))
+            went_well(ran, "bs=4k")
+            expect((got["writes"], got["reads"]) == (256, 256), f"bs=4k, {workers} workers: {got}")
+
+
+def a_file_system_without_direct_calls_is_refused(program, room):
+    if os.geteuid() != 0:
+        raise Skipped("not root")
+    folder = os.path.join(room, "ram")
+    os.mkdir(folder)
+    if subprocess.run(["mount", "-t", "ramfs", "ramfs", folder], capture_output=True, check=False).returncode:
+        raise Skipped("no ramfs can be mounted")
+    try:
+        job = job_of("1m", [f"directory={folder}", "direct=1"])
+        note = f"direct=1 can't be had of {folder}/f: its file system takes no direct I/O"
+        refused(launched(program, room, job, "--notes"), note, "ramfs")
+        expect(not os.listdir(folder), "the file that was made stays")
+        ran = launched(program, room, job)
+        expect((ran.returncode, ran.stderr) == (3, "fiorun: cannot open the files\n"), f"no notes: {ran}")
+    finally:
+        subprocess.run(["umount", folder], capture_output=True, check=False)
+
+
+def failed_in(trace):
+    """The letters of the I/Os that failed or stayed short: I for a read or write of the job, P for a check."""
+    letters, failed = [], set()
+    with open(trace, encoding="ascii") as it:
+        for line in it:
+            word = line.split()
+            if word[0] in "IP":
+                letters.append(word[0])
+            elif word[0] == "E" and word[3] != "whole":
+                failed.add(letters[int(word[2])])
+    return failed
+
+
+def a_device_that_is_full_fails_the_write(program, room):
+    """A device of 16 MiB that stores one: the first I/O that fails is a write."""
+    with tmpfs(room, "1m") as folder, loop_device(os.path.join(folder, "image"), 16 * MIB) as device:
+        for workers in (1, 4):
+            job = device_job(device, "16m", ["iodepth=8"])
+            ran = launched(program, room, job, f"--workers={workers}", "--trace=trace")
+            expect(ran.returncode == 1, f"status {ran.returncode}: {ran.stdout}{ran.stderr}")
+            totals = totals_of(ran.stdout)
+            expect(totals["faults"] > 0 and totals["bad"] == 0 and totals["writes"] < 4096, f"{workers} workers: {ran.stdout}")
+            failed = failed_in(os.path.join(room, "trace"))
+            expect(failed == {"I"}, f"{workers} workers: what failed is {failed}")
+
+
+def what_goes_through_the_cache_is_said(program, room):
+    """Jobs that disagree over one file, no launcher, and one that isn't allowed to."""
+    with loop_device(os.path.join(room, "image"), 16 * MIB) as device:
+        cached = f"fiorun: note: {device} goes through the system's cache: "
+        apart = device_job(device, "512k") + job_of("512k", ["directory=/dev", "offset=512k"], filename=os.path.basename(device))
+        needs_more = cached + "direct=1 needs bin/fiorun, with perl, and a system that lets it\n"
+
+        def alone(job, *words):
+            return run(program, room, job, *words)
+
+        def below(job, *words):
+            return launched(program, room, job, *words)
+
+        def not_allowed(job, *words):
+            it = Launcher(program, room, job, *words)
+            it.answer_all(lambda asked, path: b"!")
+            return it.ended()
+
+        for start, job, note in (
+            (below, apart, cached + "its jobs disagree on direct\n"),
+            (alone, device_job(device), needs_more + UNDROPPED),
+            (not_allowed, device_job(device), needs_more + DROPPED),
+        ):
+            for words in (("--workers=1",), ("--workers=4",)):
+                ran, got = counted(device, lambda start=start, job=job, words=words: start(job, *words, "--notes"))
+                what = f"{note}, {words}"
+                expect((ran.returncode, ran.stderr) == (0, note), f"{what}: status {ran.returncode}: {ran.stdout}{ran.stderr}")
+                expect(got["writes"] < 64, f"{what}: {got}")
+                ran = start(job, *words)
+                expect((ran.returncode, ran.stderr) == (0, ""), f"{what}, no notes: {ran.stderr}")
+
+
+DROPPED = "fiorun: note: a file wasn't dropped from the system's cache, which may have answered checks\n"
+
+
+def engines_without_files_take_no_notice(program, room):
+    for engine in ("memory", "null"):
+        seen = [
+            (ran.returncode, ran.stdout, ran.stderr)
+            for direct in (0, 1)
+            for ran in [launched(program, room, f"[w]\nioengine={engine}\nrw=write\nsize=1m\ndirect={direct}\n", "--notes")]
+        ]
+        expect(seen[0] == seen[1] and seen[0][0] == 0, f"{engine}: {seen}")
+
+
+CASES = [
+    each_block_is_a_request,
+    large_blocks_are_split_by_the_device_alone,
+    through_the_cache_it_gets_others,
+    all_else_is_the_same,
+    plain_files_go_past_the_cache,
+    parts_of_sectors_are_refused,
+    a_file_system_without_direct_calls_is_refused,
+    a_device_that_is_full_fails_the_write,
+    what_goes_through_the_cache_is_said,
+    engines_without_files_take_no_notice,
+]
+
+
+def tried(case, program):
+    """Is the case as it must be? Says what isn't."""
+    name = case.__name__.replace("_", " ")
+    with tempfile.TemporaryDirectory(prefix="direct-", dir="/var/tmp") as room:
+        try:
+            case(program, room)
+        except Skipped as why:
+            print(f"direct: skipped: {name}: {why}")
+        except (Wrong, OSError, KeyError, subprocess.SubprocessError) as why:
+            print(f"direct: FAILED: {name}: {type(why).__name__} {why}")
+            return False
+    return True
+
+
+def main(words):
+    if not shutil.which("perl"):
+        print("direct: skipped: there is no perl")
+        return 0
+    program = os.path.realpath(words[0] if words else os.path.join(TOP, "crates", "fiorun", "out", "fiorun"))
+    chosen = [case for case in CASES if len(words) < 2 or case.__name__ in words[1:]]
+    failed = [case for case in chosen if not tried(case, program)]
+    print(f"direct: {len(chosen)} cases, {len(failed)} failed")
+    return 1 if failed else 0
+
+
+if __name__ == "__main__":
+    sys.exit(main(sys.argv[1:]))

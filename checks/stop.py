@@ -1,0 +1,411 @@
+#!/usr/bin/env python3
+"""checks/stop.py [PROGRAM [COUNT [CASE..]]] stops runs of the program (the built one where none is given) COUNT times (30) at random
+moments, below bin/launch and by a pipe of its own, and looks that each ends soon, that what it had begun has ended and what was to be
+judged is, and that its report is that of its trace. Then come signals at a terminal, `timeout`, and a launcher that is killed. The status
+is 1 where something is wrong. SEED chooses other moments."""
+
+import concurrent.futures
+import contextlib
+import os
+import pty
+import random
+import re
+import select
+import shutil
+import signal
+import subprocess
+import sys
+import tempfile
+import termios
+import time
+
+from program import FIELDS, Skipped, Wrong, expect, find_program
+
+HERE = os.path.dirname(os.path.realpath(__file__))
+LAUNCH = os.path.join(HERE, "..", "bin", "launch")
+SECONDS = 120
+INTERRUPTED = b"fiorun: interrupted\n"
+ALREADY = os.environ.get("SEED", str(random.randrange(1 << 32)))
+
+
+# What a trace says, counted again.
+
+
+class Counted:
+    """What a trace's lines say: what was started, how it ended, and what was said of it."""
+
+    def __init__(self, text):
+        self.started, self.ends, self.verdicts, self.skips = [], {}, {}, 0
+        for line in text.splitlines():
+            kind, _, *rest = line.split(" ")
+            if kind in "IP":
+                expect(int(rest[0]) == len(self.started), "another number:", line)
+                self.started.append((kind, int(rest[1]), tuple(rest[1:4])))
+            elif kind == "E":
+                expect(int(rest[0]) not in self.ends, "ended twice:", line)
+                self.ends[int(rest[0])] = rest[1]
+            elif kind == "V":
+                expect(int(rest[0]) not in self.verdicts, "judged twice:", line)
+                self.verdicts[int(rest[0])] = rest[1]
+            else:
+                expect(kind == "S", "no such line:", line)
+                self.skips += 1
+
+    def unended(self):
+        return [io for io in range(len(self.started)) if io not in self.ends]
+
+    def unjudged(self):
+        return [
+            io
+            for io, (kind, *_) in enumerate(self.started)
+            if kind == "P" and self.ends.get(io) == "whole" and io not in self.verdicts
+        ]
+
+
+def totals_of(report):
+    """The sums of the report's lines."""
+    sums = dict.fromkeys(FIELDS, 0)
+    for line in report.decode().splitlines():
+        if re.match(r"\S+: clone=\d+ ", line):
+            for name, value in re.findall(r"(\w+)=(\d+)", line):
+                if name in sums:
+                    sums[name] += int(value)
+    return sums
+
+
+def looked_at(ended, trace, what):
+    """Is the trace that of a run that was ended in order, and the report that of the trace? True where it was stopped halfway."""
+    with open(trace, encoding="ascii") as it:
+        counted = Counted(it.read())
+    expect(not counted.unended(), f"{what}: in flight:", counted.unended()[:9])
+    expect(not counted.unjudged(), f"{what}: not judged:", counted.unjudged()[:9])
+    sums = totals_of(ended.stdout)
+    good = sum(it == "good" for it in counted.verdicts.values())
+    wrong = len(counted.verdicts) - good
+    faults = sum(it != "whole" for it in counted.ends.values())
+    own = sum(kind == "I" for kind, *_ in counted.started)
+    expect(sums["reads"] + sums["writes"] + sum(
+        counted.ends[io] != "whole" for io, (kind, *_) in enumerate(counted.started) if kind == "I"
+    ) == own, f"{what}: I/Os of the report and of the trace:", sums, own)
+    want = (len(counted.verdicts), good, wrong, counted.skips, faults)
+    told = tuple(sums[it] for it in ("checks", "good", "bad", "skipped", "faults"))
+    expect(told == want, f"{what}: the report's checks, good, bad, skipped and faults {told}, the trace's {want}")
+    halfway = INTERRUPTED in ended.stderr
+    status = 1 if wrong or faults else 130 if halfway else 0
+    expect(ended.returncode == status, f"{what}: status {ended.returncode}, not {status}: {ended.stderr}")
+    expect(ended.stderr in (b"", INTERRUPTED), f"{what}: said {ended.stderr}")
+    return halfway
+
+
+def checked_again(program, room, trace, halfway, is_twice, what):
+    """`--check-trace --interrupted` takes it, and by itself it says whether there is more to come."""
+    words = [program, f"--check-trace={trace}", "job"]
+    if is_twice:
+        plain = subprocess.run(words, cwd=room, capture_output=True, check=False, timeout=SECONDS)
+        expect(plain.returncode == (2 if halfway else 0), f"{what}: the check of the trace ends with {plain.returncode}: {plain.stderr}")
+    part = subprocess.run([*words, "--interrupted"], cwd=room, capture_output=True, check=False, timeout=SECONDS)
+    expect(part.returncode == 0 and part.stdout, f"{what}: --interrupted ends with {part.returncode}: {part.stderr}")
+    return part.stdout
+
+
+# Jobs that are stopped at a moment by chance.
+
+
+def job_at_random(chance):
+    """A job that takes some seconds, and how it is run: its text, the words, and whether its blocks come back wrong."""
+    engine = chance.choice(("memory", "psync", "null"))
+    size = chance.choice((512, 4096, 65536, 1 << 20))
+    lines = [
+        "[global]",
+        f"ioengine={engine}",
+        f"bs={size}",
+        f"rw={chance.choice(('write', 'randwrite', 'randrw', 'rw'))}",
+        f"size={min(size * 2000, 8 << 20)}",
+        f"loops={chance.choice((100, 300))}",
+        f"iodepth={chance.choice((1, 4, 32))}",
+        # (what an engine of zeros gives back is wrong)
+        f"verify={chance.choice(('md5', 'sha256', 'pattern' + chr(10) + 'verify_pattern=0x5a'))}",
+        f"verify_backlog={chance.choice((1, 16, 1000))}",
+        "verify_fatal=0",
+        f"verify_async={chance.choice((0, 2))}",
+        "[a]",
+        f"numjobs={chance.choice((1, 2))}",
+    ]
+    lines = [it for it in lines if it != "verify_async=0"]
+    return "\n".join(lines) + "\n", [f"--workers={chance.choice((1, 4, 16))}"]
+
+
+def by_signal(program, words, room, moment, chance):
+    """Stops a run below the launcher by a signal; how long it took to end."""
+    with subprocess.Popen(
+        [LAUNCH, program, *words], cwd=room, stdin=subprocess.DEVNULL, stdout=subprocess.PIPE, stderr=subprocess.PIPE
+    ) as it:
+        time.sleep(moment)
+        asked = time.monotonic()
+        it.send_signal(chance.choice((signal.SIGINT, signal.SIGTERM, signal.SIGHUP)))
+        out, err = it.communicate(timeout=SECONDS)
+    return subprocess.CompletedProcess(words, it.returncode, out, err), time.monotonic() - asked
+
+
+def by_pipe(program, words, room, moment, _chance):
+    """The same with no launcher, by the end of a pipe."""
+    reading, writing = os.pipe()
+    with subprocess.Popen(
+        [program, f"--stop-fd={reading}", *words],
+        cwd=room,
+        pass_fds=[reading],
+        stdin=subprocess.DEVNULL,
+        stdout=subprocess.PIPE,
+        stderr=subprocess.PIPE,
+    ) as it:
+        os.close(reading)
+        time.sleep(moment)
+        asked = time.monotonic()
+        os.close(writing)
+        out, err = it.communicate(timeout=SECONDS)
+    return subprocess.CompletedProcess(words, it.returncode, out, err), time.monotonic() - asked
+
+
+def stopped_once(program, number):
+    """Stops one run: whether it was halfway, and how long it took to end."""
+    chance = random.Random(f"{ALREADY} {number}")
+    with tempfile.TemporaryDirectory(prefix="stop-") as room:
+        text, words = job_at_random(chance)
+        with open(os.path.join(room, "job"), "w", encoding="ascii") as it:
+            it.write(text)
+        stop = chance.choice((by_signal, by_pipe))
+        if stop is by_signal and not shutil.which("perl"):
+            stop = by_pipe
+        moment = chance.choice((0, 0.05, 0.15)) + chance.random() * 0.2
+        words = [*words, "--cached", "--trace=trace", "job"]
+        what = f"stop {number} (SEED={ALREADY}), {stop.__name__}, after {moment:.2f} s, {words}, {text!r}"
+        ended, took = stop(program, words, room, moment, chance)
+        if ended.returncode < 0 and not ended.stdout:
+            # (the signal came before the launcher had begun)
+            return False, 0
+        halfway = looked_at(ended, os.path.join(room, "trace"), what)
+        expect(checked_again(program, room, "trace", halfway, number % 3 == 0, what) == totals_only(ended.stdout), f"{what}: other totals")
+        return halfway, took
+
+
+def totals_only(report):
+    return b"".join(it for it in report.splitlines(keepends=True) if re.match(rb"(?!miscompare: )\S+: clone=\d+ ", it))
+
+
+def random_stops(program, count):
+    halfway, slowest = 0, (0.0, 0)
+    with concurrent.futures.ThreadPoolExecutor(3) as pool:
+        for number, (stopped, took) in enumerate(pool.map(lambda number: stopped_once(program, number), range(count))):
+            halfway += stopped
+            slowest = max(slowest, (took, number))
+    took, number = slowest
+    print(f"stop: SEED={ALREADY}: {count} stops, {halfway} of them halfway; the slowest, number {number}, ended after {took:.2f} s")
+    expect(halfway > count // 3, f"only {halfway} of {count} runs were stopped halfway")
+
+
+# Signals, a terminal, and others who stop a run.
+
+LONG = "[w]\nioengine=null\nrw=write\nbs=4k\nsize=64m\nloops=900\nverify=md5\nverify_backlog=64\nverify_fatal=0\n"
+PLAIN = "[w]\nioengine=null\nrw=write\nbs=4k\nsize=64m\nloops=900\n"
+
+
+def with_job(room, text):
+    with open(os.path.join(room, "job"), "w", encoding="ascii") as it:
+        it.write(text)
+
+
+def needs_perl():
+    if not shutil.which("perl"):
+        raise Skipped("there is no perl")
+
+
+def timeout_reports(program, room):
+    needs_perl()
+    for text in (PLAIN, LONG):
+        with_job(room, text)
+        words = ["timeout", "--preserve-status", "1", LAUNCH, program, "job"]
+        ran = subprocess.run(words, cwd=room, capture_output=True, check=False, timeout=SECONDS)
+        sums = totals_of(ran.stdout)
+        status = 1 if sums["bad"] else 130
+        expect((ran.returncode, ran.stderr) == (status, INTERRUPTED), f"status {ran.returncode}: {ran.stderr}")
+        expect(sums["writes"] > 0, f"no report: {ran.stdout}")
+
+
+def a_killed_launcher_leaves_a_report(program, room):
+    needs_perl()
+    with_job(room, PLAIN)
+    with open(os.path.join(room, "out"), "w+b") as out:
+        with subprocess.Popen([LAUNCH, program, "job"], cwd=room, stdin=subprocess.DEVNULL, stdout=out, stderr=subprocess.STDOUT) as it:
+            time.sleep(1)
+            it.kill()
+        deadline = time.monotonic() + 10
+        while INTERRUPTED not in (said := open(os.path.join(room, "out"), "rb").read()):
+            expect(time.monotonic() < deadline, f"no report: {said}")
+            time.sleep(0.05)
+        expect(totals_of(said)["writes"] > 0, f"no report: {said}")
+
+
+def a_second_signal_kills(program, room):
+    """At once, though the program doesn't answer the first one; and one that comes at once behind the first is the same."""
+    needs_perl()
+    with_job(room, PLAIN)
+    for name in ("INT", "TERM", "HUP"):
+        number = signal.Signals["SIG" + name]
+        with subprocess.Popen([LAUNCH, program, "job"], cwd=room, stdin=subprocess.DEVNULL, stdout=subprocess.PIPE) as it:
+            time.sleep(0.5)
+            child = int(subprocess.run(["pgrep", "-P", str(it.pid)], capture_output=True, text=True, check=True).stdout)
+            os.kill(child, signal.SIGSTOP)
+            it.send_signal(number)
+            time.sleep(0.1)
+            it.send_signal(number)
+            time.sleep(0.8)
+            expect(it.poll() is None, f"{name}: a signal that came twice at once killed the program")
+            it.send_signal(number)
+            out = it.communicate(timeout=SECONDS)[0]
+        expect((it.returncode, out) == (-number, b""), f"{name}: status {it.returncode}: {out}")
+
+
+def ignored_signals_stay_ignored(program, room):
+    """As below nohup."""
+    needs_perl()
+    with_job(room, PLAIN)
+    with subprocess.Popen(
+        [LAUNCH, program, "job"],
+        cwd=room,
+        stdin=subprocess.DEVNULL,
+        stdout=subprocess.PIPE,
+        stderr=subprocess.PIPE,
+        preexec_fn=lambda: signal.signal(signal.SIGHUP, signal.SIG_IGN),
+        restore_signals=False,
+    ) as it:
+        time.sleep(0.5)
+        it.send_signal(signal.SIGHUP)
+        time.sleep(0.5)
+        expect(it.poll() is None, "ended by a signal that was ignored")
+        it.send_signal(signal.SIGTERM)
+        out, err = it.communicate(timeout=SECONDS)
+    expect((it.returncode, err) == (130, INTERRUPTED) and out, f"status {it.returncode}: {err}")
+
+
+def other_values_are_refused(program, room):
+    """A pipe that isn't there, and one that stays open until the run has ended."""
+    with_job(room, PLAIN.replace("loops=900\n", ""))
+    for value in ("99", "x", ""):
+        ran = subprocess.run([program, f"--stop-fd={value}", "job"], cwd=room, capture_output=True, check=False, timeout=SECONDS)
+        expect((ran.returncode, ran.stdout) == (3, b""), f"--stop-fd={value}: status {ran.returncode}: {ran.stdout}{ran.stderr}")
+    reading, writing = os.pipe()
+    words = [program, f"--stop-fd={reading}", "job"]
+    ran = subprocess.run(words, cwd=room, pass_fds=[reading], capture_output=True, check=False, timeout=SECONDS)
+    os.close(reading)
+    os.close(writing)
+    expect((ran.returncode, ran.stderr) == (0, b""), f"a pipe that stays open: status {ran.returncode}: {ran.stderr}")
+    expect(totals_of(ran.stdout)["writes"] == 16384, f"no whole run: {ran.stdout}")
+
+
+class Terminal:
+    """A shell with job control at a terminal of its own."""
+
+    def __init__(self, room):
+        self.said = b""
+        self.pid, self.end = pty.fork()
+        if not self.pid:
+            os.chdir(room)
+            os.execvpe("bash", ["bash", "--norc", "--noprofile", "-i"], {**os.environ, "PS1": "ready> ", "HISTFILE": "", "TERM": "dumb"})
+        modes = termios.tcgetattr(self.end)
+        modes[3] &= ~termios.ECHO
+        termios.tcsetattr(self.end, termios.TCSANOW, modes)
+
+    def until(self, wanted):
+        """All that is said until this is, and with it."""
+        deadline = time.monotonic() + SECONDS
+        while not (found := re.search(wanted, self.said)):
+            expect(time.monotonic() < deadline, f"not said: {wanted!r}, but", self.said[-300:])
+            if select.select([self.end], [], [], 0.2)[0]:
+                self.said += os.read(self.end, 4096)
+        front, self.said = self.said[: found.end()], self.said[found.end() :]
+        return front
+
+    def types(self, text):
+        os.write(self.end, text)
+
+    def close(self):
+        with contextlib.suppress(OSError):
+            os.kill(self.pid, signal.SIGKILL)
+        os.waitpid(self.pid, 0)
+        os.close(self.end)
+
+
+def at_a_terminal(program, room):
+    """Ctrl-C reports on a line of its own; Ctrl-Z and fg go on; two Ctrl-C end at once."""
+    needs_perl()
+    with_job(room, PLAIN)
+    terminal = Terminal(room)
+    try:
+        terminal.until(b"ready> ")
+        command = f"{LAUNCH} {program} job; echo ended=$?\n".encode()
+        for pause in (0.4, 1.6):
+            terminal.types(command)
+            time.sleep(pause)
+            terminal.types(b"\x03")
+            said = terminal.until(rb"ended=\d+\r\n")
+            lines = said.split(b"\r\n")
+            expect(lines[-2] == b"ended=130", "Ctrl-C:", said)
+            shown = [re.sub(rb".*\r\x1b\[K", b"", it) for it in lines]
+            expect(any(it.startswith(b"w: clone=0 ") for it in shown), "no report on a line of its own:", said)
+            expect(b"fiorun: interrupted" in shown, "not said on a line of its own:", said)
+            terminal.until(b"ready> ")
+        terminal.types(command)
+        time.sleep(0.4)
+        terminal.types(b"\x1a")
+        terminal.until(b"Stopped")
+        terminal.until(b"ready> ")
+        terminal.types(b"fg\n")
+        time.sleep(0.8)
+        terminal.types(b"\x03")
+        terminal.until(rb"fiorun: interrupted\r\n")
+        terminal.until(b"ready> ")
+    finally:
+        terminal.close()
+
+
+CASES = [
+    timeout_reports,
+    a_killed_launcher_leaves_a_report,
+    a_second_signal_kills,
+    ignored_signals_stay_ignored,
+    other_values_are_refused,
+    at_a_terminal,
+]
+
+
+def tried(case, program):
+    """Is the case as it must be? Says what isn't."""
+    name = case.__name__.replace("_", " ")
+    with tempfile.TemporaryDirectory(prefix="stop-") as room:
+        try:
+            case(program, room)
+        except Skipped as why:
+            print(f"stop: skipped: {name}: {why}")
+        except (Wrong, OSError, subprocess.SubprocessError) as why:
+            print(f"stop: FAILED: {name}: {type(why).__name__} {why}")
+            return False
+    return True
+
+
+def main(words):
+    program = find_program(words[0] if words else None, "stop")
+    count = int(words[1]) if len(words) > 1 else 30
+    chosen = [case for case in CASES if len(words) < 3 or case.__name__ in words[2:]]
+    failed = [case for case in chosen if not tried(case, program)]
+    try:
+        if count:
+            random_stops(program, count)
+    except (Wrong, OSError, subprocess.SubprocessError) as why:
+        print(f"stop: FAILED: {type(why).__name__} {why}")
+        failed.append(random_stops)
+    print(f"stop: {len(chosen)} cases, {len(failed)} failed")
+    return 1 if failed else 0
+
+
+if __name__ == "__main__":
+    sys.exit(main(sys.argv[1:]))

@@ -1,0 +1,287 @@
+// Runs of a plan over its kind of engine.
+ghost use Rattle.std.specs.Prelude.{◌≤◌, ◌^◌};
+
+use crate::asked::asked_by;
+use crate::files::{Taken, is_taken, take_files};
+use crate::show::{Extent, Screen, shown};
+use crate::stops::Stop;
+use jr_cli::{Choice, CliFault, Ended, StopFlag, execute, execute_serial};
+use jr_direct::Wish;
+use jr_engines::{Engine, MemoryEngine, NullEngine, SharedMemory};
+use jr_files::{FileEngine, SharedFile};
+use jr_model::EngineKind;
+use jr_plan::Plan;
+use std::alloc::Global;
+use std::fs::{File, Files};
+use std::io::BufWriter;
+use std::sync::{Arc, Wait};
+use std::thread::Threads;
+use std::time::Clock;
+use std::{fs, io};
+
+// How far the program gets by itself: to its end with this status, to the end of a run, or to a run whose workers share a memory.
+#[derive(Drop)]
+pub enum Turn {
+    Ended(u8),
+    Ran(Ended),
+    Shared(SharedRun),
+}
+
+// A run whose workers share a memory: the plan, how many they are, the file that the trace goes to, and what asks it to stop.
+#[derive(Drop)]
+pub struct SharedRun {
+    pub plan: Plan,
+    pub workers: u32,
+    events: Option<BufWriter<File>>,
+    stop: Option<Arc<StopFlag, Global>>,
+}
+
+// The file that the trace of a run goes to, made anew, where one is asked for.
+fn trace_file<R: Files + AllocGlobal>(
+    rt: &R,
+    trace: Option<&str>,
+) -> Result<Option<BufWriter<R::File>>, Stop> {
+    let Some(path) = trace else {
+        return Ok(None);
+    };
+    match fs::create(rt, path) {
+        Ok(file) => match BufWriter::new(rt.alloc(), file) {
+            Ok(events) => Ok(Some(events)),
+            Err(_) => Err(Stop::from(CliFault::Memory)),
+        },
+        Err(error) => Err(Stop::trace_file(rt.alloc(), path, error)),
+    }
+}
+
+// Runs the plan over its kind of engine, but for one over a memory that several workers share.
+pub fn run_plan<
+    R: Files<File = File> + Screen + AllocGlobal + Clock + Threads + Wait + Sync,
+    V: io::Write,
+>(
+    rt: &R,
+    choice: &Choice<'_>,
+    wishes: &[Wish],
+    plan: Plan,
+    workers: u32,
+    out: &mut V,
+) -> Result<Turn, Stop> {
+    let is_over = |path| is_taken(rt, path, choice.job, &plan);
+    if plan.engine() == EngineKind::File && choice.trace.is_some_and(is_over) {
+        return Err(Stop::trace());
+    }
+    let stop = asked_by(rt, choice.stop_fd)?;
+    if workers == 1 && plan.verifiers() == 0 {
+        let stop = stop.as_deref();
+        return Ok(Turn::Ran(run_alone(rt, choice, stop, wishes, plan, out)?));
+    }
+    let trace = choice.trace;
+    match plan.engine() {
+        EngineKind::File => {
+            let files = take_files(rt, &plan, choice, wishes)?;
+            let events = trace_file(rt, trace)?;
+            let engines = file_engines(rt, &files, workers)?;
+            let ended = run_files(rt, stop.as_deref(), plan, engines, events, out)?;
+            Ok(Turn::Ran(files.settled(rt, ended)?))
+        }
+        EngineKind::Memory => {
+            let events = trace_file(rt, trace)?;
+            Ok(Turn::Shared(SharedRun {
+                plan,
+                workers,
+                events,
+                stop,
+            }))
+        }
+        EngineKind::Null => {
+            let events = trace_file(rt, trace)?;
+            Ok(Turn::Ran(run_nulls(rt, stop.as_deref(), plan, workers, events, out)?))
+        }
+    }
+}
+
+// Runs the plan with one worker, which judges its own checks.
+fn run_alone<
+    R: Files<File = File> + Screen + AllocGlobal + Clock + Threads + Wait + Sync,
+    V: io::Write,
+>(
+    rt: &R,
+    choice: &Choice<'_>,
+    stop: Option<&StopFlag>,
+    wishes: &[Wish],
+    plan: Plan,
+    out: &mut V,
+) -> Result<Ended, Stop> {
+    let trace = choice.trace;
+    match plan.engine() {
+        EngineKind::File => {
+            let files = take_files(rt, &plan, choice, wishes)?;
+            let mut engine = files.engine(rt, 0)?;
+            files.begin(rt, &engine);
+            let events = trace_file(rt, trace)?;
+            let ended = run_over(rt, stop, events, plan, &mut engine, out)?;
+            files.settled(rt, ended)
+        }
+        EngineKind::Memory => {
+            let mut engine = match MemoryEngine::new(rt.alloc(), &plan) {
+                Ok(engine) => engine,
+                Err(_) => return Err(Stop::from(CliFault::Memory)),
+            };
+            let events = trace_file(rt, trace)?;
+            Ok(run_over(rt, stop, events, plan, &mut engine, out)?)
+        }
+        EngineKind::Null => {
+            let mut engine = NullEngine::new();
+            let events = trace_file(rt, trace)?;
+            Ok(run_over(rt, stop, events, plan, &mut engine, out)?)
+        }
+    }
+}
+
+// The engines of so many workers over the files, which the first of them drops from the system's cache.
+fn file_engines<R: Files<File = File> + AllocGlobal + Eprint>(
+    rt: &R,
+    files: &Taken<'_>,
+    workers: u32,
+) -> Result<Vec<FileEngine<SharedFile>>, CliFault> {
+    let mut engines = Vec::new(rt.alloc());
+    for place in 0..workers as usize {
+        let engine = files.engine(rt, place)?;
+        if place == 0 {
+            files.begin(rt, &engine);
+        }
+        add(&mut engines, engine)?;
+    }
+    Ok(engines)
+}
+
+pub fn boxed<X: Drop>(alloc: Global, one: X) -> Result<Box<X>, CliFault> {
+    match Box::new(alloc, one) {
+        Ok(made) => Ok(made),
+        Err(_) => Err(CliFault::Memory),
+    }
+}
+
+// Puts it behind the last one.
+pub fn add<X: Drop>(all: &mut Vec<X>, one: X) -> Result<(), CliFault> {
+    match all.push(one) {
+        Ok(()) => Ok(()),
+        Err(_) => Err(CliFault::Memory),
+    }
+}
+
+// Runs the plan over this engine with one worker, and writes the report and then the trace where one is asked for.
+fn run_over<R: Screen + AllocGlobal + Clock + Threads + Wait + Sync, V: io::Write>(
+    rt: &R,
+    stop: Option<&StopFlag>,
+    events: Option<BufWriter<File>>,
+    plan: Plan,
+    engine: &mut dyn Engine,
+    out: &mut V,
+) -> Result<Ended, CliFault>
+    requires { (state engine.old).calls ≤ 2 ^ 63 }
+{
+    let alloc = rt.alloc();
+    shown(
+        rt,
+        Extent::of(&plan),
+        stop,
+        move |watch| -> Result<Ended, CliFault>
+            requires { (state engine.now).calls ≤ 2 ^ 63 }
+        {
+            match events {
+                None => {
+                    let none = None::<&mut Vec<u8>>;
+                    execute_serial(alloc, plan, engine, watch, none, out)
+                }
+                Some(mut events) => {
+                    execute_serial(alloc, plan, engine, watch, Some(&mut events), out)
+                }
+            }
+        },
+    )
+}
+
+// Runs the plan over the system's files, with a worker for each of these engines.
+fn run_files<R: Screen + AllocGlobal + Clock + Threads + Wait + Sync, V: io::Write>(
+    rt: &R,
+    stop: Option<&StopFlag>,
+    plan: Plan,
+    shares: Vec<FileEngine<SharedFile>>,
+    events: Option<BufWriter<File>>,
+    out: &mut V,
+) -> Result<Ended, CliFault> {
+    let mut engines: Vec<Box<dyn Engine + Send>> = Vec::new(rt.alloc());
+    for engine in shares {
+        add(&mut engines, boxed(rt.alloc(), engine)?)?;
+    }
+    run_with(rt, stop, plan, engines, events, out)
+}
+
+// Runs the plan over nothing, with so many workers.
+fn run_nulls<R: Screen + AllocGlobal + Clock + Threads + Wait + Sync, V: io::Write>(
+    rt: &R,
+    stop: Option<&StopFlag>,
+    plan: Plan,
+    workers: u32,
+    events: Option<BufWriter<File>>,
+    out: &mut V,
+) -> Result<Ended, CliFault> {
+    let mut engines: Vec<Box<dyn Engine + Send>> = Vec::new(rt.alloc());
+    for _ in 0..workers {
+        add(&mut engines, boxed(rt.alloc(), NullEngine::new())?)?;
+    }
+    run_with(rt, stop, plan, engines, events, out)
+}
+
+// So many shares of one memory for the plan's files.
+pub fn shares<R: Wait + Clone + Drop>(
+    rt: R,
+    alloc: Global,
+    plan: &Plan,
+    workers: u32,
+) -> Result<Vec<SharedMemory<R>>, CliFault> {
+    let first = SharedMemory::new(rt, alloc, plan)?;
+    let mut shares = Vec::new(alloc);
+    for _ in 1..workers {
+        add(&mut shares, first.share()?)?;
+    }
+    add(&mut shares, first)?;
+    Ok(shares)
+}
+
+// Runs the job over the shares of a memory, and writes its report to standard output.
+pub fn run_memory<R: Print + Screen + AllocGlobal + Clock + Threads + Wait + Sync>(
+    rt: &R,
+    job: SharedRun,
+    engines: Vec<Box<dyn Engine + Send>>,
+) -> Result<Ended, CliFault> {
+    let Ok(mut out) = BufWriter::new(rt.alloc(), io::writer(rt)) else {
+        return Err(CliFault::Memory);
+    };
+    let SharedRun {
+        plan,
+        workers: _,
+        events,
+        stop,
+    } = job;
+    run_with(rt, stop.as_deref(), plan, engines, events, &mut out)
+}
+
+// Runs the plan with a worker for each engine, and writes the report and then the trace where one is asked for.
+fn run_with<R: Screen + AllocGlobal + Clock + Threads + Wait + Sync, V: io::Write>(
+    rt: &R,
+    stop: Option<&StopFlag>,
+    plan: Plan,
+    engines: Vec<Box<dyn Engine + Send>>,
+    events: Option<BufWriter<File>>,
+    out: &mut V,
+) -> Result<Ended, CliFault> {
+    let alloc = rt.alloc();
+    shown(rt, Extent::of(&plan), stop, move |watch| match events {
+        None => {
+            let none = None::<&mut Vec<u8>>;
+            execute(rt, alloc, plan, engines, watch, none, out)
+        }
+        Some(mut events) => { execute(rt, alloc, plan, engines, watch, Some(&mut events), out) }
+    })
+}

@@ -1,9 +1,0 @@
-use Rattle.std.proofs.Common.{◌∙◌, ap}
-use Rattle.jr_model.specs.History.{outcome_of, ended_whole}
-use Rattle.jr_board.specs.DeskState.{DeskState}
-use Rattle.jr_board.proofs.desk.Desk.has_ended_whole.Goals as goal
-
-pub returns : goal.returns
-returns c =
-    c.has_ended_whole.ensures c.self.inside.plan c.self.inside.board.history.items c.self.invariant.legal c.self.invariant.handed
-    ∙ ap (λ (d : DeskState). ended_whole (outcome_of d.history c.args.id)) c.self.view_is

@@ -1,9 +1,0 @@
-use Rattle.std.proofs.Common.{◌∙◌, ap}
-use Rattle.jr_model.specs.History.{is_judged}
-use Rattle.jr_board.specs.DeskState.{DeskState}
-use Rattle.jr_board.proofs.desk.Desk.is_judged.Goals as goal
-
-pub returns : goal.returns
-returns c =
-    c.is_judged.ensures c.self.inside.plan c.self.inside.board.history.items c.self.invariant.legal c.self.invariant.handed
-    ∙ ap (λ (d : DeskState). is_judged d.history c.args.id) c.self.view_is

@@ -1,0 +1,5 @@
+pub mod AccountRecords
+pub mod Accounts
+pub mod Books
+pub mod Numbers
+pub mod Settled

@@ -1,0 +1,241 @@
+ghost use Rattle.std.specs.Prelude.{◌≡◌, ◌++◌, ◌∷◌, [], ◌||◌, Bool, true, false, IfOk, IfErr, IfSome, OnOk, OnErr, IsTrue};
+ghost use Rattle.std.specs.Prelude.{IsFalse, Ok, Err, None, map, slice_get, is_some};
+ghost use Rattle.jr_model.specs.History.{started, outcome_of, ended_whole, is_judged};
+ghost use Rattle.jr_model.specs.Legal.{is_legal, is_complete};
+ghost use Rattle.jr_model.specs.Report.{all_totals, miscompares};
+ghost use Rattle.jr_header.specs.Served.{answer_verdict};
+ghost use Rattle.jr_tickets.specs.Handing.{IsHanded};
+ghost use Rattle.jr_tickets.specs.Kept.{tickets_of, IsOwn};
+ghost use Rattle.jr_desk.specs.Refusals.{Owns, end_fault, judge_fault};
+ghost use Rattle.jr_board.specs.Takes.{IsTaken, is_finished, is_fitting, WaitsRightly};
+ghost use Rattle.jr_tallies.specs.Tallying.{miscompare_of};
+
+use jr_board::{Board, Take, answer_to, end, is_complete, judge, new_board, prepare, start_next};
+use jr_header::{Ruling, Served};
+use jr_model::{DeskFault, Event, Ticket, Totals, is_same};
+use jr_plan::Plan;
+use jr_tallies::Bad;
+use jr_tickets::TicketTable;
+use std::alloc::Global;
+use std::fmt;
+use std::marker::Model;
+
+/// The shared state of a run. Every I/O is handed out by it and ends in it.
+///
+/// A refused call leaves it unchanged. A call costs a logarithm of what happened; a take also looks at each clone, goes past
+/// the writes of a round whose checks fly or are barred, and does so again for each write that it skips.
+#[derive(Drop)]
+pub struct Desk {
+    alloc: Global,
+    plan: Plan,
+    board: Board,
+    is_stopped: bool,
+}
+
+impl fmt::Debug for Desk {
+    fn fmt<F: fmt::Write>(&self, f: &mut fmt::Formatter<F>) -> fmt::Result {
+        f.write_str("Desk { .. }")
+    }
+}
+
+impl Model for Desk {
+    ghost use Rattle.jr_board.specs.Boards.{IsBoard};
+    ghost use Rattle.jr_desk.specs.DeskState.{DeskState};
+
+    ghost Value = { DeskState };
+
+    ghost view = { λ d. record { plan = d.plan; history = d.board.history.items; is_stopped = d.is_stopped } };
+
+    ghost invariant = { λ d. IsBoard d.plan d.board };
+}
+
+impl Desk {
+    /// A desk for this plan, before anything is started.
+    pub fn new(alloc: Global, plan: Plan) -> Result<Desk, DeskFault>
+        ensures ok { IfOk result (λ desk. desk ≡ record { plan = plan; history = []; is_stopped = false }) }
+        ensures err { IfErr result (λ fault. fault ≡ DeskFault.Memory) }
+    {
+        let board = new_board(alloc, &plan)?;
+        Ok(Desk {
+            alloc,
+            plan,
+            board,
+            is_stopped: false,
+        })
+    }
+
+    /// Hands out the next I/O or check to a worker, if one may be started; writes that are not
+    /// checked are skipped on the way.
+    pub fn take(&mut self, worker: u32) -> Result<Take, DeskFault>
+        ensures stopped { IsTrue self.old.is_stopped → (result ≡ Ok Take.Finished) × (self.new ≡ self.old) }
+
+        // What is appended are the machine's choices, one after another, and the answer is what they start.
+        ensures taken { IsFalse self.old.is_stopped → IfOk result (IsTaken self.old.plan worker self.old.history self.new.history) }
+        ensures fits { IfOk result (λ answer. is_fitting answer ≡ true) }
+        ensures waits { IfOk result (WaitsRightly self.old.plan worker self.new.history) }
+        ensures finished { IfOk result (λ answer. is_finished answer
+            ≡ (self.old.is_stopped || is_complete self.old.plan self.new.history)) }
+        ensures plan { self.new.plan ≡ self.old.plan }
+        ensures stop { self.new.is_stopped ≡ self.old.is_stopped }
+        ensures err { OnErr result (self.new ≡ self.old) }
+        ensures memory { IfErr result (λ fault. fault ≡ DeskFault.Memory) }
+    {
+        if self.is_stopped {
+            return Ok(Take::Finished);
+        }
+        prepare(self.alloc, &self.plan, &mut self.board)?;
+        let ticket = start_next(&self.plan, &mut self.board, worker);
+        Ok(answer_to(&self.plan, &self.board, &ticket))
+    }
+
+    /// Takes in how an I/O or check ended. The ticket must be one of this desk's.
+    pub fn end(&mut self, served: &Served) -> Result<(), DeskFault>
+        // Refused as the machine refuses it, and else only for want of memory.
+        ensures refused { (own : Bool) → Owns self.old served.now.ticket own
+            → IfSome (end_fault self.old served.now.ticket.id own) (λ fault. result ≡ Err fault) }
+        ensures taken_in { Owns self.old served.now.ticket true → end_fault self.old served.now.ticket.id true ≡ None
+            → IfErr result (λ fault. fault ≡ DeskFault.Memory) }
+        ensures ok { OnOk result (self.new ≡ record self.old
+            { history = self.old.history ++ Event.End served.now.ticket.worker served.now.ticket.id served.now.outcome ∷ [] }) }
+        ensures err { OnErr result (self.new ≡ self.old) }
+    {
+        let ticket = *served.ticket();
+        self.check_own(&ticket)?;
+        if self.has_ended(ticket.id) {
+            return Err(DeskFault::Twice);
+        }
+        end(
+            &self.plan,
+            &mut self.board,
+            &ticket,
+            served.outcome(),
+            served.expected(),
+        )?;
+        Ok(())
+    }
+
+    /// Takes in the verdict on a check that ended whole; `by` is the worker or verifier that judged.
+    pub fn judge(&mut self, by: u32, ruling: &Ruling<'_>) -> Result<(), DeskFault>
+        // Refused as the machine refuses it, and else only for want of memory.
+        ensures refused { (own : Bool) → Owns self.old ruling.now.ticket own
+            → IfSome (judge_fault self.old ruling.now.ticket.id own) (λ fault. result ≡ Err fault) }
+        ensures taken_in { Owns self.old ruling.now.ticket true → judge_fault self.old ruling.now.ticket.id true ≡ None
+            → IfErr result (λ fault. fault ≡ DeskFault.Memory) }
+        ensures ok { OnOk result (self.new
+            ≡ record self.old { history = self.old.history ++ Event.Verdict by ruling.now.ticket.id (answer_verdict ruling.now) ∷ [] }) }
+        ensures err { OnErr result (self.new ≡ self.old) }
+    {
+        let ticket = *ruling.served().ticket();
+        self.check_own(&ticket)?;
+        if self.is_judged(ticket.id) {
+            return Err(DeskFault::Twice);
+        }
+        if !self.has_ended_whole(ticket.id) {
+            return Err(DeskFault::WrongKind);
+        }
+        judge(&self.plan, &mut self.board, by, &ticket, ruling.verdict())?;
+        Ok(())
+    }
+
+    /// Nothing more is handed out or taken in.
+    pub fn stop(&mut self)
+        ensures { self.new ≡ record self.old { is_stopped = true } }
+    {
+        self.is_stopped = true;
+    }
+
+    /// The plan that it was made for.
+    pub fn plan(&self) -> &Plan
+        ensures { result.now ≡ self.now.plan }
+    {
+        &self.plan
+    }
+
+    /// What each clone did so far, in the order of the clones.
+    pub fn totals(&self) -> &[Totals]
+        ensures { result.now ≡ all_totals self.now.plan self.now.history }
+    {
+        self.board.tallies.totals.as_slice()
+    }
+
+    /// The bad verdicts so far, in the order in which they were given.
+    pub fn bads(&self) -> &[Bad]
+        ensures value { map miscompare_of result.now ≡ miscompares self.now.history }
+        ensures legal { is_legal self.now.plan self.now.history ≡ true }
+    {
+        self.board.tallies.bads.as_slice()
+    }
+
+    /// All that happened so far, the oldest first.
+    pub fn history(&self) -> &[Event]
+        ensures value { result.now ≡ self.now.history }
+        ensures legal { is_legal self.now.plan self.now.history ≡ true }
+    {
+        self.board.history.as_slice()
+    }
+
+    /// Whether nothing is in flight, no verdict is missing, and each clone is finished or halted.
+    pub fn is_complete(&self) -> bool
+        ensures { result ≡ is_complete self.now.plan self.now.history }
+    {
+        is_complete(&self.plan, &self.board)
+    }
+
+    /// Whether it was stopped.
+    pub fn is_stopped(&self) -> bool
+        ensures { result ≡ self.now.is_stopped }
+    {
+        self.is_stopped
+    }
+
+    /// The ticket that was handed out under this number, if any was.
+    pub fn ticket_at(&self, id: u32) -> Option<Ticket>
+        ensures { result ≡ slice_get (tickets_of self.now.plan self.now.history) id }
+    {
+        self.board.tickets.ticket(&self.plan, id)
+    }
+
+    /// The tickets that were handed out.
+    pub fn tickets(&self) -> &TicketTable
+        ensures { IsHanded self.now.plan self.now.history result.now }
+    {
+        &self.board.tickets
+    }
+
+    /// Whether an I/O or check that was handed out has ended.
+    pub fn has_ended(&self, id: u32) -> bool
+        ensures { result ≡ is_some (outcome_of self.now.history id) }
+    {
+        self.board.tickets.has_ended(id)
+    }
+
+    // Whether it ended with all its bytes.
+    fn has_ended_whole(&self, id: u32) -> bool
+        ensures { result ≡ ended_whole (outcome_of self.now.history id) }
+    {
+        self.board.tickets.has_ended_whole(id)
+    }
+
+    // Whether it has its verdict.
+    fn is_judged(&self, id: u32) -> bool
+        ensures { result ≡ is_judged self.now.history id }
+    {
+        self.board.tickets.is_judged(id)
+    }
+
+    // Refuses a ticket that isn't this desk's own, and every ticket once the desk was stopped.
+    fn check_own(&self, ticket: &Ticket) -> Result<(), DeskFault>
+        ensures stopped { IsTrue self.now.is_stopped → result ≡ Err DeskFault.Stopped }
+        ensures ok { OnOk result (IsOwn self.now.plan self.now.history ticket.now) }
+        ensures err { OnErr result (IsFalse self.now.is_stopped → (¬ IsOwn self.now.plan self.now.history ticket.now)
+            × (result ≡ Err DeskFault.Stranger)) }
+    {
+        if self.is_stopped {
+            return Err(DeskFault::Stopped);
+        }
+        match self.ticket_at(ticket.id) {
+            Some(own) if is_same(&own, ticket) => Ok(()),
+            _ => Err(DeskFault::Stranger),
+        }
+    }
+}

@@ -1,0 +1,31 @@
+use Rattle.std.proofs.Common.{List, map, refl, ap, subst, arith}
+use Rattle.std.specs.Prelude.{filter_map}
+use Rattle.std.proofs.lemmas.List.{take_all}
+use Rattle.jr_model.specs.declared.events.Event.{Event}
+use Rattle.jr_model.specs.History.{started}
+use Rattle.jr_faults.specs.Faults.{AreFirst, fault_by, named}
+use Rattle.jr_faults.proofs.FaultLemmas.{kept_more}
+use Rattle.jr_faults.proofs.faults.faults_of.Goals as goal
+
+pub loop-event-init : goal.loop-event-init
+loop-event-init c = record {
+  kept = record { first = ap (map named) c.new.ensures.items; more = refl };
+  few = omega arith;
+}
+
+pub loop-event-preserved : goal.loop-event-preserved
+loop-event-preserved c =
+    let history = c.args.history.now in
+    record {
+      kept =
+          kept_more c.args.plan.now (fault_by (started history)) history c.loop-event.event-index _ c.add_event.new.self c.loop-event-test.true
+          (c.in_ok-add_event.ensures.added history _ c.requires c.loop-event.invariant.kept);
+      few = omega (arith, c.add_event.ensures.more, c.loop-event.invariant.few);
+    }
+
+pub returns : goal.returns
+returns c =
+    let history = c.args.history.now in
+    subst (λ (events : List Event). AreFirst c.args.plan.now (filter_map (fault_by (started history)) events) c.loop-event.faults)
+    (take_all c.loop-event.event-index history (omega arith))
+    c.loop-event.invariant.kept

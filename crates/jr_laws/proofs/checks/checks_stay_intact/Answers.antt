@@ -1,5 +1,0 @@
-use Rattle.jr_laws.proofs.LastWrites.{check_stays_intact}
-use Rattle.jr_laws.proofs.checks.checks_stay_intact.Goals as goal
-
-pub returns : goal.returns
-returns c = check_stays_intact

@@ -1,5 +1,0 @@
-use Rattle.jr_laws.proofs.Verdicts.{good_where_honest}
-use Rattle.jr_laws.proofs.checks.honest_is_good.Goals as goal
-
-pub returns : goal.returns
-returns c = good_where_honest

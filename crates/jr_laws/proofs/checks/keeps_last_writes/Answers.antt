@@ -1,5 +1,0 @@
-use Rattle.jr_laws.proofs.Plays.{last_writes_kept}
-use Rattle.jr_laws.proofs.checks.keeps_last_writes.Goals as goal
-
-pub returns : goal.returns
-returns c = last_writes_kept

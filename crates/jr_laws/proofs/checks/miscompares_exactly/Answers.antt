@@ -1,5 +1,0 @@
-use Rattle.jr_laws.proofs.Verdicts.{bad_exactly}
-use Rattle.jr_laws.proofs.checks.miscompares_exactly.Goals as goal
-
-pub returns : goal.returns
-returns c = bad_exactly

@@ -1,5 +1,0 @@
-use Rattle.jr_laws.proofs.Plays.{no_bad_verdict}
-use Rattle.jr_laws.proofs.checks.quiet_play.Goals as goal
-
-pub returns : goal.returns
-returns c = no_bad_verdict

@@ -1,0 +1,208 @@
+-- A run so far whose memory holds the last writes and whose checks gave what their writes put there stays so.
+use Rattle.std.proofs.Common.{◌≡◌, ℕ, zero, suc, ◌<◌, ◌≤◌, List, [], ◌∷◌, ◌++◌, length, Bool, true, false, cond, ◌||◌, refl, sym, ◌∙◌, ap, subst, arith, inl, inr, append_assoc, append-nil}
+use Rattle.std.specs.Prelude.{Option, Some, None, slice_get, ◌==◌}
+use Rattle.std.specs.Option.{option_or}
+use Rattle.std.specs.List.{list_any}
+use Rattle.std.proofs.lemmas.Bool.{or_from, false≢true, cond_both, cases_eq, eq-eqb, ne_eqb}
+use Rattle.jr_model.specs.declared.events.Event.{Event}
+use Rattle.jr_model.specs.declared.events.Event.TheVariants.{End, Verdict}
+use Rattle.jr_model.specs.declared.events.Outcome.{Outcome}
+use Rattle.jr_model.specs.declared.events.Started.{Started}
+use Rattle.jr_model.specs.declared.events.WriteId.{WriteId}
+use Rattle.jr_model.specs.declared.tickets.TicketKind.TheVariants as ticket
+use Rattle.jr_model.specs.Choice.{choice}
+use Rattle.jr_model.specs.History.{started, end_of, outcome_of, is_probe, is_write, ended_whole}
+use Rattle.jr_model.specs.Honest.{IsWholeCheck}
+use Rattle.jr_model.specs.LastWrite.{last_after}
+use Rattle.jr_model.specs.Legal.{is_legal, is_bad}
+use Rattle.jr_model.specs.Machine.{is_skip, choices_after, content_of_io, bytes_read, verdict_on}
+use Rattle.jr_model.specs.Plan.{Plan, IsNumbered}
+use Rattle.jr_model.specs.Replies.{FileBytes, memory_with}
+use Rattle.jr_model.specs.Rounds.{pass_of}
+use Rattle.jr_model.proofs.LegalLaws.{is_legal-more, choice_may_happen, choice_is_step, cases_step_of}
+use Rattle.jr_model.proofs.SerialLaws.{first_given-append, any-append, whole_some}
+use Rattle.jr_model.specs.PlanFacts.{IsPlanned}
+use Rattle.jr_laws_bytes.specs.Checks.{is_miscompare, has_miscompare}
+use Rattle.jr_laws_bytes.specs.Memory.{CoversFiles, HoldsLastWrites}
+use Rattle.jr_laws_bytes.proofs.Starts.{some_same, draw_started}
+use Rattle.jr_laws_bytes.proofs.Contents.{lies_in_file}
+use Rattle.jr_laws_bytes.proofs.LastWrites.{ends_were_started, started_cases}
+use Rattle.jr_laws_bytes.proofs.Memories.{covers_piece, covers_part, covers_files-memory_with, holds_write, holds_on, holds_read, holds_none}
+use Rattle.jr_laws_bytes.proofs.Verdicts.{good_on_own}
+
+pub numbered_plan : (plan : Plan) → IsPlanned plan → IsNumbered plan
+numbered_plan plan planned i job at = (planned.drafted.placed i job at).number
+
+-- each check that ended whole gave what its write put there
+abbrev pub ChecksGaveTheirOwn : Plan → List Event → (ℕ → List ℕ) → Type 0
+ChecksGaveTheirOwn plan history read = (io : ℕ) (s : Started) → IsWholeCheck history io s → read io ≡ content_of_io plan s
+
+-- a history and a memory of a run so far: the memory holds the last writes, checks gave what their writes put there,
+-- and no verdict is Bad
+pub record IsQuiet (plan : Plan) (history : List Event) (memory : List FileBytes) (read : ℕ → List ℕ) : Type 0 where
+  pub legal : is_legal plan history ≡ true
+  pub covered : CoversFiles plan memory
+  pub holds : HoldsLastWrites plan history memory
+  pub own : ChecksGaveTheirOwn plan history read
+  pub good : has_miscompare history ≡ false
+
+-- one event more
+
+same_outcome : (history : List Event) (e : Event) (io : ℕ) → end_of io e ≡ None → outcome_of (history ++ e ∷ []) io ≡ outcome_of history io
+same_outcome history e io other =
+    first_given-append (end_of io) history (e ∷ [])
+    ∙ ap (λ (o : Option Outcome). option_or (outcome_of history io) (option_or o None)) other
+    ∙ or_none (outcome_of history io)
+  where
+    or_none : (o : Option Outcome) → option_or o (option_or None None) ≡ o
+    or_none None = refl
+    or_none (Some o) = refl
+
+-- a check that ended whole, and not by the last event, had before
+whole_before : (plan : Plan) (history : List Event) (e : Event) (io : ℕ) (s : Started) → is_legal plan history ≡ true → end_of io e ≡ None → IsWholeCheck (history ++ e ∷ []) io s → IsWholeCheck history io s
+whole_before plan history e io s legal other check =
+    let whole : ended_whole (outcome_of history io) ≡ true = ap ended_whole (sym (same_outcome history e io other)) ∙ check.2 in
+    let below : io < length (started history) = ends_were_started plan history legal io _ (whole_some (outcome_of history io) whole) in
+    elim (started_cases history e io s check.0) [
+      | inl old ↦ (old, check.1, whole)
+      | inr new ↦ absurd (omega (arith, below, new.0))
+    ]
+
+no_worse : (history : List Event) (e : Event) → has_miscompare history ≡ false → is_miscompare e ≡ false → has_miscompare (history ++ e ∷ []) ≡ false
+no_worse history e good fine =
+    any-append is_miscompare history (e ∷ [])
+    ∙ or_from (list_any is_miscompare history) (is_miscompare e || false) good (ap (λ (b : Bool). b || false) fine)
+
+-- an event that ends nothing and finds nothing bad
+pub record IsHarmless (e : Event) : Type 0 where
+  pub ends : (io : ℕ) → end_of io e ≡ None
+  pub keeps : (ios : List Started) (file block : ℕ) (last : Option WriteId) → last_after ios file block last e ≡ last
+  pub fine : is_miscompare e ≡ false
+
+pub quiet-more : (plan : Plan) (history : List Event) (e : Event) (memory : List FileBytes) (read : ℕ → List ℕ) → is_legal plan (history ++ e ∷ []) ≡ true → IsHarmless e → IsQuiet plan history memory read → IsQuiet plan (history ++ e ∷ []) memory read
+quiet-more plan history e memory read legal harmless quiet = record {
+  legal = legal;
+  covered = quiet.covered;
+  holds = holds_on plan history memory e quiet.legal (λ file block last. harmless.keeps (started history) file block last) quiet.holds;
+  own = λ io s check. quiet.own io s (whole_before plan history e io s quiet.legal (harmless.ends io) check);
+  good = no_worse history e quiet.good harmless.fine;
+}
+
+-- what is chosen to be started or skipped is harmless
+pub harmless_choice : (plan : Plan) (history : List Event) (worker : ℕ) (e : Event) → IsNumbered plan → choice plan history worker ≡ Some e → IsHarmless e
+harmless_choice plan history worker e numbered chosen =
+    let found = choice_is_step plan history worker e numbered chosen in
+    elim (cases_step_of plan history worker (pass_of found.0 found.1) found.2 e found.3) [
+      | inl probe ↦ subst (λ (x : Event). IsHarmless x) (sym probe) (record { ends = λ io. refl; keeps = λ ios file block last. refl; fine = refl })
+      | inr other ↦
+          elim other [
+            | inl skip ↦ subst (λ (x : Event). IsHarmless x) (sym skip) (record { ends = λ io. refl; keeps = λ ios file block last. refl; fine = refl })
+            | inr issue ↦ subst (λ (x : Event). IsHarmless x) (sym issue) (record { ends = λ io. refl; keeps = λ ios file block last. refl; fine = refl })
+          ]
+    ]
+
+-- what a take appends leaves it quiet
+pub quiet_choices : (limit : ℕ) (plan : Plan) (worker : ℕ) (history : List Event) (memory : List FileBytes) (read : ℕ → List ℕ) (o : Option Event) → IsNumbered plan → choice plan history worker ≡ o → IsQuiet plan history memory read → IsQuiet plan (history ++ choices_after limit plan worker history o) memory read
+quiet_choices limit plan worker history memory read None numbered same quiet = rw append-nil quiet
+quiet_choices zero plan worker history memory read (Some e) numbered same quiet =
+    quiet-more plan history e memory read (is_legal-more plan history e quiet.legal (choice_may_happen plan history worker e numbered same))
+    (harmless_choice plan history worker e numbered same) quiet
+quiet_choices (suc limit) plan worker history memory read (Some e) numbered same quiet =
+    let next = history ++ e ∷ [] in
+    let longer : IsQuiet plan next memory read =
+    quiet-more plan history e memory read (is_legal-more plan history e quiet.legal (choice_may_happen plan history worker e numbered same))
+    (harmless_choice plan history worker e numbered same) quiet in
+    let rest = choices_after limit plan worker next (choice plan next worker) in
+    cond_both (is_skip e) (e ∷ rest) (e ∷ []) (λ (events : List Event). IsQuiet plan (history ++ events) memory read)
+    (λ skipped. subst (λ (all : List Event). IsQuiet plan all memory read) (append_assoc history (e ∷ []) rest)
+    (quiet_choices limit plan worker next memory read (choice plan next worker) numbered refl longer))
+    (λ begun. longer)
+
+-- the verdict on the bytes of a check that ended whole is harmless
+pub harmless_verdict : (plan : Plan) (history : List Event) (memory : List FileBytes) (read : ℕ → List ℕ) (by io : ℕ) (s : Started) → IsQuiet plan history memory read → IsWholeCheck history io s → IsHarmless (Verdict by io (verdict_on plan s (read io)))
+harmless_verdict plan history memory read by io s quiet check = record {
+  ends = λ n. refl;
+  keeps = λ ios file block last. refl;
+  fine = ap is_bad (ap (verdict_on plan s) (quiet.own io s check) ∙ good_on_own plan s);
+}
+
+-- at first nothing happened, and a memory that covers the plan's files holds all that was written
+pub quiet_first : (plan : Plan) (memory : List FileBytes) (read : ℕ → List ℕ) → CoversFiles plan memory → IsQuiet plan [] memory read
+quiet_first plan memory read covered = record {
+  legal = refl;
+  covered = covered;
+  holds = holds_none plan memory;
+  own = λ io s check. no_check io s check.0;
+  good = refl;
+}
+  where
+    no_check : {P : Type 0} (io : ℕ) (s : Started) → slice_get {X = Started} [] io ≡ Some s → P
+    no_check io s h = cc
+
+-- the ends of I/Os
+
+-- what the I/O that the last event ends was started as
+ended_now : (history : List Event) (worker id : ℕ) (outcome : Outcome) (io x : Started) → slice_get (started history) id ≡ Some io → slice_get (started (history ++ End worker id outcome ∷ [])) id ≡ Some x → io ≡ x
+ended_now history worker id outcome io x at later =
+    elim (started_cases history (End worker id outcome) id x later) [
+      | inl old ↦ some_same io x (sym at ∙ old)
+      | inr new ↦ absurd (none_some new.1)
+    ]
+  where
+    none_some : None ≡ Some x → ⊥
+    none_some e = cc
+
+not_ended : (worker id io : ℕ) (outcome : Outcome) → (id ≡ io → ⊥) → end_of io (End worker id outcome) ≡ None
+not_ended worker id io outcome other = ap (λ (b : Bool). cond b (Some outcome) None) (ne_eqb id io other)
+
+whole_now : (history : List Event) (worker id : ℕ) (outcome : Outcome) → outcome_of history id ≡ None → ended_whole (outcome_of (history ++ End worker id outcome ∷ []) id) ≡ true → ended_whole (Some outcome) ≡ true
+whole_now history worker id outcome unended whole =
+    sym
+    (ap ended_whole
+    (first_given-append (end_of id) history (End worker id outcome ∷ [])
+    ∙ ap (λ (o : Option Outcome). option_or o (option_or (cond (id == id) (Some outcome) None) None)) unended
+    ∙ ap (λ (b : Bool). option_or (cond b (Some outcome) None) None) (eq-eqb id id refl)))
+    ∙ whole
+
+-- a read or check ends; where it is a check that ends whole it gave what its write put there
+pub quiet_read : (plan : Plan) (history : List Event) (memory : List FileBytes) (kept : List (ℕ × List ℕ)) (id : ℕ) (outcome : Outcome) (io : Started) (bytes : List ℕ) → is_legal plan (history ++ End io.worker id outcome ∷ []) ≡ true → slice_get (started history) id ≡ Some io → is_write io.kind ≡ false → outcome_of history id ≡ None → (is_probe io.kind ≡ true → ended_whole (Some outcome) ≡ true → bytes ≡ content_of_io plan io) → IsQuiet plan history memory (bytes_read kept) → IsQuiet plan (history ++ End io.worker id outcome ∷ []) memory (bytes_read ((id, bytes) ∷ kept))
+quiet_read plan history memory kept id outcome io bytes legal at reads unended given quiet =
+    let e = End io.worker id outcome in record {
+      legal = legal;
+      covered = quiet.covered;
+      holds = holds_read plan history memory io.worker id outcome io quiet.legal at reads quiet.holds;
+      own = λ n s check.
+          elim (cases_eq id n) [
+            | inl same ↦
+                let here : IsWholeCheck (history ++ e ∷ []) id s = subst (λ (k : ℕ). IsWholeCheck (history ++ e ∷ []) k s) (sym same) check in
+                let is : io ≡ s = ended_now history io.worker id outcome io s at here.0 in
+                ap (λ (b : Bool). cond b bytes (bytes_read kept n)) (eq-eqb id n same)
+                ∙ given (subst (λ (x : Started). is_probe x.kind ≡ true) (sym is) here.1) (whole_now history io.worker id outcome unended here.2)
+                ∙ ap (content_of_io plan) is
+            | inr other ↦
+                ap (λ (b : Bool). cond b bytes (bytes_read kept n)) (ne_eqb id n other)
+                ∙ quiet.own n s (whole_before plan history e n s quiet.legal (not_ended io.worker id n outcome other) check)
+          ];
+      good = no_worse history e quiet.good refl;
+    }
+
+-- a write ends; it stored its content where it ends whole
+pub quiet_write : (plan : Plan) (history : List Event) (memory : List FileBytes) (read : ℕ → List ℕ) (id : ℕ) (outcome : Outcome) (io : Started) (new : List ℕ) → IsPlanned plan → is_legal plan (history ++ End io.worker id outcome ∷ []) ≡ true → slice_get (started history) id ≡ Some io → io.kind ≡ ticket.Write → length new ≤ io.piece.len → (ended_whole (Some outcome) ≡ true → new ≡ content_of_io plan io) → IsQuiet plan history memory read → IsQuiet plan (history ++ End io.worker id outcome ∷ []) (memory_with memory io.piece.file io.piece.offset new) read
+quiet_write plan history memory read id outcome io new planned legal at writes short content quiet =
+    let e = End io.worker id outcome in
+    let drawn = draw_started plan history id io quiet.legal at in
+    let whole_piece = covers_piece plan memory io.piece quiet.covered (lies_in_file plan io.write io.piece drawn.0 drawn.1 planned drawn.2) in
+    let within = covers_part memory io.piece.file io.piece.offset io.piece.len io.piece.offset (length new) whole_piece (omega arith) (omega (arith, short)) in record {
+      legal = legal;
+      covered = covers_files-memory_with plan memory io.piece.file io.piece.offset new within quiet.covered;
+      holds = holds_write plan history memory io.worker id outcome io new planned quiet.legal at (ap is_write writes) quiet.covered quiet.holds short content;
+      own = λ n s check.
+          elim (cases_eq id n) [
+            | inl same ↦
+                let here : IsWholeCheck (history ++ e ∷ []) id s = subst (λ (k : ℕ). IsWholeCheck (history ++ e ∷ []) k s) (sym same) check in
+                let is : io ≡ s = ended_now history io.worker id outcome io s at here.0 in
+                absurd (false≢true (ap is_probe (sym writes) ∙ ap (λ (x : Started). is_probe x.kind) is ∙ here.1))
+            | inr other ↦ quiet.own n s (whole_before plan history e n s quiet.legal (not_ended io.worker id n outcome other) check)
+          ];
+      good = no_worse history e quiet.good refl;
+    }

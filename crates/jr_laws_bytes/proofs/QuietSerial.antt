@@ -1,0 +1,57 @@
+-- In the history of one worker over a right memory nothing goes wrong, so its report is the one of the draws.
+use Rattle.std.proofs.Common.{◌≡◌, Bool, true, false, not, ◌&&◌, ◌||◌, List, [], ◌∷◌, refl}
+use Rattle.jr_model.specs.declared.events.Event.{Event}
+use Rattle.jr_model.specs.declared.events.Event.TheVariants.{Issue, Probe, Skip, End, Verdict}
+use Rattle.jr_model.specs.Legal.{is_fault, is_bad}
+use Rattle.jr_model.specs.Plan.{Plan}
+use Rattle.jr_model.specs.Quiet.{quiet_report}
+use Rattle.jr_model.specs.Report.{report_of}
+use Rattle.jr_model.specs.Serial.{serial_history}
+use Rattle.jr_model.proofs.SerialLaws.{legal_serial}
+use Rattle.jr_plan.specs.Files.{are_apart}
+use Rattle.jr_model.specs.PlanFacts.{IsPlanned}
+use Rattle.jr_laws_quiet.specs.Quiet.{is_calm, is_quiet}
+use Rattle.jr_laws_quiet.proofs.Reports.{quiet_run}
+use Rattle.jr_laws_bytes.specs.Checks.{is_miscompare, has_miscompare}
+use Rattle.jr_laws_bytes.specs.Clean.{is_faulty_end, has_fault}
+use Rattle.jr_laws_bytes.proofs.CleanLaws.{serial_clean}
+use Rattle.jr_laws_steps.proofs.CountLaws.{serial_stops_all}
+use Rattle.jr_laws_steps.proofs.DoneLaws.{serial_complete}
+use Rattle.jr_laws_steps.proofs.IdleLaws.{numbered_of}
+
+-- neither of two tests holds
+neither : (a b : Bool) → (a || b) ≡ false → (a ≡ false) × (b ≡ false)
+neither true b e = absurd (cc)
+neither false b e = (refl, e)
+
+both : (a b : Bool) → a ≡ true → b ≡ true → (a && b) ≡ true
+both true b h k = k
+both false b h k = absurd (cc)
+
+turned : (a : Bool) → a ≡ false → not a ≡ true
+turned true e = absurd (cc)
+turned false e = refl
+
+-- an event that is no fault and no bad verdict is calm
+calm : (event : Event) → is_faulty_end event ≡ false → is_miscompare event ≡ false → is_calm event ≡ true
+calm (End worker io outcome) fault miscompare = turned (is_fault outcome) fault
+calm (Verdict worker io verdict) fault miscompare = turned (is_bad verdict) miscompare
+calm (Issue worker dir write piece) fault miscompare = refl
+calm (Probe worker write piece) fault miscompare = refl
+calm (Skip worker write) fault miscompare = refl
+
+-- a history without a fault and without a bad verdict is quiet
+pub quiet_of : (history : List Event) → has_fault history ≡ false → has_miscompare history ≡ false → is_quiet history ≡ true
+quiet_of [] fault miscompare = refl
+quiet_of (event ∷ events) fault miscompare =
+    let faults = neither (is_faulty_end event) (has_fault events) fault in
+    let miscompares = neither (is_miscompare event) (has_miscompare events) miscompare in
+    both (is_calm event) (is_quiet events) (calm event faults.0 miscompares.0) (quiet_of events faults.1 miscompares.1)
+
+pub serial_quiet : (plan : Plan) → IsPlanned plan → are_apart plan.clones ≡ true → (is_quiet (serial_history plan) ≡ true) × (report_of plan (serial_history plan) ≡ quiet_report plan)
+serial_quiet plan planned apart =
+    let clean = serial_clean plan in
+    let quiet = quiet_of (serial_history plan) clean.0 clean.1 in
+    let legal = legal_serial plan (numbered_of plan planned) in
+    let complete = serial_complete plan planned (serial_stops_all plan planned) in
+    (quiet, quiet_run plan (serial_history plan) planned apart legal complete quiet)

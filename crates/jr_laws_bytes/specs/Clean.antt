@@ -1,0 +1,39 @@
+-- Believed: when nothing went wrong in a history.
+use Rattle.std.specs.Prelude.{◌≡◌, Bool, true, false, List}
+use Rattle.std.specs.List.{list_any}
+use Rattle.jr_model.specs.declared.events.Event.{Event}
+use Rattle.jr_model.specs.declared.events.Event.TheVariants.{Issue, Probe, Skip, End, Verdict}
+use Rattle.jr_model.specs.Legal.{is_fault}
+use Rattle.jr_model.specs.Plan.{Plan}
+use Rattle.jr_model.specs.Quiet.{quiet_report}
+use Rattle.jr_model.specs.Report.{report_of}
+use Rattle.jr_model.specs.Serial.{serial_history}
+use Rattle.jr_plan.specs.Files.{are_apart}
+use Rattle.jr_model.specs.PlanFacts.{IsPlanned}
+use Rattle.jr_laws_quiet.specs.Quiet.{is_quiet}
+use Rattle.jr_laws_bytes.specs.Checks.{has_miscompare}
+
+-- the event ends an I/O or check that failed or ended short
+abbrev pub is_faulty_end : Event → Bool
+is_faulty_end (End worker io outcome) = is_fault outcome
+is_faulty_end (Issue worker dir write piece) = false
+is_faulty_end (Probe worker write piece) = false
+is_faulty_end (Skip worker write) = false
+is_faulty_end (Verdict worker io verdict) = false
+
+-- some I/O or check of the history failed or ended short
+abbrev pub has_fault : List Event → Bool
+has_fault history = list_any is_faulty_end history
+
+-- the history of one worker over a right memory has no fault and no Bad verdict
+abbrev pub SerialIsClean : Type 0
+SerialIsClean =
+    (plan : Plan) → (has_fault (serial_history plan) ≡ false) × (has_miscompare (serial_history plan) ≡ false)
+
+-- so where no two clones have one file its report is the one that the draws alone give
+abbrev pub SerialIsQuiet : Type 0
+SerialIsQuiet =
+    (plan : Plan)
+    → IsPlanned plan
+    → are_apart plan.clones ≡ true
+    → (is_quiet (serial_history plan) ≡ true) × (report_of plan (serial_history plan) ≡ quiet_report plan)

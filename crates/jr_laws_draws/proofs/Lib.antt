@@ -1,0 +1,5 @@
+pub mod CoverLaws
+pub mod DrawLaws
+pub mod DrawnCellsLaws
+pub mod PassLaws
+pub mod TheLaw

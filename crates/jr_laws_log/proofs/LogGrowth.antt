@@ -1,0 +1,164 @@
+-- The log of a history with one more event, and what an event's I/O is in it.
+use Rattle.std.proofs.Common.{◌≡◌, ℕ, ◌<◌, ◌≤◌, List, [], ◌∷◌, ◌++◌, length, Bool, true, false, cond, ◌&&◌, not, refl, ◌∙◌, ap, arith, append-nil, length-append}
+use Rattle.std.specs.Prelude.{Option, Some, None, slice_get, nat_lt, is_none, filter_map}
+use Rattle.std.specs.List.{list_all, cons_option}
+use Rattle.std.proofs.lemmas.Bool.{and_parts, and_from, lt-ltb, ltb-true}
+use Rattle.std.proofs.lemmas.List.Elements.{filter_map-append}
+use Rattle.std.proofs.lemmas.List.Folds.{list_all-append}
+use Rattle.std.proofs.lemmas.List.Sums.{fold_push}
+use Rattle.jr_model.specs.declared.blocks.Piece.{Piece}
+use Rattle.jr_model.specs.declared.contents.Expected.{Expected}
+use Rattle.jr_model.specs.declared.events.Event.{Event}
+use Rattle.jr_model.specs.declared.events.Event.TheVariants.{Issue, Probe, Skip, End, Verdict}
+use Rattle.jr_model.specs.declared.events.Outcome.{Outcome}
+use Rattle.jr_model.specs.declared.events.Outcome.TheVariants.{Whole}
+use Rattle.jr_model.specs.declared.events.Started.{Started}
+use Rattle.jr_model.specs.declared.events.WriteId.{WriteId}
+use Rattle.jr_model.specs.History.{started, started_by, outcome_of, flies, is_judged, ended_whole, is_write}
+use Rattle.jr_model.specs.Legal.{is_legal, may_happen, end_fits, verdict_fits}
+use Rattle.jr_model.specs.Plan.{Plan}
+use Rattle.jr_model.proofs.SerialLaws.{IsWell, well-more, whole_some}
+use Rattle.jr_writes.specs.LoggedWrites.{settled, unsettled}
+use Rattle.jr_writes.specs.LogSteps.{LogStep, settle, unsettle, after_step, log_of, step_of, step_at_end, steps_of}
+use Rattle.jr_laws_quiet.proofs.Steps.{refers, refers_more, all_weaker, started_push, got_within}
+use Rattle.jr_laws_steps.proofs.StartedLemmas.{by_events}
+use Rattle.jr_laws_log.specs.Intact.{log_after, after_if}
+
+-- what ended or was judged in a legal history was started
+pub well : (plan : Plan) (history : List Event) → is_legal plan history ≡ true → IsWell plan history
+well plan history legal =
+    by_events plan (IsWell plan) (record { legal = refl; ends = λ io o h. none_some io o h; judged = λ io h. none_true io h })
+    (λ h e legal_h so_far may. well-more plan h e so_far may) history legal
+  where
+    none_some : (io : ℕ) (o : Outcome) → None ≡ Some o → io < 0
+    none_some io o h = cc
+
+    none_true : (io : ℕ) → false ≡ true → io < 0
+    none_true io h = cc
+
+-- an event that may happen speaks of an I/O that was started
+pub refers_now : (plan : Plan) (h : List Event) (e : Event)
+    → is_legal plan h ≡ true
+    → may_happen plan h e ≡ true
+    → refers (length (started h)) e ≡ true
+refers_now plan h (End worker io outcome) legal may =
+    let flying = and_parts (flies h io) (end_fits worker outcome (slice_get (started h) io)) may in
+    (and_parts (nat_lt io (length (started h))) (is_none (outcome_of h io)) flying.0).0
+refers_now plan h (Verdict worker io verdict) legal may =
+    let fits = verdict_fits plan verdict (slice_get (started h) io) in
+    let parts = and_parts (ended_whole (outcome_of h io) && not (is_judged h io)) fits may in
+    let ended = and_parts (ended_whole (outcome_of h io)) (not (is_judged h io)) parts.0 in
+    lt-ltb io (length (started h)) ((well plan h legal).ends io Whole (whole_some (outcome_of h io) ended.0))
+refers_now plan h (Issue worker dir write piece) legal may = refl
+refers_now plan h (Probe worker write piece) legal may = refl
+refers_now plan h (Skip worker write) legal may = refl
+
+-- and so does each event of a legal history
+pub all_refer : (plan : Plan) (history : List Event)
+    → is_legal plan history ≡ true
+    → list_all (refers (length (started history))) history ≡ true
+all_refer plan history legal = by_events plan (λ (h : List Event). list_all (refers (length (started h))) h ≡ true) refl grows history legal
+  where
+    grows : (h : List Event) (e : Event)
+        → is_legal plan h ≡ true
+        → list_all (refers (length (started h))) h ≡ true
+        → may_happen plan h e ≡ true
+        → list_all (refers (length (started (h ++ e ∷ [])))) (h ++ e ∷ []) ≡ true
+    grows h e legal_h so_far may =
+        let n = length (started h) in
+        let m = length (started (h ++ e ∷ [])) in
+        let le : n ≤ m = omega (arith, ap length (started_push h e), length-append (started h) (cons_option (started_by e) [])) in
+        list_all-append (refers m) h (e ∷ [])
+        ∙ and_from (list_all (refers m) h) (refers m e && true) (all_weaker (refers n) (refers m) h (λ x. refers_more n m x le) so_far)
+        (and_from (refers m e) true (refers_more n m e le (refers_now plan h e legal_h may)) refl)
+
+-- the step that an event is doesn't depend on what is started later
+step_agrees : (checked_by : WriteId → Piece → Expected) (ios more : List Started) (e : Event)
+    → refers (length ios) e ≡ true
+    → step_of checked_by (ios ++ more) e ≡ step_of checked_by ios e
+step_agrees checked_by ios more (End worker io outcome) h =
+    ap (λ (o : Option Started). step_at_end checked_by o outcome) (got_within ios more io (ltb-true io (length ios) h))
+step_agrees checked_by ios more (Issue worker dir write piece) h = refl
+step_agrees checked_by ios more (Probe worker write piece) h = refl
+step_agrees checked_by ios more (Skip worker write) h = refl
+step_agrees checked_by ios more (Verdict worker io verdict) h = refl
+
+steps_agree : (checked_by : WriteId → Piece → Expected) (ios more : List Started) (events : List Event)
+    → list_all (refers (length ios)) events ≡ true
+    → filter_map (step_of checked_by (ios ++ more)) events ≡ filter_map (step_of checked_by ios) events
+steps_agree checked_by ios more [] h = refl
+steps_agree checked_by ios more (e ∷ events) h =
+    let parts = and_parts (refers (length ios) e) (list_all (refers (length ios)) events) h in
+    ap (λ (o : Option LogStep). cons_option o (filter_map (step_of checked_by (ios ++ more)) events))
+    (step_agrees checked_by ios more e parts.0)
+    ∙ ap (cons_option (step_of checked_by ios e)) (steps_agree checked_by ios more events parts.1)
+
+-- one more event is one more step, or none
+steps_more : (plan : Plan) (h : List Event) (e : Event) (checked_by : WriteId → Piece → Expected)
+    → is_legal plan h ≡ true
+    → may_happen plan h e ≡ true
+    → steps_of checked_by (h ++ e ∷ []) ≡ steps_of checked_by h ++ cons_option (step_of checked_by (started h) e) []
+steps_more plan h e checked_by legal may =
+    let ios = started h in
+    let more = cons_option (started_by e) [] in
+    ap (λ (all : List Started). filter_map (step_of checked_by all) (h ++ e ∷ [])) (started_push h e)
+    ∙ filter_map-append (step_of checked_by (ios ++ more)) h (e ∷ [])
+    ∙ ap (λ (steps : List LogStep). steps ++ cons_option (step_of checked_by (ios ++ more) e) [])
+    (steps_agree checked_by ios more h (all_refer plan h legal))
+    ∙ ap (λ (o : Option LogStep). steps_of checked_by h ++ cons_option o [])
+    (step_agrees checked_by ios more e (refers_now plan h e legal may))
+
+log_append : (steps : List LogStep) (o : Option LogStep) → log_of (steps ++ cons_option o []) ≡ after_if o (log_of steps)
+log_append steps None = ap log_of (append-nil steps)
+log_append steps (Some step) = fold_push after_step [] steps step
+
+-- the log makes the step that the event is
+pub log_grows : (plan : Plan) (history : List Event) (event : Event) (checked_by : WriteId → Piece → Expected)
+    → is_legal plan history ≡ true
+    → may_happen plan history event ≡ true
+    → log_after checked_by (history ++ event ∷ []) ≡ after_if (step_of checked_by (started history) event) (log_after checked_by history)
+log_grows plan history event checked_by legal may =
+    ap log_of (steps_more plan history event checked_by legal may)
+    ∙ log_append (steps_of checked_by history) (step_of checked_by (started history) event)
+
+module _ (plan : Plan) (h : List Event) (checked_by : WriteId → Piece → Expected) (legal : is_legal plan h ≡ true) where
+  -- an event that is no step
+  pub log-same : (e : Event)
+      → may_happen plan h e ≡ true
+      → step_of checked_by (started h) e ≡ None
+      → log_after checked_by (h ++ e ∷ []) ≡ log_after checked_by h
+  log-same e may none =
+      log_grows plan h e checked_by legal may ∙ ap (λ (o : Option LogStep). after_if o (log_after checked_by h)) none
+
+  module _ (worker id : ℕ) (outcome : Outcome) (io : Started)
+      (may : may_happen plan h (End worker id outcome) ≡ true) (at : slice_get (started h) id ≡ Some io) where
+    -- the step by whether the I/O is a write, and whether it ended whole
+    abbrev step_by : Bool → Bool → Option LogStep
+    step_by write whole = cond write (Some (cond whole (settle io.write io.piece (checked_by io.write io.piece)) (unsettle io.piece))) None
+
+    log_end : (write whole : Bool)
+        → is_write io.kind ≡ write
+        → ended_whole (Some outcome) ≡ whole
+        → log_after checked_by (h ++ End worker id outcome ∷ []) ≡ after_if (step_by write whole) (log_after checked_by h)
+    log_end write whole kind ended =
+        log_grows plan h (End worker id outcome) checked_by legal may
+        ∙ ap (λ (o : Option Started). after_if (step_at_end checked_by o outcome) (log_after checked_by h)) at
+        ∙ ap (λ (b : Bool). after_if (step_by b (ended_whole (Some outcome))) (log_after checked_by h)) kind
+        ∙ ap (λ (b : Bool). after_if (step_by write b) (log_after checked_by h)) ended
+
+    -- the end of a read or a check
+    pub log-read : is_write io.kind ≡ false → log_after checked_by (h ++ End worker id outcome ∷ []) ≡ log_after checked_by h
+    log-read other = log_end false (ended_whole (Some outcome)) other refl
+
+    -- the whole end of a write
+    pub log-whole : is_write io.kind ≡ true
+        → ended_whole (Some outcome) ≡ true
+        → log_after checked_by (h ++ End worker id outcome ∷ [])
+        ≡ settled (log_after checked_by h) io.write io.piece (checked_by io.write io.piece)
+    log-whole write whole = log_end true true write whole
+
+    -- another end of a write
+    pub log-failed : is_write io.kind ≡ true
+        → ended_whole (Some outcome) ≡ false
+        → log_after checked_by (h ++ End worker id outcome ∷ []) ≡ unsettled (log_after checked_by h) io.piece
+    log-failed write failed = log_end true false write failed

@@ -1,0 +1,321 @@
+-- A write waits for each earlier one that it overlaps, so where no write of a block is in flight, its last write is the one
+-- that was issued last.
+use Rattle.std.proofs.Common.{◌≡◌, ℕ, zero, suc, ◌+◌, ◌*◌, ◌<◌, ◌≤◌, List, [], ◌∷◌, ◌++◌, length, Bool, true, false, cond, ◌&&◌, ◌||◌, refl, sym, ◌∙◌, ap, subst, arith, inl, inr, append-nil, zero-add}
+use Rattle.std.specs.Prelude.{Option, Some, None, slice_get, nat_lt, nat_le, ◌==◌, is_none, is_some, fold, min, max, filter_map}
+use Rattle.std.specs.List.{list_any, list_all, cons_option, enumerate_from}
+use Rattle.std.proofs.lemmas.Bool.{and_parts, and_from, eqb-true, eq-eqb, ne_eqb, lt-ltb, ltb-true, leb-true, cases_Bool, cases_eq, not-true, or_parts, or_left, or_right, both_ways, true_from_ne_false}
+use Rattle.std.proofs.lemmas.List.Sums.{fold_push}
+use Rattle.std.proofs.lemmas.Option.{slice_get_within}
+use Rattle.jr_model.specs.declared.limits.TheConstants.{SECTOR}
+use Rattle.jr_model.specs.declared.blocks.Dir.{Dir}
+use Rattle.jr_model.specs.declared.blocks.Dir.TheVariants as direction
+use Rattle.jr_model.specs.declared.blocks.Piece.{Piece}
+use Rattle.jr_model.specs.declared.events.Event.{Event}
+use Rattle.jr_model.specs.declared.events.Event.TheVariants.{Issue, Probe, Skip, End, Verdict}
+use Rattle.jr_model.specs.declared.events.Outcome.{Outcome}
+use Rattle.jr_model.specs.declared.events.Outcome.TheVariants.{Whole, Failed, Short}
+use Rattle.jr_model.specs.declared.events.Started.{Started}
+use Rattle.jr_model.specs.declared.events.WriteId.{WriteId}
+use Rattle.jr_model.specs.declared.tickets.TicketKind.TheVariants as ticket
+use Rattle.jr_model.specs.declared.workloads.Draw.{Draw}
+use Rattle.jr_model.specs.History.{started, started_by, kind_for, end_of, outcome_of, flies, is_write, in_flight, if_flying}
+use Rattle.jr_model.specs.LastWrite.{covers_block, last_after, last_after_end, last_write}
+use Rattle.jr_model.specs.Legal.{is_legal, end_fits, conflicts, is_clear, may_happen}
+use Rattle.jr_model.specs.Pieces.{pieces_overlap}
+use Rattle.jr_model.specs.Plan.{Plan, IsNumbered}
+use Rattle.jr_model.specs.Rounds.{is_write_draw, pass_of}
+use Rattle.jr_model.specs.PlanFacts.{IsPlanned}
+use Rattle.jr_laws_quiet.specs.Quiet.{is_quiet, issued_over, last_issued, writes_block}
+use Rattle.jr_laws_quiet.proofs.Steps.{IsStep, along, refers, all_refer, started_push, got_within, got_at_end, got_push, Agrees, issue_of}
+use Rattle.jr_laws_quiet.proofs.Ends.{has_ended, has_ended_push, not_ended_yet, or_false, none_is_none, some_if, some_within}
+use Rattle.jr_laws_quiet.proofs.Issues.{may_issue_parts}
+
+pub last_issued_push : (h : List Event) (e : Event) (f b : ℕ) → last_issued (h ++ e ∷ []) f b ≡ issued_over f b (last_issued h f b) e
+last_issued_push h e f b = fold_push (issued_over f b) None h e
+
+-- what is known of a piece that covers a block
+pub record Covers (p : Piece) (f b : ℕ) : Type 0 where
+  pub file : p.file ≡ f
+  pub low : p.offset ≤ b * SECTOR
+  pub high : b * SECTOR < p.offset + p.len
+
+pub covers_parts : (p : Piece) (f b : ℕ) → covers_block p f b ≡ true → Covers p f b
+covers_parts p f b h =
+    let parts = and_parts ((p.file == f) && nat_le p.offset (b * SECTOR)) (nat_lt (b * SECTOR) (p.offset + p.len)) h in
+    let front = and_parts (p.file == f) (nat_le p.offset (b * SECTOR)) parts.0 in
+    record {
+      file = eqb-true p.file f front.0;
+      low = leb-true p.offset (b * SECTOR) front.1;
+      high = ltb-true (b * SECTOR) (p.offset + p.len) parts.1;
+    }
+
+pub between : (x a b c d : ℕ) → a ≤ x → b ≤ x → x < c → x < d → max a b < min c d
+between x a b c d p q r s = omega arith
+
+-- two pieces that cover one block overlap
+pub overlap_from : (p q : Piece) (f b : ℕ) → covers_block p f b ≡ true → covers_block q f b ≡ true → pieces_overlap p q ≡ true
+overlap_from p q f b h k =
+    let one = covers_parts p f b h in
+    let two = covers_parts q f b k in
+    and_from (p.file == q.file) (nat_lt (max p.offset q.offset) (min (p.offset + p.len) (q.offset + q.len)))
+    (eq-eqb p.file q.file (one.file ∙ sym two.file))
+    (lt-ltb (max p.offset q.offset) (min (p.offset + p.len) (q.offset + q.len))
+    (between (b * SECTOR) p.offset q.offset (p.offset + p.len) (q.offset + q.len) one.low two.low one.high two.high))
+
+pub any_given : {X Y : Type 0} (g : ℕ × X → Option Y) (p : Y → Bool) (n k : ℕ) (xs : List X) (x : X) (y : Y) → slice_get xs k ≡ Some x → g (n + k, x) ≡ Some y → p y ≡ true → list_any p (filter_map g (enumerate_from n xs)) ≡ true
+any_given g p n k [] x y at gives passes = cc
+any_given {X = X} {Y = Y} g p n zero (z ∷ xs) x y at gives passes =
+    let same : z ≡ x = cc in
+    let here : g (n, z) ≡ Some y = subst (λ (i : ℕ). g (i, z) ≡ Some y) (omega arith) (subst (λ (w : X). g (n + 0, w) ≡ Some y) (sym same) gives) in
+    first (g (n, z)) here
+  where
+    first : (o : Option Y) → o ≡ Some y → list_any p (cons_option o (filter_map g (enumerate_from (n + 1) xs))) ≡ true
+    first None h = cc
+    first (Some w) h =
+        let one : w ≡ y = cc in
+        or_left (p w) (list_any p (filter_map g (enumerate_from (n + 1) xs))) (subst (λ (v : Y). p v ≡ true) (sym one) passes)
+any_given {X = X} {Y = Y} g p n (suc k) (z ∷ xs) x y at gives passes =
+    rest (g (n, z)) (any_given g p (n + 1) k xs x y at (subst (λ (i : ℕ). g (i, x) ≡ Some y) (omega arith) gives) passes)
+  where
+    rest : (o : Option Y) → list_any p (filter_map g (enumerate_from (n + 1) xs)) ≡ true → list_any p (cons_option o (filter_map g (enumerate_from (n + 1) xs))) ≡ true
+    rest None h = h
+    rest (Some w) h = or_right (p w) (list_any p (filter_map g (enumerate_from (n + 1) xs))) h
+
+-- what has not ended is in flight
+pub given_flying : (h : List Event) (id : ℕ) (s : Started) → has_ended h id ≡ false → if_flying h (id, s) ≡ Some s
+given_flying h id s flying = by_outcome (outcome_of h id) flying
+  where
+    by_outcome : (o : Option Outcome) → is_some o ≡ false → cond (is_none o) (Some s) None ≡ Some s
+    by_outcome None g = refl
+    by_outcome (Some o) g = cc
+
+-- an I/O in flight is found among those in flight
+pub found_flying : (h : List Event) (p : Started → Bool) (id : ℕ) (s : Started) → slice_get (started h) id ≡ Some s → has_ended h id ≡ false → p s ≡ true → list_any p (in_flight h) ≡ true
+found_flying h p id s at flying passes =
+    any_given (if_flying h) p 0 id (started h) s s at
+    (subst (λ (i : ℕ). if_flying h (i, s) ≡ Some s) (sym (zero-add id)) (given_flying h id s flying)) passes
+
+-- a write in flight that covers a block bars every piece that covers it
+pub barred : (h : List Event) (writes : Bool) (piece : Piece) (id : ℕ) (s : Started) (f b : ℕ) → is_clear h writes piece ≡ true → slice_get (started h) id ≡ Some s → has_ended h id ≡ false → is_write s.kind ≡ true → covers_block s.piece f b ≡ true → covers_block piece f b ≡ true → ⊥
+barred h writes piece id s f b clear at flying kind covered covers =
+    let hit : conflicts writes piece s ≡ true =
+    and_from (writes || is_write s.kind) (pieces_overlap s.piece piece) (or_right writes (is_write s.kind) kind) (overlap_from s.piece piece f b covered covers) in
+    both_ways (list_any (conflicts writes piece) (in_flight h)) (not-true (list_any (conflicts writes piece) (in_flight h)) clear)
+    (found_flying h (conflicts writes piece) id s at flying hit)
+
+-- a write is issued once all that it overlaps has ended
+pub waits_for_overlapped : (plan : Plan) (history : List Event) (worker : ℕ) (write : WriteId) (piece : Piece) (id : ℕ) (io : Started) → IsPlanned plan → may_happen plan history (Issue worker direction.Write write piece) ≡ true → slice_get (started history) id ≡ Some io → pieces_overlap io.piece piece ≡ true → has_ended history id ≡ true
+waits_for_overlapped plan history worker write piece id io planned_all may at overlap =
+    let issue = issue_of plan history worker direction.Write write piece (λ i job there. (planned_all.drafted.placed i job there).number) may in
+    let clear = (may_issue_parts plan history (pass_of issue.job write.pass) issue.draw issue.may).clear in
+    let writes : is_write_draw issue.draw ≡ true = is_write_by issue.draw issue.dir_is in
+    let hit : conflicts (is_write_draw issue.draw) issue.draw.piece io ≡ true =
+    and_from (is_write_draw issue.draw || is_write io.kind) (pieces_overlap io.piece issue.draw.piece)
+    (or_left (is_write_draw issue.draw) (is_write io.kind) writes)
+    (ap (pieces_overlap io.piece) issue.piece_is ∙ overlap) in
+    true_from_ne_false (has_ended history id)
+    (λ (flying : has_ended history id ≡ false).
+    both_ways (list_any (conflicts (is_write_draw issue.draw) issue.draw.piece) (in_flight history))
+    (not-true (list_any (conflicts (is_write_draw issue.draw) issue.draw.piece) (in_flight history)) clear)
+    (found_flying history (conflicts (is_write_draw issue.draw) issue.draw.piece) id io at flying hit))
+  where
+    is_write_by : (d : Draw) → d.dir ≡ direction.Write → is_write_draw d ≡ true
+    is_write_by d same = ap (λ (dir : Dir). is_write_draw (record { number = d.number; dir = dir; piece = d.piece; seed = d.seed })) same
+
+pub last_after_agrees : (f b : ℕ) (o : Option WriteId) → Agrees (λ (ios : List Started). λ (e : Event). last_after ios f b o e)
+last_after_agrees f b o ios more (End worker io outcome) h = ap (λ (s : Option Started). last_after_end s outcome f b o) (got_within ios more io (ltb-true io (length ios) h))
+last_after_agrees f b o ios more (Issue worker dir write piece) h = refl
+last_after_agrees f b o ios more (Probe worker write piece) h = refl
+last_after_agrees f b o ios more (Skip worker write) h = refl
+last_after_agrees f b o ios more (Verdict worker io verdict) h = refl
+
+pub fold_agrees : (f b : ℕ) (o : Option WriteId) (ios more : List Started) (events : List Event) → list_all (refers (length ios)) events ≡ true → fold (last_after (ios ++ more) f b) o events ≡ fold (last_after ios f b) o events
+fold_agrees f b o ios more [] h = refl
+fold_agrees f b o ios more (e ∷ events) h =
+    let parts = and_parts (refers (length ios) e) (list_all (refers (length ios)) events) h in
+    ap (λ (x : Option WriteId). fold (last_after (ios ++ more) f b) x events) (last_after_agrees f b o ios more e parts.0)
+    ∙ fold_agrees f b (last_after ios f b o e) ios more events parts.1
+
+-- the last write after one more event
+pub last_write_push : (plan : Plan) (h : List Event) (e : Event) (f b : ℕ) → IsStep plan h e → last_write (h ++ e ∷ []) f b ≡ last_after (started (h ++ e ∷ [])) f b (last_write h f b) e
+last_write_push plan h e f b step =
+    fold_push (last_after (started (h ++ e ∷ [])) f b) None h e
+    ∙ ap (λ (o : Option WriteId). last_after (started (h ++ e ∷ [])) f b o e)
+    (ap (λ (ios : List Started). fold (last_after ios f b) None h) (started_push h e) ∙ fold_agrees f b None (started h) (cons_option (started_by e) []) h (all_refer plan h step.legal step.quiet))
+
+-- a write in flight covers the block
+pub record FliesOver (h : List Event) (f b id : ℕ) (s : Started) : Type 0 where
+  pub at : slice_get (started h) id ≡ Some s
+  pub flying : has_ended h id ≡ false
+  pub writes : is_write s.kind ≡ true
+  pub covers : covers_block s.piece f b ≡ true
+
+-- of a block whose write is in flight that one was issued last; else its last write is the one issued last
+pub record LastLaw (h : List Event) (f b : ℕ) : Type 0 where
+  pub flying : (id : ℕ) (s : Started) → FliesOver h f b id s → last_issued h f b ≡ Some s.write
+  pub landed : ((id : ℕ) (s : Started) → FliesOver h f b id s → ⊥) → last_write h f b ≡ last_issued h f b
+
+module _ (plan : Plan) (f b : ℕ) (h : List Event) (e : Event) (step : IsStep plan h e) where
+  -- an event that ends nothing and issues no write of the block
+  law_keeps : ((io : ℕ) → is_some (end_of io e) ≡ false) → ((ios : List Started) (o : Option WriteId) → last_after ios f b o e ≡ o) → ((o : Option WriteId) → issued_over f b o e ≡ o) → ((s : Started) → started_by e ≡ Some s → is_write s.kind ≡ true → covers_block s.piece f b ≡ true → ⊥) → LastLaw h f b → LastLaw (h ++ e ∷ []) f b
+  law_keeps no_end keeps_last keeps_issued starts law =
+      let ended : (id : ℕ) → has_ended (h ++ e ∷ []) id ≡ has_ended h id = λ (id : ℕ). has_ended_push h e id ∙ ap (λ (x : Bool). has_ended h id || x) (no_end id) ∙ or_false (has_ended h id) in
+      let issued : last_issued (h ++ e ∷ []) f b ≡ last_issued h f b = last_issued_push h e f b ∙ keeps_issued (last_issued h f b) in
+      record {
+        flying = λ (id : ℕ) (s : Started) (over : FliesOver (h ++ e ∷ []) f b id s). issued ∙ law.flying id s (before id s over (ended id) (started_by e) refl (subst (λ (ios : List Started). slice_get ios id ≡ Some s) (started_push h e) over.at));
+        landed = λ (none : (id : ℕ) (s : Started) → FliesOver (h ++ e ∷ []) f b id s → ⊥). last_write_push plan h e f b step ∙ keeps_last (started (h ++ e ∷ [])) (last_write h f b)
+            ∙ law.landed (λ (id : ℕ) (s : Started) (over : FliesOver h f b id s). none id s (after id s over (ended id))) ∙ sym issued;
+      }
+    where
+      before : (id : ℕ) (s : Started) → FliesOver (h ++ e ∷ []) f b id s → has_ended (h ++ e ∷ []) id ≡ has_ended h id → (o : Option Started) → started_by e ≡ o → slice_get (started h ++ cons_option o []) id ≡ Some s → FliesOver h f b id s
+      before id s over same None now at = record {
+        at = subst (λ (ios : List Started). slice_get ios id ≡ Some s) (append-nil (started h)) at;
+        flying = sym same ∙ over.flying;
+        writes = over.writes;
+        covers = over.covers;
+      }
+      before id s over same (Some new) now at =
+          elim (got_push (started h) new s id at) [
+            | inl old ↦ record { at = old; flying = sym same ∙ over.flying; writes = over.writes; covers = over.covers }
+            | inr last ↦ absurd (starts s (now ∙ ap Some last.1) over.writes over.covers)
+          ]
+
+      after : (id : ℕ) (s : Started) → FliesOver h f b id s → has_ended (h ++ e ∷ []) id ≡ has_ended h id → FliesOver (h ++ e ∷ []) f b id s
+      after id s over same = record {
+        at = subst (λ (ios : List Started). slice_get ios id ≡ Some s) (sym (started_push h e)) (got_within (started h) (cons_option (started_by e) []) id (slice_get_within (started h) id s over.at) ∙ over.at);
+        flying = same ∙ over.flying;
+        writes = over.writes;
+        covers = over.covers;
+      }
+
+module _ (plan : Plan) (numbered : IsNumbered plan) (f b : ℕ) where
+  -- a write of the block
+  law_issued : (h : List Event) (worker : ℕ) (dir : Dir) (write : WriteId) (piece : Piece) → IsStep plan h (Issue worker dir write piece) → is_write (kind_for dir) ≡ true → covers_block piece f b ≡ true → LastLaw h f b → LastLaw (h ++ Issue worker dir write piece ∷ []) f b
+  law_issued h worker dir write piece step writes covers law =
+      let e = Issue worker dir write piece in
+      let s0 : Started = record { worker = worker; kind = kind_for dir; write = write; piece = piece } in
+      let issue = issue_of plan h worker dir write piece numbered step.may in
+      let may = may_issue_parts plan h (pass_of issue.job write.pass) issue.draw issue.may in
+      let clear : is_clear h (is_write_draw issue.draw) piece ≡ true = subst (λ (p : Piece). is_clear h (is_write_draw issue.draw) p ≡ true) issue.piece_is may.clear in
+      let now : last_issued (h ++ e ∷ []) f b ≡ Some write =
+      last_issued_push h e f b ∙ ap (λ (x : Bool). cond x (Some write) (last_issued h f b)) (and_from (is_write (kind_for dir)) (covers_block piece f b) writes covers) in
+      let not_yet : has_ended (h ++ e ∷ []) (length (started h)) ≡ false =
+      has_ended_push h e (length (started h)) ∙ or_false (has_ended h (length (started h))) ∙ not_ended_yet plan h step.legal step.quiet (length (started h)) (omega arith) in
+      let flies_now : FliesOver (h ++ e ∷ []) f b (length (started h)) s0 = record {
+        at = subst (λ (ios : List Started). slice_get ios (length (started h)) ≡ Some s0) (sym (started_push h e)) (got_at_end (started h) s0);
+        flying = not_yet;
+        writes = writes;
+        covers = covers;
+      } in
+      record {
+        flying = λ (id : ℕ) (s : Started) (over : FliesOver (h ++ e ∷ []) f b id s).
+            elim (got_push (started h) s0 s id (subst (λ (ios : List Started). slice_get ios id ≡ Some s) (started_push h e) over.at)) [
+              | inl old ↦ absurd (barred h (is_write_draw issue.draw) piece id s f b clear old (sym (has_ended_push h e id ∙ or_false (has_ended h id)) ∙ over.flying) over.writes over.covers covers)
+              | inr last ↦ now ∙ ap (λ (x : Started). Some x.write) last.1
+            ];
+        landed = λ (none : (id : ℕ) (s : Started) → FliesOver (h ++ e ∷ []) f b id s → ⊥). absurd (none (length (started h)) s0 flies_now);
+      }
+
+  law_ended : (h : List Event) (worker io : ℕ) (s0 : Started) → IsStep plan h (End worker io Whole) → slice_get (started h) io ≡ Some s0 → has_ended h io ≡ false → (covering : Bool) → (is_write s0.kind && covers_block s0.piece f b) ≡ covering → LastLaw h f b → LastLaw (h ++ End worker io Whole ∷ []) f b
+  law_ended h worker io s0 step at flying covering covers law =
+      let e = End worker io Whole in
+      let same : started (h ++ e ∷ []) ≡ started h = started_push h e ∙ append-nil (started h) in
+      let issued : last_issued (h ++ e ∷ []) f b ≡ last_issued h f b = last_issued_push h e f b in
+      let written : last_write (h ++ e ∷ []) f b ≡ cond covering (Some s0.write) (last_write h f b) =
+      last_write_push plan h e f b step
+      ∙ ap (λ (ios : List Started). last_after_end (slice_get ios io) Whole f b (last_write h f b)) same
+      ∙ ap (λ (o : Option Started). last_after_end o Whole f b (last_write h f b)) at
+      ∙ ap (λ (x : Bool). cond x (Some s0.write) (last_write h f b)) covers in
+      record {
+        flying = λ (id : ℕ) (s : Started) (over : FliesOver (h ++ e ∷ []) f b id s). issued ∙ law.flying id s (record {
+          at = subst (λ (ios : List Started). slice_get ios id ≡ Some s) same over.at;
+          flying = (or_parts (has_ended h id) (is_some (end_of id e)) (sym (has_ended_push h e id) ∙ over.flying)).0;
+          writes = over.writes;
+          covers = over.covers;
+        });
+        landed = λ (none : (id : ℕ) (s : Started) → FliesOver (h ++ e ∷ []) f b id s → ⊥). by_case covering covers written same none ∙ sym issued;
+      }
+    where
+      by_case : (c : Bool) → (is_write s0.kind && covers_block s0.piece f b) ≡ c → last_write (h ++ End worker io Whole ∷ []) f b ≡ cond c (Some s0.write) (last_write h f b) → started (h ++ End worker io Whole ∷ []) ≡ started h → ((id : ℕ) (s : Started) → FliesOver (h ++ End worker io Whole ∷ []) f b id s → ⊥) → last_write (h ++ End worker io Whole ∷ []) f b ≡ last_issued h f b
+      by_case true hit written same none =
+          let parts = and_parts (is_write s0.kind) (covers_block s0.piece f b) hit in
+          written ∙ sym (law.flying io s0 (record { at = at; flying = flying; writes = parts.0; covers = parts.1 }))
+      by_case false miss written same none =
+          written ∙ law.landed (λ (id : ℕ) (s : Started) (over : FliesOver h f b id s). elim (cases_eq io id) [
+            | inl equal ↦
+                let one : s0 ≡ s = some_same s0 s (sym at ∙ ap (slice_get (started h)) equal ∙ over.at) in
+                both_ways (is_write s0.kind && covers_block s0.piece f b) miss
+                (subst (λ (x : Started). (is_write x.kind && covers_block x.piece f b) ≡ true) (sym one) (and_from (is_write s.kind) (covers_block s.piece f b) over.writes over.covers))
+            | inr apart ↦
+                none id s (record {
+                  at = subst (λ (ios : List Started). slice_get ios id ≡ Some s) (sym same) over.at;
+                  flying = has_ended_push h (End worker io Whole) id ∙ ap (λ (x : Bool). has_ended h id || x) (some_if (io == id) Whole ∙ ne_eqb io id apart) ∙ or_false (has_ended h id) ∙ over.flying;
+                  writes = over.writes;
+                  covers = over.covers;
+                })
+          ])
+        where
+          some_same : (u v : Started) → Some u ≡ Some v → u ≡ v
+          some_same u v g = cc
+
+  law_step : (h : List Event) (e : Event) → IsStep plan h e → LastLaw h f b → LastLaw (h ++ e ∷ []) f b
+  law_step h (Issue worker dir write piece) step law =
+      elim (cases_Bool (is_write (kind_for dir) && covers_block piece f b)) [
+        | inl hit ↦
+            let parts = and_parts (is_write (kind_for dir)) (covers_block piece f b) hit in
+            law_issued h worker dir write piece step parts.0 parts.1 law
+        | inr miss ↦
+            law_keeps plan f b h (Issue worker dir write piece) step (λ io. refl) (λ ios o. refl)
+            (λ (o : Option WriteId). ap (λ (x : Bool). cond x (Some write) o) miss)
+            (λ (s : Started) (starts : started_by (Issue worker dir write piece) ≡ Some s) (writes : is_write s.kind ≡ true) (covers : covers_block s.piece f b ≡ true).
+            let one : record { worker = worker; kind = kind_for dir; write = write; piece = piece } ≡ s = some_same _ s starts in
+            both_ways (is_write (kind_for dir) && covers_block piece f b) miss
+            (subst (λ (x : Started). (is_write x.kind && covers_block x.piece f b) ≡ true) (sym one) (and_from (is_write s.kind) (covers_block s.piece f b) writes covers)))
+            law
+      ]
+    where
+      some_same : (u v : Started) → Some u ≡ Some v → u ≡ v
+      some_same u v g = cc
+  law_step h (Probe worker write piece) step law =
+      law_keeps plan f b h (Probe worker write piece) step (λ io. refl) (λ ios o. refl) (λ o. refl)
+      (λ (s : Started) (starts : started_by (Probe worker write piece) ≡ Some s) (writes : is_write s.kind ≡ true) (covers : covers_block s.piece f b ≡ true).
+      let one : ticket.Probe ≡ s.kind = some_kind _ s starts in
+      both_ways (is_write ticket.Probe) refl (ap is_write one ∙ writes))
+      law
+    where
+      some_kind : (u v : Started) → Some u ≡ Some v → u.kind ≡ v.kind
+      some_kind u v g = let one : u ≡ v = cc in ap (λ (x : Started). x.kind) one
+  law_step h (Skip worker write) step law =
+      law_keeps plan f b h (Skip worker write) step (λ io. refl) (λ ios o. refl) (λ o. refl) (λ s starts writes covers. nothing s starts) law
+    where
+      nothing : (s : Started) → None ≡ Some s → ⊥
+      nothing s g = cc
+  law_step h (Verdict worker io verdict) step law =
+      law_keeps plan f b h (Verdict worker io verdict) step (λ i. refl) (λ ios o. refl) (λ o. refl) (λ s starts writes covers. nothing s starts) law
+    where
+      nothing : (s : Started) → None ≡ Some s → ⊥
+      nothing s g = cc
+  law_step h (End worker io outcome) step law = whole_end outcome step
+    where
+      whole_end : (o : Outcome) → IsStep plan h (End worker io o) → LastLaw (h ++ End worker io o ∷ []) f b
+      whole_end Failed bad = absurd (cc (bad.calm))
+      whole_end (Short n) bad = absurd (cc (bad.calm))
+      whole_end Whole good =
+          let flying = and_parts (nat_lt io (length (started h))) (is_none (outcome_of h io)) (and_parts (flies h io) (end_fits worker Whole (slice_get (started h) io)) good.may).0 in
+          let found = some_within (started h) io (ltb-true io (length (started h)) flying.0) in
+          law_ended h worker io found.0 good found.1 (none_is_none (outcome_of h io) flying.1) (is_write found.0.kind && covers_block found.0.piece f b) refl law
+
+  pub last_law : (history : List Event) → is_legal plan history ≡ true → is_quiet history ≡ true → LastLaw history f b
+  last_law history legal quiet =
+      along plan (λ (h : List Event). LastLaw h f b) (record { flying = λ id s over. absurd (none_got id s over.at); landed = λ none. refl }) law_step history legal quiet
+    where
+      none_got : (id : ℕ) (s : Started) → None ≡ Some s → ⊥
+      none_got id s g = cc
+
+-- where no write of a block is in flight, its last write is the one that was issued last
+pub last_is_issued : (plan : Plan) (history : List Event) (file block : ℕ) → IsPlanned plan → is_legal plan history ≡ true → is_quiet history ≡ true → list_any (writes_block file block) (in_flight history) ≡ false → last_write history file block ≡ last_issued history file block
+last_is_issued plan history file block planned_all legal quiet none =
+    (last_law plan (λ i job at. (planned_all.drafted.placed i job at).number) file block history legal quiet).landed
+    (λ (id : ℕ) (s : Started) (over : FliesOver history file block id s).
+    both_ways (list_any (writes_block file block) (in_flight history)) none
+    (found_flying history (writes_block file block) id s over.at over.flying (and_from (is_write s.kind) (covers_block s.piece file block) over.writes over.covers)))

@@ -1,0 +1,11 @@
+pub mod Checks
+pub mod Ends
+pub mod Groups
+pub mod Issues
+pub mod LastWrites
+pub mod Latest
+pub mod Members
+pub mod Phases
+pub mod Reports
+pub mod Steps
+pub mod Tallies

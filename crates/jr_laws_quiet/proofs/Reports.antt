@@ -1,0 +1,356 @@
+-- The report of a complete run in which nothing goes wrong is that of its draws.
+use Rattle.std.proofs.Common.{◌≡◌, ℕ, zero, suc, ◌+◌, ◌-◌, ◌<◌, List, [], ◌∷◌, ◌++◌, length, map, Bool, true, false, cond, ◌&&◌, not, refl, sym, ◌∙◌, ap, subst, arith, inl, inr, append-nil}
+use Rattle.std.specs.Prelude.{◌⊎◌, Option, Some, None, slice_get, ◌==◌, filter, filter_map, flat_map, sum, count_by}
+use Rattle.std.specs.List.{range_with_len, cons_option}
+use Rattle.std.proofs.lemmas.Bool.{and_parts, and_right, cases_Bool, not-true}
+use Rattle.jr_model.specs.declared.blocks.Dir.{Dir}
+use Rattle.jr_model.specs.declared.blocks.Dir.TheVariants as direction
+use Rattle.jr_model.specs.declared.blocks.Piece.{Piece}
+use Rattle.jr_model.specs.declared.events.Event.{Event}
+use Rattle.jr_model.specs.declared.events.Event.TheVariants.{Issue, Probe, Skip, End, Verdict}
+use Rattle.jr_model.specs.declared.events.Started.{Started}
+use Rattle.jr_model.specs.declared.events.Verdict.{Verdict as GivenVerdict}
+use Rattle.jr_model.specs.declared.events.Verdict.TheVariants.{Good, Bad}
+use Rattle.jr_model.specs.declared.tickets.TicketKind.{TicketKind}
+use Rattle.jr_model.specs.declared.tickets.TicketKind.TheVariants as ticket
+use Rattle.jr_model.specs.declared.totals.Totals.{Totals}
+use Rattle.jr_model.specs.declared.workloads.Draw.{Draw}
+use Rattle.jr_model.specs.Draws.{draws_of_job}
+use Rattle.jr_model.specs.History.{started, started_by, kind_for, is_of_clone, is_probe, is_write, is_judged, ended_whole, outcome_of}
+use Rattle.jr_model.specs.Legal.{is_legal, is_complete, is_io_of, is_fault, is_bad, verdict_fits, job_says}
+use Rattle.jr_model.specs.Plan.{Plan, SubJob, clone_of}
+use Rattle.jr_model.specs.Quiet.{checks_of_pass, bytes_drawn, quiet_totals, quiet_report}
+use Rattle.jr_model.specs.Report.{Miscompare, miscompare_on, miscompare_by, miscompares, miscompare_line, on_write, of_pass, of_clone, in_order, totals_lines, all_totals, report_of}
+use Rattle.jr_model.specs.Rounds.{Pass, pass_of, passes_of, write_id, is_write_draw, has_rounds}
+use Rattle.jr_model.specs.Totals.{is_read, moved, bytes_of, is_verdict_of, is_skip_of, is_fault_of, totals_of}
+use Rattle.jr_plan.specs.Files.{are_apart}
+use Rattle.jr_model.specs.PlanFacts.{IsPlanned}
+use Rattle.jr_laws_quiet.specs.Quiet.{is_calm, is_quiet}
+use Rattle.jr_laws_quiet.proofs.Tallies.{total, got, upto, total-filter, total-filter_map, total_same, total_zero, total-sum, total-map, total_upto, sum_map-total, count_by-total, length-total, upto_same_below, upto-sum}
+use Rattle.jr_laws_quiet.proofs.Steps.{IsStep, along, started_push}
+use Rattle.jr_laws_quiet.proofs.Ends.{verdict_worth, verdict_worth_agrees, one_more, verdicts_in_all}
+use Rattle.jr_laws_quiet.proofs.Issues.{total_calm, moved_is_drawn, drawn_in_all, clone_is}
+use Rattle.jr_laws_quiet.proofs.Members.{checks_are}
+use Rattle.jr_laws_quiet.proofs.Latest.{numbers_of}
+use Rattle.jr_laws_quiet.proofs.Checks.{worth_where, is_kept, probe_worth, is_overwritten, probes_counted, skips_counted}
+
+-- one for an I/O of the clone, and for a check of it
+abbrev pub clone_worth : ℕ → Started → ℕ
+clone_worth c s = cond (is_of_clone c s) 1 0
+
+abbrev pub check_worth : ℕ → Started → ℕ
+check_worth c s = cond (is_probe s.kind && is_of_clone c s) 1 0
+
+-- a verdict is on a check, so only what checks are worth counts
+abbrev pub CountsChecks : (Started → ℕ) → (Started → ℕ) → List Event → Type 0
+CountsChecks f g h = total (verdict_worth f (started h)) h ≡ total (verdict_worth g (started h)) h
+
+module _ (plan : Plan) (f g : Started → ℕ) (agree : (s : Started) → is_probe s.kind ≡ true → f s ≡ g s) where
+  verdict_agrees : (h : List Event) (e : Event) → IsStep plan h e → verdict_worth f (started (h ++ e ∷ [])) e ≡ verdict_worth g (started (h ++ e ∷ [])) e
+  verdict_agrees h (Issue worker dir write piece) step = refl
+  verdict_agrees h (Probe worker write piece) step = refl
+  verdict_agrees h (Skip worker write) step = refl
+  verdict_agrees h (End worker io outcome) step = refl
+  verdict_agrees h (Verdict worker io verdict) step =
+      subst (λ (ios : List Started). got f (slice_get ios io) ≡ got g (slice_get ios io)) (sym (started_push h (Verdict worker io verdict) ∙ append-nil (started h)))
+      (by_io (slice_get (started h) io) (and_parts (ended_whole (outcome_of h io) && not (is_judged h io)) (verdict_fits plan verdict (slice_get (started h) io)) step.may).1)
+    where
+      by_io : (o : Option Started) → verdict_fits plan verdict o ≡ true → got f o ≡ got g o
+      by_io None fits = refl
+      by_io (Some s) fits = agree s (and_parts (is_probe s.kind) (job_says (clone_of plan s.write.clone) s.piece.len verdict) fits).0
+
+  counts_step : (h : List Event) (e : Event) → IsStep plan h e → CountsChecks f g h → CountsChecks f g (h ++ e ∷ [])
+  counts_step h e step so_far =
+      omega (
+        arith,
+        one_more plan f h e step (verdict_worth f) (verdict_worth_agrees f),
+        one_more plan g h e step (verdict_worth g) (verdict_worth_agrees g),
+        verdict_agrees h e step,
+        so_far,
+      )
+
+  pub counts_checks : (history : List Event) → is_legal plan history ≡ true → is_quiet history ≡ true → CountsChecks f g history
+  counts_checks history legal quiet = along plan (CountsChecks f g) refl counts_step history legal quiet
+
+-- a list of what is nothing at each item
+pub flat_map_none : {X Y : Type 0} (f : X → List Y) (xs : List X) → ((x : X) → f x ≡ []) → flat_map f xs ≡ []
+flat_map_none f [] none = refl
+flat_map_none f (x ∷ xs) none = ap (λ ys. ys ++ flat_map f xs) (none x) ∙ flat_map_none f xs none
+
+-- nothing is found bad
+pub no_miscompares : (ios : List Started) (events : List Event) → is_quiet events ≡ true → filter_map (miscompare_by ios) events ≡ []
+no_miscompares ios [] quiet = refl
+no_miscompares ios (e ∷ events) quiet =
+    let calms = and_parts (is_calm e) (is_quiet events) quiet in
+    ap (λ (o : Option Miscompare). cons_option o (filter_map (miscompare_by ios) events)) (none_by e calms.0) ∙ no_miscompares ios events calms.1
+  where
+    none_on : (o : Option Started) → miscompare_on o Good ≡ None
+    none_on None = refl
+    none_on (Some s) = refl
+
+    none_by : (x : Event) → is_calm x ≡ true → miscompare_by ios x ≡ None
+    none_by (Issue worker dir write piece) calm = refl
+    none_by (Probe worker write piece) calm = refl
+    none_by (Skip worker write) calm = refl
+    none_by (End worker io outcome) calm = refl
+    none_by (Verdict worker io Good) calm = none_on (slice_get ios io)
+    none_by (Verdict worker io (Bad what)) calm = cc
+
+pub none_in_order : (plan : Plan) → in_order plan [] ≡ []
+none_in_order plan =
+    flat_map_none (of_clone []) plan.clones
+    (λ (job : SubJob). flat_map_none (λ (p : ℕ). of_pass [] (pass_of job p)) (range_with_len 0 job.passes)
+    (λ (p : ℕ). flat_map_none (λ (draw : Draw). filter_map (on_write (write_id (pass_of job p) draw)) []) (draws_of_job job p) (λ (draw : Draw). refl)))
+
+-- equal parts, equal totals
+pub same_totals : (a b : Totals) → a.reads ≡ b.reads → a.rbytes ≡ b.rbytes → a.writes ≡ b.writes → a.wbytes ≡ b.wbytes → a.checks ≡ b.checks → a.good ≡ b.good → a.bad ≡ b.bad → a.skipped ≡ b.skipped → a.void ≡ b.void → a.faults ≡ b.faults → a ≡ b
+same_totals a b e1 e2 e3 e4 e5 e6 e7 e8 e9 e10 =
+    ap (λ (x : ℕ). make x a.rbytes a.writes a.wbytes a.checks a.good a.bad a.skipped a.void a.faults) e1
+    ∙ ap (λ (x : ℕ). make b.reads x a.writes a.wbytes a.checks a.good a.bad a.skipped a.void a.faults) e2
+    ∙ ap (λ (x : ℕ). make b.reads b.rbytes x a.wbytes a.checks a.good a.bad a.skipped a.void a.faults) e3
+    ∙ ap (λ (x : ℕ). make b.reads b.rbytes b.writes x a.checks a.good a.bad a.skipped a.void a.faults) e4
+    ∙ ap (λ (x : ℕ). make b.reads b.rbytes b.writes b.wbytes x a.good a.bad a.skipped a.void a.faults) e5
+    ∙ ap (λ (x : ℕ). make b.reads b.rbytes b.writes b.wbytes b.checks x a.bad a.skipped a.void a.faults) e6
+    ∙ ap (λ (x : ℕ). make b.reads b.rbytes b.writes b.wbytes b.checks b.good x a.skipped a.void a.faults) e7
+    ∙ ap (λ (x : ℕ). make b.reads b.rbytes b.writes b.wbytes b.checks b.good b.bad x a.void a.faults) e8
+    ∙ ap (λ (x : ℕ). make b.reads b.rbytes b.writes b.wbytes b.checks b.good b.bad b.skipped x a.faults) e9
+    ∙ ap (λ (x : ℕ). make b.reads b.rbytes b.writes b.wbytes b.checks b.good b.bad b.skipped b.void x) e10
+  where
+    make : ℕ → ℕ → ℕ → ℕ → ℕ → ℕ → ℕ → ℕ → ℕ → ℕ → Totals
+    make r rb w wb ch g bd sk v f = record {
+      reads = r;
+      rbytes = rb;
+      writes = w;
+      wbytes = wb;
+      checks = ch;
+      good = g;
+      bad = bd;
+      skipped = sk;
+      void = v;
+      faults = f;
+    }
+
+-- the draws of a clone
+abbrev pub all_draws : SubJob → List Draw
+all_draws job = flat_map (λ (pass : Pass). pass.draws) (passes_of job)
+
+read_draw : (d : Draw) → is_read (kind_for d.dir) ≡ not (is_write_draw d)
+read_draw d = by_dir d.dir
+  where
+    by_dir : (dir : Dir) → is_read (kind_for dir) ≡ not (is_write_draw (record { number = d.number; dir = dir; piece = d.piece; seed = d.seed }))
+    by_dir direction.Read = refl
+    by_dir direction.Write = refl
+
+write_draw : (d : Draw) → is_write (kind_for d.dir) ≡ is_write_draw d
+write_draw d = by_dir d.dir
+  where
+    by_dir : (dir : Dir) → is_write (kind_for dir) ≡ is_write_draw (record { number = d.number; dir = dir; piece = d.piece; seed = d.seed })
+    by_dir direction.Read = refl
+    by_dir direction.Write = refl
+
+-- where the clone has rounds, the writes that stay last are those that are checked
+pub checks_drawn : (job : SubJob) → upto (λ (p : ℕ). total (worth_where job (is_kept job) p) (draws_of_job job p)) job.passes ≡ cond (has_rounds job) (sum (map checks_of_pass (passes_of job))) 0
+checks_drawn job = by_rounds (has_rounds job) refl
+  where
+    by_rounds : (b : Bool) → has_rounds job ≡ b → upto (λ (p : ℕ). total (worth_where job (is_kept job) p) (draws_of_job job p)) job.passes ≡ cond b (sum (map checks_of_pass (passes_of job))) 0
+    by_rounds true rounds =
+        upto_same_below (λ (p : ℕ). total (worth_where job (is_kept job) p) (draws_of_job job p)) (λ (p : ℕ). checks_of_pass (pass_of job p)) job.passes
+        (λ (p : ℕ) (below : p < job.passes).
+        total_same (worth_where job (is_kept job) p) (λ (d : Draw). cond (is_write_draw d && is_kept job p d) 1 0) (draws_of_job job p)
+        (λ (d : Draw). ap {B = ℕ} (λ (r : Bool). cond (is_write_draw d && r && is_kept job p d) 1 0) rounds ∙ ap {B = ℕ} (λ (b : Bool). cond (b && is_kept job p d) 1 0) (and_true (is_write_draw d)))
+        ∙ sym (checks_are job p))
+        ∙ sym (sum_map-total checks_of_pass (passes_of job) ∙ total-map checks_of_pass (pass_of job) (range_with_len 0 job.passes) ∙ total_upto (λ (p : ℕ). checks_of_pass (pass_of job p)) job.passes)
+      where
+        and_true : (b : Bool) → (b && true) ≡ b
+        and_true true = refl
+        and_true false = refl
+    by_rounds false none = zeros job.passes
+      where
+        zeros : (n : ℕ) → upto (λ (p : ℕ). total (worth_where job (is_kept job) p) (draws_of_job job p)) n ≡ 0
+        zeros zero = refl
+        zeros (suc n) =
+            omega (
+              arith,
+              zeros n,
+              total_zero (worth_where job (is_kept job) n) (draws_of_job job n)
+                  (λ (d : Draw). ap {B = ℕ} (λ (b : Bool). cond (b && is_kept job n d) 1 0) (and_right (is_write_draw d) (has_rounds job) none)),
+            )
+
+-- and the others those that are skipped
+pub skips_drawn : (job : SubJob) → upto (λ (p : ℕ). total (worth_where job (is_overwritten job) p) (draws_of_job job p)) job.passes ≡ cond (has_rounds job) (length (filter is_write_draw (all_draws job)) - upto (λ (p : ℕ). total (worth_where job (is_kept job) p) (draws_of_job job p)) job.passes) 0
+skips_drawn job = by_rounds (has_rounds job) refl
+  where
+    by_rounds : (b : Bool) → has_rounds job ≡ b → upto (λ (p : ℕ). total (worth_where job (is_overwritten job) p) (draws_of_job job p)) job.passes ≡ cond b (length (filter is_write_draw (all_draws job)) - upto (λ (p : ℕ). total (worth_where job (is_kept job) p) (draws_of_job job p)) job.passes) 0
+    by_rounds true rounds =
+        let writes : length (filter is_write_draw (all_draws job)) ≡ upto (λ (p : ℕ). total (λ (d : Draw). cond (is_write_draw d) 1 0) (draws_of_job job p)) job.passes =
+        length-total (filter is_write_draw (all_draws job))
+        ∙ total-filter (λ (d : Draw). 1) is_write_draw (all_draws job)
+        ∙ drawn_in_all job (λ (d : Draw). cond (is_write_draw d) 1 0) in
+        let parts : upto (λ (p : ℕ). total (λ (d : Draw). cond (is_write_draw d) 1 0) (draws_of_job job p)) job.passes ≡ upto (λ (p : ℕ). total (worth_where job (is_kept job) p) (draws_of_job job p) + total (worth_where job (is_overwritten job) p) (draws_of_job job p)) job.passes =
+        upto_same_below (λ (p : ℕ). total (λ (d : Draw). cond (is_write_draw d) 1 0) (draws_of_job job p)) (λ (p : ℕ). total (worth_where job (is_kept job) p) (draws_of_job job p) + total (worth_where job (is_overwritten job) p) (draws_of_job job p)) job.passes
+        (λ (p : ℕ) (below : p < job.passes).
+        total_same (λ (d : Draw). cond (is_write_draw d) 1 0) (λ (d : Draw). worth_where job (is_kept job) p d + worth_where job (is_overwritten job) p d) (draws_of_job job p)
+        (λ (d : Draw). two_kinds (is_write_draw d) (has_rounds job) (is_kept job p d) rounds)
+        ∙ total-sum (worth_where job (is_kept job) p) (worth_where job (is_overwritten job) p) (draws_of_job job p)) in
+        omega (arith, writes, parts, upto-sum (λ (p : ℕ). total (worth_where job (is_kept job) p) (draws_of_job job p)) (λ (p : ℕ). total (worth_where job (is_overwritten job) p) (draws_of_job job p)) job.passes)
+      where
+        two_kinds : (w r s : Bool) → r ≡ true → ◌≡◌ {A = ℕ} (cond w 1 0) (cond (w && r && s) 1 0 + cond (w && r && not s) 1 0)
+        two_kinds true true true e = refl
+        two_kinds true true false e = refl
+        two_kinds false r s e = refl
+        two_kinds true false s e = cc
+    by_rounds false none = zeros job.passes
+      where
+        zeros : (n : ℕ) → upto (λ (p : ℕ). total (worth_where job (is_overwritten job) p) (draws_of_job job p)) n ≡ 0
+        zeros zero = refl
+        zeros (suc n) =
+            omega (
+              arith,
+              zeros n,
+              total_zero (worth_where job (is_overwritten job) n) (draws_of_job job n)
+                  (λ (d : Draw). ap {B = ℕ} (λ (b : Bool). cond (b && is_overwritten job n d) 1 0) (and_right (is_write_draw d) (has_rounds job) none)),
+            )
+
+module _ (plan : Plan) (planned_all : IsPlanned plan) (apart : are_apart plan.clones ≡ true) (history : List Event) (legal : is_legal plan history ≡ true) (complete : is_complete plan history ≡ true) (quiet : is_quiet history ≡ true) (c : ℕ) (job : SubJob) (planned : clone_of plan c ≡ Some job) where
+  moved_total : (test : TicketKind → Bool) (no_check : test ticket.Probe ≡ false) (p : Draw → Bool) (same : (d : Draw) → test (kind_for d.dir) ≡ p d) (g : Piece → ℕ) → total (λ (s : Started). g s.piece) (moved history test c) ≡ total (λ (d : Draw). g d.piece) (filter p (all_draws job))
+  moved_total test no_check p same g =
+      moved_is_drawn plan (numbers_of plan planned_all) c job planned test no_check g history legal quiet complete
+      ∙ upto_same_below (λ (q : ℕ). total (λ (d : Draw). cond (test (kind_for d.dir)) (g d.piece) 0) (draws_of_job job q)) (λ (q : ℕ). total (λ (d : Draw). cond (p d) (g d.piece) 0) (draws_of_job job q)) job.passes
+      (λ (q : ℕ) (below : q < job.passes).
+      total_same (λ (d : Draw). cond (test (kind_for d.dir)) (g d.piece) 0) (λ (d : Draw). cond (p d) (g d.piece) 0) (draws_of_job job q)
+      (λ (d : Draw). ap (λ (b : Bool). cond b (g d.piece) 0) (same d)))
+      ∙ sym (drawn_in_all job (λ (d : Draw). cond (p d) (g d.piece) 0))
+      ∙ sym (total-filter (λ (d : Draw). g d.piece) p (all_draws job))
+
+  -- how many were moved, and how many bytes
+  moved_count : (test : TicketKind → Bool) (no_check : test ticket.Probe ≡ false) (p : Draw → Bool) (same : (d : Draw) → test (kind_for d.dir) ≡ p d) → length (moved history test c) ≡ length (filter p (all_draws job))
+  moved_count test no_check p same =
+      length-total (moved history test c) ∙ moved_total test no_check p same (λ (x : Piece). 1) ∙ sym (length-total (filter p (all_draws job)))
+
+  moved_bytes : (test : TicketKind → Bool) (no_check : test ticket.Probe ≡ false) (p : Draw → Bool) (same : (d : Draw) → test (kind_for d.dir) ≡ p d) → bytes_of (moved history test c) ≡ bytes_drawn (filter p (all_draws job))
+  moved_bytes test no_check p same =
+      sum_map-total (λ (s : Started). s.piece.len) (moved history test c)
+      ∙ moved_total test no_check p same (λ (x : Piece). x.len)
+      ∙ sym (sum_map-total (λ (d : Draw). d.piece.len) (filter p (all_draws job)))
+
+  -- how many verdicts there are of a test that good ones pass
+  verdicts_counted : (test : GivenVerdict → Bool) → test Good ≡ true → count_by (is_verdict_of (started history) test c) history ≡ upto (λ (p : ℕ). total (worth_where job (is_kept job) p) (draws_of_job job p)) job.passes
+  verdicts_counted test passes =
+      let ios = started history in
+      count_by-total (is_verdict_of ios test c) history
+      ∙ total_calm (λ (e : Event). cond (is_verdict_of ios test c e) 1 0) (verdict_worth (clone_worth c) ios) history one_verdict quiet
+      ∙ counts_checks plan (clone_worth c) (check_worth c) on_checks history legal quiet
+      ∙ verdicts_in_all plan history (check_worth c) only_checks legal quiet complete
+      ∙ total-filter_map (check_worth c) started_by history
+      ∙ total_same (λ (e : Event). got (check_worth c) (started_by e)) (probe_worth c) history one_start
+      ∙ probes_counted plan planned_all apart c job planned history legal quiet complete
+    where
+      both_true : (a b : Bool) → b ≡ true → ◌≡◌ {A = ℕ} (cond (a && b) 1 0) (cond a 1 0)
+      both_true true true e = refl
+      both_true false b e = refl
+      both_true true false e = cc
+
+      by_io : (o : Option Started) → ◌≡◌ {A = ℕ} (cond (is_io_of c o && test Good) 1 0) (got (clone_worth c) o)
+      by_io None = refl
+      by_io (Some s) = both_true (is_of_clone c s) (test Good) passes
+
+      one_verdict : (e : Event) → is_calm e ≡ true → ◌≡◌ {A = ℕ} (cond (is_verdict_of (started history) test c e) 1 0) (verdict_worth (clone_worth c) (started history) e)
+      one_verdict (Issue worker dir write piece) calm = refl
+      one_verdict (Probe worker write piece) calm = refl
+      one_verdict (Skip worker write) calm = refl
+      one_verdict (End worker io outcome) calm = refl
+      one_verdict (Verdict worker io Good) calm = by_io (slice_get (started history) io)
+      one_verdict (Verdict worker io (Bad what)) calm = cc
+
+      on_checks : (s : Started) → is_probe s.kind ≡ true → clone_worth c s ≡ check_worth c s
+      on_checks s probe = ap {B = ℕ} (λ (b : Bool). cond (b && is_of_clone c s) 1 0) (sym probe)
+
+      only_checks : (s : Started) → (is_probe s.kind ≡ true) ⊎ (check_worth c s ≡ 0)
+      only_checks s =
+          elim (cases_Bool (is_probe s.kind)) [
+            | inl probe ↦ inl probe
+            | inr other ↦ inr (ap {B = ℕ} (λ (b : Bool). cond (b && is_of_clone c s) 1 0) other)
+          ]
+
+      no_probe : (dir : Dir) → is_probe (kind_for dir) ≡ false
+      no_probe direction.Read = refl
+      no_probe direction.Write = refl
+
+      one_start : (e : Event) → got (check_worth c) (started_by e) ≡ probe_worth c e
+      one_start (Issue worker dir write piece) = ap {B = ℕ} (λ (b : Bool). cond (b && (write.clone == c)) 1 0) (no_probe dir)
+      one_start (Probe worker write piece) = refl
+      one_start (Skip worker write) = refl
+      one_start (End worker io outcome) = refl
+      one_start (Verdict worker io verdict) = refl
+
+  -- nothing is bad, and nothing fails
+  none_bad : count_by (is_verdict_of (started history) is_bad c) history ≡ 0
+  none_bad =
+      count_by-total (is_verdict_of (started history) is_bad c) history
+      ∙ total_calm (λ (e : Event). cond (is_verdict_of (started history) is_bad c e) 1 0) (λ (e : Event). 0) history nothing quiet
+      ∙ total_zero (λ (e : Event). 0) history (λ e. refl)
+    where
+      nothing : (e : Event) → is_calm e ≡ true → ◌≡◌ {A = ℕ} (cond (is_verdict_of (started history) is_bad c e) 1 0) 0
+      nothing (Issue worker dir write piece) calm = refl
+      nothing (Probe worker write piece) calm = refl
+      nothing (Skip worker write) calm = refl
+      nothing (End worker io outcome) calm = refl
+      nothing (Verdict worker io verdict) calm =
+          ap {B = ℕ} (λ (b : Bool). cond b 1 0) (and_right (is_io_of c (slice_get (started history) io)) (is_bad verdict) (not-true (is_bad verdict) calm))
+
+  none_fails : count_by (is_fault_of (started history) c) history ≡ 0
+  none_fails =
+      count_by-total (is_fault_of (started history) c) history
+      ∙ total_calm (λ (e : Event). cond (is_fault_of (started history) c e) 1 0) (λ (e : Event). 0) history nothing quiet
+      ∙ total_zero (λ (e : Event). 0) history (λ e. refl)
+    where
+      nothing : (e : Event) → is_calm e ≡ true → ◌≡◌ {A = ℕ} (cond (is_fault_of (started history) c e) 1 0) 0
+      nothing (Issue worker dir write piece) calm = refl
+      nothing (Probe worker write piece) calm = refl
+      nothing (Skip worker write) calm = refl
+      nothing (Verdict worker io verdict) calm = refl
+      nothing (End worker io outcome) calm =
+          ap {B = ℕ} (λ (b : Bool). cond b 1 0) (and_right (is_io_of c (slice_get (started history) io)) (is_fault outcome) (not-true (is_fault outcome) calm))
+
+  checks_are_drawn : (test : GivenVerdict → Bool) → test Good ≡ true → count_by (is_verdict_of (started history) test c) history ≡ (quiet_totals job).checks
+  checks_are_drawn test passes = verdicts_counted test passes ∙ checks_drawn job
+
+  skips_are_drawn : count_by (is_skip_of c) history ≡ (quiet_totals job).skipped
+  skips_are_drawn =
+      count_by-total (is_skip_of c) history
+      ∙ skips_counted plan planned_all apart c job planned history legal quiet complete
+      ∙ skips_drawn job
+      ∙ ap (λ (n : ℕ). cond (has_rounds job) (length (filter is_write_draw (all_draws job)) - n) 0) (checks_drawn job)
+
+  -- the clone's totals are those of its draws
+  pub clone_totals : totals_of history c ≡ quiet_totals job
+  clone_totals =
+      same_totals (totals_of history c) (quiet_totals job)
+      (moved_count is_read refl (λ (d : Draw). not (is_write_draw d)) read_draw)
+      (moved_bytes is_read refl (λ (d : Draw). not (is_write_draw d)) read_draw)
+      (moved_count is_write refl is_write_draw write_draw)
+      (moved_bytes is_write refl is_write_draw write_draw)
+      (checks_are_drawn (λ (verdict : GivenVerdict). true) refl)
+      (checks_are_drawn (λ (verdict : GivenVerdict). not (is_bad verdict)) refl)
+      none_bad
+      skips_are_drawn
+      refl
+      none_fails
+
+pub map_same_at : {X Y : Type 0} (f g : X → Y) (xs : List X) → ((k : ℕ) (x : X) → slice_get xs k ≡ Some x → f x ≡ g x) → map f xs ≡ map g xs
+map_same_at f g [] same = refl
+map_same_at {X = X} f g (x ∷ xs) same =
+    ap (λ y. y ∷ map f xs) (same 0 x refl)
+    ∙ ap (λ ys. g x ∷ ys) (map_same_at f g xs (λ (k : ℕ) (y : X) (at : slice_get xs k ≡ Some y). same (suc k) y at))
+
+-- the report of a complete run in which nothing goes wrong
+pub quiet_run : (plan : Plan) (history : List Event) → IsPlanned plan → are_apart plan.clones ≡ true → is_legal plan history ≡ true → is_complete plan history ≡ true → is_quiet history ≡ true → report_of plan history ≡ quiet_report plan
+quiet_run plan history planned_all apart legal complete quiet =
+    let totals : all_totals plan history ≡ map quiet_totals plan.clones =
+    map_same_at (λ (job : SubJob). totals_of history job.clone) quiet_totals plan.clones
+    (λ (k : ℕ) (job : SubJob) (at : slice_get plan.clones k ≡ Some job).
+    ap (totals_of history) (clone_is plan (numbers_of plan planned_all) k job at) ∙ clone_totals plan planned_all apart history legal complete quiet k job at) in
+    let none : in_order plan (miscompares history) ≡ [] = ap (in_order plan) (no_miscompares (started history) history quiet) ∙ none_in_order plan in
+    ap (λ (ts : List Totals). totals_lines plan ts ++ flat_map (miscompare_line plan) (in_order plan (miscompares history))) totals
+    ∙ ap (λ (found : List Miscompare). quiet_report plan ++ flat_map (miscompare_line plan) found) none
+    ∙ append-nil (quiet_report plan)

@@ -1,0 +1,242 @@
+-- Induction along a legal history in which nothing goes wrong, and what its steps are.
+use Rattle.std.proofs.Common.{◌≡◌, ℕ, zero, suc, ◌<◌, ◌≤◌, List, [], ◌∷◌, ◌++◌, length, Bool, true, false, cond, ◌&&◌, not, refl, sym, ◌∙◌, ap, subst, arith, inl, inr, append_assoc, append-nil, length-append, ◌*◌}
+use Rattle.std.specs.Prelude.{◌⊎◌, Option, Some, None, slice_get, nat_lt, ◌==◌, is_none}
+use Rattle.std.specs.List.{list_all, cons_option}
+use Rattle.std.proofs.lemmas.Bool.{and_parts, and_from, eqb-true, lt-ltb, ltb-true}
+use Rattle.std.proofs.lemmas.List.Elements.{filter_map-append}
+use Rattle.std.proofs.lemmas.List.Folds.{list_all-append}
+use Rattle.jr_model.specs.declared.blocks.Dir.{Dir}
+use Rattle.jr_model.specs.declared.blocks.Dir.TheVariants as direction
+use Rattle.jr_model.specs.declared.blocks.Piece.{Piece}
+use Rattle.jr_model.specs.declared.events.Event.{Event}
+use Rattle.jr_model.specs.declared.events.Event.TheVariants.{Issue, Probe, Skip, End, Verdict}
+use Rattle.jr_model.specs.declared.events.Outcome.{Outcome}
+use Rattle.jr_model.specs.declared.events.Started.{Started}
+use Rattle.jr_model.specs.declared.events.Outcome.TheVariants.{Whole}
+use Rattle.jr_model.specs.declared.events.WriteId.{WriteId}
+use Rattle.jr_model.specs.declared.workloads.Draw.{Draw}
+use Rattle.jr_model.specs.Draws.{draws_of_job, fresh_progress}
+use Rattle.jr_model.specs.History.{started, started_by, outcome_of, flies, is_judged, ended_whole, same_write, same_piece}
+use Rattle.jr_model.specs.LastWrite.{is_intact}
+use Rattle.jr_model.specs.Legal.{is_legal, legal_after, may_happen, end_fits, verdict_fits, may_issue, may_take_up, step_of_draw, step_of_clone, same_dir, is_this_issue, is_this_probe, is_this_skip}
+use Rattle.jr_model.specs.Plan.{Plan, SubJob, IsNumbered, clone_of}
+use Rattle.jr_model.specs.Rounds.{Pass, pass_of, write_id}
+use Rattle.jr_model.specs.Words.{pass_words}
+use Rattle.jr_model.proofs.LegalLaws.{is_legal-more, number-draws_from}
+use Rattle.jr_model.proofs.SerialLaws.{IsWell, well-more, whole_some}
+use Rattle.jr_model.proofs.Equality.{eq_dir, eq_piece}
+use Rattle.jr_laws_quiet.specs.Quiet.{is_calm, is_quiet}
+
+-- an event that may happen after a legal history, with nothing wrong so far
+pub record IsStep (plan : Plan) (history : List Event) (e : Event) : Type 0 where
+  pub legal : is_legal plan history ≡ true
+  pub may : may_happen plan history e ≡ true
+  pub quiet : is_quiet history ≡ true
+  pub calm : is_calm e ≡ true
+
+pub along_from : (plan : Plan) (P : List Event → Type 0) → ((h : List Event) (e : Event) → IsStep plan h e → P h → P (h ++ e ∷ [])) → (before events : List Event) → is_legal plan before ≡ true → legal_after plan before events ≡ true → is_quiet before ≡ true → is_quiet events ≡ true → P before → P (before ++ events)
+along_from plan P step before [] so_far legal quiet calm start = subst P (sym (append-nil before)) start
+along_from plan P step before (e ∷ events) so_far legal quiet calm start =
+    let parts = and_parts (may_happen plan before e) (legal_after plan (before ++ e ∷ []) events) legal in
+    let calms = and_parts (is_calm e) (is_quiet events) calm in
+    let next = step before e (record { legal = so_far; may = parts.0; quiet = quiet; calm = calms.0 }) start in
+    subst P (append_assoc before (e ∷ []) events)
+    (along_from plan P step (before ++ e ∷ []) events (is_legal-more plan before e so_far parts.0) parts.1
+    (list_all-append is_calm before (e ∷ []) ∙ and_from (is_quiet before) (is_calm e && true) quiet (and_from (is_calm e) true calms.0 refl))
+    calms.1 next)
+
+-- what holds of the empty history, and after each step, holds of every legal history in which nothing goes wrong
+pub along : (plan : Plan) (P : List Event → Type 0) → P [] → ((h : List Event) (e : Event) → IsStep plan h e → P h → P (h ++ e ∷ [])) → (history : List Event) → is_legal plan history ≡ true → is_quiet history ≡ true → P history
+along plan P start step history legal quiet = along_from plan P step [] history refl legal refl quiet start
+
+pub well_of : (plan : Plan) (history : List Event) → is_legal plan history ≡ true → is_quiet history ≡ true → IsWell plan history
+well_of plan history legal quiet =
+    along plan (IsWell plan) (record { legal = refl; ends = λ io o h. none_some io o h; judged = λ io h. none_true io h })
+    (λ h e step well. well-more plan h e well step.may) history legal quiet
+  where
+    none_some : (io : ℕ) (o : Outcome) → None ≡ Some o → io < 0
+    none_some io o h = cc
+
+    none_true : (io : ℕ) → false ≡ true → io < 0
+    none_true io h = cc
+
+-- the event speaks of an I/O among the first n
+abbrev pub refers : ℕ → Event → Bool
+refers n (End worker io outcome) = nat_lt io n
+refers n (Verdict worker io verdict) = nat_lt io n
+refers n (Issue worker dir write piece) = true
+refers n (Probe worker write piece) = true
+refers n (Skip worker write) = true
+
+pub started_push : (history : List Event) (e : Event) → started (history ++ e ∷ []) ≡ started history ++ cons_option (started_by e) []
+started_push history e = filter_map-append started_by history (e ∷ [])
+
+pub refers_more : (n m : ℕ) (e : Event) → n ≤ m → refers n e ≡ true → refers m e ≡ true
+refers_more n m (End worker io outcome) le h =
+    let below : io < n = ltb-true io n h in
+    lt-ltb io m (omega (arith, below, le))
+refers_more n m (Verdict worker io verdict) le h =
+    let below : io < n = ltb-true io n h in
+    lt-ltb io m (omega (arith, below, le))
+refers_more n m (Issue worker dir write piece) le h = refl
+refers_more n m (Probe worker write piece) le h = refl
+refers_more n m (Skip worker write) le h = refl
+
+pub all_weaker : {X : Type 0} (p q : X → Bool) (xs : List X) → ((x : X) → p x ≡ true → q x ≡ true) → list_all p xs ≡ true → list_all q xs ≡ true
+all_weaker p q [] weaker h = refl
+all_weaker p q (x ∷ xs) weaker h =
+    let parts = and_parts (p x) (list_all p xs) h in
+    and_from (q x) (list_all q xs) (weaker x parts.0) (all_weaker p q xs weaker parts.1)
+
+-- an I/O that is ended or judged was started
+pub refers_now : (plan : Plan) (h : List Event) (e : Event) → IsStep plan h e → refers (length (started h)) e ≡ true
+refers_now plan h (End worker io outcome) step =
+    (and_parts (nat_lt io (length (started h))) (is_none (outcome_of h io)) (and_parts (flies h io) (end_fits worker outcome (slice_get (started h) io)) step.may).0).0
+refers_now plan h (Verdict worker io verdict) step =
+    let parts = and_parts (ended_whole (outcome_of h io) && not (is_judged h io)) (verdict_fits plan verdict (slice_get (started h) io)) step.may in
+    let ended = and_parts (ended_whole (outcome_of h io)) (not (is_judged h io)) parts.0 in
+    lt-ltb io (length (started h)) ((well_of plan h step.legal step.quiet).ends io Whole (whole_some (outcome_of h io) ended.0))
+refers_now plan h (Issue worker dir write piece) step = refl
+refers_now plan h (Probe worker write piece) step = refl
+refers_now plan h (Skip worker write) step = refl
+
+pub all_refer : (plan : Plan) (history : List Event) → is_legal plan history ≡ true → is_quiet history ≡ true → list_all (refers (length (started history))) history ≡ true
+all_refer plan history legal quiet = along plan (λ (h : List Event). list_all (refers (length (started h))) h ≡ true) refl grows history legal quiet
+  where
+    grows : (h : List Event) (e : Event) → IsStep plan h e → list_all (refers (length (started h))) h ≡ true → list_all (refers (length (started (h ++ e ∷ [])))) (h ++ e ∷ []) ≡ true
+    grows h e step so_far =
+        let n = length (started h) in
+        let m = length (started (h ++ e ∷ [])) in
+        let le : n ≤ m = omega (arith, ap length (started_push h e), length-append (started h) (cons_option (started_by e) [])) in
+        list_all-append (refers m) h (e ∷ [])
+        ∙ and_from (list_all (refers m) h) (refers m e && true) (all_weaker (refers n) (refers m) h (λ x. refers_more n m x le) so_far)
+        (and_from (refers m e) true (refers_more n m e le (refers_now plan h e step)) refl)
+
+-- a place of a list, in a longer one
+pub got_within : {X : Type 0} (xs ys : List X) (k : ℕ) → k < length xs → slice_get (xs ++ ys) k ≡ slice_get xs k
+got_within [] ys k below = absurd (omega arith)
+got_within (x ∷ xs) ys zero below = refl
+got_within (x ∷ xs) ys (suc k) below = got_within xs ys k (omega (arith, below))
+
+pub got_at_end : {X : Type 0} (xs : List X) (x : X) → slice_get (xs ++ x ∷ []) (length xs) ≡ Some x
+got_at_end [] x = refl
+got_at_end (y ∷ xs) x = got_at_end xs x
+
+-- an I/O in a list with one more is that one, or an earlier one
+pub got_push : {X : Type 0} (xs : List X) (x y : X) (k : ℕ) → slice_get (xs ++ x ∷ []) k ≡ Some y → (slice_get xs k ≡ Some y) ⊎ ((k ≡ length xs) × (x ≡ y))
+got_push [] x y zero h = inr (refl, some_same x y h)
+  where
+    some_same : {Z : Type 0} (u v : Z) → Some u ≡ Some v → u ≡ v
+    some_same u v g = cc
+got_push [] x y (suc k) h = cc
+got_push (z ∷ xs) x y zero h = inl h
+got_push (z ∷ xs) x y (suc k) h =
+    elim (got_push xs x y k h) [
+      | inl before ↦ inl before
+      | inr last ↦ inr (ap suc last.0, last.1)
+    ]
+
+-- the worth of an event by the I/O that it speaks of is the same where more I/Os are started
+abbrev pub Agrees : {X : Type 0} → (List Started → Event → X) → Type 0
+Agrees F = (ios more : List Started) (e : Event) → refers (length ios) e ≡ true → F (ios ++ more) e ≡ F ios e
+
+-- the event names this draw of the plan
+pub record IsNamed (plan : Plan) (write : WriteId) (job : SubJob) (draw : Draw) : Type 0 where
+  pub planned : clone_of plan write.clone ≡ Some job
+  pub drawn : slice_get (draws_of_job job write.pass) write.number ≡ Some draw
+  pub clone : job.clone ≡ write.clone
+  pub number : draw.number ≡ write.number
+  pub name : write_id (pass_of job write.pass) draw ≡ write
+
+pub named : (plan : Plan) (write : WriteId) (job : SubJob) (draw : Draw) → IsNumbered plan → clone_of plan write.clone ≡ Some job → slice_get (draws_of_job job write.pass) write.number ≡ Some draw → IsNamed plan write job draw
+named plan write job draw numbered planned drawn =
+    let clone = numbered write.clone job planned in
+    let number : draw.number ≡ write.number = omega (arith, number-draws_from job (fresh_progress job) (pass_words job write.pass (4 * job.cells)) write.number draw drawn) in
+    let make : ℕ → ℕ → WriteId = λ (c k : ℕ). record { clone = c; pass = write.pass; number = k } in
+    record {
+      planned = planned;
+      drawn = drawn;
+      clone = clone;
+      number = number;
+      name = ap (λ (c : ℕ). make c draw.number) clone ∙ ap (λ (k : ℕ). make write.clone k) number;
+    }
+
+-- a draw's issue
+pub record IsIssue (plan : Plan) (h : List Event) (dir : Dir) (write : WriteId) (piece : Piece) : Type 0 where
+  pub job : SubJob
+  pub draw : Draw
+  pub names : IsNamed plan write job draw
+  pub dir_is : draw.dir ≡ dir
+  pub piece_is : draw.piece ≡ piece
+  pub may : may_issue plan h (pass_of job write.pass) draw ≡ true
+
+-- a draw's check or skip
+pub record IsTakeUp (plan : Plan) (h : List Event) (intact : Bool) (write : WriteId) : Type 0 where
+  pub job : SubJob
+  pub draw : Draw
+  pub names : IsNamed plan write job draw
+  pub may : may_take_up h (pass_of job write.pass) draw ≡ true
+  pub intact_is : is_intact h (write_id (pass_of job write.pass) draw) draw.piece ≡ intact
+
+pub issue_of : (plan : Plan) (h : List Event) (worker : ℕ) (dir : Dir) (write : WriteId) (piece : Piece) → IsNumbered plan → may_happen plan h (Issue worker dir write piece) ≡ true → IsIssue plan h dir write piece
+issue_of plan h worker dir write piece numbered may = by_clone (clone_of plan write.clone) refl may
+  where
+    by_cases : (pass : Pass) (draw : Draw) (taken intact may_be : Bool) → is_this_issue dir write piece (cond taken (Some (cond intact (Probe worker (write_id pass draw) draw.piece) (Skip worker (write_id pass draw)))) (cond may_be (Some (Issue worker draw.dir (write_id pass draw) draw.piece)) None)) ≡ true → (may_be ≡ true) × (draw.dir ≡ dir) × (draw.piece ≡ piece)
+    by_cases pass draw true true may_be g = cc
+    by_cases pass draw true false may_be g = cc
+    by_cases pass draw false intact false g = cc
+    by_cases pass draw false intact true g =
+        let parts = and_parts (same_dir draw.dir dir && same_write (write_id pass draw) write) (same_piece draw.piece piece) g in
+        let front = and_parts (same_dir draw.dir dir) (same_write (write_id pass draw) write) parts.0 in
+        (refl, eq_dir draw.dir dir front.0, eq_piece draw.piece piece parts.1)
+
+    by_draw : (job : SubJob) → clone_of plan write.clone ≡ Some job → (o : Option Draw) → slice_get (draws_of_job job write.pass) write.number ≡ o → is_this_issue dir write piece (step_of_draw plan h worker (pass_of job write.pass) o) ≡ true → IsIssue plan h dir write piece
+    by_draw job planned None drawn g = cc
+    by_draw job planned (Some draw) drawn g =
+        let pass = pass_of job write.pass in
+        let found = by_cases pass draw (may_take_up h pass draw) (is_intact h (write_id pass draw) draw.piece) (may_issue plan h pass draw) g in
+        record { job = job; draw = draw; names = named plan write job draw numbered planned drawn; dir_is = found.1; piece_is = found.2; may = found.0 }
+
+    by_clone : (o : Option SubJob) → clone_of plan write.clone ≡ o → is_this_issue dir write piece (step_of_clone plan h worker write o) ≡ true → IsIssue plan h dir write piece
+    by_clone None planned g = cc
+    by_clone (Some job) planned g = by_draw job planned (slice_get (draws_of_job job write.pass) write.number) refl g
+
+pub probe_of : (plan : Plan) (h : List Event) (worker : ℕ) (write : WriteId) (piece : Piece) → IsNumbered plan → may_happen plan h (Probe worker write piece) ≡ true → IsTakeUp plan h true write
+probe_of plan h worker write piece numbered may = by_clone (clone_of plan write.clone) refl may
+  where
+    by_cases : (pass : Pass) (draw : Draw) (taken intact may_be : Bool) → is_this_probe write piece (cond taken (Some (cond intact (Probe worker (write_id pass draw) draw.piece) (Skip worker (write_id pass draw)))) (cond may_be (Some (Issue worker draw.dir (write_id pass draw) draw.piece)) None)) ≡ true → (taken ≡ true) × (intact ≡ true)
+    by_cases pass draw true true may_be g = (refl, refl)
+    by_cases pass draw true false may_be g = cc
+    by_cases pass draw false intact false g = cc
+    by_cases pass draw false intact true g = cc
+
+    by_draw : (job : SubJob) → clone_of plan write.clone ≡ Some job → (o : Option Draw) → slice_get (draws_of_job job write.pass) write.number ≡ o → is_this_probe write piece (step_of_draw plan h worker (pass_of job write.pass) o) ≡ true → IsTakeUp plan h true write
+    by_draw job planned None drawn g = cc
+    by_draw job planned (Some draw) drawn g =
+        let pass = pass_of job write.pass in
+        let found = by_cases pass draw (may_take_up h pass draw) (is_intact h (write_id pass draw) draw.piece) (may_issue plan h pass draw) g in
+        record { job = job; draw = draw; names = named plan write job draw numbered planned drawn; may = found.0; intact_is = found.1 }
+
+    by_clone : (o : Option SubJob) → clone_of plan write.clone ≡ o → is_this_probe write piece (step_of_clone plan h worker write o) ≡ true → IsTakeUp plan h true write
+    by_clone None planned g = cc
+    by_clone (Some job) planned g = by_draw job planned (slice_get (draws_of_job job write.pass) write.number) refl g
+
+pub skip_of : (plan : Plan) (h : List Event) (worker : ℕ) (write : WriteId) → IsNumbered plan → may_happen plan h (Skip worker write) ≡ true → IsTakeUp plan h false write
+skip_of plan h worker write numbered may = by_clone (clone_of plan write.clone) refl may
+  where
+    by_cases : (pass : Pass) (draw : Draw) (taken intact may_be : Bool) → is_this_skip write (cond taken (Some (cond intact (Probe worker (write_id pass draw) draw.piece) (Skip worker (write_id pass draw)))) (cond may_be (Some (Issue worker draw.dir (write_id pass draw) draw.piece)) None)) ≡ true → (taken ≡ true) × (intact ≡ false)
+    by_cases pass draw true true may_be g = cc
+    by_cases pass draw true false may_be g = (refl, refl)
+    by_cases pass draw false intact false g = cc
+    by_cases pass draw false intact true g = cc
+
+    by_draw : (job : SubJob) → clone_of plan write.clone ≡ Some job → (o : Option Draw) → slice_get (draws_of_job job write.pass) write.number ≡ o → is_this_skip write (step_of_draw plan h worker (pass_of job write.pass) o) ≡ true → IsTakeUp plan h false write
+    by_draw job planned None drawn g = cc
+    by_draw job planned (Some draw) drawn g =
+        let pass = pass_of job write.pass in
+        let found = by_cases pass draw (may_take_up h pass draw) (is_intact h (write_id pass draw) draw.piece) (may_issue plan h pass draw) g in
+        record { job = job; draw = draw; names = named plan write job draw numbered planned drawn; may = found.0; intact_is = found.1 }
+
+    by_clone : (o : Option SubJob) → clone_of plan write.clone ≡ o → is_this_skip write (step_of_clone plan h worker write o) ≡ true → IsTakeUp plan h false write
+    by_clone None planned g = cc
+    by_clone (Some job) planned g = by_draw job planned (slice_get (draws_of_job job write.pass) write.number) refl g

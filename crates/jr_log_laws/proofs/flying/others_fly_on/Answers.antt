@@ -1,5 +1,0 @@
-use Rattle.jr_log_laws.proofs.FlyingLaws.{others_fly_on}
-use Rattle.jr_log_laws.proofs.flying.others_fly_on.Goals as goal
-
-pub returns : goal.returns
-returns c = others_fly_on

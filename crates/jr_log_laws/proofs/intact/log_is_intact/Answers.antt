@@ -1,5 +1,0 @@
-use Rattle.jr_log_laws.proofs.IntactLaws.{log_is_intact}
-use Rattle.jr_log_laws.proofs.intact.log_is_intact.Goals as goal
-
-pub returns : goal.returns
-returns c = log_is_intact

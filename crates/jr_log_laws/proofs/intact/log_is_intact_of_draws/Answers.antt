@@ -1,5 +1,0 @@
-use Rattle.jr_log_laws.proofs.DrawLaws.{log_is_intact_of_draws}
-use Rattle.jr_log_laws.proofs.intact.log_is_intact_of_draws.Goals as goal
-
-pub returns : goal.returns
-returns c = log_is_intact_of_draws

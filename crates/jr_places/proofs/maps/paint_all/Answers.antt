@@ -1,0 +1,33 @@
+use Rattle.std.proofs.Common.{◌∙◌, ◌<◌, List, Option, ap, sym, get_or, length, arith}
+use Rattle.std.specs.Prelude.{fold}
+use Rattle.std.proofs.lemmas.List.{take_all}
+use Rattle.std.proofs.lemmas.List.Sums.{fold_more}
+use Rattle.jr_model.specs.declared.blocks.Dir.TheVariants as direction
+use Rattle.jr_model.specs.declared.events.Event.{Event}
+use Rattle.jr_model.specs.declared.events.Event.TheVariants.{Issue}
+use Rattle.jr_places.specs.declared.fates.Fate.{Fate}
+use Rattle.jr_places.specs.declared.fates.Fate.TheVariants.{Untouched}
+use Rattle.jr_places.specs.declared.marks.Mark.{Mark}
+use Rattle.jr_places.specs.Maps.{mark_of, marked}
+use Rattle.jr_places.proofs.maps.paint_all.Goals as goal
+
+-- what stands behind the end of a list of events
+abbrev none : Event
+none = Issue 0 direction.Read (record { clone = 0; pass = 0; number = 0 }) (record { file = 0; offset = 0; len = 0 })
+
+pub loop-event-preserved : goal.loop-event-preserved
+loop-event-preserved c = λ cell d within.
+    let history = c.args.history.now in
+    let said = λ (fate : Fate) (event : Event). marked c.args.file c.args.size cell fate (mark_of history event) in
+    let inside : cell < length c.loop-event.fates = omega arith in
+    c.paint.ensures cell d inside
+    ∙ ap (λ (mark : Option Mark). marked c.args.file c.args.size cell (get_or c.loop-event.fates cell d) mark) (c.mark_of-mark.ensures history c.requires.told)
+    ∙ ap (λ (fate : Fate). said fate (get_or history c.loop-event.event-index none)) (c.loop-event.invariant cell d inside)
+    ∙ sym (fold_more said Untouched history c.loop-event.event-index none c.loop-event-test.true)
+
+pub returns-clause-fates : goal.returns-clause-fates
+returns-clause-fates c = λ cell d within.
+    let history = c.args.history.now in
+    let said = λ (fate : Fate) (event : Event). marked c.args.file c.args.size cell fate (mark_of history event) in
+    c.loop-event.invariant cell d within
+    ∙ ap (λ (events : List Event). fold said Untouched events) (take_all c.loop-event.event-index history c.loop-event-test.false)

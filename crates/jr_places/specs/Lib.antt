@@ -1,0 +1,4 @@
+pub mod BadBlocks
+pub mod Maps
+pub mod Sweeps
+pub mod Told

@@ -1,0 +1,108 @@
+-- Believed: a map of a file: the worst that happened to a byte of each of its cells (of this project).
+use Rattle.std.specs.Prelude.{◌≡◌, ◌<◌, ℕ, ◌*◌, max, nat_lt, Bool, false, List, length, fold, Option, Some, None, slice_get, slice_index_or, if◌then◌else◌}
+use Rattle.std.specs.Int.{div_ceil}
+use Rattle.std.specs.List.{list_any}
+use Rattle.jr_model.specs.declared.events.Event.{Event}
+use Rattle.jr_model.specs.declared.events.Event.TheVariants.{Issue, Probe, Skip, End, Verdict}
+use Rattle.jr_model.specs.declared.events.Outcome.{Outcome}
+use Rattle.jr_model.specs.declared.events.Verdict.{Verdict as GivenVerdict}
+use Rattle.jr_model.specs.declared.events.WriteId.{WriteId}
+use Rattle.jr_model.specs.declared.limits.TheConstants.{SECTOR}
+use Rattle.jr_model.specs.declared.tickets.TicketKind.{TicketKind}
+use Rattle.jr_model.specs.declared.tickets.TicketKind.TheVariants as ticket
+use Rattle.jr_model.specs.declared.events.Started.{Started}
+use Rattle.jr_model.specs.History.{started, same_write}
+use Rattle.jr_model.specs.Legal.{is_bad, is_fault}
+use Rattle.jr_model.specs.Pieces.{pieces_overlap}
+use Rattle.jr_places.specs.BadBlocks.{block_piece}
+use Rattle.jr_places.specs.declared.fates.Fate.{Fate}
+use Rattle.jr_places.specs.declared.fates.Fate.TheVariants.{Untouched, Read, Good, Skipped, Unchecked, Fault, Bad}
+use Rattle.jr_places.specs.declared.maps.FileMap.{FileMap}
+use Rattle.jr_places.specs.declared.marks.Mark.{Mark}
+
+-- how bad it is
+abbrev pub rank : Fate → ℕ
+rank Untouched = 0
+rank Read = 1
+rank Good = 2
+rank Skipped = 3
+rank Unchecked = 4
+rank Fault = 5
+rank Bad = 6
+
+abbrev pub worse : Fate → Fate → Fate
+worse a b = if nat_lt (rank a) (rank b) then b else a
+
+-- the event skips the write
+abbrev pub skips : WriteId → Event → Bool
+skips write (Skip worker skipped) = same_write skipped write
+skips write (Issue worker dir issued piece) = false
+skips write (Probe worker probed piece) = false
+skips write (End worker io outcome) = false
+skips write (Verdict worker io verdict) = false
+
+abbrev pub is_io_on : WriteId → Option Started → Bool
+is_io_on write None = false
+is_io_on write (Some io) = same_write io.write write
+
+-- the event is a verdict on the write
+abbrev pub judges : List Started → WriteId → Event → Bool
+judges ios write (Verdict worker io verdict) = is_io_on write (slice_get ios io)
+judges ios write (Issue worker dir issued piece) = false
+judges ios write (Probe worker probed piece) = false
+judges ios write (Skip worker skipped) = false
+judges ios write (End worker io outcome) = false
+
+-- of a write that ended whole: it was skipped, or judged, which then says more, or nothing was said of it
+abbrev pub fate_of_write : List Event → WriteId → Fate
+fate_of_write history write =
+    if list_any (skips write) history then Skipped
+    else (if list_any (judges (started history) write) history then Untouched else Unchecked)
+
+-- of an I/O that ended whole; a check then awaits its verdict
+abbrev pub fate_of_whole : List Event → TicketKind → WriteId → Fate
+fate_of_whole history ticket.Read write = Read
+fate_of_whole history ticket.Write write = fate_of_write history write
+fate_of_whole history ticket.Probe write = Untouched
+
+abbrev pub fate_of_end : List Event → Started → Outcome → Fate
+fate_of_end history io outcome = if is_fault outcome then Fault else fate_of_whole history io.kind io.write
+
+abbrev pub fate_of_verdict : GivenVerdict → Fate
+fate_of_verdict verdict = if is_bad verdict then Bad else Good
+
+-- what an end or a verdict says of the bytes of its I/O
+abbrev pub end_mark : List Event → Outcome → Option Started → Option Mark
+end_mark history outcome None = None
+end_mark history outcome (Some io) = Some (record { piece = io.piece; fate = fate_of_end history io outcome })
+
+abbrev pub verdict_mark : GivenVerdict → Option Started → Option Mark
+verdict_mark verdict None = None
+verdict_mark verdict (Some io) = Some (record { piece = io.piece; fate = fate_of_verdict verdict })
+
+abbrev pub mark_of : List Event → Event → Option Mark
+mark_of history (End worker io outcome) = end_mark history outcome (slice_get (started history) io)
+mark_of history (Verdict worker io verdict) = verdict_mark verdict (slice_get (started history) io)
+mark_of history (Issue worker dir write piece) = None
+mark_of history (Probe worker write piece) = None
+mark_of history (Skip worker write) = None
+
+-- the fate of a cell once this is said; cells are blocks of so many bytes
+abbrev pub marked : ℕ → ℕ → ℕ → Fate → Option Mark → Fate
+marked file size cell fate None = fate
+marked file size cell fate (Some mark) =
+    if pieces_overlap mark.piece (block_piece file size cell) then worse fate mark.fate else fate
+
+-- the worst of all that is said of a byte of the cell
+abbrev pub fate_of : List Event → ℕ → ℕ → ℕ → Fate
+fate_of history file size cell = fold (λ fate event. marked file size cell fate (mark_of history event)) Untouched history
+
+-- the least multiple of 512 bytes of which no more than `most` reach to the end of the file
+abbrev pub cell_size : ℕ → ℕ → ℕ
+cell_size most end = SECTOR * max 1 (div_ceil end (SECTOR * most))
+
+-- the map of the first `end` bytes of a file
+pub record IsMapOf (history : List Event) (file end most : ℕ) (map : FileMap) : Type 0 where
+  pub size : map.size ≡ cell_size most end
+  pub count : length map.fates.items ≡ div_ceil end map.size
+  pub fates : (cell : ℕ) (d : Fate) → cell < length map.fates.items → slice_index_or map.fates.items cell d ≡ fate_of history file map.size cell

@@ -1,0 +1,43 @@
+ghost use Rattle.std.specs.Prelude.{◌≡◌};
+ghost use Rattle.jr_places.specs.Maps.{rank, worse};
+
+/// What happened to the bytes of a part of a file, the worst last.
+#[derive(Clone, Copy, Debug, PartialEq, Eq)]
+pub enum Fate {
+    /// Nothing, or nothing that has ended.
+    Untouched,
+    /// A job's read.
+    Read,
+    /// A check that found what was written.
+    Good,
+    /// A write that is not checked, since a later one took some of its blocks.
+    Skipped,
+    /// A write that no verdict was given on.
+    Unchecked,
+    /// An I/O that failed or ended short.
+    Fault,
+    /// A check that found something else.
+    Bad,
+}
+
+// How bad it is.
+fn rank(fate: Fate) -> u8
+    ensures { result ≡ rank fate }
+{
+    match fate {
+        Fate::Untouched => 0,
+        Fate::Read => 1,
+        Fate::Good => 2,
+        Fate::Skipped => 3,
+        Fate::Unchecked => 4,
+        Fate::Fault => 5,
+        Fate::Bad => 6,
+    }
+}
+
+// The worse of the two.
+pub(crate) fn worse(a: Fate, b: Fate) -> Fate
+    ensures { result ≡ worse a b }
+{
+    if rank(a) < rank(b) { b } else { a }
+}

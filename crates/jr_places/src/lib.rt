@@ -1,0 +1,12 @@
+// Where a run found what: the blocks of a file that came back wrong, and a map of what happened to each part of it.
+#![tactic(auto)]
+
+mod blocks;
+mod fates;
+mod maps;
+mod marks;
+mod told;
+
+pub use blocks::{bad_blocks, blocks_text};
+pub use fates::Fate;
+pub use maps::{FileMap, map_of};

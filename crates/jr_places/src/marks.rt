@@ -1,0 +1,104 @@
+ghost use Rattle.std.specs.Prelude.{◌≡◌, List};
+ghost use Rattle.jr_model.specs.declared.events.Event.{Event as Happened};
+ghost use Rattle.jr_places.specs.Maps.{end_mark, fate_of_verdict, fate_of_whole, fate_of_write, judges, mark_of, skips, verdict_mark};
+ghost use Rattle.jr_model.specs.History.{started};
+ghost use Rattle.std.specs.List.{list_any};
+ghost use Rattle.jr_places.specs.Told.{IsTold};
+
+use crate::fates::Fate;
+use crate::told::Told;
+use jr_history::{is_bad, is_fault};
+use jr_model::{Event, Outcome, Piece, Started, TicketKind, Verdict, WriteId};
+
+// What an event says of the bytes of a piece.
+#[derive(Clone, Copy)]
+pub(crate) struct Mark {
+    pub piece: Piece,
+    pub fate: Fate,
+}
+
+pub(crate) fn mark_of(told: &Told, event: &Event) -> Option<Mark>
+    ensures { (history : List Happened) → IsTold history told.now → result ≡ mark_of history event.now }
+{
+    match *event {
+        Event::End { io, outcome, .. } => {
+            end_mark(told, outcome, told.ios.as_slice().get(io as usize).copied())
+        }
+        Event::Verdict { io, verdict, .. } => {
+            verdict_mark(verdict, told.ios.as_slice().get(io as usize).copied())
+        }
+        _ => None,
+    }
+}
+
+// What the end of an I/O says.
+fn end_mark(told: &Told, outcome: Outcome, io: Option<Started>) -> Option<Mark>
+    ensures { (history : List Happened) → IsTold history told.now → result ≡ end_mark history outcome io }
+{
+    let io = io?;
+    let fate = if is_fault(outcome) {
+        Fate::Fault
+    } else {
+        fate_of_whole(told, io.kind, &io.write)
+    };
+    Some(Mark {
+        piece: io.piece,
+        fate,
+    })
+}
+
+// What a verdict says.
+fn verdict_mark(verdict: Verdict, io: Option<Started>) -> Option<Mark>
+    ensures { result ≡ verdict_mark verdict io }
+{
+    let io = io?;
+    Some(Mark {
+        piece: io.piece,
+        fate: fate_of_verdict(verdict),
+    })
+}
+
+fn fate_of_verdict(verdict: Verdict) -> Fate
+    ensures { result ≡ fate_of_verdict verdict }
+{
+    if is_bad(verdict) {
+        Fate::Bad
+    } else {
+        Fate::Good
+    }
+}
+
+// Of an I/O that ended whole.
+fn fate_of_whole(told: &Told, kind: TicketKind, write: &WriteId) -> Fate
+    ensures { (history : List Happened) → IsTold history told.now → result ≡ fate_of_whole history kind write.now }
+{
+    match kind {
+        TicketKind::Read => Fate::Read,
+        TicketKind::Write => fate_of_write(told, write),
+        TicketKind::Probe => Fate::Untouched,
+    }
+}
+
+fn fate_of_write(told: &Told, write: &WriteId) -> Fate
+    ensures { (history : List Happened) → IsTold history told.now → result ≡ fate_of_write history write.now }
+{
+    if is_skipped(told, write) {
+        return Fate::Skipped;
+    }
+    if is_judged(told, write) {
+        return Fate::Untouched;
+    }
+    Fate::Unchecked
+}
+
+fn is_skipped(told: &Told, write: &WriteId) -> bool
+    ensures { (history : List Happened) → IsTold history told.now → result ≡ list_any (skips write.now) history }
+{
+    told.skipped.contains(write)
+}
+
+fn is_judged(told: &Told, write: &WriteId) -> bool
+    ensures { (history : List Happened) → IsTold history told.now → result ≡ list_any (judges (started history) write.now) history }
+{
+    told.judged.contains(write)
+}

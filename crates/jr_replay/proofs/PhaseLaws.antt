@@ -1,0 +1,259 @@
+-- What the order of a clone's issues says of its next step in a legal history.
+use Rattle.std.proofs.Common.{◌≡◌, ℕ, suc, ◌<◌, ◌≤◌, List, [], ◌∷◌, ◌++◌, length, take, Bool, true, false, ◌&&◌, ◌||◌, not, refl, sym, ◌∙◌, ap, subst, arith, inl, inr}
+use Rattle.std.specs.Prelude.{◌⊎◌, Some, slice_get, nat_le}
+use Rattle.std.specs.List.{list_any, list_all, range_with_len}
+use Rattle.std.proofs.lemmas.Bool.{and_parts, and_from, and_left, or_cases, or_left, or_right, cases_Bool, cases_eq, cases_lt, not-true, false_from_ne_true, both_ways}
+use Rattle.std.proofs.lemmas.List.FromFn.{length-map-range_with_len}
+use Rattle.std.proofs.lemmas.Option.{same_Some, slice_get_within}
+use Rattle.jr_model.specs.declared.blocks.Dir.{Dir}
+use Rattle.jr_model.specs.declared.blocks.Piece.{Piece}
+use Rattle.jr_model.specs.declared.events.Event.{Event}
+use Rattle.jr_model.specs.declared.events.Event.TheVariants.{Issue, Probe, Skip, End, Verdict}
+use Rattle.jr_model.specs.declared.events.WriteId.{WriteId}
+use Rattle.jr_model.specs.declared.workloads.Draw.{Draw}
+use Rattle.jr_model.specs.Draws.{draws_of_job}
+use Rattle.jr_model.specs.History.{is_of_clone, awaiting}
+use Rattle.jr_model.specs.Legal.{is_legal, may_happen, is_halted, is_over, is_at_rest, phase_is_open, takes_up}
+use Rattle.jr_model.specs.Plan.{Plan, SubJob, clone_of}
+use Rattle.jr_model.specs.Rounds.{Pass, pass_of, passes_of, write_id, is_write_draw, writes_of, issued_count, has_rounds, group_index, group_count, is_full, is_settled, is_closed, no_issue_flies, is_open, waits_for_round, nothing_flies_of, pass_finished, clone_finished}
+use Rattle.jr_model.specs.PlanFacts.{IsPlanned}
+use Rattle.jr_laws_steps.proofs.IdleLaws.{numbered_of}
+use Rattle.jr_laws_steps.proofs.PlaceLemmas.{all_from}
+use Rattle.jr_laws_steps.proofs.StartedLemmas.{by_events}
+use Rattle.jr_laws_quiet.proofs.Checks.{settled_taken}
+use Rattle.jr_laws_quiet.proofs.Groups.{filtered, got_filter, number_is}
+use Rattle.jr_laws_quiet.proofs.Issues.{all_at, got_pass, issued_same}
+use Rattle.jr_laws_quiet.proofs.Members.{in_own_group, index_mono}
+use Rattle.jr_laws_rounds.proofs.ChoiceSteps.{can_issue}
+use Rattle.jr_laws_rounds.proofs.CurrentLast.{issued_by_other}
+use Rattle.jr_laws_rounds.proofs.CurrentRounds.{iff_same, member_settled, waited_for, waiting_group, waits_with}
+use Rattle.jr_laws_rounds.proofs.CurrentPhases.{groups_turn}
+use Rattle.jr_laws_rounds.proofs.KeptSettled.{ran_before}
+use Rattle.jr_laws_rounds.proofs.StandingPasses.{issue_in, stays_finished, unbegun}
+use Rattle.jr_laws_rounds.proofs.StandingSteps.{always_in_pass, before_at, before_from, finished_before}
+use Rattle.jr_passes.specs.Passes.{IsLastBelow, NoneBelow}
+use Rattle.jr_replay.specs.Phases.{lets_go_on}
+use Rattle.jr_passes.proofs.RankLemmas.{IsOwn}
+
+-- ---- a write that wasn't taken up
+-- the draw stands at its number
+pub drawn_at : (pass : Pass) (k : ℕ) (draw : Draw) → IsOwn pass → slice_get pass.draws k ≡ Some draw → draw.number ≡ k
+drawn_at pass k draw own at =
+    number_is pass.job pass.number k draw (ap (λ (q : Pass). slice_get q.draws k) (sym own) ∙ at)
+
+-- its group isn't closed
+unclosed : (h : List Event) (job : SubJob) (p : ℕ) (draw : Draw) → slice_get (draws_of_job job p) draw.number ≡ Some draw → is_write_draw draw ≡ true → list_any (takes_up (write_id (pass_of job p) draw)) h ≡ false → is_closed h (pass_of job p) (group_index (pass_of job p) draw.number) ≡ false
+unclosed h job p draw drawn writes fresh =
+    let pass = pass_of job p in
+    let g = group_index pass draw.number in
+    false_from_ne_true (is_closed h pass g) (λ closed.
+    both_ways (list_any (takes_up (write_id pass draw)) h) fresh
+    (settled_taken h (write_id pass draw) (member_settled h job p g draw closed (in_own_group job p draw.number draw drawn writes).0)))
+
+open_test : (full closed quiet : Bool) → closed ≡ false → (full && quiet) ≡ (full && not closed && quiet)
+open_test true true quiet is = cc
+open_test true false quiet is = refl
+open_test false closed quiet is = refl
+
+-- so it is open where it is full and no issue flies
+pub open_is : (h : List Event) (pass : Pass) (draw : Draw) → IsOwn pass → slice_get pass.draws draw.number ≡ Some draw → is_write_draw draw ≡ true → list_any (takes_up (write_id pass draw)) h ≡ false → (is_full h pass (group_index pass draw.number) && no_issue_flies h pass.job.clone) ≡ is_open h pass (group_index pass draw.number)
+open_is h pass draw own drawn writes fresh =
+    open_test (is_full h pass (group_index pass draw.number)) (is_closed h pass (group_index pass draw.number)) (no_issue_flies h pass.job.clone)
+    (subst (λ (q : Pass). is_closed h q (group_index q draw.number) ≡ false) (sym own)
+    (unclosed h pass.job pass.number draw
+    (subst (λ (q : Pass). slice_get q.draws draw.number ≡ Some draw) own drawn)
+    writes
+    (subst (λ (q : Pass). list_any (takes_up (write_id q draw)) h ≡ false) own fresh)))
+
+-- ---- a planned clone, after a legal history
+module _ (plan : Plan) (planned : IsPlanned plan) (job : SubJob) (there : clone_of plan job.clone ≡ Some job) (h : List Event) (legal : is_legal plan h ≡ true) where
+  -- the write that was issued last waits for its group's round, or none does
+  waits_last : (p : ℕ) (last : Draw) → IsLastBelow (writes_of (pass_of job p)) (issued_count h (pass_of job p)) last → has_rounds job ≡ true → (is_full h (pass_of job p) (group_index (pass_of job p) last.number) && not (is_closed h (pass_of job p) (group_index (pass_of job p) last.number))) ≡ waits_for_round h (pass_of job p)
+  waits_last p last is rounds = iff_same _ (waits_for_round h pass) from to
+    where
+      pass : Pass
+      pass = pass_of job p
+
+      g : ℕ
+      g = group_index pass last.number
+
+      own : (k : ℕ) × (slice_get (draws_of_job job p) k ≡ Some last) × (is_write_draw last ≡ true)
+      own = filtered is_write_draw (draws_of_job job p) is.place last is.at
+
+      drawn : slice_get (draws_of_job job p) last.number ≡ Some last
+      drawn = ap (slice_get (draws_of_job job p)) (number_is job p own.0 last own.1) ∙ own.1
+
+      from : (is_full h pass g && not (is_closed h pass g)) ≡ true → waits_for_round h pass ≡ true
+      from both =
+          let parts = and_parts (is_full h pass g) (not (is_closed h pass g)) both in
+          waits_with h job p g rounds (in_own_group job p last.number last drawn own.2).1 parts.0 (not-true (is_closed h pass g) parts.1)
+
+      to : waits_for_round h pass ≡ true → (is_full h pass g && not (is_closed h pass g)) ≡ true
+      to waits =
+          let waiting = waiting_group h job p waits in
+          let one = waited_for h job p waiting.group waiting.below waiting.full waiting.unclosed in
+          let place = got_filter is_write_draw (draws_of_job job p) one.draw.number one.draw one.drawn one.writes in
+          let low = index_mono job p one.draw.number last.number (is.last place.0 one.draw place.1 one.issued) in
+          elim (cases_lt waiting.group g) [
+            | inl before ↦
+                absurd (both_ways (is_closed h pass waiting.group) waiting.unclosed
+                (groups_turn plan (numbered_of plan planned) job there h legal p last.number waiting.group rounds is.below before))
+            | inr behind ↦
+                let same : waiting.group ≡ g = omega (arith, low, one.index, behind) in
+                subst (λ (x : ℕ). (is_full h pass x && not (is_closed h pass x)) ≡ true) same
+                (and_from (is_full h pass waiting.group) (not (is_closed h pass waiting.group)) waiting.full
+                (ap not waiting.unclosed))
+          ]
+
+  waits_by : (p : ℕ) (last : Draw) (rounds : Bool) → IsLastBelow (writes_of (pass_of job p)) (issued_count h (pass_of job p)) last → has_rounds job ≡ rounds → (rounds && (is_full h (pass_of job p) (group_index (pass_of job p) last.number) && not (is_closed h (pass_of job p) (group_index (pass_of job p) last.number)))) ≡ waits_for_round h (pass_of job p)
+  waits_by p last true is rounds = waits_last p last is rounds
+  waits_by p last false is rounds =
+      let pass = pass_of job p in
+      sym (and_left (has_rounds job) (list_any (λ (g : ℕ). is_full h pass g && not (is_closed h pass g)) (range_with_len 0 (group_count pass))) rounds)
+
+  -- where no write was issued none does
+  waits_none : (p : ℕ) → NoneBelow (writes_of (pass_of job p)) (issued_count h (pass_of job p)) → false ≡ waits_for_round h (pass_of job p)
+  waits_none p none =
+      sym (false_from_ne_true (waits_for_round h (pass_of job p)) (λ waits.
+      let waiting = waiting_group h job p waits in
+      let one = waited_for h job p waiting.group waiting.below waiting.full waiting.unclosed in
+      let place = got_filter is_write_draw (draws_of_job job p) one.draw.number one.draw one.drawn one.writes in
+      let high = none place.0 one.draw place.1 in
+      let low = one.issued in
+      omega (arith, high, low)))
+
+  pub waits_after : (pass : Pass) (last : Draw) → IsOwn pass → pass.job ≡ job → IsLastBelow (writes_of pass) (issued_count h pass) last → (has_rounds pass.job && (is_full h pass (group_index pass last.number) && not (is_closed h pass (group_index pass last.number)))) ≡ waits_for_round h pass
+  waits_after pass last own same is =
+      let whole : pass ≡ pass_of job pass.number = own ∙ ap (λ (j : SubJob). pass_of j pass.number) same in
+      subst (λ (q : Pass). (has_rounds q.job && (is_full h q (group_index q last.number) && not (is_closed h q (group_index q last.number)))) ≡ waits_for_round h q) (sym whole)
+      (waits_by pass.number last (has_rounds job) (subst (λ (q : Pass). IsLastBelow (writes_of q) (issued_count h q) last) whole is) refl)
+
+  pub waits_never : (pass : Pass) → IsOwn pass → pass.job ≡ job → NoneBelow (writes_of pass) (issued_count h pass) → false ≡ waits_for_round h pass
+  waits_never pass own same none =
+      let whole : pass ≡ pass_of job pass.number = own ∙ ap (λ (j : SubJob). pass_of j pass.number) same in
+      subst (λ (q : Pass). false ≡ waits_for_round h q) (sym whole)
+      (waits_none pass.number (subst (λ (q : Pass). NoneBelow (writes_of q) (issued_count h q)) whole none))
+
+  -- where a draw of a pass was issued, the passes before are finished
+  begun_after : (p : ℕ) → 0 < issued_count h (pass_of job p) → list_all (pass_finished h) (take p (passes_of job)) ≡ true
+  begun_after p some =
+      let now = always_in_pass plan planned job there h legal in
+      elim (cases_lt now.0 p) [
+        | inl before ↦ absurd (let none = now.1.after p before in omega (arith, none, some))
+        | inr within ↦ before_from h job p (λ (q : ℕ) (low : q < p). finished_before h job now.0 q now.1 (omega (arith, low, within)))
+      ]
+
+  pub earlier_begun : (pass : Pass) → IsOwn pass → pass.job ≡ job → 0 < issued_count h pass → true ≡ list_all (pass_finished h) (take pass.number (passes_of pass.job))
+  earlier_begun pass own same some =
+      let whole : pass ≡ pass_of job pass.number = own ∙ ap (λ (j : SubJob). pass_of j pass.number) same in
+      sym (ap (λ (j : SubJob). list_all (pass_finished h) (take pass.number (passes_of j))) same
+      ∙ begun_after pass.number (subst (λ (q : Pass). 0 < issued_count h q) whole some))
+
+  -- the passes before one are finished where the last of them is
+  pub earlier_by_last : (p : ℕ) → p < job.passes → pass_finished h (pass_of job p) ≡ list_all (pass_finished h) (take (suc p) (passes_of job))
+  earlier_by_last p within =
+      iff_same (pass_finished h (pass_of job p)) (list_all (pass_finished h) (take (suc p) (passes_of job)))
+      (λ done. before_from h job (suc p) (λ (q : ℕ) (low : q < suc p). each done q low (cases_eq q p)))
+      (λ all. before_at h job (suc p) p all (omega arith) within)
+    where
+      each : pass_finished h (pass_of job p) ≡ true → (q : ℕ) → q < suc p → (q ≡ p) ⊎ (q ≡ p → ⊥) → pass_finished h (pass_of job q) ≡ true
+      each done q low (inl same) = subst (λ (n : ℕ). pass_finished h (pass_of job n) ≡ true) (sym same) done
+      each done q low (inr apart) =
+          let now = always_in_pass plan planned job there h legal in
+          elim (cases_lt now.0 p) [
+            | inl before ↦ absurd (both_ways (pass_finished h (pass_of job p)) (unbegun plan planned job there h p (now.1.after p before)) done)
+            | inr beyond ↦ elim (cases_lt q p) [
+              | inl lower ↦ finished_before h job now.0 q now.1 (omega (arith, lower, beyond))
+              | inr higher ↦ absurd (apart (omega (arith, low, higher)))
+            ]
+          ]
+
+-- ---- the phases before that of a clone that has begun are over, and stay so
+over_longer : (plan : Plan) → IsPlanned plan → (other : SubJob) → clone_of plan other.clone ≡ Some other → (h : List Event) (e : Event) → is_legal plan h ≡ true → may_happen plan h e ≡ true → is_over h other ≡ true → is_over (h ++ e ∷ []) other ≡ true
+over_longer plan planned other there h e legal may over =
+    elim (or_cases (is_halted h other) (clone_finished h other) over) [
+      | inl halted ↦
+          elim (cases_Bool (is_halted (h ++ e ∷ []) other)) [
+            | inl still ↦ or_left (is_halted (h ++ e ∷ []) other) (clone_finished (h ++ e ∷ []) other) still
+            | inr runs ↦ absurd (both_ways (is_halted h other) (ran_before other h e runs) halted)
+          ]
+      | inr finished ↦
+          or_right (is_halted (h ++ e ∷ []) other) (clone_finished (h ++ e ∷ []) other)
+          (all_from (pass_finished (h ++ e ∷ [])) (passes_of other) (one finished))
+    ]
+  where
+    one : clone_finished h other ≡ true → (k : ℕ) (pass : Pass) → slice_get (passes_of other) k ≡ Some pass → pass_finished (h ++ e ∷ []) pass ≡ true
+    one finished k pass at =
+        let within : k < other.passes = omega (arith, slice_get_within (passes_of other) k pass at, length-map-range_with_len (pass_of other) 0 other.passes) in
+        let same : pass_of other k ≡ pass = same_Some (pass_of other k) pass (sym (got_pass other k within) ∙ at) in
+        subst (λ (q : Pass). pass_finished (h ++ e ∷ []) q ≡ true) same
+        (stays_finished plan planned other there h e k legal may
+        (subst (λ (q : Pass). pass_finished h q ≡ true) (sym same) (all_at (pass_finished h) (passes_of other) k pass finished at)))
+
+module _ (plan : Plan) (planned : IsPlanned plan) (job : SubJob) (there : clone_of plan job.clone ≡ Some job) where
+  -- where a draw of the clone was issued the clones of earlier phases are over
+  abbrev PhasesOver : List Event → Type 0
+  PhasesOver h =
+      (q i : ℕ) (other : SubJob)
+      → 0 < issued_count h (pass_of job q)
+      → slice_get plan.clones i ≡ Some other
+      → (nat_le job.phase other.phase || is_over h other) ≡ true
+
+  longer : (h : List Event) (e : Event) → is_legal plan h ≡ true → may_happen plan h e ≡ true → (i : ℕ) (other : SubJob) → slice_get plan.clones i ≡ Some other → (nat_le job.phase other.phase || is_over h other) ≡ true → (nat_le job.phase other.phase || is_over (h ++ e ∷ []) other) ≡ true
+  longer h e legal may i other at was =
+      elim (or_cases (nat_le job.phase other.phase) (is_over h other) was) [
+        | inl later ↦ or_left (nat_le job.phase other.phase) (is_over (h ++ e ∷ []) other) later
+        | inr over ↦
+            or_right (nat_le job.phase other.phase) (is_over (h ++ e ∷ []) other)
+            (over_longer plan planned other (subst (λ (n : ℕ). clone_of plan n ≡ Some other) (sym (numbered_of plan planned i other at)) at) h e legal may over)
+      ]
+
+  opened : (h : List Event) (i : ℕ) (other : SubJob) → slice_get plan.clones i ≡ Some other → phase_is_open plan h job ≡ true → (nat_le job.phase other.phase || is_over h other) ≡ true
+  opened h i other at is =
+      elim (or_cases (nat_le job.phase other.phase) (is_at_rest h other)
+      (all_at (λ (o : SubJob). nat_le job.phase o.phase || is_at_rest h o) plan.clones i other is at)) [
+        | inl later ↦ or_left (nat_le job.phase other.phase) (is_over h other) later
+        | inr rests ↦
+            let quiet = nothing_flies_of h other.clone in
+            let judged = not (list_any (is_of_clone other.clone) (awaiting h)) in
+            or_right (nat_le job.phase other.phase) (is_over h other)
+            (and_parts (is_over h other) quiet (and_parts (is_over h other && quiet) judged rests).0).0
+      ]
+
+  phases_step : (h : List Event) (e : Event) → is_legal plan h ≡ true → PhasesOver h → may_happen plan h e ≡ true → PhasesOver (h ++ e ∷ [])
+  phases_step h (Issue worker dir write piece) legal was may q i other some at =
+      longer h (Issue worker dir write piece) legal may i other at
+      (elim (cases_eq write.clone job.clone) [
+        | inl own ↦
+            let issue = issue_in plan planned job there h worker dir write piece may own in
+            opened h i other at (can_issue plan h (pass_of job write.pass) issue.draw issue.may).opened
+        | inr foreign ↦ was q i other (omega (arith, some, issued_by_other job h worker dir write piece q foreign)) at
+      ])
+  phases_step h (Probe worker write piece) legal was may q i other some at =
+      longer h (Probe worker write piece) legal may i other at (was q i other (omega (arith, some, issued_same h (Probe worker write piece) (pass_of job q) refl)) at)
+  phases_step h (Skip worker write) legal was may q i other some at =
+      longer h (Skip worker write) legal may i other at (was q i other (omega (arith, some, issued_same h (Skip worker write) (pass_of job q) refl)) at)
+  phases_step h (End worker io outcome) legal was may q i other some at =
+      longer h (End worker io outcome) legal may i other at (was q i other (omega (arith, some, issued_same h (End worker io outcome) (pass_of job q) refl)) at)
+  phases_step h (Verdict worker io verdict) legal was may q i other some at =
+      longer h (Verdict worker io verdict) legal may i other at (was q i other (omega (arith, some, issued_same h (Verdict worker io verdict) (pass_of job q) refl)) at)
+
+  phases_over : (h : List Event) → is_legal plan h ≡ true → PhasesOver h
+  phases_over h legal =
+      by_events plan PhasesOver (λ q i other some at. absurd (omega (arith, some))) phases_step h legal
+
+  rest_test : (later over quiet judged : Bool) → (later || over) ≡ true → (later || (quiet && judged)) ≡ (later || (over && quiet && judged))
+  rest_test true over quiet judged is = refl
+  rest_test false true quiet judged is = refl
+  rest_test false false quiet judged is = cc
+
+  -- so its phase is open where in those nothing flies and no verdict is missing
+  pub phase_goes_on : (h : List Event) → is_legal plan h ≡ true → 0 < issued_count h (pass_of job 0) → list_all (lets_go_on h job.phase) plan.clones ≡ phase_is_open plan h job
+  phase_goes_on h legal some = same_all plan.clones (λ i other at. phases_over h legal 0 i other some at)
+    where
+      same_all : (others : List SubJob) → ((i : ℕ) (other : SubJob) → slice_get others i ≡ Some other → (nat_le job.phase other.phase || is_over h other) ≡ true) → list_all (lets_go_on h job.phase) others ≡ list_all (λ (other : SubJob). nat_le job.phase other.phase || is_at_rest h other) others
+      same_all [] each = refl
+      same_all (other ∷ others) each =
+          ap (λ (b : Bool). b && list_all (lets_go_on h job.phase) others)
+          (rest_test (nat_le job.phase other.phase) (is_over h other) (nothing_flies_of h other.clone) (not (list_any (is_of_clone other.clone) (awaiting h))) (each 0 other refl))
+          ∙ ap (λ (b : Bool). (nat_le job.phase other.phase || is_at_rest h other) && b) (same_all others (λ (i : ℕ) (o : SubJob) (at : slice_get others i ≡ Some o). each (suc i) o at))

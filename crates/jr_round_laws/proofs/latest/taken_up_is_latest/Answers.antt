@@ -1,5 +1,0 @@
-use Rattle.jr_round_laws.proofs.OpenLatest.{taken_up_latest}
-use Rattle.jr_round_laws.proofs.latest.taken_up_is_latest.Goals as goal
-
-pub returns : goal.returns
-returns c = taken_up_latest

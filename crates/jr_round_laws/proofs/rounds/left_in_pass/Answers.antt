@@ -1,5 +1,0 @@
-use Rattle.jr_round_laws.proofs.CurrentLaws.{left_in_pass-law}
-use Rattle.jr_round_laws.proofs.rounds.left_in_pass.Goals as goal
-
-pub returns : goal.returns
-returns c = left_in_pass-law

@@ -1,2 +1,0 @@
-pub mod ComingFacts
-pub mod WalkedFacts

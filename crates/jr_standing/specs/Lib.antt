@@ -1,2 +1,0 @@
-pub mod ComingDraws
-pub mod Deferred

@@ -1,5 +1,0 @@
-use Rattle.jr_steps.proofs.CountLaws.{appends_same}
-use Rattle.jr_steps.proofs.counts.appends_one.Goals as goal
-
-pub returns : goal.returns
-returns c = appends_same

@@ -1,5 +1,0 @@
-use Rattle.jr_steps.proofs.CountLaws.{serial_stops_all}
-use Rattle.jr_steps.proofs.counts.serial_ends.Goals as goal
-
-pub returns : goal.returns
-returns c = serial_stops_all

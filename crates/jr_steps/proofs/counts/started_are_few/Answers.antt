@@ -1,5 +1,0 @@
-use Rattle.jr_steps.proofs.CountLaws.{started_few}
-use Rattle.jr_steps.proofs.counts.started_are_few.Goals as goal
-
-pub returns : goal.returns
-returns c = started_few

@@ -1,5 +1,0 @@
-use Rattle.jr_steps.proofs.OnceLaws.{no_block_twice-law}
-use Rattle.jr_steps.proofs.drawn.no_block_twice.Goals as goal
-
-pub returns : goal.returns
-returns c = no_block_twice-law

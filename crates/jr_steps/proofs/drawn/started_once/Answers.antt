@@ -1,5 +1,0 @@
-use Rattle.jr_steps.proofs.OnceLaws.{started_once-law}
-use Rattle.jr_steps.proofs.drawn.started_once.Goals as goal
-
-pub returns : goal.returns
-returns c = started_once-law

@@ -1,6 +1,0 @@
-use Rattle.jr_steps.proofs.CountLaws.{serial_stops_all}
-use Rattle.jr_steps.proofs.DoneLaws.{serial_complete}
-use Rattle.jr_steps.proofs.idle.serial_is_complete.Goals as goal
-
-pub returns : goal.returns
-returns c plan planned = serial_complete plan planned (serial_stops_all plan planned)

@@ -1,0 +1,50 @@
+use crate::asserts::same;
+use crate::plans::{checked, plan_of};
+use jr_crew::{StopFlag, Watch, run, run_serial};
+use jr_desk::Desk;
+use jr_engines::{Engine, NullEngine};
+use jr_model::EngineKind;
+use std::process::Abort;
+use std::test::Fail;
+
+// Nothing was started, and there is more to come.
+fn assert_nothing_begun(rt: &impl Abort, desk: &Desk) {
+    same(rt, desk.history().is_empty(), true);
+    same(rt, desk.is_complete(), false);
+}
+
+#[test]
+fn one_worker_is_asked_before_it_begins(rt: HostRuntime) -> Result<(), Fail> {
+    let stop = StopFlag::new();
+    same(&rt, stop.is_set(), false);
+    stop.set();
+    same(&rt, stop.is_set(), true);
+    let watch = Watch {
+        progress: None,
+        stop: Some(&stop),
+    };
+    let plan = plan_of(rt.alloc(), &checked(4, 0), 1, EngineKind::Null, 0)?;
+    let desk = run_serial(rt.alloc(), plan, &mut NullEngine::new(), watch)?;
+    assert_nothing_begun(&rt, &desk);
+    Ok(())
+}
+
+#[test]
+fn workers_and_verifiers_are_asked_before_they_begin(rt: HostRuntime) -> Result<(), Fail> {
+    for verifiers in 0..3 {
+        let stop = StopFlag::new();
+        stop.set();
+        let watch = Watch {
+            progress: None,
+            stop: Some(&stop),
+        };
+        let plan = plan_of(rt.alloc(), &checked(4, 0), 1, EngineKind::Null, verifiers)?;
+        let mut engines: Vec<Box<dyn Engine + Send>> = Vec::new(rt.alloc());
+        for _ in 0..2 {
+            engines.push(Box::new(rt.alloc(), NullEngine::new())?)?;
+        }
+        let ran = run(&rt, rt.alloc(), plan, engines, watch)?;
+        assert_nothing_begun(&rt, &ran.desk);
+    }
+    Ok(())
+}

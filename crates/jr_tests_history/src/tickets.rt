@@ -1,0 +1,162 @@
+use crate::asserts::{holds, same};
+use crate::plans::plan_of;
+use jr_model::{
+    Expected, IoType, Method, Outcome, Pattern, Piece, Ticket, TicketKind, VerifyKind, WriteId,
+    is_same,
+};
+use jr_plan::{Plan, Workload};
+use jr_tickets::{IoState, TicketTable};
+use std::alloc::Global;
+use std::process::Abort;
+use std::test::Fail;
+
+// A plan over memory: a clone whose blocks are a pattern, and one whose blocks have headers.
+fn two_clones(alloc: Global) -> Result<Plan, Fail> {
+    let pattern = Workload {
+        method: Method {
+            kind: VerifyKind::Pattern,
+            pattern: Pattern::new(&[1, 2]),
+        },
+        ..Workload::plain(IoType::Write, 4096, 4)
+    };
+    let digest = Workload {
+        method: Method {
+            kind: VerifyKind::Md5,
+            pattern: None,
+        },
+        ..pattern
+    };
+    plan_of(alloc, &[(pattern, "f", 0), (digest, "g", 0)])
+}
+
+// The ticket of a clone's draw of this number.
+fn ticket_of(
+    plan: &Plan,
+    id: u32,
+    kind: TicketKind,
+    clone: u32,
+    expected: Expected,
+) -> Result<Ticket, Fail> {
+    if clone as usize >= plan.clones() {
+        return Err(Fail::from("no such clone"));
+    }
+    Ok(Ticket {
+        id,
+        worker: 3,
+        kind,
+        write: WriteId {
+            clone,
+            pass: 0,
+            number: 2,
+        },
+        piece: Piece {
+            file: clone,
+            offset: 8192,
+            len: 4096,
+        },
+        seed: 1_000_000_007,
+        method: plan.clone_at(clone as usize).method(),
+        expected,
+    })
+}
+
+// Hands the ticket out, and all that were handed out before it are as they were.
+fn hand_out(
+    rt: &impl Abort,
+    plan: &Plan,
+    table: &mut TicketTable,
+    tickets: &[Ticket],
+    id: u32,
+) -> Result<(), Fail> {
+    same(rt, table.count(), id as usize);
+    holds(rt, table.ticket(plan, id).is_none(), "no ticket yet");
+    holds(rt, table.seed(id).is_none(), "no seed yet");
+    holds(rt, table.piece(id).is_none(), "no piece yet");
+    let ticket = tickets.get(id as usize).ok_or("no ticket")?;
+    table.reserve()?;
+    holds(rt, table.headers.len() < 9, "few headers");
+    table.hand(ticket);
+    assert_handed(rt, plan, table, tickets, id)
+}
+
+// All up to this one are there.
+fn assert_handed(
+    rt: &impl Abort,
+    plan: &Plan,
+    table: &TicketTable,
+    tickets: &[Ticket],
+    id: u32,
+) -> Result<(), Fail> {
+    for (number, ticket) in tickets.iter().enumerate().take(id as usize + 1) {
+        let own = table.ticket(plan, number as u32).ok_or("not there")?;
+        same(rt, (number, is_same(&own, ticket)), (number, true));
+        same(rt, table.seed(number as u32), Some(1_000_000_007));
+        same(rt, table.piece(number as u32), Some(ticket.piece));
+    }
+    Ok(())
+}
+
+#[test]
+fn tickets_come_back_as_they_were_handed_out(rt: HostRuntime) -> Result<(), Fail> {
+    let plan = two_clones(rt.alloc())?;
+    let pattern = Pattern::new(&[1, 2]).ok_or("no pattern")?;
+    let tickets = [
+        ticket_of(&plan, 0, TicketKind::Write, 1, Expected::Nothing)?,
+        ticket_of(&plan, 1, TicketKind::Probe, 1, Expected::Header([7; 64]))?,
+        ticket_of(&plan, 2, TicketKind::Read, 0, Expected::Nothing)?,
+        ticket_of(&plan, 3, TicketKind::Probe, 0, Expected::Pattern(pattern))?,
+        ticket_of(&plan, 4, TicketKind::Probe, 1, Expected::Header([9; 64]))?,
+    ];
+    let mut table = TicketTable::new(rt.alloc());
+    for id in 0..5u32 {
+        hand_out(&rt, &plan, &mut table, &tickets, id)?;
+    }
+    same(&rt, table.headers.len(), 2);
+    Ok(())
+}
+
+fn end(rt: &impl Abort, table: &mut TicketTable, id: u32, outcome: Outcome) {
+    assert!(rt; (id as usize) < table.states.len());
+    table.end(id, outcome);
+}
+
+// How far the I/O of this number has come, as each call says.
+fn is_at(table: &TicketTable, id: u32, ended: bool, whole: bool, judged: bool) -> bool {
+    table.has_ended(id) == ended
+        && table.has_ended_whole(id) == whole
+        && table.is_judged(id) == judged
+}
+
+// Hands out a check.
+fn hand_check(rt: &impl Abort, plan: &Plan, table: &mut TicketTable, id: u32) -> Result<(), Fail> {
+    let ticket = ticket_of(plan, id, TicketKind::Probe, 1, Expected::Header([7; 64]))?;
+    table.reserve()?;
+    assert!(rt; table.headers.len() < 9);
+    table.hand(&ticket);
+    Ok(())
+}
+
+#[test]
+fn each_goes_its_own_way(rt: HostRuntime) -> Result<(), Fail> {
+    let plan = two_clones(rt.alloc())?;
+    let mut table = TicketTable::new(rt.alloc());
+    for id in 0..3u32 {
+        assert!(rt; is_at(&table, id, false, false, false));
+        hand_check(&rt, &plan, &mut table, id)?;
+        assert!(rt; is_at(&table, id, false, false, false));
+    }
+    same(&rt, table.states.len(), 3);
+    end(&rt, &mut table, 2, Outcome::Short(512));
+    end(&rt, &mut table, 1, Outcome::Whole);
+    assert!(rt; is_at(&table, 0, false, false, false));
+    assert!(rt; is_at(&table, 1, true, true, false));
+    assert!(rt; is_at(&table, 2, true, false, false));
+    same(&rt, table.states.len(), 3);
+    table.judge(1);
+    assert!(rt; is_at(&table, 1, true, true, true));
+    end(&rt, &mut table, 0, Outcome::Failed);
+    let states = [IoState::Faulty, IoState::Judged, IoState::Faulty];
+    same(&rt, table.states.as_slice(), states.as_slice());
+    assert!(rt; is_at(&table, 3, false, false, false));
+    Ok(())
+}

@@ -1,0 +1,162 @@
+-- The numbers in the lines of a legal history of a plan are small.
+use Rattle.std.proofs.Common.{◌≡◌, ℕ, ◌+◌, ◌%◌, ◌^◌, ◌<◌, ◌≤◌, List, [], ◌∷◌, ◌++◌, length, Bool, true, false, not, ◌&&◌, refl, ap, ◌∙◌, arith}
+use Rattle.std.specs.Prelude.{Option, Some, None, nat_le, nat_lt, slice_get, ◌==◌}
+use Rattle.std.proofs.lemmas.Bool.{and_parts, leb-true, lt-ltb, ltb-true}
+use Rattle.std.proofs.lemmas.Option.{slice_get_within}
+use Rattle.jr_model.specs.declared.blocks.Dir.{Dir}
+use Rattle.jr_model.specs.declared.blocks.Piece.{Piece}
+use Rattle.jr_model.specs.declared.limits.TheConstants.{SECTOR, LARGEST_BLOCK, LARGEST_END}
+use Rattle.jr_model.specs.declared.events.Event.{Event}
+use Rattle.jr_model.specs.declared.events.Event.TheVariants.{Issue, Probe, Skip, End, Verdict}
+use Rattle.jr_model.specs.declared.events.Outcome.{Outcome}
+use Rattle.jr_model.specs.declared.events.Outcome.TheVariants.{Whole, Failed, Short}
+use Rattle.jr_model.specs.declared.events.Started.{Started}
+use Rattle.jr_model.specs.declared.events.Verdict.{Verdict as GivenVerdict}
+use Rattle.jr_model.specs.declared.events.Verdict.TheVariants.{Good, Bad}
+use Rattle.jr_model.specs.declared.events.What.TheVariants.{Header, Digest, DataArea, Byte}
+use Rattle.jr_model.specs.declared.events.WriteId.{WriteId}
+use Rattle.jr_model.specs.declared.contents.VerifyKind.{VerifyKind}
+use Rattle.jr_model.specs.declared.contents.VerifyKind.TheVariants as verify
+use Rattle.jr_model.specs.declared.workloads.Draw.{Draw}
+use Rattle.jr_model.specs.Draws.{draws_of_job}
+use Rattle.jr_model.specs.History.{ended_whole, flies, is_judged, is_probe, outcome_of, started}
+use Rattle.jr_model.specs.Legal.{end_fits, is_legal, job_says, kind_says, legal_after, may_happen, verdict_fits}
+use Rattle.jr_model.specs.Plan.{Plan, SubJob, clone_of}
+use Rattle.jr_model.specs.Rounds.{pass_of}
+use Rattle.jr_model.proofs.LegalLaws.{is_legal-more}
+use Rattle.jr_model.specs.PlanFacts.{IsPlanned}
+use Rattle.jr_laws_steps.proofs.CountLaws.{draws_within}
+use Rattle.jr_laws_steps.proofs.DrawnLaws.{current_pass, issuable, started_fit-law, taken_up_within}
+use Rattle.jr_laws_steps.proofs.StepLaws.{may_issue_of, may_probe_of, may_skip_of}
+use Rattle.jr_traces.specs.TraceChecks.{ending_fits, entry_fits, finding_fits, is_small, name_fits}
+use Rattle.jr_traces.specs.TraceLaws.{NumbersFit, ending_of, entry_of, finding_of, lines_fit, name_of, worker_of, workers_fit}
+use Rattle.jr_laws_steps.proofs.StartedFew.{started_small}
+
+-- where the rest holds
+both : (a b : Bool) → b ≡ true → (a && b) ≡ a
+both true b h = h
+both false b h = refl
+
+all_three : (a b c : Bool) → b ≡ true → c ≡ true → (a && b && c) ≡ a
+all_three a b c hb hc = both (a && b) c hc ∙ both a b hb
+
+less : (m n : ℕ) → n ≤ 2 ^ 32 → m < n → is_small m ≡ true
+less m n most below = lt-ltb m (2 ^ 32) (omega (arith, most, below))
+
+module _ (plan : Plan) (planned : IsPlanned plan) where
+  -- the numbers of a draw
+  name_small : (write : WriteId) (job : SubJob) (draw : Draw) → clone_of plan write.clone ≡ Some job → write.pass < job.passes → slice_get (draws_of_job job write.pass) write.number ≡ Some draw → name_fits (name_of write) ≡ true
+  name_small write job draw at pass drawn =
+      let limits = planned.drafted.limited write.clone job at in
+      let clone : is_small write.clone ≡ true = less write.clone (length plan.clones) (omega (arith, planned.drafted.clones_most)) (slice_get_within plan.clones write.clone job at) in
+      let few : job.passes ≤ 2 ^ 32 = omega (arith, limits.passes_most) in
+      let size : length (draws_of_job job write.pass) ≤ 2 ^ 32 = omega (arith, draws_within plan write.clone write.pass job planned at, limits.cells_most) in
+      all_three (is_small write.clone) (is_small write.pass) (is_small write.number)
+      (less write.pass job.passes few pass)
+      (less write.number (length (draws_of_job job write.pass)) size (slice_get_within (draws_of_job job write.pass) write.number draw drawn))
+      ∙ clone
+
+  module _ (history : List Event) (legal : is_legal plan history ≡ true) where
+    io_small : (io : ℕ) → io ≤ length (started history) → is_small io ≡ true
+    io_small io most = lt-ltb io (2 ^ 32) (omega (arith, most, started_small plan history planned legal))
+
+    issue_small : (worker : ℕ) (write : WriteId) (dir : Dir) (piece : Piece) → may_happen plan history (Issue worker dir write piece) ≡ true → name_fits (name_of write) ≡ true
+    issue_small worker write dir piece may =
+        let step = may_issue_of plan history worker dir write piece may in
+        let pass = pass_of step.job write.pass in
+        name_small write step.job step.draw step.named.planned
+        (current_pass history pass (issuable plan history pass step.draw step.may).current)
+        step.named.drawn
+
+    probe_small : (worker : ℕ) (write : WriteId) (piece : Piece) → may_happen plan history (Probe worker write piece) ≡ true → name_fits (name_of write) ≡ true
+    probe_small worker write piece may =
+        let step = (may_probe_of plan history worker write piece may).0 in
+        name_small write step.job step.draw step.named.planned (taken_up_within plan history write step legal) step.named.drawn
+
+    skip_small : (worker : ℕ) (write : WriteId) → may_happen plan history (Skip worker write) ≡ true → name_fits (name_of write) ≡ true
+    skip_small worker write may =
+        let step = may_skip_of plan history worker write may in
+        name_small write step.job step.draw step.named.planned (taken_up_within plan history write step legal) step.named.drawn
+
+    -- what was started moves few bytes
+    len_small : (id : ℕ) (io : Started) → slice_get (started history) id ≡ Some io → io.piece.len ≤ 2 ^ 32
+    len_small id io at =
+        let fits = (started_fit-law plan history id io planned legal at).1.fits in
+        let p = io.piece in
+        let first = and_parts (nat_lt 0 p.len && nat_le p.len LARGEST_BLOCK && (p.len % SECTOR == 0) && (p.offset % SECTOR == 0)) (nat_le (p.offset + p.len) LARGEST_END) fits in
+        let second = and_parts (nat_lt 0 p.len && nat_le p.len LARGEST_BLOCK && (p.len % SECTOR == 0)) (p.offset % SECTOR == 0) first.0 in
+        let third = and_parts (nat_lt 0 p.len && nat_le p.len LARGEST_BLOCK) (p.len % SECTOR == 0) second.0 in
+        let fourth = and_parts (nat_lt 0 p.len) (nat_le p.len LARGEST_BLOCK) third.0 in
+        let most : p.len ≤ LARGEST_BLOCK = leb-true p.len LARGEST_BLOCK fourth.1 in
+        omega (arith, most)
+
+    ending_small : (worker id : ℕ) (outcome : Outcome) (o : Option Started) → slice_get (started history) id ≡ o → end_fits worker outcome o ≡ true → ending_fits (ending_of outcome) ≡ true
+    ending_small worker id Whole o at h = refl
+    ending_small worker id Failed o at h = refl
+    ending_small worker id (Short n) None at h = cc
+    ending_small worker id (Short n) (Some io) at h =
+        let parts = and_parts (io.worker == worker) (nat_lt n io.piece.len) h in
+        less n io.piece.len (len_small id io at) (ltb-true n io.piece.len parts.1)
+
+    -- a byte that differs is one of the piece
+    byte_small : (kind : VerifyKind) (len : ℕ) (verdict : GivenVerdict) → len ≤ 2 ^ 32 → kind_says kind len verdict ≡ true → finding_fits (finding_of verdict) ≡ true
+    byte_small kind len Good most h = refl
+    byte_small kind len (Bad Header) most h = refl
+    byte_small kind len (Bad Digest) most h = refl
+    byte_small kind len (Bad DataArea) most h = refl
+    byte_small verify.Pattern len (Bad (Byte i)) most h = less i len most (ltb-true i len h)
+    byte_small verify.Plain len (Bad (Byte i)) most h = cc
+    byte_small verify.Md5 len (Bad (Byte i)) most h = cc
+    byte_small verify.Sha1 len (Bad (Byte i)) most h = cc
+    byte_small verify.Sha256 len (Bad (Byte i)) most h = cc
+
+    says_small : (job : Option SubJob) (len : ℕ) (verdict : GivenVerdict) → len ≤ 2 ^ 32 → job_says job len verdict ≡ true → finding_fits (finding_of verdict) ≡ true
+    says_small None len Good most h = refl
+    says_small None len (Bad what) most h = cc
+    says_small (Some job) len verdict most h = byte_small job.method.kind len verdict most h
+
+    record IsOnStarted (id : ℕ) (fits : Bool) : Type 0 where
+      below : id < length (started history)
+      small : fits ≡ true
+
+    verdict_small : (id : ℕ) (verdict : GivenVerdict) (o : Option Started) → slice_get (started history) id ≡ o → verdict_fits plan verdict o ≡ true → IsOnStarted id (finding_fits (finding_of verdict))
+    verdict_small id verdict None at h = cc
+    verdict_small id verdict (Some io) at h =
+        let parts = and_parts (is_probe io.kind) (job_says (clone_of plan io.write.clone) io.piece.len verdict) h in
+        record {
+          below = slice_get_within (started history) id io at;
+          small = says_small (clone_of plan io.write.clone) io.piece.len verdict (len_small id io at) parts.1;
+        }
+
+    -- the numbers of an event that may happen are small, but for its worker's
+    event_small : (e : Event) → may_happen plan history e ≡ true → entry_fits (entry_of (length (started history)) e) ≡ is_small (worker_of e)
+    event_small (Issue worker dir write piece) may =
+        let io = length (started history) in
+        all_three (is_small worker) (is_small io) (name_fits (name_of write)) (io_small io (omega arith)) (issue_small worker write dir piece may)
+    event_small (Probe worker write piece) may =
+        let io = length (started history) in
+        all_three (is_small worker) (is_small io) (name_fits (name_of write)) (io_small io (omega arith)) (probe_small worker write piece may)
+    event_small (Skip worker write) may =
+        both (is_small worker) (name_fits (name_of write)) (skip_small worker write may)
+    event_small (End worker id outcome) may =
+        let parts = and_parts (flies history id) (end_fits worker outcome (slice_get (started history) id)) may in
+        let flying = and_parts (nat_lt id (length (started history))) _ parts.0 in
+        let below : id < length (started history) = ltb-true id (length (started history)) flying.0 in
+        all_three (is_small worker) (is_small id) (ending_fits (ending_of outcome)) (io_small id (omega (arith, below)))
+        (ending_small worker id outcome (slice_get (started history) id) refl parts.1)
+    event_small (Verdict by id verdict) may =
+        let parts = and_parts (ended_whole (outcome_of history id) && not (is_judged history id)) (verdict_fits plan verdict (slice_get (started history) id)) may in
+        let on = verdict_small id verdict (slice_get (started history) id) refl parts.1 in
+        all_three (is_small by) (is_small id) (finding_fits (finding_of verdict)) (io_small id (omega (arith, on.below))) on.small
+
+  -- the lines of what may happen after a legal history
+  lines_small : (before events : List Event) → is_legal plan before ≡ true → legal_after plan before events ≡ true → lines_fit before events ≡ workers_fit events
+  lines_small before [] legal more = refl
+  lines_small before (e ∷ events) legal more =
+      let longer = before ++ e ∷ [] in
+      let parts = and_parts (may_happen plan before e) (legal_after plan longer events) more in
+      ap (λ (b : Bool). b && lines_fit longer events) (event_small before legal e parts.0)
+      ∙ ap (λ (b : Bool). is_small (worker_of e) && b) (lines_small longer events (is_legal-more plan before e legal parts.0) parts.1)
+
+pub numbers_fit : NumbersFit
+numbers_fit plan history planned legal = lines_small plan planned [] history refl legal

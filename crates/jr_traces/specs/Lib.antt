@@ -1,0 +1,6 @@
+pub mod FaultTexts
+pub mod TraceChecks
+pub mod TraceLaws
+pub mod TraceLines
+pub mod TraceSteps
+pub mod Traces

@@ -1,0 +1,119 @@
+ghost use Rattle.std.specs.Prelude.{◌≡◌, ◌∷◌, [], ◌<◌, ◌≤◌, ◌^◌, IfErr, IfOk, MatchOption, Ok, length, true};
+ghost use Rattle.std.specs.List.{before_first, slice_split};
+ghost use Rattle.jr_model.specs.History.{started};
+ghost use Rattle.jr_model.specs.Legal.{is_legal};
+ghost use Rattle.jr_model.specs.Report.{all_totals};
+ghost use Rattle.jr_traces.specs.TraceChecks.{IsRefusal, check_of, check_of_part, history_in, is_newline, line_event};
+
+use crate::faults::TraceFault;
+use crate::fields::read_line;
+use crate::legal::legal_event;
+use jr_history::Past;
+use jr_model::{Event, Memory, Totals};
+use jr_passes::{Agenda, totals_among};
+use jr_plan::Plan;
+use jr_replay::complete_among;
+use std::alloc::Global;
+
+/// Checks a trace: what each clone did, where the text is the trace of a whole legal run of the plan; else its
+/// first faulty line, or that the run goes on.
+pub fn check_trace(alloc: Global, plan: &Plan, text: &[u8]) -> Result<Vec<Totals>, TraceFault>
+    ensures ok { IfOk result (λ totals. check_of plan.now text.now ≡ Ok totals.items) }
+    ensures err { IfErr result (λ fault. IsRefusal fault (check_of plan.now text.now)) }
+{
+    let work = Agenda::new(alloc, plan)?;
+    let past = past_in(alloc, &work, text)?;
+    if !complete_among(&work, &past) {
+        return Err(TraceFault::Unfinished);
+    }
+    Ok(all_totals(alloc, plan, &past)?)
+}
+
+/// The same for a run that may have been stopped: what each clone did, where each line may follow those before it, whether there
+/// was more to come or not.
+pub fn check_part(alloc: Global, plan: &Plan, text: &[u8]) -> Result<Vec<Totals>, TraceFault>
+    ensures ok { IfOk result (λ totals. check_of_part plan.now text.now ≡ Ok totals.items) }
+    ensures err { IfErr result (λ fault. IsRefusal fault (check_of_part plan.now text.now)) }
+{
+    let work = Agenda::new(alloc, plan)?;
+    let past = past_in(alloc, &work, text)?;
+    Ok(all_totals(alloc, plan, &past)?)
+}
+
+// What each clone did.
+fn all_totals(alloc: Global, plan: &Plan, past: &Past) -> Result<Vec<Totals>, Memory>
+    requires legal { is_legal plan.now past.now ≡ true }
+    requires few { length (started past.now) ≤ 2 ^ 32 }
+    ensures { IfOk result (λ totals. totals.items ≡ all_totals plan.now past.now) }
+{
+    let mut totals = Vec::new(alloc);
+    for i in 0..plan.clones() {
+        totals.push(totals_among(past, plan.clone_at(i).clone_number()))?;
+    }
+    Ok(totals)
+}
+
+// The history that a text says.
+pub(crate) fn past_in(alloc: Global, work: &Agenda<'_>, text: &[u8]) -> Result<Past, TraceFault>
+    ensures ok { IfOk result (λ past. history_in work.now text.now ≡ Ok past) }
+    ensures legal { IfOk result (λ past. is_legal work.now past ≡ true) }
+    ensures few { IfOk result (λ past. length (started past) ≤ 2 ^ 32) }
+    ensures err { IfErr result (λ fault. IsRefusal fault (history_in work.now text.now)) }
+{
+    let mut past = Past::new(alloc, &[])?;
+    let mut rest = text;
+    while !rest.is_empty() {
+        let number = past.ledger().len() as u64 + 1;
+        let Some((line, after)) = next_line(rest) else {
+            return Err(TraceFault::Line(number));
+        };
+        let event = line_event(alloc, work, &past, number, line)?;
+        past = past.followed_by(alloc, event)?;
+        rest = after;
+    }
+    Ok(past)
+}
+
+// The first line of a text, and what follows its line feed; nothing where it has none.
+fn next_line(text: &[u8]) -> Option<(&[u8], &[u8])>
+    ensures { MatchOption result (slice_split is_newline text.now ≡ text.now ∷ [])
+        (λ p. (slice_split is_newline text.now ≡ p.0.now ∷ slice_split is_newline p.1.now)
+        × (length p.1.now < length text.now)) }
+{
+    let end = line_len(text);
+    if end >= text.len() {
+        return None;
+    }
+    let (line, _) = text.split_at(end);
+    let (_, after) = text.split_at(end + 1);
+    Some((line, after))
+}
+
+// How many bytes stand before the first line feed.
+fn line_len(text: &[u8]) -> usize
+    ensures value { result ≡ length (before_first is_newline text.now) }
+    ensures bound { result < 2 ^ 63 }
+{
+    text.iter().take_while(|byte| **byte != b'\n').count()
+}
+
+// The event of a line after a legal history.
+fn line_event(
+    alloc: Global,
+    work: &Agenda<'_>,
+    past: &Past,
+    number: u64,
+    line: &[u8],
+) -> Result<Event, TraceFault>
+    requires { is_legal work.now past.now ≡ true }
+    ensures ok { IfOk result (λ event. line_event work.now past.now number line.now ≡ Ok event) }
+    ensures err { IfErr result (λ fault. IsRefusal fault (line_event work.now past.now number line.now)) }
+{
+    let Some(entry) = read_line(line) else {
+        return Err(TraceFault::Line(number));
+    };
+    match legal_event(alloc, work, past, &entry)? {
+        Some(event) => Ok(event),
+        None => Err(TraceFault::Illegal(number)),
+    }
+}

@@ -1,0 +1,15 @@
+// The trace of a run, a line for each event of its history, and the check of a trace.
+#![tactic(auto)]
+
+mod checks;
+mod entries;
+mod faults;
+mod fields;
+mod laws;
+mod legal;
+mod traces;
+
+pub use checks::{check_part, check_trace};
+pub use faults::TraceFault;
+pub use laws::{accepted_is_a_trace, numbers_fit, trace_is_accepted};
+pub use traces::trace_text;
