@@ -6,13 +6,11 @@ use crate::show::Screen;
 use crate::stops::Stop;
 use jr_cli::{Choice, CliFault, Ended};
 use jr_direct::{Wish, wish_of};
-use jr_files::{
-    Claims, Directs, Dropper, FileEngine, FileFault, Launcher, Reads, Refusal, SharedFile,
-    claim_direct,
-};
+use jr_files::{Claims, Directs, FileEngine, FileFault, Reads, Refusal, SharedFile, claim_direct};
 use jr_model::EngineKind;
 use jr_plan::Plan;
 use jr_text::sections;
+use jr_transfer::{Dropper, Launcher};
 use std::alloc::{AllocError, Global};
 use std::fs::{File, Files};
 use std::os::unix::fs::MetadataExt;

@@ -1,3 +1,1 @@
-pub mod MoveLemmas
-pub mod RegionLemmas
-pub mod UseLemmas
+pub mod EngineLemmas

@@ -4,8 +4,8 @@ use Rattle.jr_model.specs.Replies.{EngineState}
 use Rattle.jr_engines.specs.declared.faults.EngineFault.{EngineFault}
 use Rattle.jr_files.specs.declared.faults.FileFault.{FileFault}
 use Rattle.jr_files.specs.declared.faults.FileFault.TheVariants as fault
-use Rattle.jr_files.specs.Moves.{GetsAll, Stores}
-use Rattle.jr_files.specs.Parts.{FileView}
+use Rattle.jr_transfer.specs.Moves.{GetsAll, Stores}
+use Rattle.jr_transfer.specs.Parts.{FileView}
 
 -- its calls so far, how many of them failed, and what is known of each of its files
 pub record FilesState : Type 0 where

@@ -1,7 +1,2 @@
 pub mod Engines
-pub mod Failures
-pub mod Moves
-pub mod Parts
-pub mod Regions
-pub mod Sectors
 pub mod Uses

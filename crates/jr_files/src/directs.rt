@@ -2,12 +2,11 @@
 ghost use Rattle.std.specs.Prelude.{◌≡◌, ◌<◌, length, IfErr};
 ghost use Rattle.jr_files.specs.Engines.{IsOpenFault};
 
-use crate::droppers::{Dropper, Made};
 use crate::faults::FileFault;
 use crate::opened::{OpenedFile, Sectors};
 use crate::refusals::{Refusal, Why};
-use crate::sectors::{first_ragged, sector_of};
 use jr_plan::{Plan, SubJob};
+use jr_transfer::{Dropper, Made, first_ragged, sector_of};
 use std::alloc::Global;
 use std::rt::Files;
 

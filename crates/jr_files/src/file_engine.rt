@@ -3,12 +3,10 @@ ghost use Rattle.jr_engines.specs.Calls.{Counts, ReadsInside, WritesInside};
 ghost use Rattle.jr_files.specs.Engines.{IsFresh, IsOpenFault, ReadsKnown, WritesKnown, files_state, has_place};
 
 use crate::faults::FileFault;
-use crate::moving::{LARGEST_OFFSET, read_whole, write_whole};
-use crate::positioned::Positioned;
-use crate::rooms::Room;
 use crate::uses::is_written;
 use jr_engines::{CallCounts, Engine, EngineFault};
 use jr_plan::Plan;
+use jr_transfer::{LARGEST_OFFSET, Positioned, Room, read_whole, write_whole};
 use std::alloc::Global;
 use std::fs::{File, OpenOptions};
 use std::io;

@@ -3,16 +3,15 @@ ghost use Rattle.std.specs.Prelude.{◌≡◌, ◌<◌, length, IfErr};
 ghost use Rattle.jr_files.specs.Engines.{IsOpenFault};
 
 use crate::directs::{Directs, as_wanted};
-use crate::failures::Failures;
 use crate::faults::FileFault;
 use crate::file_engine::open;
-use crate::marks::Marks;
 use crate::opened::OpenedFile;
 use crate::refusals::{Act, Refusal, Why};
 use crate::shares::{Reads, SharedFile};
 use crate::uses::{is_checked, is_written};
 use jr_devices::FileNumbers;
 use jr_plan::Plan;
+use jr_transfer::{Failures, Marks};
 use std::alloc::Global;
 use std::fs::{File, OpenOptions};
 use std::io::ErrorKind;

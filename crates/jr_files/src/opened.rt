@@ -1,11 +1,8 @@
 ghost use Rattle.std.specs.Prelude.{◌≡◌, ◌≤◌, IfOk, length};
 
-use crate::droppers::Dropper;
-use crate::failures::Failures;
 use crate::layouts::{extend, lengthen};
-use crate::marks::{FileSync, Marks, Stage};
-use crate::sectors::is_whole;
 use jr_devices::FileNumbers;
+use jr_transfer::{Dropper, Failures, FileSync, Marks, Stage, is_whole};
 use std::fs::{File, TryLockError};
 use std::io;
 use std::io::{ErrorKind, Seek, SeekFrom};

@@ -1,16 +1,13 @@
 ghost use Rattle.std.specs.Prelude.{◌≡◌, ◌<◌, length, IfOk, IfErr, IfSome};
 ghost use Rattle.jr_files.specs.Engines.{IsFresh, NamesFile};
-ghost use Rattle.jr_files.specs.Failures.{IsCallFor};
+ghost use Rattle.jr_transfer.specs.Failures.{IsCallFor};
 
-use crate::droppers::Dropper;
-use crate::failures::FailedCall;
 use crate::faults::FileFault;
 use crate::file_engine::FileEngine;
 use crate::opened::OpenedFile;
-use crate::positioned::Positioned;
-use crate::rooms::Room;
 use jr_devices::{FileNumbers, Identity};
 use jr_model::Dir;
+use jr_transfer::{Dropper, FailedCall, Positioned, Room};
 use std::alloc::{AllocError, AllocFailed, Global};
 use std::io;
 use std::rt::Files;
@@ -24,7 +21,7 @@ pub struct SharedFile {
 }
 
 impl Positioned for SharedFile {
-    ghost use Rattle.jr_files.specs.Parts.{unknown_view};
+    ghost use Rattle.jr_transfer.specs.Parts.{unknown_view};
 
     ghost view = { λ _. unknown_view };
 

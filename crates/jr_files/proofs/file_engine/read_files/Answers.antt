@@ -1,5 +1,5 @@
 use Rattle.std.proofs.Math.Seq.{map-set_same}
-use Rattle.jr_files.proofs.MoveLemmas.{reads_known}
+use Rattle.jr_files.proofs.EngineLemmas.{reads_known}
 use Rattle.jr_files.proofs.file_engine.read_files.Goals as goal
 
 pub returns-clause-files : goal.returns-clause-files

@@ -1,4 +1,4 @@
-use Rattle.jr_files.proofs.MoveLemmas.{writes_known}
+use Rattle.jr_files.proofs.EngineLemmas.{writes_known}
 use Rattle.jr_files.proofs.file_engine.write_files.Goals as goal
 
 pub returns-clause-bytes : goal.returns-clause-bytes

@@ -1,6 +1,6 @@
 use Rattle.std.proofs.Common.{sym, ◌∙◌}
 use Rattle.jr_files.specs.Uses.{checks_file}
-use Rattle.jr_files.proofs.UseLemmas.{none_more, some_there}
+use Rattle.jr_transfer.proofs.CloneLemmas.{none_more, some_there}
 use Rattle.jr_files.proofs.uses.is_checked.Goals as goal
 
 pub returns-then-checks_file : goal.returns-then-checks_file

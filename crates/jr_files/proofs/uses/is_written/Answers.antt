@@ -1,6 +1,6 @@
 use Rattle.std.proofs.Common.{sym, ◌∙◌}
 use Rattle.jr_files.specs.Uses.{writes_file}
-use Rattle.jr_files.proofs.UseLemmas.{none_more, some_there}
+use Rattle.jr_transfer.proofs.CloneLemmas.{none_more, some_there}
 use Rattle.jr_files.proofs.uses.is_written.Goals as goal
 
 pub returns-then-writes_file : goal.returns-then-writes_file

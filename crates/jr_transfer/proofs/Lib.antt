@@ -1,0 +1,3 @@
+pub mod CloneLemmas
+pub mod MoveLemmas
+pub mod RegionLemmas

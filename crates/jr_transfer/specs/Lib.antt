@@ -1,0 +1,5 @@
+pub mod Failures
+pub mod Moves
+pub mod Parts
+pub mod Regions
+pub mod Sectors
