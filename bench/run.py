@@ -16,7 +16,7 @@ standard error is how far it is. From the environment:
     COUNTS     runs of how many I/Os are tried for what an I/O costs (10000 100000 1000000 10000000)
     EVENTS     traces of how many events are checked (10000 100000 1000000)
     PROGRAM    the program (bin/fiorun)
-    PARTS      which parts of the page are measured (fio jobs floor verifiers cost traces); of the others
+    PARTS      which parts of the page are measured (fio jobs floor verifiers chunks cost traces); of the others
     KEPT       a page that was printed before has the figures
 """
 
@@ -48,7 +48,7 @@ VERIFIERS = listed("VERIFIERS", "0 1 2")
 COUNTS = listed("COUNTS", "10000 100000 1000000 10000000")
 EVENTS = [int(it) for it in listed("EVENTS", "10000 100000 1000000")]
 PROGRAM = os.environ.get("PROGRAM", os.path.join(HERE, "..", "bin", "fiorun"))
-PARTS = listed("PARTS", "fio jobs floor verifiers cost traces")
+PARTS = listed("PARTS", "fio jobs floor verifiers chunks cost traces")
 METHODS = ("0", "pattern", "md5", "sha256")
 
 
@@ -108,12 +108,13 @@ def medians(sides, folder):
     return {it: None if None in them else statistics.median(them) for it, them in took.items()}
 
 
-def job_text(rw, block, verify, clones, verifiers="0"):
+def job_text(rw, block, verify, clones, verifiers="0", interval="0"):
     lines = ["[w]", "ioengine=psync", f"rw={rw}", f"bs={block}", f"size={SIZE // clones}m", f"numjobs={clones}"]
     lines += ["iodepth=16", f"verify={verify}"]
     lines += ["verify_pattern=0xdeadbeef"] * (verify == "pattern")
     lines += ["group_reporting"] * (clones > 1)
     lines += [f"verify_async={verifiers}"] * (verifiers != "0")
+    lines += [f"verify_interval={interval}"] * (interval != "0")
     return "\n".join(lines) + "\n"
 
 
@@ -186,6 +187,17 @@ def by_verifiers(place):
             yield [verify, verifiers, *(shown(took[it]) for it in WORKERS)]
 
 
+def by_chunks():
+    """A row for each place and digest: blocks of 4 KiB, and blocks of 1 MiB with a header each 4 KiB, by one worker."""
+    for place in PLACES:
+        for verify in METHODS[2:]:
+            with tempfile.TemporaryDirectory(prefix="bench-", dir=PLACES[place]) as folder:
+                put(folder, "small.fio", job_text("write", "4k", verify, 1))
+                put(folder, "large.fio", job_text("write", "1m", verify, 1, interval="4k"))
+                took = medians({it: fiorun(1, f"{it}.fio") for it in ("small", "large")}, folder)
+            yield [place, verify, shown(took["small"]), shown(took["large"], took["small"])]
+
+
 def by_count():
     """The rows of bench/cost."""
     words = [os.path.join(HERE, "cost"), PROGRAM, *COUNTS]
@@ -249,6 +261,11 @@ def main():
         print(f"Four jobs over files of their own, writes of 4 KiB and then their checks, on {place}.\n")
         table(["verify", "verifiers", *heads], by_verifiers(place))
 
+    def chunks():
+        print("Writes and then their checks by one worker: blocks of 4 KiB, and the same bytes in blocks of 1 MiB with")
+        print("`verify_interval=4k`. Behind the seconds of these stands what part of the others they are.\n")
+        table(["Place", "verify", "bs=4k", "bs=1m"], by_chunks())
+
     def cost():
         print("Random writes of 512 bytes into a memory, each checked against a pattern, by `bench/cost`.\n")
         table(["I/Os", "seconds", "us an I/O", "peak MiB", "bytes an I/O"], by_count())
@@ -262,6 +279,7 @@ def main():
         "Beside fio, four jobs": jobs,
         "One worker against its floor": floor,
         "Workers and verifiers": verifiers,
+        "Large blocks of small chunks": chunks,
         "What an I/O costs as a run grows": cost,
         "The check of a trace": traces,
     }

@@ -21,6 +21,7 @@ from program import LINE, NOBODY, UNDROPPED, WIPED, Ended, SystemCalls, Wrong, c
 
 SECONDS = 60
 REFUSED = Ended(3, b"", b"fiorun: cannot open the files\n")
+MIB = 1 << 20
 
 
 def same(what, got, wanted):
@@ -229,8 +230,9 @@ def ending(child):
         child.kill()
 
 
-def held_run(place, jobs, fault, wanted):
-    """Runs jobs at a terminal, held at a call until this line stands there: how that ends, and all that the terminal showed."""
+def held_run(place, jobs, fault, wanted, meanwhile=None):
+    """Runs jobs at a terminal, held at a call until this line stands there, and something is done meanwhile: how that ends, and all that
+    the terminal showed."""
     gate, key = os.pipe()
     end, terminal = os.openpty()
     how = {"stdin": subprocess.DEVNULL, "stderr": terminal, "pass_fds": (gate,), "env": {**place.fault(fault), "GATE": str(gate)}}
@@ -239,6 +241,8 @@ def held_run(place, jobs, fault, wanted):
             os.close(terminal)
             os.close(gate)
             text = shown(end, wanted)
+            if meanwhile:
+                meanwhile()
             os.close(key)
             text += shown(end)
             os.close(end)
@@ -298,7 +302,27 @@ def hundredths(place, ios):
     same("run", ended, said(0, total("a", **counts), total("a", 1, **counts), total("b", 2, reads=65536, rbytes=65536 * 512)))
 
 
+def flipped_chunk(place):
+    """A bit that is flipped in the file, between a block's write and its check, in the last of its chunks: that chunk is named."""
+    jobs = "[w]\nfilename=f\nrw=write\nbs=1m\nsize=2m\nverify=sha256\nverify_interval=4k\n"
+    wanted = "fiorun: 50 % done, 2 I/Os, 0 checked, 0 bad"
+
+    def flip():
+        with open(os.path.join(place.jobs, "f"), "r+b") as it:
+            it.seek(2 * MIB - 100)
+            byte = it.read(1)[0]
+            it.seek(2 * MIB - 100)
+            it.write(bytes([byte ^ 4]))
+
+    ended, text = held_run(place, jobs, "pread 1 wait", wanted, flip)
+    stands(wanted, lines_of(text))
+    bad = f"miscompare: clone=0 pass=0 number=1 file={place.jobs}/f offset={MIB} length={MIB} what=data:255\n"
+    counts = {"writes": 2, "wbytes": 2 * MIB, "checks": 2, "good": 1, "bad": 1}
+    same("run", ended, said(1, total("w", **counts) + bad))
+
+
 CASES = [
+    (flipped_chunk,),
     *((hundredths, ios) for ios in HUNDREDTHS),
     (line_text,),
     *((one_file, workers) for workers in (1, 4, 16)),

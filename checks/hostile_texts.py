@@ -19,12 +19,12 @@ FAULTS = (
 LOOSE = "; two jobs\n[global]\nbs=4k ; x\n\n[a] of the night\r\n\tstonewall # y=1\nsize = 1m\n[global]\n=5\n[a]\nk=a=b"
 # What stands on line 4 of a job, by the fault that it is refused by.
 GARBAGE = {
-    "option out of scope": """runtime=60|=5|x|RW=write|verify_interval=512|é=1|include x|${X}=1|name=x|--rw=read|rw read|bs:4k""",
+    "option out of scope": """runtime=60|=5|x|RW=write|verify_offset=8|é=1|include x|${X}=1|name=x|--rw=read|rw read|bs:4k""",
     "bad value": """rw|rw=|rw =|rw=Write|rw=trim|rw=write ,|bs=|bs=,|bs=1,2,3,4|bs=-1|bs=4ki|bs=0x1000|bs=4 k|bs=4k=2|size|size=|size=50%
         |size=1.5k|size=+1|size=١|size=99999999999999999999999999999999|size=16777216p|offset=18446744073709551616|numjobs=0|numjobs=65
         |loops=0|loops=1001|iodepth=0|iodepth=257|rwmixread=101|rwmixwrite=-1|norandommap=2|stonewall=yes|stonewall=|direct=2|ioengine=mmap
         |ioengine=|io_submit_mode=x|verify=crc32c|verify=|verify=none|verify_pattern=|verify_pattern=0x|verify_pattern=0xg
-        |verify_pattern=256|verify_pattern="a"|verify_async=17|verify_fatal=2|do_verify=a|verify_backlog=4294967296|randseed=
+        |verify_pattern=256|verify_pattern="a"|verify_async=17|verify_fatal=2|do_verify=a|verify_interval=100|verify_interval=16777728|verify_interval=|verify_backlog=4294967296|randseed=
         |randseed=18446744073709551616|description|filename|filename=|directory=""",
     "bad split": """bssplit=4k/101|bssplit=4k/50|bssplit=4k/60:8k/60|bssplit=,|bssplit=/50|bssplit=4k/x|bssplit=:|bssplit=4k/50/50
         |bssplit=1,2,3,4""",
@@ -50,8 +50,12 @@ LIMITS = [
     ("size=511\nbs=512", BLOCK),
     ("size=4k\nbs=511", BLOCK),
     ("size=4k\nbs=0", BLOCK),
-    ("size=4m\nbs=4m", 1),
-    ("size=8m\nbs=4194816", BLOCK),
+    ("size=16m\nbs=16m", 1),
+    ("size=32m\nbs=16777728", BLOCK),
+    ("size=4k\nrw=write\nverify=md5\nverify_interval=4k", 1),
+    ("size=4k\nrw=write\nverify=md5\nverify_interval=1536", BLOCK),
+    ("size=4k\nrw=write\nverify=pattern\nverify_pattern=1\nverify_interval=1536", 1),
+    ("size=4k\nverify_interval=16m", 1),
     ("size=4m\nbs=4294967295", BLOCK),
     ("size=4m\nbs=4294967296", "job file: line 3: bad value"),
     ("size=4k\noffset=1", BLOCK),

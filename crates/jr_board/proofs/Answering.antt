@@ -1,10 +1,12 @@
 -- What a take answers: a ticket that fits, a right wait, or the end of the run.
 use Rattle.std.proofs.Common.{◌≡◌, ℕ, ◌<◌, List, [], ◌∷◌, ◌++◌, length, Bool, true, false, ◌&&◌, refl, sym, ◌∙◌, ap, subst, arith, inl, inr, append_assoc, append-nil}
-use Rattle.std.specs.Prelude.{Option, Some, None, nat_lt, nat_eq, ◌==◌}
+use Rattle.std.specs.Prelude.{Option, Some, None, cond, nat_lt, nat_eq, ◌==◌}
 use Rattle.std.specs.Option.{option_or}
 use Rattle.std.specs.List.{list_all}
 use Rattle.std.specs.Cmp.Lexicographic.{pointwise}
 use Rattle.std.proofs.lemmas.Bool.{and_parts, and_from, eq-eqb, lt-ltb}
+use Rattle.jr_model.specs.declared.contents.Expected.TheVariants as expected
+use Rattle.jr_model.specs.declared.contents.Method.{Method}
 use Rattle.jr_model.specs.declared.contents.VerifyKind.{VerifyKind}
 use Rattle.jr_model.specs.declared.contents.VerifyKind.TheVariants as verify
 use Rattle.jr_model.specs.declared.events.Event.{Event}
@@ -14,13 +16,13 @@ use Rattle.jr_model.specs.declared.tickets.Ticket.{Ticket}
 use Rattle.jr_model.specs.declared.tickets.TicketKind.{TicketKind}
 use Rattle.jr_model.specs.declared.tickets.TicketKind.TheVariants as ticket
 use Rattle.jr_model.specs.Choice.{choice}
-use Rattle.jr_model.specs.Content.{expected_of}
+use Rattle.jr_model.specs.Content.{block_version, expected_of, expected_pattern, header_of}
 use Rattle.jr_model.specs.History.{first_given, started, started_by, end_of, outcome_of, in_flight, awaiting, is_probe}
 use Rattle.jr_model.specs.Legal.{is_legal, is_complete, is_over, may_happen}
 use Rattle.jr_model.specs.Machine.{Appends, is_skip}
 use Rattle.jr_model.specs.Plan.{Plan, SubJob, IsNumbered, is_verified}
 use Rattle.jr_model.specs.Rounds.{pass_of}
-use Rattle.jr_model.specs.Tickets.{piece_fits, has_pattern, suits_kind, suits_method, ticket_fits}
+use Rattle.jr_model.specs.Tickets.{piece_fits, has_pattern, is_header, is_pattern, is_seed, interval_fits, chunks_fit, suits_kind, suits_method, ticket_fits}
 use Rattle.jr_model.proofs.LegalLaws.{choice_is_step, cases_step_of}
 use Rattle.jr_model.proofs.SerialLaws.{EndsWereStarted, ends-more, first_given-append}
 use Rattle.jr_model.specs.PlanFacts.{IsPlanned}
@@ -39,30 +41,43 @@ same_self : (xs : List ℕ) → pointwise nat_eq xs xs ≡ true
 same_self [] = refl
 same_self (x ∷ xs) = and_from (nat_eq x x) (pointwise nat_eq xs xs) (eq-eqb x x refl) (same_self xs)
 
-suits_pattern : (pattern : Option (List ℕ)) (job : SubJob) (io : Started) (seed : ℕ) → has_pattern verify.Pattern pattern ≡ true → suits_method verify.Pattern pattern (expected_of verify.Pattern (record { kind = verify.Pattern; pattern = pattern }) io.write io.piece seed) ≡ true
-suits_pattern None job io seed h = cc
-suits_pattern (Some p) job io seed h = same_self p
+suits_pattern : (pattern : Option (List ℕ)) → has_pattern verify.Pattern pattern ≡ true → is_pattern pattern (expected_pattern pattern) ≡ true
+suits_pattern None h = cc
+suits_pattern (Some p) h = same_self p
 
-suits : (kind : VerifyKind) (pattern : Option (List ℕ)) (job : SubJob) (io : Started) (seed : ℕ) → is_verified kind ≡ true → has_pattern kind pattern ≡ true → suits_method kind pattern (expected_of kind (record { kind = kind; pattern = pattern }) io.write io.piece seed) ≡ true
-suits verify.Plain pattern job io seed v h = cc
-suits verify.Pattern pattern job io seed v h = suits_pattern pattern job io seed h
-suits verify.Md5 pattern job io seed v h = refl
-suits verify.Sha1 pattern job io seed v h = refl
-suits verify.Sha256 pattern job io seed v h = refl
+-- one header, or the seed of those of the chunks
+suits_headers : (one : Bool) (header : List ℕ) (seed : ℕ) → cond one (is_header (cond one (expected.Header header) (expected.Seed seed))) (is_seed (cond one (expected.Header header) (expected.Seed seed))) ≡ true
+suits_headers true header seed = refl
+suits_headers false header seed = refl
+
+suits : (kind : VerifyKind) (method : Method) (io : Started) (seed : ℕ) → is_verified kind ≡ true → has_pattern kind method.pattern ≡ true → suits_method kind method (expected_of kind method io.write io.piece seed) ≡ true
+suits verify.Plain method io seed v h = cc
+suits verify.Pattern method io seed v h = suits_pattern method.pattern h
+suits verify.Md5 method io seed v h = suits_headers (method.interval == 0) (header_of block_version method io.write io.piece seed) seed
+suits verify.Sha1 method io seed v h = suits_headers (method.interval == 0) (header_of block_version method io.write io.piece seed) seed
+suits verify.Sha256 method io seed v h = suits_headers (method.interval == 0) (header_of block_version method io.write io.piece seed) seed
 
 suits-kind : (kind : TicketKind) (job : SubJob) (io : Started) (seed : ℕ) → (is_probe kind ≡ true → is_verified job.method.kind ≡ true) → has_pattern job.method.kind job.method.pattern ≡ true → suits_kind kind job.method (expected_by kind job.method io seed) ≡ true
 suits-kind ticket.Read job io seed v h = refl
 suits-kind ticket.Write job io seed v h = refl
-suits-kind ticket.Probe job io seed v h = suits job.method.kind job.method.pattern job io seed (v refl) h
+suits-kind ticket.Probe job io seed v h = suits job.method.kind job.method io seed (v refl) h
+
+-- whole chunks, whatever the ticket's kind
+cut_kind : (kind : TicketKind) (method : Method) (len : ℕ) → interval_fits method.kind method.interval len ≡ true → chunks_fit kind method len ≡ true
+cut_kind ticket.Read method len h = refl
+cut_kind ticket.Write method len h = h
+cut_kind ticket.Probe method len h = h
 
 pub fits_by : (plan : Plan) (id : ℕ) (io : Started) (job : SubJob) → FitsPlan plan io job → ticket_fits (ticket_of plan (id, io)) ≡ true
 fits_by plan id io job fits =
     let seed = seed_of plan io in
-    subst (λ (o : Option SubJob). (piece_fits io.piece && nat_lt io.write.pass 1000 && has_pattern (method_of o).kind (method_of o).pattern && suits_kind io.kind (method_of o) (expected_by io.kind (method_of o) io seed)) ≡ true)
+    subst (λ (o : Option SubJob). (piece_fits io.piece && nat_lt io.write.pass 1000 && has_pattern (method_of o).kind (method_of o).pattern && chunks_fit io.kind (method_of o) io.piece.len && suits_kind io.kind (method_of o) (expected_by io.kind (method_of o) io seed)) ≡ true)
     (sym fits.planned)
-    (and_from (piece_fits io.piece && nat_lt io.write.pass 1000 && has_pattern job.method.kind job.method.pattern) (suits_kind io.kind job.method (expected_by io.kind job.method io seed))
+    (and_from (piece_fits io.piece && nat_lt io.write.pass 1000 && has_pattern job.method.kind job.method.pattern && chunks_fit io.kind job.method io.piece.len) (suits_kind io.kind job.method (expected_by io.kind job.method io seed))
+    (and_from (piece_fits io.piece && nat_lt io.write.pass 1000 && has_pattern job.method.kind job.method.pattern) (chunks_fit io.kind job.method io.piece.len)
     (and_from (piece_fits io.piece && nat_lt io.write.pass 1000) (has_pattern job.method.kind job.method.pattern)
     (and_from (piece_fits io.piece) (nat_lt io.write.pass 1000) fits.fits (lt-ltb io.write.pass 1000 fits.pass)) fits.pattern)
+    (cut_kind io.kind job.method io.piece.len fits.interval))
     (suits-kind io.kind job io seed fits.verified fits.pattern))
 
 handing_fits : (kind : TicketKind) (t : Ticket) → ticket_fits t ≡ true → is_fitting (handing kind t) ≡ true

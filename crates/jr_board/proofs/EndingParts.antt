@@ -29,9 +29,9 @@ pub record OwnParts (plan : Plan) (history : List Event) (ticket : Ticket) : Typ
   pub clone : io.write.clone ≡ ticket.write.clone
   pub planned : clone_of plan ticket.write.clone ≡ Some job
   pub named : clone_of plan io.write.clone ≡ Some job
-  pub small : ticket.piece.len ≤ 2 ^ 24 - 1
+  pub small : ticket.piece.len ≤ 2 ^ 24
 
-fitting_is_small : (piece : Piece) → piece_fits piece ≡ true → piece.len ≤ 2 ^ 24 - 1
+fitting_is_small : (piece : Piece) → piece_fits piece ≡ true → piece.len ≤ 2 ^ 24
 fitting_is_small piece fits =
     let end : Bool = nat_le (piece.offset + piece.len) LARGEST_END in
     let offset : Bool = piece.offset % SECTOR == 0 in

@@ -5,10 +5,12 @@ use Rattle.std.specs.Bool.{MatchBool}
 use Rattle.std.specs.List.{enumerate_from, cons_option}
 use Rattle.std.proofs.lemmas.Bool.{and_from, eq-eqb, lt-ltb}
 use Rattle.std.proofs.lemmas.List.{map-append}
+use Rattle.jr_model.specs.declared.blocks.Piece.{Piece}
 use Rattle.jr_model.specs.declared.events.Event.{Event}
 use Rattle.jr_model.specs.declared.events.Event.TheVariants.{Issue, Probe, Skip, End, Verdict}
 use Rattle.jr_model.specs.declared.events.Outcome.{Outcome}
 use Rattle.jr_model.specs.declared.events.Started.{Started}
+use Rattle.jr_model.specs.declared.events.WriteId.{WriteId}
 use Rattle.jr_model.specs.declared.tickets.Ticket.{Ticket}
 use Rattle.jr_model.specs.declared.tickets.TicketKind.{TicketKind}
 use Rattle.jr_model.specs.declared.tickets.TicketKind.TheVariants as ticket
@@ -133,7 +135,7 @@ expected-probe ticket.Probe job io seed h = refl
 expected-probe ticket.Read job io seed h = cc
 expected-probe ticket.Write job io seed h = cc
 
-pub may_judge : (plan : Plan) (history : List Event) (t : Ticket) (by : ℕ) (bytes : List ℕ) → IsPlanned plan → is_legal plan history ≡ true → IsOwn plan history t → is_judged history t.id ≡ false → ended_whole (outcome_of history t.id) ≡ true → is_probe t.kind ≡ true → length bytes ≤ t.piece.len → may_happen plan history (Verdict by t.id (verdict_of t.method.kind t.expected bytes)) ≡ true
+pub may_judge : (plan : Plan) (history : List Event) (t : Ticket) (by : ℕ) (bytes : List ℕ) → IsPlanned plan → is_legal plan history ≡ true → IsOwn plan history t → is_judged history t.id ≡ false → ended_whole (outcome_of history t.id) ≡ true → is_probe t.kind ≡ true → length bytes ≤ t.piece.len → may_happen plan history (Verdict by t.id (verdict_of t.method t.write t.piece t.expected bytes)) ≡ true
 may_judge plan history t by bytes planned legal own unjudged whole probe short =
     let io = own_started plan history t own in
     let fits = started_fit-law plan history t.id io.0 planned legal io.1 in
@@ -147,10 +149,13 @@ may_judge plan history t by bytes planned legal own unjudged whole probe short =
     sym (expected-probe s.kind job s seed is_check)
     ∙ ap (λ (o : Option SubJob). expected_by s.kind (method_of o) s seed) (sym fits.1.planned)
     ∙ ap (λ (x : Ticket). x.expected) io.2 in
-    let said = verdict_of t.method.kind t.expected bytes in
-    let says : kind_says job.method.kind s.piece.len said ≡ true =
-    subst (λ (v : GivenVerdict). kind_says job.method.kind s.piece.len v ≡ true)
-    (ap (λ (x : Expected). verdict_of job.method.kind x bytes) expects ∙ ap (λ (m : Method). verdict_of m.kind t.expected bytes) method)
+    let said = verdict_of t.method t.write t.piece t.expected bytes in
+    let write : s.write ≡ t.write = ap (λ (x : Ticket). x.write) io.2 in
+    let piece : s.piece ≡ t.piece = ap (λ (x : Ticket). x.piece) io.2 in
+    let says : kind_says job.method.kind job.method.interval s.piece.len said ≡ true =
+    subst (λ (v : GivenVerdict). kind_says job.method.kind job.method.interval s.piece.len v ≡ true)
+    (ap (λ (x : Expected). verdict_of job.method s.write s.piece x bytes) expects ∙ ap (λ (m : Method). verdict_of m s.write s.piece t.expected bytes) method
+    ∙ ap (λ (w : WriteId). verdict_of t.method w s.piece t.expected bytes) write ∙ ap (λ (p : Piece). verdict_of t.method t.write p t.expected bytes) piece)
     (verdict_of_fits job.method.kind job.method s.write s.piece seed bytes (omega (arith, short, len))) in
     and_from (ended_whole (outcome_of history t.id) && not (is_judged history t.id)) (verdict_fits plan said (slice_get (started history) t.id))
     (and_from (ended_whole (outcome_of history t.id)) (not (is_judged history t.id)) whole (ap not unjudged))

@@ -20,10 +20,10 @@ content_is plan id io job planned =
     subst Same (sym planned) refl
 
 -- and the verdict on the answer to a check is that on the bytes of the check
-pub verdict_is : (plan : Plan) (io : Started) (job : SubJob) (kind : TicketKind) (outcome : Outcome) (bytes : List ℕ) → clone_of plan io.write.clone ≡ Some job → is_whole_check kind outcome ≡ true → verdict_on plan io bytes ≡ verdict_of (method_of (clone_of plan io.write.clone)).kind (expected_by kind (method_of (clone_of plan io.write.clone)) io (seed_of plan io)) bytes
+pub verdict_is : (plan : Plan) (io : Started) (job : SubJob) (kind : TicketKind) (outcome : Outcome) (bytes : List ℕ) → clone_of plan io.write.clone ≡ Some job → is_whole_check kind outcome ≡ true → verdict_on plan io bytes ≡ verdict_of (method_of (clone_of plan io.write.clone)) io.write io.piece (expected_by kind (method_of (clone_of plan io.write.clone)) io (seed_of plan io)) bytes
 verdict_is plan io job ticket.Read outcome bytes planned whole = cc
 verdict_is plan io job ticket.Write outcome bytes planned whole = cc
 verdict_is plan io job ticket.Probe outcome bytes planned whole =
     let seed = seed_of plan io in
-    let Same : Option SubJob → Type 0 = λ (o : Option SubJob). verdict_in_job o io seed bytes ≡ verdict_of (method_of o).kind (expected_of (method_of o).kind (method_of o) io.write io.piece seed) bytes in
+    let Same : Option SubJob → Type 0 = λ (o : Option SubJob). verdict_in_job o io seed bytes ≡ verdict_of (method_of o) io.write io.piece (expected_of (method_of o).kind (method_of o) io.write io.piece seed) bytes in
     subst Same (sym planned) refl

@@ -44,7 +44,7 @@ buffer_for t = asked_with t.kind t (replicate t.piece.len 0)
 -- what is appended for a ticket that ended so
 abbrev pub judged_with : Ticket → Outcome → List ℕ → List Event
 judged_with t outcome bytes =
-    cond (is_whole_check t.kind outcome) (Verdict 0 t.id (verdict_of t.method.kind t.expected bytes) ∷ []) []
+    cond (is_whole_check t.kind outcome) (Verdict 0 t.id (verdict_of t.method t.write t.piece t.expected bytes) ∷ []) []
 
 abbrev pub ended_with : Ticket → Outcome → List ℕ → List Event
 ended_with t outcome bytes = End t.worker t.id outcome ∷ judged_with t outcome bytes
@@ -97,7 +97,7 @@ module _ (plan : Plan) (history begun : List Event) (io : Started) (engine next 
       (may_end plan begun t answer.outcome (chosen_own plan 0 history begun io planned legal chosen)
       (ap is_none (chosen_unended plan 0 history begun io planned legal chosen)) asked.fits)
 
-  verdict_legal : is_whole_check io.kind answer.outcome ≡ true → may_happen plan (begun ++ End io.worker (length (started history)) answer.outcome ∷ []) (Verdict 0 (length (started history)) (verdict_of (next_of plan history io).method.kind (next_of plan history io).expected answer.bytes)) ≡ true
+  verdict_legal : is_whole_check io.kind answer.outcome ≡ true → may_happen plan (begun ++ End io.worker (length (started history)) answer.outcome ∷ []) (Verdict 0 (length (started history)) (verdict_of (next_of plan history io).method (next_of plan history io).write (next_of plan history io).piece (next_of plan history io).expected answer.bytes)) ≡ true
   verdict_legal whole =
       let t = next_of plan history io in
       let ended = begun ++ End t.worker t.id answer.outcome ∷ [] in
@@ -114,7 +114,7 @@ module _ (plan : Plan) (history begun : List Event) (io : Started) (engine next 
   turn_legal =
       let t = next_of plan history io in
       let e = End t.worker t.id answer.outcome in
-      let said = Verdict 0 t.id (verdict_of t.method.kind t.expected answer.bytes) in
+      let said = Verdict 0 t.id (verdict_of t.method t.write t.piece t.expected answer.bytes) in
       cond_both (is_whole_check io.kind answer.outcome) (said ∷ []) [] (λ (events : List Event). is_legal plan (begun ++ e ∷ events) ≡ true)
       (λ (whole : is_whole_check io.kind answer.outcome ≡ true).
       subst (λ (all : List Event). is_legal plan all ≡ true) (append_assoc begun (e ∷ []) (said ∷ []))
@@ -126,7 +126,7 @@ module _ (plan : Plan) (history begun : List Event) (io : Started) (engine next 
   turn_started =
       let t = next_of plan history io in
       let nothing : started (judged_with t answer.outcome answer.bytes) ≡ [] =
-      cond_both (is_whole_check io.kind answer.outcome) (Verdict 0 t.id (verdict_of t.method.kind t.expected answer.bytes) ∷ []) []
+      cond_both (is_whole_check io.kind answer.outcome) (Verdict 0 t.id (verdict_of t.method t.write t.piece t.expected answer.bytes) ∷ []) []
       (λ (events : List Event). started events ≡ []) (λ h. refl) (λ h. refl) in
       started-append begun (ended_with t answer.outcome answer.bytes)
       ∙ ap (λ (ios : List Started). started begun ++ ios) nothing
@@ -139,7 +139,7 @@ module _ (plan : Plan) (history begun : List Event) (io : Started) (engine next 
       let t = next_of plan history io in
       let id = length (started history) in
       let events = ended_with t answer.outcome answer.bytes in
-      let said = Verdict 0 id (verdict_of t.method.kind t.expected answer.bytes) ∷ [] in
+      let said = Verdict 0 id (verdict_of t.method t.write t.piece t.expected answer.bytes) ∷ [] in
       settled_next history (begun ++ events) (chosen.0 ++ events) io settled
       (ap (λ (h : List Event). h ++ events) chosen.1 ∙ append_assoc history chosen.0 events)
       turn_started

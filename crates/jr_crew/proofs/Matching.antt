@@ -193,7 +193,7 @@ module _ (plan : Plan) (inline : Bool) (history : List Event) (worker : ℕ) (pl
         let whole : is_whole_check s.kind call.answer.outcome ≡ true = ap (λ (t : Ticket). is_whole_check t.kind call.answer.outcome) (sym call.asked.ticket) ∙ so.0 in
         ap (verdict_on plan s) (is.bytes whole)
         ∙ verdict_is plan s job.0 s.kind call.answer.outcome call.answer.bytes job.2.planned whole
-        ∙ ap (λ (t : Ticket). verdict_of t.method.kind t.expected call.answer.bytes) (sym call.asked.ticket)
+        ∙ ap (λ (t : Ticket). verdict_of t.method t.write t.piece t.expected call.answer.bytes) (sym call.asked.ticket)
         ∙ so.1
 
     next_said : (w : ℕ) → AreSaidOn plan inline history worker (before ++ End w io outcome ∷ []) next_kept

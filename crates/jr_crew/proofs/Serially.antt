@@ -158,7 +158,7 @@ module _ (plan : Plan) (history begun : List Event) (io : Started) (engine next 
       (holds_appends plan history chosen.0 engine.memory planned legal chosen.2 sofar.holds)
 
   -- a check reads what its write put there
-  good : is_whole_check io.kind answer.outcome ≡ true → verdict_of (next_of plan history io).method.kind (next_of plan history io).expected answer.bytes ≡ Good
+  good : is_whole_check io.kind answer.outcome ≡ true → verdict_of (next_of plan history io).method (next_of plan history io).write (next_of plan history io).piece (next_of plan history io).expected answer.bytes ≡ Good
   good check =
       let job = drawn in
       let id = length (started history) in
@@ -167,14 +167,14 @@ module _ (plan : Plan) (history begun : List Event) (io : Started) (engine next 
       ∙ ap (verdict_on plan io)
       (gives_stored plan engine next id io io.kind answer probe leaves
       ∙ stored_check plan begun engine.memory id io planned legal_so sofar.covers holds_so here probe (chosen_unended plan 0 history begun io planned legal chosen))
-      ∙ good_on_own plan io
+      ∙ good_on_own plan begun id io planned legal_so here
 
   ended_so : ended_with (next_of plan history io) answer.outcome answer.bytes ≡ tail_for (length (started history)) io.kind
   unfolding tail_with
   ended_so =
       let id = length (started history) in
       let t = next_of plan history io in
-      let said = verdict_of t.method.kind t.expected answer.bytes in
+      let said = verdict_of t.method t.write t.piece t.expected answer.bytes in
       let judged : cond (is_whole_check io.kind answer.outcome) (Verdict 0 id said ∷ []) [] ≡ cond (is_whole_check io.kind answer.outcome) (Verdict 0 id Good ∷ []) [] =
       where_good (is_whole_check io.kind answer.outcome) id said good in
       ap (λ (xs : List Event). End io.worker id answer.outcome ∷ xs) judged
@@ -192,7 +192,7 @@ module _ (plan : Plan) (history begun : List Event) (io : Started) (engine next 
       let job = drawn in
       let t = next_of plan history io in
       let e = End io.worker id answer.outcome in
-      let said = Verdict 0 id (verdict_of t.method.kind t.expected answer.bytes) in
+      let said = Verdict 0 id (verdict_of t.method t.write t.piece t.expected answer.bytes) in
       let ended = holds_end plan begun engine next id io io.kind answer job.0 job.1 planned legal_so here refl job.2 sofar.covers holds_so leaves in
       cond_both (is_whole_check io.kind answer.outcome) (said ∷ []) [] (λ (events : List Event). HoldsLastWrites plan (begun ++ e ∷ events) next.memory)
       (λ h. subst (λ (all : List Event). HoldsLastWrites plan all next.memory) (append_assoc begun (e ∷ []) (said ∷ []))

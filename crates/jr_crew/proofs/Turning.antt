@@ -115,7 +115,7 @@ module _ (plan : Plan) (history begun : List Event) (io : Started) (old engine n
       let t = next_of plan history io in
       let before = known_engine engine sofar.read_back in
       let after = known_engine next after_call.read_back in
-      let said = verdict_of t.method.kind t.expected answer.bytes in
+      let said = verdict_of t.method t.write t.piece t.expected answer.bytes in
       let verdicts = judged_with t answer.outcome answer.bytes in
       let job = drawn in
       let by_worker = eq-eqb io.worker 0 (chosen_worker plan 0 history begun io planned chosen) in

@@ -24,7 +24,7 @@ job_of a = record {
   seed = 0;
   depth = 0;
   passes = 0;
-  method = record { kind = verify.Plain; pattern = None };
+  method = record { kind = verify.Plain; pattern = None; interval = 0 };
   checks_writes = false;
   backlog = 0;
   is_fatal = false;

@@ -35,10 +35,10 @@ length-header_back verify.Sha256 area = omega (arith, length-append (sha256.sha2
 length-header_back verify.Plain area = refl
 length-header_back verify.Pattern area = refl
 
-pub length-header_front : (kind : VerifyKind) (write : WriteId) (piece : Piece) → length (header_front kind write piece) ≡ 32
+pub length-header_front : (version : ℕ) (kind : VerifyKind) (write : WriteId) (piece : Piece) → length (header_front version kind write piece) ≡ 32
 unfolding header_front
-length-header_front kind write piece = refl
+length-header_front version kind write piece = refl
 
-pub length-header_over : (kind : VerifyKind) (write : WriteId) (piece : Piece) (area : List ℕ) → length (header_over kind write piece area) ≡ 64
-length-header_over kind write piece area =
-    omega (arith, length-append (header_front kind write piece) (header_back kind area), length-header_front kind write piece, length-header_back kind area)
+pub length-header_over : (version : ℕ) (kind : VerifyKind) (write : WriteId) (piece : Piece) (area : List ℕ) → length (header_over version kind write piece area) ≡ 64
+length-header_over version kind write piece area =
+    omega (arith, length-append (header_front version kind write piece) (header_back kind area), length-header_front version kind write piece, length-header_back kind area)

@@ -1,4 +1,7 @@
+pub mod ChunkLemmas
 pub mod Differences
+pub mod Lengths
+mod Generated
 pub mod Halves
 pub mod Headers
 pub mod Laws

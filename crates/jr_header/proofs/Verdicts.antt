@@ -4,7 +4,7 @@ use Rattle.std.proofs.lemmas.List.{take_all, take_at}
 use borrow.Rule.Slice.PartMut.{mid_of}
 use Rattle.std.specs.Prelude.{slice_range}
 use Rattle.jr_model.specs.declared.contents.VerifyKind.{VerifyKind}
-use Rattle.jr_model.specs.declared.events.What.TheVariants.{Digest, DataArea}
+use Rattle.jr_model.specs.declared.events.What.TheVariants.{Header, Digest, DataArea}
 use Rattle.jr_model.specs.declared.events.Verdict.TheVariants.{Good, Bad}
 use Rattle.jr_model.specs.Content.{digest_length, digest_of, header_back}
 use Rattle.jr_model.specs.Judgement.{digest_in, same_bytes, header_verdict}
@@ -13,6 +13,9 @@ use Rattle.jr_header.proofs.Headers.{length-digest_of}
 -- the last 32 bytes of 64
 pub back_half : (header : List ℕ) → length header ≡ 64 → mid_of 32 32 header ≡ drop 32 header
 back_half header size = take_all 32 (drop 32 header) (omega (arith, length-drop 32 header))
+
+pub header_differs : (kind : VerifyKind) (header bytes : List ℕ) → same_bytes (take 32 bytes) (take 32 header) ≡ false → header_verdict kind header bytes ≡ Bad Header
+header_differs kind header bytes front = rw (front) refl
 
 pub digest_differs : (kind : VerifyKind) (header bytes : List ℕ)
     → same_bytes (take 32 bytes) (take 32 header) ≡ true → same_bytes (slice_range bytes 32 64) (drop 32 header) ≡ false

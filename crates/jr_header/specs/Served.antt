@@ -47,7 +47,8 @@ is_to_judge answer = is_whole_check answer.ticket.kind answer.outcome
 
 -- the verdict on an answer's bytes, by what its ticket expects
 abbrev pub answer_verdict : AnswerParts → Verdict
-answer_verdict answer = verdict_of answer.ticket.method.kind answer.ticket.expected answer.bytes
+answer_verdict answer =
+    verdict_of answer.ticket.method answer.ticket.write answer.ticket.piece answer.ticket.expected answer.bytes
 
 -- an answer to a ticket that fits, with a buffer of its piece's length, and what is known of its bytes
 pub record IsServed (answer : AnswerParts) (known : Expected) : Type 0 where

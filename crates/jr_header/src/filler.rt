@@ -17,7 +17,7 @@ pub(crate) fn fill_filler(pattern: &Option<Pattern>, seed: u64, buffer: &mut [u8
 
 // Writes the pattern again and again. What stands there is copied behind itself, so each copy is twice
 // as long as the one before.
-fn repeat_pattern(pattern: &[u8], buffer: &mut [u8])
+pub(crate) fn repeat_pattern(pattern: &[u8], buffer: &mut [u8])
     requires { 1 ≤ length pattern.now }
     ensures { buffer.new ≡ pattern_bytes pattern.now (length buffer.old) }
 {

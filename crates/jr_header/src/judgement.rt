@@ -1,20 +1,26 @@
-ghost use Rattle.std.specs.Prelude.{◌≡◌, ◌≤◌, ◌<◌, ◌^◌, IsTrue, length, slice_index, take, ◌%◌};
+ghost use Rattle.std.specs.Prelude.{◌≡◌, ◌≤◌, ◌<◌, ◌^◌, IsTrue, true, length, slice_index, take, drop, ◌%◌};
+ghost use Rattle.jr_model.specs.declared.contents.VerifyKind.{VerifyKind as Kind};
 ghost use Rattle.jr_model.specs.Content.{digest_length, digest_of, pattern_bytes};
-ghost use Rattle.jr_model.specs.Judgement.{same_bytes, header_verdict, first_difference, byte_verdict, verdict_of};
+ghost use Rattle.jr_model.specs.declared.tickets.TicketKind.TheVariants.{Probe};
+ghost use Rattle.jr_model.specs.Tickets.{ticket_fits};
+ghost use Rattle.jr_model.specs.Judgement.{digest_in, same_bytes, header_verdict, first_difference, byte_verdict, verdict_of};
 
+use crate::chunks::chunks_verdict;
 use crate::digests::{digest_length, header_back};
-use jr_model::{Expected, Verdict, VerifyKind, What};
+use jr_model::{Expected, Ticket, Verdict, VerifyKind, What};
 
-// The verdict on the bytes of a check, by what is expected of it.
-pub(crate) fn verdict(kind: VerifyKind, expected: &Expected, bytes: &[u8]) -> Verdict
-    requires least { 64 ≤ length bytes.now }
-    requires most { length bytes.now < 2 ^ 32 }
-    ensures { result ≡ verdict_of kind expected.now bytes.now }
+// The verdict on the bytes of a check, by what its ticket expects.
+pub(crate) fn verdict(ticket: &Ticket, bytes: &[u8]) -> Verdict
+    requires fits { ticket_fits ticket.now ≡ true }
+    requires probe { ticket.now.kind ≡ Probe }
+    requires length { length bytes.now ≡ ticket.now.piece.len }
+    ensures { result ≡ verdict_of ticket.now.method ticket.now.write ticket.now.piece ticket.now.expected bytes.now }
 {
-    match expected {
+    match &ticket.expected {
         Expected::Nothing => Verdict::Good,
         Expected::Pattern(pattern) => byte_verdict(first_difference(pattern.as_slice(), bytes)),
-        Expected::Header(header) => header_verdict(kind, header, bytes),
+        Expected::Header(header) => header_verdict(ticket.method.kind, header, bytes),
+        Expected::Seed(seed) => chunks_verdict(ticket, *seed, bytes),
     }
 }
 
@@ -28,7 +34,7 @@ fn byte_verdict(place: Option<u32>) -> Verdict
 }
 
 // The verdict by the header that was written.
-fn header_verdict(kind: VerifyKind, header: &[u8; 64], bytes: &[u8]) -> Verdict
+pub(crate) fn header_verdict(kind: VerifyKind, header: &[u8; 64], bytes: &[u8]) -> Verdict
     requires { 64 ≤ length bytes.now }
     ensures { result ≡ header_verdict kind header.now bytes.now }
 {
@@ -38,6 +44,21 @@ fn header_verdict(kind: VerifyKind, header: &[u8; 64], bytes: &[u8]) -> Verdict
         Verdict::Bad(What::Digest)
     } else if !begins_with_digest(&header[32..], kind, &bytes[64..]) {
         Verdict::Bad(What::DataArea)
+    } else {
+        Verdict::Good
+    }
+}
+
+// The same where the digest of the data area is known to be the one in the header.
+pub(crate) fn told_verdict(written: &[u8; 64], bytes: &[u8]) -> Verdict
+    requires { 64 ≤ length bytes.now }
+    ensures { (kind : Kind) → digest_of kind (drop 64 bytes.now) ≡ digest_in kind written.now
+        → result ≡ header_verdict kind written.now bytes.now }
+{
+    if !same_bytes(&bytes[..32], &written[..32]) {
+        Verdict::Bad(What::Header)
+    } else if !same_bytes(&bytes[32..64], &written[32..]) {
+        Verdict::Bad(What::Digest)
     } else {
         Verdict::Good
     }
@@ -53,7 +74,7 @@ fn begins_with_digest(back: &[u8], kind: VerifyKind, area: &[u8]) -> bool
     same_bytes(&header_back(kind, area)[..count], &back[..count])
 }
 
-fn same_bytes(a: &[u8], b: &[u8]) -> bool
+pub(crate) fn same_bytes(a: &[u8], b: &[u8]) -> bool
     ensures { result ≡ same_bytes a.now b.now }
 {
     a == b
@@ -78,7 +99,7 @@ fn first_difference(pattern: &[u8], bytes: &[u8]) -> Option<u32>
 
 // Whether the bytes follow the pattern: they begin with it, and each byte is the one that stands a whole
 // pattern before it.
-fn follows(pattern: &[u8], bytes: &[u8]) -> bool
+pub(crate) fn follows(pattern: &[u8], bytes: &[u8]) -> bool
     requires { 1 ≤ length pattern.now }
     ensures { IsTrue result → bytes.now ≡ pattern_bytes pattern.now (length bytes.now) }
 {

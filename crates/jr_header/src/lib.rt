@@ -2,10 +2,13 @@
 #![tactic(auto)]
 
 mod buffers;
+mod chunks;
 mod content;
 mod digests;
 mod filler;
+mod hashers;
 mod judgement;
+mod parts;
 mod ruling;
 mod served;
 

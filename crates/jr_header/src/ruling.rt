@@ -1,7 +1,6 @@
-ghost use Rattle.std.specs.Prelude.{◌≡◌, true, drop, length};
+ghost use Rattle.std.specs.Prelude.{◌≡◌, true, length};
 ghost use Rattle.jr_model.specs.declared.events.Verdict.TheVariants.{Good};
-ghost use Rattle.jr_model.specs.Content.{data_area};
-ghost use Rattle.jr_model.specs.Judgement.{TellsApart};
+ghost use Rattle.jr_model.specs.Judgement.{AreasToldApart};
 ghost use Rattle.jr_header.specs.Served.{ticket_content, ticket_expected, is_to_judge, answer_verdict};
 
 use crate::judgement::verdict;
@@ -46,7 +45,7 @@ impl<'a> Ruling<'a> {
         ensures good { self.now.ticket.expected ≡ ticket_expected self.now.ticket
             → self.now.bytes ≡ ticket_content self.now.ticket → result ≡ Good }
         ensures no_others { let t = self.now.ticket in t.expected ≡ ticket_expected t
-            → TellsApart t.method.kind (drop 64 self.now.bytes) (data_area t.method t.piece t.seed)
+            → AreasToldApart t.method t.piece t.seed self.now.bytes
             → result ≡ Good → self.now.bytes ≡ ticket_content t }
     {
         self.verdict
@@ -58,7 +57,6 @@ pub fn rule(served: &Served) -> Ruling<'_>
     requires { is_to_judge served.now ≡ true }
     ensures { result ≡ served.now }
 {
-    let ticket = served.ticket();
-    let verdict = verdict(ticket.method.kind, &ticket.expected, served.bytes());
+    let verdict = verdict(served.ticket(), served.bytes());
     Ruling { served, verdict }
 }

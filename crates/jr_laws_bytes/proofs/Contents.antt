@@ -5,26 +5,21 @@ use Rattle.std.proofs.lemmas.Bool.{and_parts, and_from, eqb-true, eq-eqb, ltb-tr
 use Rattle.std.proofs.lemmas.Option.{slice_get_within, slice_get-get_or, get_or_from_slice_get}
 use Rattle.jr_model.specs.declared.limits.TheConstants.{SECTOR, LARGEST_BLOCK, LARGEST_END}
 use Rattle.jr_model.specs.declared.blocks.Piece.{Piece}
-use Rattle.jr_model.specs.declared.contents.Method.{Method}
-use Rattle.jr_model.specs.declared.contents.VerifyKind.{VerifyKind}
-use Rattle.jr_model.specs.declared.contents.VerifyKind.TheVariants as verify
 use Rattle.jr_model.specs.declared.events.Started.{Started}
 use Rattle.jr_model.specs.declared.events.WriteId.{WriteId}
 use Rattle.jr_model.specs.declared.workloads.Draw.{Draw}
-use Rattle.jr_model.specs.Content.{filler_of, data_area, header_of, headed_block, content_of}
 use Rattle.jr_model.specs.Draws.{draws_of, draws_of_clone, draws_over}
 use Rattle.jr_model.specs.Honest.{block_bytes, written_by, written_in}
 use Rattle.jr_model.specs.LastWrite.{covers_block}
 use Rattle.jr_model.specs.Machine.{content_in_job, content_of_io, seed_of_draw}
 use Rattle.jr_model.specs.Plan.{Plan, SubJob, FileSpec, clone_of}
-use Rattle.jr_model.specs.Tickets.{piece_fits}
-use Rattle.jr_model.specs.Words.{seeded, words_from, pass_words}
+use Rattle.jr_model.specs.Tickets.{piece_fits, interval_fits}
+use Rattle.jr_model.specs.Words.{pass_words}
 use Rattle.jr_model.specs.PlanFacts.{IsPlanned}
-use Rattle.jr_words.proofs.WordLemmas.{length-word_bytes, length-words_from}
 use Rattle.jr_laws_draws.specs.PassLaw.{IsInRegion}
 use Rattle.jr_laws_draws.proofs.TheLaw.{pass_law, drawable_of}
-use Rattle.jr_header.proofs.Headers.{length-header_over}
-use Rattle.jr_header.proofs.Patterns.{length-pattern_bytes}
+use Rattle.jr_header.proofs.Lengths.{length-content_of}
+use Rattle.jr_laws_steps.proofs.DrawnLaws.{interval_of_cells}
 use Rattle.jr_laws_bytes.proofs.Blocks.{same_by_parts}
 use Rattle.jr_laws_bytes.proofs.Starts.{IsDrawOf}
 
@@ -82,30 +77,21 @@ lies_in_file plan write piece job draw planned names =
       high = omega (arith, within.1, region.high);
     }
 
--- how long a write's bytes are
-
-length-filler_of : (pattern : Option (List ℕ)) (seed n : ℕ) → n % 8 ≡ 0 → length (filler_of pattern seed n) ≡ n
-length-filler_of (Some p) seed n whole = length-pattern_bytes p n
-length-filler_of None seed n whole =
-    let words : List ℕ = words_from (seeded seed) (n / 8) in
-    let size : length words ≡ n / 8 = length-words_from (seeded seed) (n / 8) in
-    length-word_bytes words ∙ omega (arith, size, whole)
-
-length-headed_block : (method : Method) (write : WriteId) (piece : Piece) (seed : ℕ) → IsWholeBlocks piece → length (headed_block method write piece seed) ≡ piece.len
-length-headed_block method write piece seed blocks =
-    let area : List ℕ = data_area method piece seed in
-    let whole : (piece.len - 64) % 8 ≡ 0 = omega (arith, blocks.size, blocks.some) in
-    let size : length area ≡ piece.len - 64 = length-filler_of method.pattern seed (piece.len - 64) whole in
-    omega (arith, size, blocks.some, length-header_over method.kind write piece area, length-append (header_of method write piece seed) area)
-
-length-content_of : (kind : VerifyKind) (method : Method) (write : WriteId) (piece : Piece) (seed : ℕ) → IsWholeBlocks piece → length (content_of kind method write piece seed) ≡ piece.len
-length-content_of verify.Plain method write piece seed blocks = length-filler_of method.pattern seed piece.len (omega (arith, blocks.size))
-length-content_of verify.Pattern method write piece seed blocks = length-filler_of method.pattern seed piece.len (omega (arith, blocks.size))
-length-content_of verify.Md5 method write piece seed blocks = length-headed_block method write piece seed blocks
-length-content_of verify.Sha1 method write piece seed blocks = length-headed_block method write piece seed blocks
-length-content_of verify.Sha256 method write piece seed blocks = length-headed_block method write piece seed blocks
-
 -- what a draw's write puts into its blocks
+
+-- a draw's piece fits, and the interval of its clone divides it
+pub drawn_chunks : (plan : Plan) (write : WriteId) (piece : Piece) (job : SubJob) (draw : Draw) → IsPlanned plan → IsDrawOf plan write piece job draw → (piece_fits piece ≡ true) × (interval_fits job.method.kind job.method.interval piece.len ≡ true)
+drawn_chunks plan write piece job draw planned names =
+    let limits = planned.drafted.limited write.clone job names.planned in
+    let law = pass_law job (drawable_of job limits) in
+    let words = pass_words job write.pass (4 * job.cells) in
+    let fits : piece_fits piece ≡ true =
+    subst (λ (p : Piece). piece_fits p ≡ true) names.lies
+    (there (λ (d : Draw). piece_fits d.piece ≡ true) (draws_over job words) write.number draw names.drawn (λ d within. law.fits words write.number d within)) in
+    let region : IsInRegion job piece =
+    subst (λ (p : Piece). IsInRegion job p) names.lies
+    (there (λ (d : Draw). IsInRegion job d.piece) (draws_over job words) write.number draw names.drawn (λ d within. law.placed words write.number d within)) in
+    (fits, interval_of_cells job.method.kind job.method.interval job.cell piece.len region.cells limits.interval)
 
 pub draw_in_plan : (plan : Plan) (write : WriteId) (piece : Piece) (job : SubJob) (draw : Draw) → IsDrawOf plan write piece job draw → slice_get (draws_of plan write.clone write.pass) write.number ≡ Some draw
 draw_in_plan plan write piece job draw names =
@@ -113,9 +99,10 @@ draw_in_plan plan write piece job draw names =
 
 pub length-content_of_io : (plan : Plan) (s : Started) (job : SubJob) (draw : Draw) → IsPlanned plan → IsDrawOf plan s.write s.piece job draw → length (content_of_io plan s) ≡ s.piece.len
 length-content_of_io plan s job draw planned names =
+    let chunks = drawn_chunks plan s.write s.piece job draw planned names in
     let seed = seed_of_draw (slice_get (draws_of plan s.write.clone s.write.pass) s.write.number) in
     ap (λ (o : Option SubJob). length (content_in_job o s.write s.piece seed)) names.planned
-    ∙ length-content_of job.method.kind job.method s.write s.piece seed (lies_in_file plan s.write s.piece job draw planned names).blocks
+    ∙ length-content_of job.method.kind job.method s.write s.piece seed chunks.0 chunks.1
 
 -- the bytes of the write in a block are those of its content there
 pub written_in-content : (plan : Plan) (s : Started) (job : SubJob) (draw : Draw) (block : ℕ) → IsDrawOf plan s.write s.piece job draw → written_in plan s.write block ≡ block_bytes s.piece block (content_of_io plan s)

@@ -119,11 +119,11 @@ quiet_choices (suc limit) plan worker history memory read (Some e) numbered same
     (λ begun. longer)
 
 -- the verdict on the bytes of a check that ended whole is harmless
-pub harmless_verdict : (plan : Plan) (history : List Event) (memory : List FileBytes) (read : ℕ → List ℕ) (by io : ℕ) (s : Started) → IsQuiet plan history memory read → IsWholeCheck history io s → IsHarmless (Verdict by io (verdict_on plan s (read io)))
-harmless_verdict plan history memory read by io s quiet check = record {
+pub harmless_verdict : (plan : Plan) (history : List Event) (memory : List FileBytes) (read : ℕ → List ℕ) (by io : ℕ) (s : Started) → IsPlanned plan → IsQuiet plan history memory read → IsWholeCheck history io s → IsHarmless (Verdict by io (verdict_on plan s (read io)))
+harmless_verdict plan history memory read by io s planned quiet check = record {
   ends = λ n. refl;
   keeps = λ ios file block last. refl;
-  fine = ap is_bad (ap (verdict_on plan s) (quiet.own io s check) ∙ good_on_own plan s);
+  fine = ap is_bad (ap (verdict_on plan s) (quiet.own io s check) ∙ good_on_own plan history io s planned quiet.legal check.0);
 }
 
 -- at first nothing happened, and a memory that covers the plan's files holds all that was written

@@ -22,26 +22,31 @@ use Rattle.jr_model.specs.LastWrite.{covers_block}
 use Rattle.jr_model.specs.Legal.{may_happen, is_legal, verdict_fits, job_says, is_bad}
 use Rattle.jr_model.specs.Machine.{content_of_io, content_in_job, seed_of_draw, verdict_in_job, verdict_on}
 use Rattle.jr_model.specs.Plan.{Plan, SubJob, clone_of, is_verified}
-use Rattle.jr_model.specs.Tickets.{has_pattern}
+use Rattle.jr_model.specs.Tickets.{piece_fits, has_pattern, interval_fits}
+use Rattle.jr_laws_steps.proofs.DrawnLaws.{started_fit-law}
 use Rattle.jr_model.proofs.MachineLaws.{got_front}
 use Rattle.jr_model.proofs.SerialLaws.{first_given-append}
 use Rattle.jr_model.specs.PlanFacts.{IsPlanned}
 use Rattle.jr_header.proofs.Laws.{good_on_content, good_on_no_other}
 use Rattle.jr_laws_bytes.specs.Checks.{is_miscompare, has_miscompare, GivesWholePieces, AreToldApart, IsToldApart}
 use Rattle.jr_laws_bytes.proofs.Starts.{legal_at, some_same, IsCheckable, check_started}
-use Rattle.jr_laws_bytes.proofs.Contents.{same_by_blocks, lies_in_file, length-content_of_io, written_in-content}
+use Rattle.jr_laws_bytes.proofs.Contents.{same_by_blocks, lies_in_file, drawn_chunks, length-content_of_io, written_in-content}
 use Rattle.jr_laws_bytes.proofs.LastWrites.{intact_block}
 
 -- verdicts on bytes
 
-good_in_job : (job : Option SubJob) (s : Started) (seed : ℕ) → verdict_in_job job s seed (content_in_job job s.write s.piece seed) ≡ Good
-good_in_job None s seed = refl
-good_in_job (Some job) s seed = good_on_content job.method s.write s.piece seed job.method.kind refl
+good_in_job : (job : Option SubJob) (found : SubJob) (s : Started) (seed : ℕ) → job ≡ Some found → piece_fits s.piece ≡ true → interval_fits found.method.kind found.method.interval s.piece.len ≡ true → verdict_in_job job s seed (content_in_job job s.write s.piece seed) ≡ Good
+good_in_job None found s seed is fits whole = refl
+good_in_job (Some job) found s seed is fits whole =
+    good_on_content job.method s.write s.piece seed job.method.kind fits
+    (subst (λ (j : SubJob). interval_fits j.method.kind j.method.interval s.piece.len ≡ true) (sym (some_same job found is)) whole)
 
 -- a write's own bytes are good
-pub good_on_own : (plan : Plan) (s : Started) → verdict_on plan s (content_of_io plan s) ≡ Good
-good_on_own plan s =
-    good_in_job (clone_of plan s.write.clone) s (seed_of_draw (slice_get (draws_of plan s.write.clone s.write.pass) s.write.number))
+pub good_on_own : (plan : Plan) (history : List Event) (io : ℕ) (s : Started) → IsPlanned plan → is_legal plan history ≡ true → slice_get (started history) io ≡ Some s → verdict_on plan s (content_of_io plan s) ≡ Good
+good_on_own plan history io s planned legal at =
+    let fits = started_fit-law plan history io s planned legal at in
+    good_in_job (clone_of plan s.write.clone) fits.0 s (seed_of_draw (slice_get (draws_of plan s.write.clone s.write.pass) s.write.number))
+    fits.1.planned fits.1.fits fits.1.interval
 
 pub checked_kind : (kind : VerifyKind) (pattern : Option (List ℕ)) → is_verified kind ≡ true → has_pattern kind pattern ≡ true → is_checked kind pattern ≡ true
 checked_kind verify.Plain pattern verified has = verified
@@ -50,12 +55,13 @@ checked_kind verify.Md5 pattern verified has = refl
 checked_kind verify.Sha1 pattern verified has = refl
 checked_kind verify.Sha256 pattern verified has = refl
 
-own_in_job : (job : Option SubJob) (found : SubJob) (s : Started) (seed : ℕ) (bytes : List ℕ) → job ≡ Some found → is_checked found.method.kind found.method.pattern ≡ true → length bytes ≡ s.piece.len → AreToldApart job s seed bytes → verdict_in_job job s seed bytes ≡ Good → bytes ≡ content_in_job job s.write s.piece seed
-own_in_job None found s seed bytes is checked size apart good = cc
-own_in_job (Some job) found s seed bytes is checked size apart good =
+own_in_job : (job : Option SubJob) (found : SubJob) (s : Started) (seed : ℕ) (bytes : List ℕ) → job ≡ Some found → is_checked found.method.kind found.method.pattern ≡ true → piece_fits s.piece ≡ true → interval_fits found.method.kind found.method.interval s.piece.len ≡ true → length bytes ≡ s.piece.len → AreToldApart job s seed bytes → verdict_in_job job s seed bytes ≡ Good → bytes ≡ content_in_job job s.write s.piece seed
+own_in_job None found s seed bytes is checked fits whole size apart good = cc
+own_in_job (Some job) found s seed bytes is checked fits whole size apart good =
     let same : found ≡ job = sym (some_same job found is) in
     good_on_no_other job.method s.write s.piece seed bytes job.method.kind refl
-    (subst (λ (j : SubJob). is_checked j.method.kind j.method.pattern ≡ true) same checked) size apart good
+    (subst (λ (j : SubJob). is_checked j.method.kind j.method.pattern ≡ true) same checked) fits
+    (subst (λ (j : SubJob). interval_fits j.method.kind j.method.interval s.piece.len ≡ true) same whole) size apart good
 
 -- no other bytes of a check are, where digests tell them apart
 pub own_from_good : (plan : Plan) (before : List Event) (s : Started) (bytes : List ℕ) → IsPlanned plan → IsCheckable plan before s.write s.piece → length bytes ≡ s.piece.len → IsToldApart plan s bytes → verdict_on plan s bytes ≡ Good → bytes ≡ content_of_io plan s
@@ -64,8 +70,9 @@ own_from_good plan before s bytes planned check size apart good =
     let seed = seed_of_draw (slice_get (draws_of plan s.write.clone s.write.pass) s.write.number) in
     let limits = planned.drafted.limited s.write.clone job check.names.planned in
     let rounds = and_parts (is_verified job.method.kind) job.checks_writes check.rounds in
+    let chunks = drawn_chunks plan s.write s.piece job check.draw planned check.names in
     own_in_job (clone_of plan s.write.clone) job s seed bytes check.names.planned
-    (checked_kind job.method.kind job.method.pattern rounds.0 limits.pattern) size apart good
+    (checked_kind job.method.kind job.method.pattern rounds.0 limits.pattern) chunks.0 chunks.1 size apart good
 
 -- checks of a legal history
 
@@ -117,7 +124,7 @@ bad_exactly plan history read place by io verdict s planned legal whole judged a
     let check : IsWholeCheck history io s = subst (λ (x : Started). IsWholeCheck history io x) same found.1 in
     let said : verdict ≡ verdict_on plan s (read io) = judged place by io verdict s at there in (
       λ (bad : is_bad verdict ≡ true) (own : read io ≡ content_of_io plan s).
-          false≢true (sym (ap is_bad (said ∙ ap (verdict_on plan s) own ∙ good_on_own plan s)) ∙ bad),
+          false≢true (sym (ap is_bad (said ∙ ap (verdict_on plan s) own ∙ good_on_own plan history io s planned legal there)) ∙ bad),
       λ (other : read io ≢ content_of_io plan s).
           true_from_ne_false (is_bad verdict)
           (λ (fine : is_bad verdict ≡ false).
@@ -145,7 +152,7 @@ honest_event plan history read place (Verdict by io verdict) planned legal whole
     ap is_bad
     (judged place by io verdict s at found.1.0
     ∙ ap (verdict_on plan s) (honest_bytes plan history read io s planned legal whole honest found.1)
-    ∙ good_on_own plan s)
+    ∙ good_on_own plan history io s planned legal found.1.0)
 honest_event plan history read place (Issue worker dir write piece) planned legal whole judged honest at = refl
 honest_event plan history read place (Probe worker write piece) planned legal whole judged honest at = refl
 honest_event plan history read place (Skip worker write) planned legal whole judged honest at = refl

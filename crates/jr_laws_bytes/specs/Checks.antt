@@ -1,5 +1,5 @@
 -- Believed: when a check is found bad: exactly where the bytes that it read aren't its write's.
-use Rattle.std.specs.Prelude.{◌≡◌, ◌≢◌, ◌↔◌, ℕ, Bool, true, false, List, length, drop, Option, Some, None, slice_get}
+use Rattle.std.specs.Prelude.{◌≡◌, ◌≢◌, ◌↔◌, ℕ, Bool, true, false, List, length, Option, Some, None, slice_get}
 use Rattle.std.specs.List.{list_any, list_all}
 use Rattle.jr_model.specs.declared.events.Event.{Event}
 use Rattle.jr_model.specs.declared.events.Event.TheVariants.{Issue, Probe, Skip, End, Verdict}
@@ -9,11 +9,10 @@ use Rattle.jr_model.specs.declared.replies.Reply.{Reply}
 use Rattle.jr_model.specs.declared.replies.Reply.TheVariants as reply
 use Rattle.jr_model.specs.declared.steps.Step.{Step}
 use Rattle.jr_model.specs.declared.steps.Step.TheVariants as step
-use Rattle.jr_model.specs.Content.{data_area}
 use Rattle.jr_model.specs.Draws.{draws_of}
 use Rattle.jr_model.specs.History.{started, flies, is_probe}
 use Rattle.jr_model.specs.Honest.{IsWholeCheck, IsHonest, IsJudgedBy}
-use Rattle.jr_model.specs.Judgement.{TellsApart}
+use Rattle.jr_model.specs.Judgement.{AreasToldApart}
 use Rattle.jr_model.specs.LastWrite.{is_intact}
 use Rattle.jr_model.specs.Legal.{is_legal, is_bad}
 use Rattle.jr_model.specs.Machine.{content_of_io, seed_of_draw, first_state, machine_run}
@@ -48,10 +47,10 @@ HonestIsGood =
     → IsHonest plan history read
     → has_miscompare history ≡ false
 
--- the digest of the clone's kind, where it has one, tells the data area read from the one that was written
+-- the digest of the clone's kind, where it has one, tells the data areas read from those that were written
 abbrev pub AreToldApart : Option SubJob → Started → ℕ → List ℕ → Type 0
 AreToldApart None s seed bytes = Unit {0}
-AreToldApart (Some job) s seed bytes = TellsApart job.method.kind (drop 64 bytes) (data_area job.method s.piece seed)
+AreToldApart (Some job) s seed bytes = AreasToldApart job.method s.piece seed bytes
 
 -- the same of the bytes of a check of the plan
 abbrev pub IsToldApart : Plan → Started → List ℕ → Type 0

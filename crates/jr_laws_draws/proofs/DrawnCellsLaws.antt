@@ -152,7 +152,7 @@ drawn_cells_fit job done direction size place sound unfinished =
       some = fit.some;
       within = fit.within;
       left = fit.left;
-      short = wanted-short _ bytes job.cell 4194304 fit.wanted (sizes.most (size % 100) t);
+      short = wanted-short _ bytes job.cell 16777216 fit.wanted (sizes.most (size % 100) t);
       free = fit.free;
     }
 

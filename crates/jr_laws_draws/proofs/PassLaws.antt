@@ -3,6 +3,7 @@ use Rattle.std.proofs.Common.{◌≡◌, ℕ, zero, suc, ◌+◌, ◌-◌, ◌*�
 use Rattle.std.specs.List.{All, slice_get}
 use Rattle.std.proofs.lemmas.Bool.{cases_Bool, and_from, lt-ltb, le-leb, eq-eqb}
 use Rattle.std.proofs.lemmas.List.Elements.{All-cons}
+use Rattle.std.proofs.Math.Nat.{mul-mod_left}
 use Rattle.std.proofs.lemmas.Nat.{mul-le, mul-mod_second}
 use Rattle.std.proofs.lemmas.List.{length-replicate}
 use Rattle.std.proofs.lemmas.List.Folds.{sum_by-replicate}
@@ -136,7 +137,7 @@ cells-whole m cell h = sym (mul-mod_second m cell 512) ∙ ap (λ (r : ℕ). (m 
 cells-end : (x m cells cell start : ℕ) → x + m ≤ cells → start + x * cell + m * cell ≤ start + cells * cell
 cells-end x m cells cell start h = omega (arith, mul-le (x + m) cell cells cell h (omega arith))
 
-pub piece-fits : (job : SubJob) (x m : ℕ) → IsDrawable job → 1 ≤ m → x + m ≤ job.cells → m * job.cell ≤ 4194304 → piece_fits (cell_piece job x m) ≡ true
+pub piece-fits : (job : SubJob) (x m : ℕ) → IsDrawable job → 1 ≤ m → x + m ≤ job.cells → m * job.cell ≤ 16777216 → piece_fits (cell_piece job x m) ≡ true
 piece-fits job x m drawable some within short =
     let len = m * job.cell in
     let offset = job.start + x * job.cell in
@@ -144,10 +145,11 @@ piece-fits job x m drawable some within short =
     let end : offset + len ≤ 1125899906842624 = omega (arith, cells-end x m job.cells job.cell job.start within, drawable.region) in
     let whole : len % 512 ≡ 0 = cells-whole m job.cell drawable.cell_sectors in
     let begun : offset % 512 ≡ 0 = omega (arith, cells-whole x job.cell drawable.cell_sectors, drawable.start_sectors) in
-    and_from _ _ (and_from _ _ (and_from _ _ (and_from _ _ (lt-ltb 0 len least) (le-leb len 4194304 short)) (eq-eqb (len % 512) 0 whole)) (eq-eqb (offset % 512) 0 begun)) (le-leb (offset + len) 1125899906842624 end)
+    and_from _ _ (and_from _ _ (and_from _ _ (and_from _ _ (lt-ltb 0 len least) (le-leb len 16777216 short)) (eq-eqb (len % 512) 0 whole)) (eq-eqb (offset % 512) 0 begun)) (le-leb (offset + len) 1125899906842624 end)
 
 pub piece-placed : (job : SubJob) (x m : ℕ) → x + m ≤ job.cells → IsInRegion job (cell_piece job x m)
 piece-placed job x m within = record {
+  cells = mul-mod_left m job.cell;
   file = refl;
   low = omega arith;
   high = cells-end x m job.cells job.cell job.start within;

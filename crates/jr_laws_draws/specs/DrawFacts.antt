@@ -2,6 +2,7 @@
 -- project).
 use Rattle.std.specs.Prelude.{◌≡◌, ℕ, ◌+◌, ◌*◌, ◌%◌, ◌^◌, ◌≤◌, true, false, [], None, length}
 use Rattle.jr_model.specs.declared.contents.VerifyKind.TheVariants as verify
+use Rattle.jr_model.specs.declared.limits.TheConstants.{LARGEST_BLOCK}
 use Rattle.jr_model.specs.CellSet.{free_run, free_count}
 use Rattle.jr_model.specs.Draws.{Places, sequential, mapped, unmapped, PassProgress, DrawnCells, cells_left}
 use Rattle.jr_model.specs.Plan.{SubJob}
@@ -59,7 +60,7 @@ part_of job = record {
   seed = 0;
   depth = 0;
   passes = 0;
-  method = record { kind = verify.Plain; pattern = None };
+  method = record { kind = verify.Plain; pattern = None; interval = 0 };
   checks_writes = false;
   backlog = 0;
   is_fatal = false;
@@ -76,5 +77,5 @@ pub record DrawnCellsFit (job : SubJob) (done : PassProgress) (choice : DrawnCel
   pub some : 1 ≤ choice.count
   pub within : choice.first + choice.count ≤ job.cells
   pub left : choice.count ≤ cells_left job done
-  pub short : choice.count * job.cell ≤ 4194304
+  pub short : choice.count * job.cell ≤ LARGEST_BLOCK
   pub free : AreFree done.places choice.first choice.count

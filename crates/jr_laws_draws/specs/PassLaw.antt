@@ -1,5 +1,5 @@
 -- Believed: what holds of the draws of a pass, whatever its words.
-use Rattle.std.specs.Prelude.{◌≡◌, ℕ, suc, ◌+◌, ◌*◌, ◌<◌, ◌≤◌, Bool, true, false, ◌&&◌, List, ◌++◌, Some, length, slice_get, All, AllPairs, Any}
+use Rattle.std.specs.Prelude.{◌≡◌, ℕ, suc, ◌+◌, ◌*◌, ◌%◌, ◌<◌, ◌≤◌, Bool, true, false, ◌&&◌, List, ◌++◌, Some, length, slice_get, All, AllPairs, Any}
 use Rattle.jr_model.specs.declared.blocks.Piece.{Piece}
 use Rattle.jr_model.specs.declared.workloads.Draw.{Draw}
 use Rattle.jr_model.specs.declared.workloads.IoType.{IoType}
@@ -21,8 +21,9 @@ is_random io.RandRw = true
 abbrev pub is_mapped : SubJob → Bool
 is_mapped job = is_random job.io_type && job.has_map
 
--- the piece lies in the clone's region of its file
+-- the piece is whole cells, and lies in the clone's region of its file
 pub record IsInRegion (job : SubJob) (p : Piece) : Type 0 where
+  pub cells : p.len % job.cell ≡ 0
   pub file : p.file ≡ job.file
   pub low : job.start ≤ p.offset
   pub high : piece_end p ≤ job.start + job.cells * job.cell

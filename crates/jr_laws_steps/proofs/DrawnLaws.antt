@@ -1,8 +1,8 @@
 -- What was started is what was drawn, once each.
-use Rattle.std.proofs.Common.{◌≡◌, ℕ, ◌+◌, ◌*◌, ◌<◌, ◌≤◌, List, [], ◌∷◌, ◌++◌, length, Bool, true, false, cond, ◌&&◌, not, refl, sym, ◌∙◌, ap, subst, arith, inl, inr}
+use Rattle.std.proofs.Common.{◌≡◌, ℕ, ◌+◌, ◌*◌, ◌/◌, ◌%◌, ◌<◌, ◌≤◌, List, [], ◌∷◌, ◌++◌, length, Bool, true, false, cond, ◌&&◌, not, refl, sym, ◌∙◌, ap, subst, arith, inl, inr}
 use Rattle.std.specs.Prelude.{Some, slice_get, nat_lt, ◌==◌, count_by, take}
 use Rattle.std.specs.List.{list_all, list_any, All}
-use Rattle.std.proofs.lemmas.Bool.{and_parts, or_cases, eqb-true, ltb-true, le-ltb, cases_lt, false_from_ne_true, false≢true}
+use Rattle.std.proofs.lemmas.Bool.{and_parts, and_from, or_cases, eq-eqb, eqb-true, ltb-true, le-ltb, cases_lt, false_from_ne_true, false≢true}
 use Rattle.std.proofs.lemmas.List.Sums.{sum_by-append, sum_by-cons}
 use Rattle.std.proofs.lemmas.Option.{slice_get_within, get_or_from_slice_get}
 use Rattle.jr_model.specs.declared.blocks.Dir.{Dir}
@@ -21,7 +21,12 @@ use Rattle.jr_model.specs.Legal.{may_happen, may_issue, may_take_up, takes_up, i
 use Rattle.jr_model.specs.Pieces.{piece_end}
 use Rattle.jr_model.specs.Plan.{Plan, SubJob, FileSpec, clone_of, is_verified}
 use Rattle.jr_model.specs.Rounds.{Pass, pass_of, passes_of, write_id, is_write_draw, issues_of, issued_count, all_issued, has_rounds, group_of, group_index, issued_among, is_full, is_closed, is_open, no_issue_flies, waits_for_round, pass_finished, is_current}
-use Rattle.jr_model.specs.Tickets.{piece_fits}
+use Rattle.jr_model.specs.Tickets.{piece_fits, has_whole_chunks, interval_fits}
+use Rattle.jr_model.specs.declared.limits.TheConstants.{SECTOR}
+use Rattle.jr_model.specs.declared.contents.VerifyKind.{VerifyKind}
+use Rattle.jr_model.specs.declared.contents.VerifyKind.TheVariants as verify
+use Rattle.std.proofs.Math.Nat.{zero-mod}
+use Rattle.std.proofs.lemmas.Nat.{div-add-mod', mul-mod_second}
 use Rattle.jr_model.specs.Words.{pass_words}
 use Rattle.jr_model.specs.PlanFacts.{IsPlanned}
 use Rattle.jr_laws_draws.specs.PassLaw.{IsInRegion}
@@ -223,6 +228,28 @@ check_is_verified ticket.Probe direction.Read job h probe = absurd (false≢true
 check_is_verified ticket.Read d job h probe = absurd (false≢true probe)
 check_is_verified ticket.Write d job h probe = absurd (false≢true probe)
 
+-- an interval that divides the cell divides whole cells
+chunks_of_cells : (interval cell len : ℕ) → len % cell ≡ 0 → has_whole_chunks interval cell ≡ true → has_whole_chunks interval len ≡ true
+chunks_of_cells interval cell len whole fits = by (interval == 0) fits
+  where
+    by : (b : Bool) → cond b true ((interval % SECTOR == 0) && (cell % interval == 0)) ≡ true → cond b true ((interval % SECTOR == 0) && (len % interval == 0)) ≡ true
+    by true h = refl
+    by false h =
+        let parts = and_parts (interval % SECTOR == 0) (cell % interval == 0) h in
+        let none : cell % interval ≡ 0 = eqb-true (cell % interval) 0 parts.1 in
+        let cells : len / cell * cell ≡ len = omega (arith, div-add-mod' len cell, whole) in
+        let left : len % interval ≡ 0 =
+        ap (λ (n : ℕ). n % interval) (sym cells) ∙ sym (mul-mod_second (len / cell) cell interval)
+        ∙ ap (λ (r : ℕ). (len / cell * r) % interval) none ∙ ap (λ (r : ℕ). r % interval) (let e : len / cell * 0 ≡ 0 = omega arith in e) ∙ zero-mod interval in
+        and_from (interval % SECTOR == 0) (len % interval == 0) parts.0 (eq-eqb (len % interval) 0 left)
+
+pub interval_of_cells : (kind : VerifyKind) (interval cell len : ℕ) → len % cell ≡ 0 → interval_fits kind interval cell ≡ true → interval_fits kind interval len ≡ true
+interval_of_cells verify.Plain interval cell len whole fits = refl
+interval_of_cells verify.Pattern interval cell len whole fits = refl
+interval_of_cells verify.Md5 interval cell len whole fits = chunks_of_cells interval cell len whole fits
+interval_of_cells verify.Sha1 interval cell len whole fits = chunks_of_cells interval cell len whole fits
+interval_of_cells verify.Sha256 interval cell len whole fits = chunks_of_cells interval cell len whole fits
+
 -- what is drawn can be carried out
 pub drawn_fits : (plan : Plan) (io : Started) (job : SubJob) (draw : Draw) → IsPlanned plan → IsDrawn plan io job draw → FitsPlan plan io job
 drawn_fits plan io job draw planned drawn =
@@ -240,6 +267,7 @@ drawn_fits plan io job draw planned drawn =
       fits = subst (λ (p : Piece). piece_fits p ≡ true) (sym drawn.piece) fits;
       pass = omega (arith, drawn.pass, limits.passes_most);
       pattern = limits.pattern;
+      interval = interval_of_cells job.method.kind job.method.interval job.cell io.piece.len region.cells limits.interval;
       verified = check_is_verified io.kind draw.dir job drawn.kind;
       file = subst (λ (f : ℕ). f < length plan.files) (sym region.file) placed.file;
       bounds = λ (spec : FileSpec) at.

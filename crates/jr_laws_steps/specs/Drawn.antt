@@ -13,7 +13,7 @@ use Rattle.jr_model.specs.Legal.{is_legal}
 use Rattle.jr_model.specs.Pieces.{piece_end, pieces_overlap}
 use Rattle.jr_model.specs.Plan.{Plan, SubJob, FileSpec, clone_of, is_verified}
 use Rattle.jr_model.specs.Rounds.{has_rounds}
-use Rattle.jr_model.specs.Tickets.{piece_fits, has_pattern}
+use Rattle.jr_model.specs.Tickets.{piece_fits, has_pattern, interval_fits}
 use Rattle.jr_model.specs.PlanFacts.{IsPlanned}
 use Rattle.jr_laws_draws.specs.PassLaw.{is_mapped}
 
@@ -50,6 +50,7 @@ pub record FitsPlan (plan : Plan) (io : Started) (job : SubJob) : Type 0 where
   pub fits : piece_fits io.piece ≡ true
   pub pass : io.write.pass < 1000
   pub pattern : has_pattern job.method.kind job.method.pattern ≡ true
+  pub interval : interval_fits job.method.kind job.method.interval io.piece.len ≡ true
   pub verified : is_probe io.kind ≡ true → is_verified job.method.kind ≡ true
   pub file : io.piece.file < length plan.files
   pub bounds : (spec : FileSpec) → slice_get plan.files io.piece.file ≡ Some spec → (spec.low ≤ io.piece.offset) × (piece_end io.piece ≤ spec.high)

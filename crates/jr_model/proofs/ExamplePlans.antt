@@ -8,13 +8,13 @@ use Rattle.jr_model.specs.Plan.{Plan, SubJob}
 
 -- verify=pattern verify_pattern=1
 abbrev pub ones : Method
-ones = record { kind = verify.Pattern; pattern = Some (1 ∷ []) }
+ones = record { kind = verify.Pattern; pattern = Some (1 ∷ []); interval = 0 }
 
 abbrev pub no_verify : Method
-no_verify = record { kind = verify.Plain; pattern = None }
+no_verify = record { kind = verify.Plain; pattern = None; interval = 0 }
 
 abbrev pub by_md5 : Method
-by_md5 = record { kind = verify.Md5; pattern = None }
+by_md5 = record { kind = verify.Md5; pattern = None; interval = 0 }
 
 -- `[w] rw=write bs=4k`, with so many cells and this verify method
 abbrev pub sequential_writes : ℕ → Method → SubJob

@@ -1,5 +1,5 @@
 -- Worked runs, which come out of the definitions by computing.
-use Rattle.std.specs.Prelude.{◌≡◌, ℕ, ◌*◌, List, [], ◌∷◌, true, false, take, drop, refl, filter_map, Option, Some, None, codes, ◌++◌}
+use Rattle.std.specs.Prelude.{◌≡◌, ℕ, ◌-◌, ◌*◌, ◌^◌, List, [], ◌∷◌, true, false, take, drop, refl, filter_map, Option, Some, None, codes, ◌++◌}
 use Rattle.std.specs.Fmt.{digits}
 use Rattle.rand_core.specs.Stream.{fill_bytes}
 use Rattle.rand_core.specs.Steps.{stream_of, word_bytes, u32_at}
@@ -9,7 +9,9 @@ use Rattle.jr_model.specs.declared.contents.VerifyKind.TheVariants as verify
 use Rattle.jr_model.specs.declared.events.Event.{Event}
 use Rattle.jr_model.specs.declared.events.Event.TheVariants.{Issue, Probe, Skip, End, Verdict}
 use Rattle.jr_model.specs.declared.events.Outcome.TheVariants.{Whole}
-use Rattle.jr_model.specs.declared.events.Verdict.TheVariants.{Good}
+use Rattle.jr_model.specs.declared.events.Part.TheVariants as part
+use Rattle.jr_model.specs.declared.events.Verdict.TheVariants.{Good, Bad}
+use Rattle.jr_model.specs.declared.events.What.TheVariants.{Header, Digest, DataArea, Byte, Chunk}
 use Rattle.jr_model.specs.declared.events.WriteId.{WriteId}
 use Rattle.jr_model.specs.declared.replies.Reply.TheVariants as reply
 use Rattle.jr_model.specs.declared.steps.DeskFault.TheVariants as fault
@@ -18,9 +20,10 @@ use Rattle.jr_model.specs.declared.steps.Step.TheVariants as step
 use Rattle.jr_model.specs.declared.steps.StepReply.{StepReply}
 use Rattle.jr_model.specs.declared.steps.StepReply.TheVariants as answer
 use Rattle.jr_model.specs.declared.totals.Totals.{Totals}
-use Rattle.jr_model.specs.Content.{header_front}
+use Rattle.jr_model.specs.Content.{header_front, block_version, chunk_version, chunk_at, chunk_seed}
 use Rattle.jr_model.specs.LastWrite.{is_intact}
-use Rattle.jr_model.specs.Legal.{is_legal, is_complete}
+use Rattle.jr_model.specs.Judgement.{first_bad, in_chunk}
+use Rattle.jr_model.specs.Legal.{is_legal, is_complete, kind_says}
 use Rattle.jr_model.specs.Machine.{first_state, machine_run}
 use Rattle.jr_model.specs.Plan.{Plan}
 use Rattle.jr_model.specs.Quiet.{quiet_report}
@@ -164,11 +167,37 @@ replies_refused = refl
 
 -- the first 32 bytes of the header of a write with md5: clone 0, pass 1, number 2, offset 8192, length 4096
 pub front_of_header :
-    header_front verify.Md5 (record { clone = 0; pass = 1; number = 2 }) (record { file = 0; offset = 8192; len = 4096 })
+    header_front block_version verify.Md5 (record { clone = 0; pass = 1; number = 2 }) (record { file = 0; offset = 8192; len = 4096 })
     ≡ 0x4a ∷ 0x52 ∷ 0x56 ∷ 0x31 ∷ 0x01 ∷ 0x10 ∷ 0x01 ∷ 0x00 ∷ 0x00 ∷ 0x10 ∷ 0x00 ∷ 0x00 ∷ 0x00 ∷ 0x00 ∷ 0x00 ∷ 0x00
     ∷ 0x00 ∷ 0x20 ∷ 0x00 ∷ 0x00 ∷ 0x00 ∷ 0x00 ∷ 0x00 ∷ 0x00 ∷ 0x02 ∷ 0x00 ∷ 0x00 ∷ 0x00 ∷ 0x00 ∷ 0x00 ∷ 0x00 ∷ 0x00 ∷ []
 unfolding header_front
 front_of_header = refl
+
+-- the same write with a header each 1024 bytes: the first 32 bytes of the header of chunk 1
+pub front_of_chunk :
+    header_front chunk_version verify.Md5 (record { clone = 0; pass = 1; number = 2 })
+    (chunk_at 1024 (record { file = 0; offset = 8192; len = 4096 }) 1)
+    ≡ 0x4a ∷ 0x52 ∷ 0x56 ∷ 0x32 ∷ 0x01 ∷ 0x10 ∷ 0x01 ∷ 0x00 ∷ 0x00 ∷ 0x04 ∷ 0x00 ∷ 0x00 ∷ 0x00 ∷ 0x00 ∷ 0x00 ∷ 0x00
+    ∷ 0x00 ∷ 0x24 ∷ 0x00 ∷ 0x00 ∷ 0x00 ∷ 0x00 ∷ 0x00 ∷ 0x00 ∷ 0x02 ∷ 0x00 ∷ 0x00 ∷ 0x00 ∷ 0x00 ∷ 0x00 ∷ 0x00 ∷ 0x00 ∷ []
+unfolding header_front
+front_of_chunk = refl
+
+-- the seed of a chunk is taken modulo 2^64
+pub wrapped_seed : chunk_seed (2 ^ 64 - 1) 2 ≡ 1
+wrapped_seed = refl
+
+-- the first chunk that isn't good is named, and only such chunks as the block has
+pub first_chunk_named :
+    first_bad (Good ∷ in_chunk 1 (Bad DataArea) ∷ in_chunk 2 (Bad Header) ∷ []) ∷ first_bad (Good ∷ Good ∷ []) ∷ []
+    ≡ Bad (Chunk 1 part.DataArea) ∷ Good ∷ []
+first_chunk_named = refl
+
+pub chunks_that_are_found :
+    kind_says verify.Md5 1024 4096 (Bad (Chunk 3 part.Digest)) ∷ kind_says verify.Md5 1024 4096 (Bad (Chunk 4 part.Digest))
+    ∷ kind_says verify.Md5 1024 4096 (Bad Digest) ∷ kind_says verify.Md5 0 4096 (Bad (Chunk 0 part.Digest))
+    ∷ kind_says verify.Md5 0 4096 (Bad Digest) ∷ kind_says verify.Pattern 1024 4096 (Bad (Byte 7)) ∷ []
+    ≡ true ∷ false ∷ false ∷ false ∷ true ∷ true ∷ []
+chunks_that_are_found = refl
 
 -- four writes of places 2, 2, 2 and 0, ended whole in this order: only the last two are the last of their blocks
 abbrev pub overwriting : List Event

@@ -1,13 +1,16 @@
 -- Every step of the machine keeps a legal history legal.
-use Rattle.std.proofs.Common.{◌≡◌, ℕ, zero, suc, ◌-◌, ◌<◌, ◌≤◌, List, [], ◌∷◌, ◌++◌, length, take, drop, replicate, Bool, true, false, cond, ◌&&◌, not, refl, sym, ◌∙◌, subst, arith, append_assoc, append-nil, length-append, length-take, length-drop}
-use Rattle.std.specs.Prelude.{Option, Some, None, slice_get, slice_index, slice_range, bit_xor, nat_lt, ◌==◌, is_none}
+use Rattle.std.proofs.Common.{◌≡◌, ℕ, zero, suc, ◌-◌, ◌<◌, ◌≤◌, List, [], ◌∷◌, ◌++◌, length, map, take, drop, replicate, Bool, true, false, cond, ◌&&◌, not, refl, sym, ◌∙◌, subst, arith, append_assoc, append-nil, length-append, length-take, length-drop}
+use Rattle.std.specs.List.{range_with_len}
+use Rattle.std.specs.Prelude.{◌+◌, ◌/◌, Option, Some, None, slice_get, slice_index, slice_range, bit_xor, nat_lt, ◌==◌, is_none}
 use Rattle.std.specs.Option.{option_map}
-use Rattle.std.proofs.lemmas.Bool.{and_parts, and_from, not_from_false, cond_both, eq-eqb, eqb-true, lt-ltb}
+use Rattle.std.proofs.lemmas.Bool.{and_parts, and_from, not_from_false, cond_both, cond-true, cond-false, eq-eqb, eqb-true, lt-ltb}
 use Rattle.std.proofs.lemmas.List.{length-set, length-replicate}
 use Rattle.std.proofs.lemmas.List.Elements.{filter_map-append}
 use Rattle.jr_model.specs.declared.contents.VerifyKind.{VerifyKind}
 use Rattle.jr_model.specs.declared.contents.VerifyKind.TheVariants as verify
 use Rattle.jr_model.specs.declared.contents.Method.{Method}
+use Rattle.jr_model.specs.declared.contents.Expected.{Expected}
+use Rattle.jr_model.specs.declared.contents.Expected.TheVariants as expected
 use Rattle.jr_model.specs.declared.blocks.Piece.{Piece}
 use Rattle.jr_model.specs.declared.events.Event.{Event}
 use Rattle.jr_model.specs.declared.events.Event.TheVariants.{End, Verdict}
@@ -15,7 +18,10 @@ use Rattle.jr_model.specs.declared.events.Outcome.{Outcome}
 use Rattle.jr_model.specs.declared.events.Outcome.TheVariants.{Whole, Short}
 use Rattle.jr_model.specs.declared.events.Verdict.{Verdict as GivenVerdict}
 use Rattle.jr_model.specs.declared.events.Verdict.TheVariants.{Good, Bad}
-use Rattle.jr_model.specs.declared.events.What.TheVariants.{Header, Digest, DataArea}
+use Rattle.jr_model.specs.declared.events.Part.{Part}
+use Rattle.jr_model.specs.declared.events.Part.TheVariants as part
+use Rattle.jr_model.specs.declared.events.What.{What}
+use Rattle.jr_model.specs.declared.events.What.TheVariants.{Header, Digest, DataArea, Chunk}
 use Rattle.jr_model.specs.declared.events.WriteId.{WriteId}
 use Rattle.jr_model.specs.declared.replies.Reply.{Reply}
 use Rattle.jr_model.specs.declared.replies.Reply.TheVariants as reply
@@ -27,11 +33,11 @@ use Rattle.jr_model.specs.declared.steps.Step.TheVariants as step
 use Rattle.jr_model.specs.declared.tickets.TicketKind.{TicketKind}
 use Rattle.jr_model.specs.declared.tickets.TicketKind.TheVariants as ticket
 use Rattle.jr_model.specs.Choice.{choice}
-use Rattle.jr_model.specs.Content.{pattern_bytes, expected_of, expected_pattern, digest_of, header_of}
+use Rattle.jr_model.specs.Content.{pattern_bytes, block_version, expected_of, expected_headers, expected_pattern, digest_of, header_of, chunks_in, chunk_header}
 use Rattle.jr_model.specs.Draws.{draws_of}
 use Rattle.jr_model.specs.History.{Started, started, started_by, flies, outcome_of, is_judged, is_probe, ended_whole}
-use Rattle.jr_model.specs.Judgement.{digest_in, first_difference, byte_verdict, verdict_of, header_verdict, same_bytes}
-use Rattle.jr_model.specs.Legal.{is_legal, outcome_fits, end_fits, verdict_fits, kind_says, job_says}
+use Rattle.jr_model.specs.Judgement.{digest_in, first_difference, byte_verdict, verdict_of, header_verdict, same_bytes, in_chunk, first_bad, bytes_of_chunk, chunk_verdict}
+use Rattle.jr_model.specs.Legal.{is_legal, outcome_fits, end_fits, verdict_fits, is_header_finding, is_chunk_finding, digest_finds, kind_finds, kind_says, job_says}
 use Rattle.jr_model.specs.Machine.{State, Stepped, is_skip, choices_after, taken, take_answer, work_of, verdict_in_job, verdict_on, seed_of_draw, content_of_io, read_of, bytes_read, first_state, end_refusal, judge_refusal, is_judgeable, read_ends, ends_by, machine_end_by, machine_judge_by, machine_take, machine_step, machine_run}
 use Rattle.jr_model.specs.Plan.{Plan, SubJob, IsNumbered, clone_of}
 use Rattle.jr_model.specs.Replies.{FileBytes, outcome_for, stored, stored_in, reply_to_read, reply_to_write}
@@ -74,14 +80,14 @@ first_difference_within (x ∷ xs) [] i h = cc
 first_difference_within (x ∷ xs) (y ∷ ys) i h =
     within_cond (x == y) (first_difference xs ys) (length xs) i (λ (k : ℕ) (found : first_difference xs ys ≡ Some k). first_difference_within xs ys k found) h
 
-pub byte_fits : (o : Option ℕ) (len : ℕ) → ((i : ℕ) → o ≡ Some i → i < len) → kind_says verify.Pattern len (byte_verdict o) ≡ true
-byte_fits None len f = refl
-byte_fits (Some i) len f = lt-ltb i len (f i refl)
+pub byte_fits : (o : Option ℕ) (interval len : ℕ) → ((i : ℕ) → o ≡ Some i → i < len) → kind_says verify.Pattern interval len (byte_verdict o) ≡ true
+byte_fits None interval len f = refl
+byte_fits (Some i) interval len f = lt-ltb i len (f i refl)
 
-pub pattern_fits : (pattern : Option (List ℕ)) (bytes : List ℕ) (len : ℕ) → length bytes ≤ len → kind_says verify.Pattern len (verdict_of verify.Pattern (expected_pattern pattern) bytes) ≡ true
-pattern_fits None bytes len h = refl
-pattern_fits (Some p) bytes len h =
-    byte_fits (first_difference bytes (pattern_bytes p (length bytes))) len
+pub pattern_fits : (pattern : Option (List ℕ)) (method : Method) (write : WriteId) (piece : Piece) (bytes : List ℕ) → length bytes ≤ piece.len → kind_says verify.Pattern method.interval piece.len (verdict_of method write piece (expected_pattern pattern) bytes) ≡ true
+pattern_fits None method write piece bytes h = refl
+pattern_fits (Some p) method write piece bytes h =
+    byte_fits (first_difference bytes (pattern_bytes p (length bytes))) method.interval piece.len
     (λ (i : ℕ) (found : first_difference bytes (pattern_bytes p (length bytes)) ≡ Some i).
     let below : i < length bytes = first_difference_within bytes (pattern_bytes p (length bytes)) i found in
     omega (arith, below, h))
@@ -95,16 +101,57 @@ header_says P kind header bytes good front digest area =
     (λ _. digest))
     (λ _. front)
 
+-- what the first bad verdict of a list can be
+pub first_says : (P : GivenVerdict → Type 0) (verdict : GivenVerdict) (verdicts : List GivenVerdict) → P verdict → P (first_bad verdicts) → P (first_bad (verdict ∷ verdicts))
+first_says P Good verdicts here there = there
+first_says P (Bad what) verdicts here there = here
+
+pub first_of_says : (P : GivenVerdict → Type 0) (f : ℕ → GivenVerdict) (from n : ℕ) → P Good → ((i : ℕ) → i < from + n → P (f i)) → P (first_bad (map f (range_with_len from n)))
+first_of_says P f from zero good each = good
+first_of_says P f from (suc n) good each =
+    first_says P (f from) (map f (range_with_len (from + 1) n)) (each from (omega arith))
+    (first_of_says P f (from + 1) n good (λ (i : ℕ) (below : i < from + 1 + n). each i (omega (arith, below))))
+
+-- what the verdict by headers can be
+pub headers_say : (P : GivenVerdict → Type 0) (method : Method) (write : WriteId) (piece : Piece) (seed : ℕ) (bytes : List ℕ)
+    → P Good
+    → ((method.interval == 0) ≡ true → P (Bad Header) × (P (Bad Digest) × P (Bad DataArea)))
+    → ((method.interval == 0) ≡ false → (i : ℕ) → i < chunks_in method.interval piece → (found : Part) → P (Bad (Chunk i found)))
+    → P (verdict_of method write piece (expected_headers method write piece seed) bytes)
+headers_say P method write piece seed bytes good one each =
+    cond_both (method.interval == 0) (expected.Header (header_of block_version method write piece seed)) (expected.Seed seed)
+    (λ (e : Expected). P (verdict_of method write piece e bytes))
+    (λ whole. header_says P method.kind (header_of block_version method write piece seed) bytes good (one whole).0 (one whole).1.0 (one whole).1.1)
+    (λ cut. first_of_says P (chunk_verdict method write piece seed bytes) 0 (chunks_in method.interval piece) good
+    (λ (i : ℕ) (below : i < 0 + chunks_in method.interval piece).
+    let inside : i < chunks_in method.interval piece = omega (arith, below) in
+    header_says (λ (v : GivenVerdict). P (in_chunk i v)) method.kind (chunk_header method write piece seed i) (bytes_of_chunk method.interval i bytes)
+    good (each cut i inside part.Header) (each cut i inside part.Digest) (each cut i inside part.DataArea)))
+
+-- headers find what a digest's check can find
+pub digest_fits : (kind : VerifyKind) (method : Method) (write : WriteId) (piece : Piece) (seed : ℕ) (bytes : List ℕ)
+    → ((what : What) → kind_finds kind method.interval piece.len what ≡ digest_finds method.interval piece.len what)
+    → kind_says kind method.interval piece.len (verdict_of method write piece (expected_headers method write piece seed) bytes) ≡ true
+digest_fits kind method write piece seed bytes same =
+    headers_say (λ (v : GivenVerdict). kind_says kind method.interval piece.len v ≡ true) method write piece seed bytes refl
+    (λ whole. (by_one whole Header refl, (by_one whole Digest refl, by_one whole DataArea refl)))
+    (λ cut i inside found. same (Chunk i found)
+    ∙ cond-false (method.interval == 0) (is_header_finding (Chunk i found)) (is_chunk_finding (piece.len / method.interval) (Chunk i found)) cut
+    ∙ lt-ltb i (piece.len / method.interval) inside)
+  where
+    by_one : (method.interval == 0) ≡ true → (what : What) → is_header_finding what ≡ true → kind_says kind method.interval piece.len (Bad what) ≡ true
+    by_one whole what finds =
+        same what
+        ∙ cond-true (method.interval == 0) (is_header_finding what) (is_chunk_finding (piece.len / method.interval) what) whole
+        ∙ finds
+
 -- the verdict on no more bytes than the piece has is one that its kind can find
-pub verdict_of_fits : (kind : VerifyKind) (method : Method) (write : WriteId) (piece : Piece) (seed : ℕ) (bytes : List ℕ) → length bytes ≤ piece.len → kind_says kind piece.len (verdict_of kind (expected_of kind method write piece seed) bytes) ≡ true
+pub verdict_of_fits : (kind : VerifyKind) (method : Method) (write : WriteId) (piece : Piece) (seed : ℕ) (bytes : List ℕ) → length bytes ≤ piece.len → kind_says kind method.interval piece.len (verdict_of method write piece (expected_of kind method write piece seed) bytes) ≡ true
 verdict_of_fits verify.Plain method write piece seed bytes h = refl
-verdict_of_fits verify.Pattern method write piece seed bytes h = pattern_fits method.pattern bytes piece.len h
-verdict_of_fits verify.Md5 method write piece seed bytes h =
-    header_says (λ (v : GivenVerdict). kind_says verify.Md5 piece.len v ≡ true) verify.Md5 (header_of method write piece seed) bytes refl refl refl refl
-verdict_of_fits verify.Sha1 method write piece seed bytes h =
-    header_says (λ (v : GivenVerdict). kind_says verify.Sha1 piece.len v ≡ true) verify.Sha1 (header_of method write piece seed) bytes refl refl refl refl
-verdict_of_fits verify.Sha256 method write piece seed bytes h =
-    header_says (λ (v : GivenVerdict). kind_says verify.Sha256 piece.len v ≡ true) verify.Sha256 (header_of method write piece seed) bytes refl refl refl refl
+verdict_of_fits verify.Pattern method write piece seed bytes h = pattern_fits method.pattern method write piece bytes h
+verdict_of_fits verify.Md5 method write piece seed bytes h = digest_fits verify.Md5 method write piece seed bytes (λ what. refl)
+verdict_of_fits verify.Sha1 method write piece seed bytes h = digest_fits verify.Sha1 method write piece seed bytes (λ what. refl)
+verdict_of_fits verify.Sha256 method write piece seed bytes h = digest_fits verify.Sha256 method write piece seed bytes (λ what. refl)
 
 pub job_says_fits : (job : Option SubJob) (found : SubJob) (io : Started) (seed : ℕ) (bytes : List ℕ) → job ≡ Some found → length bytes ≤ io.piece.len → job_says job io.piece.len (verdict_in_job job io seed bytes) ≡ true
 job_says_fits None found io seed bytes planned h = cc

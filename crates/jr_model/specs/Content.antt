@@ -1,6 +1,6 @@
 -- Believed: what a write puts into its blocks (fio's manual, "verify"; MD5 of RFC 1321, SHA-1 and SHA-256 of FIPS 180-4; the
 -- header's layout is of this project). Numbers in a header are little-endian.
-use Rattle.std.specs.Prelude.{ℕ, ◌-◌, ◌/◌, ◌%◌, List, [], ◌∷◌, ◌++◌, length, map, replicate, slice_index, Option, Some, None}
+use Rattle.std.specs.Prelude.{ℕ, ◌+◌, ◌-◌, ◌*◌, ◌/◌, ◌%◌, ◌^◌, ◌==◌, List, [], ◌∷◌, ◌++◌, length, map, flat_map, replicate, slice_index, Option, Some, None, if◌then◌else◌}
 use Rattle.std.specs.List.{range_with_len}
 use Rattle.std.specs.Int.{w16, w32, w64, to_le_bytes}
 use Rattle.md5.specs.Md5.{md5}
@@ -51,14 +51,20 @@ digest_length verify.Sha256 = 32
 digest_length verify.Plain = 0
 digest_length verify.Pattern = 0
 
--- `JRV1`
-abbrev pub magic : List ℕ
-magic = 0x4a ∷ 0x52 ∷ 0x56 ∷ 0x31 ∷ []
+-- what a header begins with: `JRV1` where it is for a whole block, `JRV2` where it is for a chunk
+abbrev pub block_version : ℕ
+block_version = 0x31
+
+abbrev pub chunk_version : ℕ
+chunk_version = 0x32
+
+abbrev pub magic : ℕ → List ℕ
+magic version = 0x4a ∷ 0x52 ∷ 0x56 ∷ version ∷ []
 
 -- the first half of a header, 32 bytes: who wrote what, and where
-unfoldable pub header_front : VerifyKind → WriteId → Piece → List ℕ
-header_front kind write piece =
-    magic ++ (kind_code kind ∷ digest_length kind ∷ [])
+unfoldable pub header_front : ℕ → VerifyKind → WriteId → Piece → List ℕ
+header_front version kind write piece =
+    magic version ++ (kind_code kind ∷ digest_length kind ∷ [])
     ++ to_le_bytes w16 write.pass ++ to_le_bytes w32 piece.len ++ to_le_bytes w32 write.clone
     ++ to_le_bytes w64 piece.offset ++ to_le_bytes w64 write.number
 
@@ -66,39 +72,69 @@ header_front kind write piece =
 abbrev pub header_back : VerifyKind → List ℕ → List ℕ
 header_back kind area = digest_of kind area ++ replicate (32 - digest_length kind) 0
 
--- the header of a write whose data area is this
-abbrev pub header_over : VerifyKind → WriteId → Piece → List ℕ → List ℕ
-header_over kind write piece area = header_front kind write piece ++ header_back kind area
+-- the header of a piece whose data area is this
+abbrev pub header_over : ℕ → VerifyKind → WriteId → Piece → List ℕ → List ℕ
+header_over version kind write piece area = header_front version kind write piece ++ header_back kind area
 
--- the data area of a block with a header
+-- the data area of a piece with a header
 abbrev pub data_area : Method → Piece → ℕ → List ℕ
 data_area method piece seed = filler_of method.pattern seed (piece.len - 64)
 
--- the 64 bytes of the header of a write with a digest
-abbrev pub header_of : Method → WriteId → Piece → ℕ → List ℕ
-header_of method write piece seed = header_over method.kind write piece (data_area method piece seed)
+-- the 64 bytes of the header of a piece of a write with a digest
+abbrev pub header_of : ℕ → Method → WriteId → Piece → ℕ → List ℕ
+header_of version method write piece seed = header_over version method.kind write piece (data_area method piece seed)
 
--- a block with a header before its data area
-abbrev pub headed_block : Method → WriteId → Piece → ℕ → List ℕ
-headed_block method write piece seed = header_of method write piece seed ++ data_area method piece seed
+-- a piece with a header before its data area
+abbrev pub headed_block : ℕ → Method → WriteId → Piece → ℕ → List ℕ
+headed_block version method write piece seed = header_of version method write piece seed ++ data_area method piece seed
+
+-- chunk i of a block: as many bytes as the interval between headers, with a seed of its own
+abbrev pub chunk_at : ℕ → Piece → ℕ → Piece
+chunk_at interval piece i = record { file = piece.file; offset = piece.offset + i * interval; len = interval }
+
+abbrev pub chunk_seed : ℕ → ℕ → ℕ
+chunk_seed seed i = (seed + i) % 2 ^ 64
+
+-- how many chunks a block has
+abbrev pub chunks_in : ℕ → Piece → ℕ
+chunks_in interval piece = piece.len / interval
+
+-- the header of chunk i of a write, and all of its bytes
+abbrev pub chunk_header : Method → WriteId → Piece → ℕ → ℕ → List ℕ
+chunk_header method write piece seed i = header_of chunk_version method write (chunk_at method.interval piece i) (chunk_seed seed i)
+
+abbrev pub chunk_bytes : Method → WriteId → Piece → ℕ → ℕ → List ℕ
+chunk_bytes method write piece seed i = headed_block chunk_version method write (chunk_at method.interval piece i) (chunk_seed seed i)
+
+-- a block with a digest: one header and its data area, or the chunks one behind the other
+abbrev pub digested_block : Method → WriteId → Piece → ℕ → List ℕ
+digested_block method write piece seed =
+    if method.interval == 0
+    then headed_block block_version method write piece seed
+    else flat_map (chunk_bytes method write piece seed) (range_with_len 0 (chunks_in method.interval piece))
 
 -- all bytes of a write
 abbrev pub content_of : VerifyKind → Method → WriteId → Piece → ℕ → List ℕ
 content_of verify.Plain method write piece seed = filler_of method.pattern seed piece.len
 content_of verify.Pattern method write piece seed = filler_of method.pattern seed piece.len
-content_of verify.Md5 method write piece seed = headed_block method write piece seed
-content_of verify.Sha1 method write piece seed = headed_block method write piece seed
-content_of verify.Sha256 method write piece seed = headed_block method write piece seed
+content_of verify.Md5 method write piece seed = digested_block method write piece seed
+content_of verify.Sha1 method write piece seed = digested_block method write piece seed
+content_of verify.Sha256 method write piece seed = digested_block method write piece seed
 
 -- the pattern that is expected back, where there is one
 abbrev pub expected_pattern : Option (List ℕ) → Expected
 expected_pattern (Some pattern) = expected.Pattern pattern
 expected_pattern None = expected.Nothing
 
+-- the header that is expected back, or the seed of which the headers of the chunks are made anew
+abbrev pub expected_headers : Method → WriteId → Piece → ℕ → Expected
+expected_headers method write piece seed =
+    if method.interval == 0 then expected.Header (header_of block_version method write piece seed) else expected.Seed seed
+
 -- what a check of the write is judged by
 abbrev pub expected_of : VerifyKind → Method → WriteId → Piece → ℕ → Expected
 expected_of verify.Plain method write piece seed = expected.Nothing
 expected_of verify.Pattern method write piece seed = expected_pattern method.pattern
-expected_of verify.Md5 method write piece seed = expected.Header (header_of method write piece seed)
-expected_of verify.Sha1 method write piece seed = expected.Header (header_of method write piece seed)
-expected_of verify.Sha256 method write piece seed = expected.Header (header_of method write piece seed)
+expected_of verify.Md5 method write piece seed = expected_headers method write piece seed
+expected_of verify.Sha1 method write piece seed = expected_headers method write piece seed
+expected_of verify.Sha256 method write piece seed = expected_headers method write piece seed

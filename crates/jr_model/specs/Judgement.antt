@@ -1,6 +1,8 @@
 -- Believed: the verdict on the bytes of a check (fio's manual, "verify"; the order of the tests is of this project). The
 -- header that is compared is the one that was written, never the one that was read.
-use Rattle.std.specs.Prelude.{◌≡◌, ℕ, suc, ◌==◌, nat_eq, Bool, true, false, is_some, List, [], ◌∷◌, length, take, drop, slice_range, Option, Some, None, if◌then◌else◌}
+use Rattle.std.specs.Prelude.{◌≡◌, ◌<◌, ℕ, suc, ◌*◌, ◌==◌, nat_eq, Bool, true, false, is_some, List, [], ◌∷◌, length, map, take, drop, slice_range, Option, Some, None, if◌then◌else◌}
+use Rattle.std.specs.Bool.{MatchBool}
+use Rattle.std.specs.List.{range_with_len}
 use Rattle.std.specs.Option.{option_map}
 use Rattle.std.specs.Cmp.Lexicographic.{pointwise}
 use Rattle.md5.specs.Md5.{md5}
@@ -10,10 +12,14 @@ use Rattle.jr_model.specs.declared.contents.VerifyKind.{VerifyKind}
 use Rattle.jr_model.specs.declared.contents.VerifyKind.TheVariants as verify
 use Rattle.jr_model.specs.declared.contents.Expected.{Expected}
 use Rattle.jr_model.specs.declared.contents.Expected.TheVariants as expected
-use Rattle.jr_model.specs.declared.events.What.TheVariants.{Header, Digest, DataArea, Byte}
+use Rattle.jr_model.specs.declared.contents.Method.{Method}
+use Rattle.jr_model.specs.declared.blocks.Piece.{Piece}
+use Rattle.jr_model.specs.declared.events.Part.TheVariants as part
+use Rattle.jr_model.specs.declared.events.What.TheVariants.{Header, Digest, DataArea, Byte, Chunk}
+use Rattle.jr_model.specs.declared.events.WriteId.{WriteId}
 use Rattle.jr_model.specs.declared.events.Verdict.{Verdict}
 use Rattle.jr_model.specs.declared.events.Verdict.TheVariants.{Good, Bad}
-use Rattle.jr_model.specs.Content.{digest_of, digest_length, pattern_bytes}
+use Rattle.jr_model.specs.Content.{digest_of, digest_length, pattern_bytes, data_area, chunk_at, chunk_seed, chunks_in, chunk_header}
 
 -- the same bytes
 abbrev pub same_bytes : List ℕ → List ℕ → Bool
@@ -42,11 +48,42 @@ abbrev pub byte_verdict : Option ℕ → Verdict
 byte_verdict None = Good
 byte_verdict (Some i) = Bad (Byte i)
 
--- the verdict on the bytes of a check, by what is expected of it
-abbrev pub verdict_of : VerifyKind → Expected → List ℕ → Verdict
-verdict_of kind expected.Nothing bytes = Good
-verdict_of kind (expected.Pattern pattern) bytes = byte_verdict (first_difference bytes (pattern_bytes pattern (length bytes)))
-verdict_of kind (expected.Header header) bytes = header_verdict kind header bytes
+-- a verdict by a header, said of chunk i
+abbrev pub in_chunk : ℕ → Verdict → Verdict
+in_chunk i Good = Good
+in_chunk i (Bad Header) = Bad (Chunk i part.Header)
+in_chunk i (Bad Digest) = Bad (Chunk i part.Digest)
+in_chunk i (Bad DataArea) = Bad (Chunk i part.DataArea)
+in_chunk i (Bad (Byte n)) = Bad (Byte n)
+in_chunk i (Bad (Chunk n found)) = Bad (Chunk n found)
+
+-- the first verdict that isn't good
+abbrev pub first_bad : List Verdict → Verdict
+first_bad [] = Good
+first_bad (Good ∷ verdicts) = first_bad verdicts
+first_bad (Bad what ∷ verdicts) = Bad what
+
+-- the bytes of chunk i
+abbrev pub bytes_of_chunk : ℕ → ℕ → List ℕ → List ℕ
+bytes_of_chunk interval i bytes = take interval (drop (i * interval) bytes)
+
+-- the verdict on chunk i of a block
+abbrev pub chunk_verdict : Method → WriteId → Piece → ℕ → List ℕ → ℕ → Verdict
+chunk_verdict method write piece seed bytes i =
+    in_chunk i (header_verdict method.kind (chunk_header method write piece seed i) (bytes_of_chunk method.interval i bytes))
+
+-- the verdict on a block of chunks: that on the first chunk that isn't good
+abbrev pub chunks_verdict : Method → WriteId → Piece → ℕ → List ℕ → Verdict
+chunks_verdict method write piece seed bytes =
+    first_bad (map (chunk_verdict method write piece seed bytes) (range_with_len 0 (chunks_in method.interval piece)))
+
+-- the verdict on the bytes of a check of this write, by what is expected of it
+abbrev pub verdict_of : Method → WriteId → Piece → Expected → List ℕ → Verdict
+verdict_of method write piece expected.Nothing bytes = Good
+verdict_of method write piece (expected.Pattern pattern) bytes =
+    byte_verdict (first_difference bytes (pattern_bytes pattern (length bytes)))
+verdict_of method write piece (expected.Header header) bytes = header_verdict method.kind header bytes
+verdict_of method write piece (expected.Seed seed) bytes = chunks_verdict method write piece seed bytes
 
 -- the method's digest tells these two lists of bytes apart, where it has one
 abbrev pub TellsApart : VerifyKind → List ℕ → List ℕ → Type 0
@@ -55,6 +92,15 @@ TellsApart verify.Sha1 a b = sha1 a ≡ sha1 b → a ≡ b
 TellsApart verify.Sha256 a b = sha256 a ≡ sha256 b → a ≡ b
 TellsApart verify.Plain a b = Unit {0}
 TellsApart verify.Pattern a b = Unit {0}
+
+-- the method's digest tells the data areas of these bytes from those of the write: the one of the block, or that of each chunk
+abbrev pub AreasToldApart : Method → Piece → ℕ → List ℕ → Type 0
+AreasToldApart method piece seed bytes =
+    MatchBool (method.interval == 0)
+    (TellsApart method.kind (drop 64 bytes) (data_area method piece seed))
+    ((i : ℕ) → i < chunks_in method.interval piece
+    → TellsApart method.kind (drop 64 (bytes_of_chunk method.interval i bytes))
+    (data_area method (chunk_at method.interval piece i) (chunk_seed seed i)))
 
 -- writes of this kind and pattern are checked
 abbrev pub is_checked : VerifyKind → Option (List ℕ) → Bool

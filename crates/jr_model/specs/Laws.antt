@@ -38,7 +38,7 @@ abbrev pub VerdictIsOfItsKind : Type 0
 VerdictIsOfItsKind =
     (method : Method) (write : WriteId) (piece : Piece) (seed : ℕ) (bytes : List ℕ)
     → length bytes ≤ piece.len
-    → kind_says method.kind piece.len (verdict_of method.kind (expected_of method.kind method write piece seed) bytes) ≡ true
+    → kind_says method.kind method.interval piece.len (verdict_of method write piece (expected_of method.kind method write piece seed) bytes) ≡ true
 
 -- whatever steps are made, in any order and refused ones among them, the machine's history is legal
 abbrev pub EveryRunIsLegal : Type 0

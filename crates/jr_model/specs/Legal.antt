@@ -1,6 +1,6 @@
 -- Believed: which event may happen after a history (fio's manual, "iodepth", "serialize_overlap", "stonewall",
 -- "verify_fatal"; the halt after a fault and the serialising over all jobs are of this project).
-use Rattle.std.specs.Prelude.{ℕ, ◌==◌, nat_lt, nat_le, Bool, true, false, not, ◌&&◌, ◌||◌, List, [], ◌∷◌, ◌++◌, length, slice_get, Option, Some, None, if◌then◌else◌}
+use Rattle.std.specs.Prelude.{ℕ, ◌/◌, ◌==◌, nat_lt, nat_le, Bool, true, false, not, ◌&&◌, ◌||◌, List, [], ◌∷◌, ◌++◌, length, slice_get, Option, Some, None, if◌then◌else◌}
 use Rattle.std.specs.List.{list_any, list_all}
 use Rattle.jr_model.specs.declared.blocks.Dir.{Dir}
 use Rattle.jr_model.specs.declared.blocks.Dir.TheVariants as direction
@@ -14,7 +14,7 @@ use Rattle.jr_model.specs.declared.events.Outcome.TheVariants.{Whole, Failed, Sh
 use Rattle.jr_model.specs.declared.events.Verdict.{Verdict as GivenVerdict}
 use Rattle.jr_model.specs.declared.events.Verdict.TheVariants.{Good, Bad}
 use Rattle.jr_model.specs.declared.events.What.{What}
-use Rattle.jr_model.specs.declared.events.What.TheVariants.{Header, Digest, DataArea, Byte}
+use Rattle.jr_model.specs.declared.events.What.TheVariants.{Header, Digest, DataArea, Byte, Chunk}
 use Rattle.jr_model.specs.declared.events.WriteId.{WriteId}
 use Rattle.jr_model.specs.declared.workloads.Draw.{Draw}
 use Rattle.jr_model.specs.History.{Started, started, flies, outcome_of, in_flight, in_flight_of, awaiting, is_of_clone, is_judged, is_probe, is_write, ended_whole, same_write, same_piece}
@@ -185,27 +185,40 @@ is_header_finding Header = true
 is_header_finding Digest = true
 is_header_finding DataArea = true
 is_header_finding (Byte i) = false
+is_header_finding (Chunk i found) = false
 
 abbrev pub is_byte_finding : ℕ → What → Bool
 is_byte_finding len (Byte i) = nat_lt i len
 is_byte_finding len Header = false
 is_byte_finding len Digest = false
 is_byte_finding len DataArea = false
+is_byte_finding len (Chunk i found) = false
 
-abbrev pub kind_finds : VerifyKind → ℕ → What → Bool
-kind_finds verify.Plain len what = false
-kind_finds verify.Pattern len what = is_byte_finding len what
-kind_finds verify.Md5 len what = is_header_finding what
-kind_finds verify.Sha1 len what = is_header_finding what
-kind_finds verify.Sha256 len what = is_header_finding what
+abbrev pub is_chunk_finding : ℕ → What → Bool
+is_chunk_finding chunks (Chunk i found) = nat_lt i chunks
+is_chunk_finding chunks Header = false
+is_chunk_finding chunks Digest = false
+is_chunk_finding chunks DataArea = false
+is_chunk_finding chunks (Byte i) = false
 
-abbrev pub kind_says : VerifyKind → ℕ → GivenVerdict → Bool
-kind_says kind len Good = true
-kind_says kind len (Bad what) = kind_finds kind len what
+-- by one header of the block, or by a header at each interval
+abbrev pub digest_finds : ℕ → ℕ → What → Bool
+digest_finds interval len what = if interval == 0 then is_header_finding what else is_chunk_finding (len / interval) what
+
+abbrev pub kind_finds : VerifyKind → ℕ → ℕ → What → Bool
+kind_finds verify.Plain interval len what = false
+kind_finds verify.Pattern interval len what = is_byte_finding len what
+kind_finds verify.Md5 interval len what = digest_finds interval len what
+kind_finds verify.Sha1 interval len what = digest_finds interval len what
+kind_finds verify.Sha256 interval len what = digest_finds interval len what
+
+abbrev pub kind_says : VerifyKind → ℕ → ℕ → GivenVerdict → Bool
+kind_says kind interval len Good = true
+kind_says kind interval len (Bad what) = kind_finds kind interval len what
 
 abbrev pub job_says : Option SubJob → ℕ → GivenVerdict → Bool
 job_says None len verdict = false
-job_says (Some job) len verdict = kind_says job.method.kind len verdict
+job_says (Some job) len verdict = kind_says job.method.kind job.method.interval len verdict
 
 -- a check that may be said this of
 abbrev pub verdict_fits : Plan → GivenVerdict → Option Started → Bool

@@ -133,7 +133,7 @@ content_of_io plan io =
 abbrev pub verdict_in_job : Option SubJob → Started → ℕ → List ℕ → GivenVerdict
 verdict_in_job None io seed bytes = Good
 verdict_in_job (Some job) io seed bytes =
-    verdict_of job.method.kind (expected_of job.method.kind job.method io.write io.piece seed) bytes
+    verdict_of job.method io.write io.piece (expected_of job.method.kind job.method io.write io.piece seed) bytes
 
 -- the verdict on the bytes read by a check
 abbrev pub verdict_on : Plan → Started → List ℕ → GivenVerdict

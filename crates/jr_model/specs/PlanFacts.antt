@@ -3,7 +3,7 @@ use Rattle.std.specs.Prelude.{◌≡◌, ℕ, ◌+◌, ◌*◌, ◌%◌, ◌^◌
 use Rattle.jr_model.specs.declared.limits.TheConstants.{SECTOR, LARGEST_BLOCK, LARGEST_END, MOST_CELLS, MOST_CLONES, MOST_DEPTH, MOST_PASSES, MOST_VERIFIERS, MOST_WORK}
 use Rattle.jr_model.specs.Draws.{size_at}
 use Rattle.jr_model.specs.Plan.{SubJob, FileSpec, Plan, is_verified}
-use Rattle.jr_model.specs.Tickets.{has_pattern}
+use Rattle.jr_model.specs.Tickets.{has_pattern, interval_fits}
 pub use Rattle.jr_model.specs.Directions.{has_reads, has_writes}
 
 -- each size that the split gives is a multiple of the cell, from the cell on up to the largest block
@@ -30,6 +30,7 @@ pub record KeepsLimits (job : SubJob) : Type 0 where
   pub reads : has_reads job.io_type ≡ true → SizesFit job.cell job.read_split
   pub writes : has_writes job.io_type ≡ true → SizesFit job.cell job.write_split
   pub pattern : has_pattern job.method.kind job.method.pattern ≡ true
+  pub interval : interval_fits job.method.kind job.method.interval job.cell ≡ true
   pub verified : is_verified job.method.kind ≡ true → has_writes job.io_type ≡ true
 
 -- the clone at place i of a list over these files: it is numbered so, and its region lies within its file

@@ -8,7 +8,9 @@ use Rattle.jr_model.specs.declared.events.Event.TheVariants.{Issue, Probe, Skip,
 use Rattle.jr_model.specs.declared.events.Verdict.{Verdict as GivenVerdict}
 use Rattle.jr_model.specs.declared.events.Verdict.TheVariants.{Good, Bad}
 use Rattle.jr_model.specs.declared.events.What.{What}
-use Rattle.jr_model.specs.declared.events.What.TheVariants.{Header, Digest, DataArea, Byte}
+use Rattle.jr_model.specs.declared.events.Part.{Part}
+use Rattle.jr_model.specs.declared.events.Part.TheVariants as part
+use Rattle.jr_model.specs.declared.events.What.TheVariants.{Header, Digest, DataArea, Byte, Chunk}
 use Rattle.jr_model.specs.declared.events.WriteId.{WriteId}
 use Rattle.jr_model.specs.declared.totals.Totals.{Totals}
 use Rattle.jr_model.specs.History.{Started, started, same_write}
@@ -69,11 +71,17 @@ miscompare_by ios (End worker io outcome) = None
 abbrev pub miscompares : List Event → List Miscompare
 miscompares history = filter_map (miscompare_by (started history)) history
 
+abbrev pub part_text : Part → List ℕ
+part_text part.Header = codes "header"
+part_text part.Digest = codes "digest"
+part_text part.DataArea = codes "data"
+
 abbrev pub what_text : What → List ℕ
-what_text Header = codes "header"
-what_text Digest = codes "digest"
-what_text DataArea = codes "data"
+what_text Header = part_text part.Header
+what_text Digest = part_text part.Digest
+what_text DataArea = part_text part.DataArea
 what_text (Byte i) = codes "byte:" ++ decimal i
+what_text (Chunk i found) = part_text found ++ codes ":" ++ decimal i
 
 abbrev pub file_name : Plan → ℕ → List ℕ
 file_name plan file = name_of (slice_get plan.files file)

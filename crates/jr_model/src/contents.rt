@@ -1,7 +1,9 @@
 ghost use Rattle.std.specs.Prelude.{◌≡◌, ◌≤◌, ◌++◌, length, drop, SomeIff};
 ghost use Rattle.jr_model.specs.PatternBytes.{padded};
 ghost use Rattle.jr_model.specs.Plan.{is_verified};
+ghost use Rattle.jr_model.specs.Tickets.{has_whole_chunks, interval_fits};
 
+use crate::limits::SECTOR;
 use std::marker::Model;
 
 /// A verify pattern: 1 to 64 bytes that a block repeats from its first byte.
@@ -92,6 +94,26 @@ impl VerifyKind {
     {
         self != VerifyKind::Plain
     }
+
+    /// Whether blocks of `len` bytes may have a header each `interval` bytes, where 0 is one header for the whole block. Kinds
+    /// without a digest have no headers, so with them any interval may stand.
+    pub fn fits_interval(self, interval: u32, len: u32) -> bool
+        ensures { result ≡ interval_fits self interval len }
+    {
+        match self {
+            VerifyKind::Plain | VerifyKind::Pattern => true,
+            VerifyKind::Md5 | VerifyKind::Sha1 | VerifyKind::Sha256 => {
+                has_whole_chunks(interval, len)
+            }
+        }
+    }
+}
+
+// Whether chunks of this interval are whole 512-byte blocks, and a whole number of them makes up so many bytes.
+fn has_whole_chunks(interval: u32, len: u32) -> bool
+    ensures { result ≡ has_whole_chunks interval len }
+{
+    interval == 0 || (interval % SECTOR == 0 && len % interval == 0)
 }
 
 /// What a job's writes contain, and how its checks judge it.
@@ -100,6 +122,8 @@ pub struct Method {
     pub kind: VerifyKind,
     /// The filler of a block, where the job gives one.
     pub pattern: Option<Pattern>,
+    /// The bytes from one header to the next, where the kind has headers and a block has several; 0 where it has one.
+    pub interval: u32,
 }
 
 /// What a check compares the bytes read with: kept from the write, never taken from the bytes read.
@@ -111,4 +135,6 @@ pub enum Expected {
     Pattern(Pattern),
     /// The header of the write.
     Header([u8; 64]),
+    /// Headers at the method's interval: the seed of the write's filler, of which they are made again.
+    Seed(u64),
 }

@@ -44,6 +44,19 @@ pub enum What {
     DataArea,
     /// The byte at this place is the first that differs from the pattern.
     Byte(u32),
+    /// This part of this chunk, counted from 0, in a block with a header at each interval.
+    Chunk(u32, Part),
+}
+
+/// What is wrong first with a chunk of a block.
+#[derive(Clone, Copy, Debug, PartialEq, Eq)]
+pub enum Part {
+    /// The first half of its header isn't the one that was written.
+    Header,
+    /// The digest in its header isn't the one that was written.
+    Digest,
+    /// The bytes after its header don't have the digest that was written.
+    DataArea,
 }
 
 /// What is said of a check.

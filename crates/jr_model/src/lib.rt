@@ -20,7 +20,7 @@ mod workloads;
 pub use blocks::{Dir, Piece, overlaps};
 pub use contents::{Expected, Method, Pattern, VerifyKind};
 pub use digits::{all_digits, digits_number};
-pub use events::{Event, IoId, Outcome, Started, Verdict, What, WriteId};
+pub use events::{Event, IoId, Outcome, Part, Started, Verdict, What, WriteId};
 pub use laws::{
     choice_may_happen, every_run_is_legal, front_is_legal, legal_goes_on, serial_is_legal,
     verdict_is_of_its_kind,

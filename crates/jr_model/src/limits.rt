@@ -3,8 +3,8 @@
 /// The unit in which pieces are cut and last writes are kept, in bytes.
 pub const SECTOR: u32 = 512;
 
-/// The largest block size of a job, in bytes (4 MiB).
-pub const LARGEST_BLOCK: u32 = 4_194_304;
+/// The largest block size of a job, in bytes (16 MiB).
+pub const LARGEST_BLOCK: u32 = 16_777_216;
 
 /// The furthest that a job's region may reach into a file, in bytes (1 PiB).
 pub const LARGEST_END: u64 = 1_125_899_906_842_624;

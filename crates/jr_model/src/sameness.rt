@@ -50,7 +50,9 @@ fn is_same_method(a: &Method, b: &Method) -> bool
     ensures yes { IsTrue result → a.now ≡ b.now }
     ensures no { IsFalse result → ¬ a.now ≡ b.now }
 {
-    is_same_verify(a.kind, b.kind) && is_same_pattern(&a.pattern, &b.pattern)
+    is_same_verify(a.kind, b.kind)
+        && is_same_pattern(&a.pattern, &b.pattern)
+        && a.interval == b.interval
 }
 
 fn is_same_verify(a: VerifyKind, b: VerifyKind) -> bool
@@ -79,6 +81,7 @@ fn is_same_expected(a: &Expected, b: &Expected) -> bool
         (Expected::Nothing, Expected::Nothing) => true,
         (Expected::Pattern(a), Expected::Pattern(b)) => is_same_bytes(a.as_slice(), b.as_slice()),
         (Expected::Header(a), Expected::Header(b)) => is_same_bytes(a, b),
+        (Expected::Seed(a), Expected::Seed(b)) => a == b,
         _ => false,
     }
 }

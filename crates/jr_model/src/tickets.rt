@@ -32,7 +32,7 @@ pub struct Ticket {
 }
 
 impl Ticket {
-    ghost use Rattle.jr_model.specs.Tickets.{ticket_fits, piece_fits, expected_fits};
+    ghost use Rattle.jr_model.specs.Tickets.{ticket_fits, piece_fits, expected_fits, chunks_fit};
 
     /// Whether the ticket can be carried out: whole 512-byte blocks within the limits, a pass below
     /// 1000, a pattern where the method needs one, and expected bytes for a probe alone.
@@ -42,6 +42,7 @@ impl Ticket {
         self.has_fitting_piece()
             && self.write.pass < MOST_PASSES
             && (self.method.kind != VerifyKind::Pattern || self.method.pattern.is_some())
+            && self.has_fitting_chunks()
             && self.has_fitting_expected()
     }
 
@@ -58,6 +59,19 @@ impl Ticket {
             && piece.offset <= LARGEST_END - u64::from(piece.len)
     }
 
+    // A write or a probe with headers at an interval is cut into whole chunks.
+    fn has_fitting_chunks(&self) -> bool
+        ensures { result ≡ chunks_fit self.now.kind self.now.method self.now.piece.len }
+    {
+        match self.kind {
+            TicketKind::Read => true,
+            TicketKind::Write | TicketKind::Probe => {
+                let method = &self.method;
+                method.kind.fits_interval(method.interval, self.piece.len)
+            }
+        }
+    }
+
     // A probe has what its method is judged by, and no other ticket has anything.
     fn has_fitting_expected(&self) -> bool
         ensures { result ≡ expected_fits self.now }
@@ -68,8 +82,12 @@ impl Ticket {
                 (VerifyKind::Pattern, Expected::Pattern(pattern)) => {
                     is_pattern(&self.method.pattern, &pattern)
                 }
-                (VerifyKind::Md5 | VerifyKind::Sha1 | VerifyKind::Sha256, Expected::Header(_)) =>
-                    true,
+                (VerifyKind::Md5 | VerifyKind::Sha1 | VerifyKind::Sha256, Expected::Header(_)) => {
+                    self.method.interval == 0
+                }
+                (VerifyKind::Md5 | VerifyKind::Sha1 | VerifyKind::Sha256, Expected::Seed(_)) => {
+                    self.method.interval != 0
+                }
                 _ => false,
             },
         }

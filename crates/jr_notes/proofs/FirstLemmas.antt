@@ -21,7 +21,7 @@ use Rattle.jr_settings.specs.declared.options.JobOptions.{JobOptions}
 use Rattle.jr_settings.specs.declared.settings.Setting.{Setting}
 use Rattle.jr_settings.specs.declared.settings.Setting.TheVariants as setting
 use Rattle.jr_settings.specs.declared.shapes.Shape.{Shape}
-use Rattle.jr_settings.specs.OptionValues.{flag_of, block_sizes, splits, is_colon, pattern_of}
+use Rattle.jr_settings.specs.OptionValues.{flag_of, block_sizes, splits, is_colon, pattern_of, interval_of}
 use Rattle.jr_settings.specs.OptionWords.{meaning_of, keys}
 use Rattle.jr_settings.specs.Settings.{setting_of, keyed_setting, valued_setting, text_setting, form_setting, flag_setting, choice_setting, number_setting}
 use Rattle.jr_settings.specs.Shapes.{shape_of, shape_with, cut_shape, options_fit, cell_of, reads_of, writes_of}
@@ -52,6 +52,7 @@ form_own : (n : ℕ) (key : TextKey) (word : List ℕ) → NamesOwn n (result_er
 form_own n text.BlockSizes word = value_own n (option_map (λ v. setting.BlockSizes v.0 v.1) (block_sizes word))
 form_own n text.Splits word = split_own n (option_map (λ v. setting.Splits v.0 v.1) (splits word))
 form_own n text.Pattern word = value_own n (option_map (λ v. setting.Pattern v) (pattern_of word))
+form_own n text.Interval word = value_own n (option_map (λ v. setting.Interval v) (interval_of word))
 form_own n text.FileName word = name_own n (nat_lt (position_or_len is_colon word) (length word))
 form_own n text.Directory word = name_own n (nat_lt (position_or_len is_colon word) (length word))
 form_own n text.Description word = tt
@@ -64,6 +65,7 @@ text_own : (n : ℕ) (key : TextKey) (word : List ℕ) → NamesOwn n (result_er
 text_own n text.BlockSizes word = empty_own n text.BlockSizes word (length word == 0)
 text_own n text.Splits word = empty_own n text.Splits word (length word == 0)
 text_own n text.Pattern word = empty_own n text.Pattern word (length word == 0)
+text_own n text.Interval word = empty_own n text.Interval word (length word == 0)
 text_own n text.FileName word = empty_own n text.FileName word (length word == 0)
 text_own n text.Directory word = empty_own n text.Directory word (length word == 0)
 text_own n text.Description word = tt

@@ -7,7 +7,7 @@ use jr_text::Line;
 pub type Row = (&'static str, &'static str, &'static str);
 
 // The keys that aren't read.
-const KEYS: [Row; 33] = [
+const KEYS: [Row; 32] = [
     (
         "name",
         "a job's name is its heading",
@@ -47,11 +47,6 @@ const KEYS: [Row; 33] = [
         "random_generator allrandrepeat softrandommap",
         "there is one generator and one map",
         "nothing, or another randseed",
-    ),
-    (
-        "verify_interval",
-        "each block has one header",
-        "a smaller bs",
     ),
     (
         "verify_only",
@@ -166,7 +161,7 @@ const OTHER: Row = (
 );
 
 // The values that aren't read, of keys that are. A later row speaks of what no earlier one does.
-const VALUES: [Row; 33] = [
+const VALUES: [Row; 34] = [
     ("*=", "there is no value", "a value behind its ="),
     (
         "rw=*trim* readwrite=*trim*",
@@ -228,6 +223,11 @@ const VALUES: [Row; 33] = [
         "verify_pattern=*",
         "not 0x with digits, nor one byte as 0 to 255",
         "the bytes in hexadecimal behind 0x, first byte first",
+    ),
+    (
+        "verify_interval=*",
+        "not a multiple of 512 from 0 to 16777216",
+        "0 for one header in each block",
     ),
     (
         "filename=* directory=*",

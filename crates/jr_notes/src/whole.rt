@@ -110,13 +110,19 @@ fn block_text(alloc: Global, options: &JobOptions) -> Result<String, AllocError>
     let sizes = sizes(alloc, options)?;
     if let Some(size) = sizes.iter().find(|size| !is_block(**size)) {
         return format!(in alloc;
-            "a block size of {size} bytes; instead: a multiple of 512 up to 4194304"
+            "a block size of {size} bytes; instead: a multiple of 512 up to 16777216"
         );
     }
     let least = sizes.iter().copied().min().unwrap_or(SECTOR);
     if let Some(size) = sizes.iter().find(|size| size.checked_rem(least) != Some(0)) {
         return format!(in alloc;
             "block sizes of {least} and {size} bytes; instead: multiples of the least"
+        );
+    }
+    let interval = options.interval;
+    if !options.kind.fits_interval(interval, least) {
+        return format!(in alloc;
+            "verify_interval {interval} with blocks of {least} bytes; instead: blocks of whole intervals"
         );
     }
     let size = options.size.unwrap_or(0);

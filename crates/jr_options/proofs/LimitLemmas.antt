@@ -1,8 +1,9 @@
 -- What the shape of a job gives its clones.
-use Rattle.std.proofs.Common.{◌≡◌, ℕ, ◌+◌, ◌-◌, ◌*◌, ◌/◌, ◌%◌, ◌<◌, ◌≤◌, Bool, true, false, not, ◌&&◌, ◌||◌, leb, ltb, eqb, length, None, ap, arith, refl, ◌⊎◌, inl, inr}
+use Rattle.std.proofs.Common.{◌≡◌, ℕ, ◌+◌, ◌*◌, ◌/◌, ◌%◌, ◌<◌, ◌≤◌, Bool, true, false, not, ◌&&◌, ◌||◌, leb, ltb, eqb, length, None, ap, arith, refl, ◌⊎◌, inl, inr}
 use Rattle.std.proofs.lemmas.Bool.{and_parts, and_from, le-ltb, le-leb, lt-leb, leb-true, eq-eqb, eqb-true}
 use Rattle.jr_model.specs.declared.workloads.IoType.{IoType}
 use Rattle.jr_model.specs.declared.workloads.IoType.TheVariants as io
+use Rattle.jr_model.specs.Tickets.{interval_fits}
 use Rattle.jr_settings.specs.declared.options.JobOptions.{JobOptions}
 use Rattle.jr_settings.specs.declared.shapes.Shape.{Shape}
 use Rattle.jr_settings.specs.Options.{AreInRange}
@@ -33,17 +34,19 @@ pub record Fit (o : JobOptions) (shape : Shape) : Type 0 where
   pub reads : has_reads o.io_type ≡ true → SizesFit shape.cell shape.reads
   pub writes : has_writes o.io_type ≡ true → SizesFit shape.cell shape.writes
 
-tests_of : (o : JobOptions) (shape : Shape) → HasShape o shape → ((not (has_reads o.io_type) || split_fits shape.cell shape.reads) ≡ true) × ((not (has_writes o.io_type) || split_fits shape.cell shape.writes) ≡ true)
+tests_of : (o : JobOptions) (shape : Shape) → HasShape o shape → ((not (has_reads o.io_type) || split_fits shape.cell shape.reads) ≡ true) × (((not (has_writes o.io_type) || split_fits shape.cell shape.writes) ≡ true) × (interval_fits o.kind o.interval shape.cell ≡ true))
 tests_of o shape h =
-    let p5 = and_parts _ (not (has_writes o.io_type) || split_fits shape.cell shape.writes) h.fits in
+    let p6 = and_parts _ (interval_fits o.kind o.interval shape.cell) h.fits in
+    let p5 = and_parts _ (not (has_writes o.io_type) || split_fits shape.cell shape.writes) p6.0 in
     let p4 = and_parts _ (not (has_reads o.io_type) || split_fits shape.cell shape.reads) p5.0 in
-    (p4.1, p5.1)
+    (p4.1, (p5.1, p6.1))
 
 pub fit_of : (o : JobOptions) (shape : Shape) → HasShape o shape → Fit o shape
 fit_of o shape h =
     let reads_ok = not (has_reads o.io_type) || split_fits shape.cell shape.reads in
     let writes_ok = not (has_writes o.io_type) || split_fits shape.cell shape.writes in
-    let p5 = and_parts _ writes_ok h.fits in
+    let p6 = and_parts _ (interval_fits o.kind o.interval shape.cell) h.fits in
+    let p5 = and_parts _ writes_ok p6.0 in
     let p4 = and_parts _ reads_ok p5.0 in
     let p3 = and_parts _ (eqb (o.offset_step % 512) 0) p4.0 in
     let p2 = and_parts _ (eqb (o.offset % 512) 0) p3.0 in
@@ -57,7 +60,7 @@ fit_of o shape h =
       writes = λ e. sizes_fit shape.cell shape.writes (if_needed _ _ p5.1 e) h.writes_total;
     }
 
-cell_most : (o : JobOptions) (shape : Shape) → Fit o shape → shape.cell ≤ 4194304
+cell_most : (o : JobOptions) (shape : Shape) → Fit o shape → shape.cell ≤ 16777216
 cell_most o shape fit =
     elim (some_direction o.io_type) [
       | inl e ↦ let s = fit.reads e in omega (arith, s.least 0 (omega arith), s.most 0 (omega arith))
@@ -84,7 +87,7 @@ none_against d job start range h place region cells room work =
     let tests = tests_of o job.shape h in
     let within = cells_within o job.shape h in
     let cut : is_cut w start ≡ true =
-    and_from _ _ (and_from _ _ (and_from _ _ (and_from _ _ (and_from _ _ (and_from _ _ (le-leb 512 w.cell fit.cell_least) (le-leb w.cell 4194304 (cell_most o job.shape fit))) (eq-eqb (w.cell % 512) 0 fit.cell_sectors)) (eq-eqb (start % 512) 0 place)) (le-leb 1 w.cells h.cells_least)) tests.0) tests.1 in
+    and_from _ _ (and_from _ _ (and_from _ _ (and_from _ _ (and_from _ _ (and_from _ _ (and_from _ _ (le-leb 512 w.cell fit.cell_least) (le-leb w.cell 16777216 (cell_most o job.shape fit))) (eq-eqb (w.cell % 512) 0 fit.cell_sectors)) (eq-eqb (start % 512) 0 place)) (le-leb 1 w.cells h.cells_least)) tests.0) tests.1.0) tests.1.1 in
     let numbers : numbers_fit w ≡ true =
     and_from _ _ (and_from _ _ (and_from _ _ (and_from _ _ (le-leb w.read_percent 100 range.percent) (le-leb 1 w.depth range.depth_least)) (le-leb w.depth 256 range.depth_most)) (le-leb 1 w.passes range.passes_least)) (le-leb w.passes 1000 range.passes_most) in
     let verified = unneeded _ _ h.verified in

@@ -15,7 +15,7 @@ workload_of job = record {
   seed = job.options.seed;
   depth = job.options.depth;
   passes = job.options.passes;
-  method = record { kind = job.options.kind; pattern = job.options.pattern };
+  method = record { kind = job.options.kind; pattern = job.options.pattern; interval = job.options.interval };
   checks_writes = job.options.checks_writes;
   backlog = job.options.backlog;
   is_fatal = job.options.is_fatal;

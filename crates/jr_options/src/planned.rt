@@ -36,6 +36,7 @@ impl PlannedJob {
             method: Method {
                 kind: options.kind,
                 pattern: options.pattern,
+                interval: options.interval,
             },
             checks_writes: options.checks_writes,
             backlog: options.backlog,

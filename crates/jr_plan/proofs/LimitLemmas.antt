@@ -6,7 +6,7 @@ use Rattle.std.proofs.lemmas.List.Sums.{sum_by-append}
 use Rattle.jr_model.specs.Directions.{has_reads, has_writes}
 use Rattle.jr_model.specs.Draws.{size_at}
 use Rattle.jr_model.specs.Plan.{is_verified}
-use Rattle.jr_model.specs.Tickets.{has_pattern}
+use Rattle.jr_model.specs.Tickets.{has_pattern, interval_fits}
 use Rattle.jr_plan.specs.declared.faults.PlanFault.{PlanFault}
 use Rattle.jr_plan.specs.declared.faults.PlanFault.TheVariants as fault
 use Rattle.jr_plan.specs.declared.workloads.Workload.{Workload}
@@ -19,14 +19,14 @@ use Rattle.jr_plan.specs.Workloads.{is_cut, numbers_fit, workload_fault}
 
 -- what an entry's size keeps
 abbrev Fitting : ℕ → ℕ → Type 0
-Fitting cell size = (size % cell ≡ 0) × (cell ≤ size) × (size ≤ 4194304)
+Fitting cell size = (size % cell ≡ 0) × (cell ≤ size) × (size ≤ 16777216)
 
 entry-fitting : (cell size percent : ℕ) → entry_fits cell (size, percent) ≡ true → 0 < percent → Fitting cell size
 entry-fitting cell size percent fits some =
     elim (or_cases (eqb percent 0) _ fits) [
       | inl none ↦ absurd (omega (arith, eqb-true percent 0 none))
       | inr all ↦
-          let parts = and_parts _ (leb size 4194304) all in
+          let parts = and_parts _ (leb size 16777216) all in
           let front = and_parts (leb cell size) (eqb (size % cell) 0) parts.0 in
           (eqb-true _ _ front.1, leb-true _ _ front.0, leb-true _ _ parts.1)
     ]
@@ -111,12 +111,13 @@ limits_kept d w job number file start none reads writes =
     let t = taken_of d w start none in
     let reads_ok = not (has_reads w.io_type) || split_fits w.cell w.reads in
     let writes_ok = not (has_writes w.io_type) || split_fits w.cell w.writes in
-    let c6 = and_parts _ writes_ok t.cut in
+    let c7 = and_parts _ (interval_fits w.method.kind w.method.interval w.cell) t.cut in
+    let c6 = and_parts _ writes_ok c7.0 in
     let c5 = and_parts _ reads_ok c6.0 in
     let c4 = and_parts _ (leb 1 w.cells) c5.0 in
     let c3 = and_parts _ (eqb (start % 512) 0) c4.0 in
     let c2 = and_parts _ (eqb (w.cell % 512) 0) c3.0 in
-    let c1 = and_parts (leb 512 w.cell) (leb w.cell 4194304) c2.0 in
+    let c1 = and_parts (leb 512 w.cell) (leb w.cell 16777216) c2.0 in
     let n4 = and_parts _ (leb w.passes 1000) t.numbers in
     let n3 = and_parts _ (leb 1 w.passes) n4.0 in
     let n2 = and_parts _ (leb w.depth 256) n3.0 in
@@ -137,5 +138,6 @@ limits_kept d w job number file start none reads writes =
       reads = λ e. sizes_fit w.cell w.reads (if_needed _ _ c5.1 e) reads;
       writes = λ e. sizes_fit w.cell w.writes (if_needed _ _ c6.1 e) writes;
       pattern = t.pattern;
+      interval = c7.1;
       verified = t.verified;
     }

@@ -5,7 +5,7 @@ use Rattle.jr_model.specs.declared.contents.VerifyKind.TheVariants as verify
 use Rattle.jr_model.specs.declared.workloads.IoType.{IoType}
 use Rattle.jr_model.specs.Directions.{has_reads, has_writes}
 use Rattle.jr_model.specs.Plan.{is_verified}
-use Rattle.jr_model.specs.Tickets.{has_pattern}
+use Rattle.jr_model.specs.Tickets.{has_pattern, interval_fits}
 use Rattle.jr_plan.specs.declared.faults.PlanFault.{PlanFault}
 use Rattle.jr_plan.specs.declared.faults.PlanFault.TheVariants as fault
 use Rattle.jr_plan.specs.declared.workloads.Workload.{Workload}
@@ -25,18 +25,19 @@ plain_workload io_type block cells = record {
   seed = 1;
   depth = 1;
   passes = 1;
-  method = record { kind = verify.Plain; pattern = None };
+  method = record { kind = verify.Plain; pattern = None; interval = 0 };
   checks_writes = true;
   backlog = 0;
   is_fatal = false;
 }
 
--- its region is whole blocks of 512 bytes and has cells, and the sizes in use fit the cell
+-- its region is whole blocks of 512 bytes and has cells, the sizes in use fit the cell, and the interval between headers does
 abbrev pub is_cut : Workload → ℕ → Bool
 is_cut w start =
     nat_le SECTOR w.cell && nat_le w.cell LARGEST_BLOCK && (w.cell % SECTOR == 0) && (start % SECTOR == 0) && nat_le 1 w.cells
     && (not (has_reads w.io_type) || split_fits w.cell w.reads)
     && (not (has_writes w.io_type) || split_fits w.cell w.writes)
+    && interval_fits w.method.kind w.method.interval w.cell
 
 -- its numbers are ones that they may be
 abbrev pub numbers_fit : Workload → Bool

@@ -60,6 +60,7 @@ impl Workload {
             method: Method {
                 kind: VerifyKind::Plain,
                 pattern: None,
+                interval: 0,
             },
             checks_writes: true,
             backlog: 0,
@@ -67,7 +68,7 @@ impl Workload {
         }
     }
 
-    // Whether its region is whole blocks, cells and fitting sizes.
+    // Whether its region is whole blocks, cells, fitting sizes and whole chunks.
     fn is_cut(&self, start: u64) -> bool
         ensures { result ≡ is_cut self.now start }
     {
@@ -78,6 +79,10 @@ impl Workload {
             && self.cells >= 1
             && (!self.io_type.has_reads() || self.reads.fits(self.cell))
             && (!self.io_type.has_writes() || self.writes.fits(self.cell))
+            && self
+                .method
+                .kind
+                .fits_interval(self.method.interval, self.cell)
     }
 
     fn numbers_fit(&self) -> bool

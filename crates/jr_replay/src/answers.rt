@@ -2,7 +2,7 @@ ghost use Rattle.std.specs.Prelude.{◌≡◌, ◌&&◌, not, ◌==◌, IfOk, le
 ghost use Rattle.std.specs.List.{list_all};
 ghost use Rattle.jr_model.specs.History.{started, flies, outcome_of, is_judged, ended_whole, in_flight, awaiting};
 ghost use Rattle.jr_model.specs.Legal.{step_of_draw, step_of_clone, step_at, same_dir, is_this_issue, is_this_probe};
-ghost use Rattle.jr_model.specs.Legal.{is_this_skip, outcome_fits, end_fits, is_header_finding, is_byte_finding, kind_finds};
+ghost use Rattle.jr_model.specs.Legal.{is_this_skip, outcome_fits, end_fits, is_header_finding, is_byte_finding, is_chunk_finding, digest_finds, kind_finds};
 ghost use Rattle.jr_model.specs.Legal.{kind_says, job_says, verdict_fits, may_happen, is_over, is_complete};
 ghost use Rattle.jr_model.specs.Plan.{clone_of};
 
@@ -141,7 +141,28 @@ fn is_header_finding(what: What) -> bool
 {
     match what {
         What::Header | What::Digest | What::DataArea => true,
-        What::Byte(_) => false,
+        What::Byte(_) | What::Chunk(_, _) => false,
+    }
+}
+
+// Whether this is a part of one of so many chunks.
+fn is_chunk_finding(chunks: u32, what: What) -> bool
+    ensures { result ≡ is_chunk_finding chunks what }
+{
+    match what {
+        What::Chunk(i, _) => i < chunks,
+        _ => false,
+    }
+}
+
+// Whether headers can find this: one for the block, or one at each interval.
+fn digest_finds(interval: u32, len: u32, what: What) -> bool
+    ensures { result ≡ digest_finds interval len what }
+{
+    if interval == 0 {
+        is_header_finding(what)
+    } else {
+        is_chunk_finding(len / interval, what)
     }
 }
 
@@ -156,23 +177,25 @@ fn is_byte_finding(len: u32, what: What) -> bool
 }
 
 // Whether a check of this kind can find this.
-fn kind_finds(kind: VerifyKind, len: u32, what: What) -> bool
-    ensures { result ≡ kind_finds kind len what }
+fn kind_finds(kind: VerifyKind, interval: u32, len: u32, what: What) -> bool
+    ensures { result ≡ kind_finds kind interval len what }
 {
     match kind {
         VerifyKind::Plain => false,
         VerifyKind::Pattern => is_byte_finding(len, what),
-        VerifyKind::Md5 | VerifyKind::Sha1 | VerifyKind::Sha256 => is_header_finding(what),
+        VerifyKind::Md5 | VerifyKind::Sha1 | VerifyKind::Sha256 => digest_finds(
+            interval, len, what,
+        ),
     }
 }
 
 // Whether a check of this kind can have this verdict.
-fn kind_says(kind: VerifyKind, len: u32, verdict: Verdict) -> bool
-    ensures { result ≡ kind_says kind len verdict }
+fn kind_says(kind: VerifyKind, interval: u32, len: u32, verdict: Verdict) -> bool
+    ensures { result ≡ kind_says kind interval len verdict }
 {
     match verdict {
         Verdict::Good => true,
-        Verdict::Bad(what) => kind_finds(kind, len, what),
+        Verdict::Bad(what) => kind_finds(kind, interval, len, what),
     }
 }
 
@@ -182,7 +205,8 @@ fn clone_says(plan: &Plan, clone: u32, len: u32, verdict: Verdict) -> bool
 {
     let clone = clone as usize;
     if clone < plan.clones() {
-        kind_says(plan.clone_at(clone).method().kind, len, verdict)
+        let method = plan.clone_at(clone).method();
+        kind_says(method.kind, method.interval, len, verdict)
     } else {
         false
     }

@@ -23,7 +23,7 @@ use Rattle.jr_model.specs.declared.workloads.IoType.{IoType}
 use Rattle.jr_settings.specs.OptionWords.{same_text, meaning_of, keys, io_types, engines, verify_kinds, submit_modes}
 use Rattle.jr_settings.specs.Options.{options_from, and_setting, with_setting, default_options}
 use Rattle.jr_settings.specs.Settings.{setting_of, setting_number_range, keyed_setting, valued_setting, choice_setting, number_made, flag_setting, text_setting, form_setting}
-use Rattle.jr_settings.specs.OptionValues.{flag_of, number_within, block_sizes, splits, is_colon, pattern_of}
+use Rattle.jr_settings.specs.OptionValues.{flag_of, number_within, block_sizes, splits, is_colon, pattern_of, interval_of}
 use Rattle.jr_settings.specs.Lookups.{is_keyed, last_line, last_value, value_of, value_from, said, said_by, options_by, options_in}
 use Rattle.jr_settings.proofs.OptionLemmas.{fault_stays}
 
@@ -54,6 +54,7 @@ IsOfKey (Flag key) s = (v : Bool) × (flag_setting key v ≡ s)
 IsOfKey (Text text.BlockSizes) s = (v : ℕ × ℕ) × (setting.BlockSizes v.0 v.1 ≡ s)
 IsOfKey (Text text.Splits) s = (v : Option (List (ℕ × ℕ)) × Option (List (ℕ × ℕ))) × (setting.Splits v.0 v.1 ≡ s)
 IsOfKey (Text text.Pattern) s = (v : List ℕ) × (setting.Pattern v ≡ s)
+IsOfKey (Text text.Interval) s = (v : ℕ) × (setting.Interval v ≡ s)
 IsOfKey (Text text.FileName) s = setting.Nothing ≡ s
 IsOfKey (Text text.Directory) s = setting.Nothing ≡ s
 IsOfKey (Text text.Description) s = setting.Nothing ≡ s
@@ -87,6 +88,7 @@ form_made : (key : TextKey) (word : List ℕ) (line : ℕ) (s : Setting) → for
 form_made text.BlockSizes word line s is = made_of (λ v. setting.BlockSizes v.0 v.1) (block_sizes word) (fault.BadValue line) s is
 form_made text.Splits word line s is = made_of (λ v. setting.Splits v.0 v.1) (splits word) (fault.BadSplit line) s is
 form_made text.Pattern word line s is = made_of (λ v. setting.Pattern v) (pattern_of word) (fault.BadValue line) s is
+form_made text.Interval word line s is = made_of (λ v. setting.Interval v) (interval_of word) (fault.BadValue line) s is
 form_made text.FileName word line s is = named (nat_lt (position_or_len is_colon word) (length word)) line s is
 form_made text.Directory word line s is = named (nat_lt (position_or_len is_colon word) (length word)) line s is
 form_made text.Description word line s is = nothing_else s (Ok setting.Nothing) refl is
@@ -96,6 +98,7 @@ text_made text.Description word line s is = nothing_else s (Ok setting.Nothing) 
 text_made text.BlockSizes word line s is = form_made text.BlockSizes word line s (filled (length word == 0) line (form_setting text.BlockSizes word line) s is)
 text_made text.Splits word line s is = form_made text.Splits word line s (filled (length word == 0) line (form_setting text.Splits word line) s is)
 text_made text.Pattern word line s is = form_made text.Pattern word line s (filled (length word == 0) line (form_setting text.Pattern word line) s is)
+text_made text.Interval word line s is = form_made text.Interval word line s (filled (length word == 0) line (form_setting text.Interval word line) s is)
 text_made text.FileName word line s is = form_made text.FileName word line s (filled (length word == 0) line (form_setting text.FileName word line) s is)
 text_made text.Directory word line s is = form_made text.Directory word line s (filled (length word == 0) line (form_setting text.Directory word line) s is)
 
@@ -167,30 +170,33 @@ each_entry = (
                                             (
                                               λ saying s m. subst (Counts saying (codes "verify_pattern")) m.1 refl,
                                               (
-                                                λ saying s m. subst (Counts saying (codes "verify_backlog")) m.1 refl,
+                                                λ saying s m. subst (Counts saying (codes "verify_interval")) m.1 refl,
                                                 (
-                                                  λ saying s m. subst (Counts saying (codes "verify_async")) m.1 refl,
+                                                  λ saying s m. subst (Counts saying (codes "verify_backlog")) m.1 refl,
                                                   (
-                                                    λ saying s m. subst (Counts saying (codes "verify_fatal")) m.1 refl,
+                                                    λ saying s m. subst (Counts saying (codes "verify_async")) m.1 refl,
                                                     (
-                                                      λ saying s m. subst (Counts saying (codes "do_verify")) m.1 refl,
+                                                      λ saying s m. subst (Counts saying (codes "verify_fatal")) m.1 refl,
                                                       (
-                                                        λ saying s m. subst (Counts saying (codes "direct")) m.1 refl,
+                                                        λ saying s m. subst (Counts saying (codes "do_verify")) m.1 refl,
                                                         (
-                                                          λ saying s m. subst (Counts saying (codes "buffered")) m.1 refl,
+                                                          λ saying s m. subst (Counts saying (codes "direct")) m.1 refl,
                                                           (
-                                                            λ saying s m. subst (Counts saying (codes "thread")) m.1 refl,
+                                                            λ saying s m. subst (Counts saying (codes "buffered")) m.1 refl,
                                                             (
-                                                              λ saying s m. subst (Counts saying (codes "invalidate")) m.1 refl,
+                                                              λ saying s m. subst (Counts saying (codes "thread")) m.1 refl,
                                                               (
-                                                                λ saying s m. subst (Counts saying (codes "randrepeat")) m.1 refl,
+                                                                λ saying s m. subst (Counts saying (codes "invalidate")) m.1 refl,
                                                                 (
-                                                                  λ saying s m. subst (Counts saying (codes "group_reporting")) m.1 refl,
+                                                                  λ saying s m. subst (Counts saying (codes "randrepeat")) m.1 refl,
                                                                   (
-                                                                    λ saying s m. subst (Counts saying (codes "io_submit_mode")) m refl,
+                                                                    λ saying s m. subst (Counts saying (codes "group_reporting")) m.1 refl,
                                                                     (
-                                                                      λ saying s m. subst (Counts saying (codes "description")) m refl,
-                                                                      tt,
+                                                                      λ saying s m. subst (Counts saying (codes "io_submit_mode")) m refl,
+                                                                      (
+                                                                        λ saying s m. subst (Counts saying (codes "description")) m refl,
+                                                                        tt,
+                                                                      ),
                                                                     ),
                                                                   ),
                                                                 ),

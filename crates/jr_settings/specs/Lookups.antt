@@ -66,6 +66,7 @@ options_by saying = record {
   engine = (alone (saying (codes "ioengine" ∷ []))).engine;
   kind = (alone (saying (codes "verify" ∷ []))).kind;
   pattern = (alone (saying (codes "verify_pattern" ∷ []))).pattern;
+  interval = (alone (saying (codes "verify_interval" ∷ []))).interval;
   backlog = (alone (saying (codes "verify_backlog" ∷ []))).backlog;
   verifiers = (alone (saying (codes "verify_async" ∷ []))).verifiers;
   is_fatal = (alone (saying (codes "verify_fatal" ∷ []))).is_fatal;

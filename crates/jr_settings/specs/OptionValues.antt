@@ -4,6 +4,7 @@ use Rattle.std.specs.List.{slice_split, list_all}
 use Rattle.std.specs.Char.{digit_value, is_ascii_digit}
 use Rattle.std.specs.Option.{option_map}
 use Rattle.std.specs.Result.{result_ok}
+use Rattle.jr_model.specs.declared.limits.TheConstants.{LARGEST_BLOCK, SECTOR}
 use Rattle.jr_text.specs.declared.faults.NumFault.{NumFault}
 use Rattle.jr_text.specs.Number.{number_of, is_hexadecimal}
 use Rattle.jr_sizes.specs.Splits.{split_of}
@@ -134,3 +135,12 @@ decimal_pattern text =
 -- the pattern that a text says: hexadecimal digits behind `0x`, or one byte in decimal
 abbrev pub pattern_of : List ℕ → Option (List ℕ)
 pattern_of text = if is_hexadecimal text then hex_pattern (drop 2 text) else decimal_pattern text
+
+-- the number where it is of whole blocks of 512 bytes
+abbrev pub in_sectors : Option ℕ → Option ℕ
+in_sectors None = None
+in_sectors (Some n) = if n % SECTOR == 0 then Some n else None
+
+-- the bytes from one header to the next: whole blocks, up to the largest one
+abbrev pub interval_of : List ℕ → Option ℕ
+interval_of text = in_sectors (number_within 0 LARGEST_BLOCK text)

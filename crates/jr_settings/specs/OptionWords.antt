@@ -52,6 +52,7 @@ keys =
     ∷ (codes "ioengine", Choice choice.Engine)
     ∷ (codes "verify", Choice choice.Verify)
     ∷ (codes "verify_pattern", Text text.Pattern)
+    ∷ (codes "verify_interval", Text text.Interval)
     ∷ (codes "verify_backlog", Number number.Backlog)
     ∷ (codes "verify_async", Number number.Verifiers)
     ∷ (codes "verify_fatal", Flag flag.Fatal)

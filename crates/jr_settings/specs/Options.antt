@@ -32,6 +32,7 @@ default_options = record {
   engine = engine.File;
   kind = verify.Plain;
   pattern = None;
+  interval = 0;
   backlog = 0;
   verifiers = 0;
   is_fatal = false;
@@ -56,6 +57,7 @@ with_setting o (setting.Stonewall v) = record o { stonewall = v }
 with_setting o (setting.Engine v) = record o { engine = v }
 with_setting o (setting.Verify v) = record o { kind = v }
 with_setting o (setting.Pattern v) = record o { pattern = Some v }
+with_setting o (setting.Interval v) = record o { interval = v }
 with_setting o (setting.Backlog v) = record o { backlog = v }
 with_setting o (setting.Verifiers v) = record o { verifiers = v }
 with_setting o (setting.Fatal v) = record o { is_fatal = v }

@@ -15,7 +15,7 @@ use Rattle.jr_settings.specs.declared.keys.FlagKey.TheVariants as flag
 use Rattle.jr_settings.specs.declared.keys.TextKey.{TextKey}
 use Rattle.jr_settings.specs.declared.keys.TextKey.TheVariants as text
 use Rattle.jr_settings.specs.OptionWords.{meaning_of, keys, io_types, engines, verify_kinds, submit_modes}
-use Rattle.jr_settings.specs.OptionValues.{number_within, flag_of, block_sizes, splits, is_colon, pattern_of}
+use Rattle.jr_settings.specs.OptionValues.{number_within, flag_of, block_sizes, splits, is_colon, pattern_of, interval_of}
 use Rattle.jr_settings.specs.declared.keys.NumberKey.{NumberKey}
 use Rattle.jr_settings.specs.declared.keys.NumberKey.TheVariants as number
 use Rattle.jr_settings.specs.declared.settings.Setting.{Setting}
@@ -86,6 +86,7 @@ abbrev pub form_setting : TextKey → List ℕ → ℕ → Result Setting JobFau
 form_setting text.BlockSizes word line = ok_or (option_map (λ v. setting.BlockSizes v.0 v.1) (block_sizes word)) (fault.BadValue line)
 form_setting text.Splits word line = ok_or (option_map (λ v. setting.Splits v.0 v.1) (splits word)) (fault.BadSplit line)
 form_setting text.Pattern word line = ok_or (option_map (λ v. setting.Pattern v) (pattern_of word)) (fault.BadValue line)
+form_setting text.Interval word line = ok_or (option_map (λ v. setting.Interval v) (interval_of word)) (fault.BadValue line)
 form_setting text.FileName word line = name_setting word line
 form_setting text.Directory word line = name_setting word line
 form_setting text.Description word line = Ok setting.Nothing
@@ -96,6 +97,7 @@ text_setting text.Description word line = Ok setting.Nothing
 text_setting text.BlockSizes word line = if length word == 0 then Err (fault.BadValue line) else form_setting text.BlockSizes word line
 text_setting text.Splits word line = if length word == 0 then Err (fault.BadValue line) else form_setting text.Splits word line
 text_setting text.Pattern word line = if length word == 0 then Err (fault.BadValue line) else form_setting text.Pattern word line
+text_setting text.Interval word line = if length word == 0 then Err (fault.BadValue line) else form_setting text.Interval word line
 text_setting text.FileName word line = if length word == 0 then Err (fault.BadValue line) else form_setting text.FileName word line
 text_setting text.Directory word line = if length word == 0 then Err (fault.BadValue line) else form_setting text.Directory word line
 

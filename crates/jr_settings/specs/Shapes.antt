@@ -2,7 +2,7 @@
 use Rattle.std.specs.Prelude.{◌≡◌, ℕ, ◌/◌, ◌%◌, ◌≤◌, nat_le, min, ◌==◌, Bool, true, not, ◌&&◌, ◌||◌, List, [], ◌∷◌, Option, Some, None, Result, Ok, Err, unwrap_or, if◌then◌else◌}
 use Rattle.jr_model.specs.declared.limits.TheConstants.{SECTOR}
 use Rattle.jr_model.specs.Plan.{is_verified}
-use Rattle.jr_model.specs.Tickets.{has_pattern}
+use Rattle.jr_model.specs.Tickets.{has_pattern, interval_fits}
 use Rattle.jr_settings.specs.declared.faults.JobFault.{JobFault}
 use Rattle.jr_settings.specs.declared.faults.JobFault.TheVariants.{MissingSize, BadBlock, NoPattern, VerifyNeedsWrite}
 use Rattle.jr_settings.specs.declared.options.JobOptions.{JobOptions}
@@ -11,12 +11,14 @@ use Rattle.jr_plan.specs.Sizes.{split_fits}
 use Rattle.jr_plan.specs.SplitEntries.{percents_total}
 use Rattle.jr_model.specs.Directions.{has_reads, has_writes}
 
--- the cell and the offsets are whole blocks of 512 bytes, and the sizes in use fit the cell
+-- the cell and the offsets are whole blocks of 512 bytes, the sizes in use fit the cell, and the interval between
+-- headers does
 abbrev pub options_fit : JobOptions → ℕ → List (ℕ × ℕ) → List (ℕ × ℕ) → Bool
 options_fit o cell reads writes =
     nat_le SECTOR cell && (cell % SECTOR == 0) && (o.offset % SECTOR == 0) && (o.offset_step % SECTOR == 0)
     && (not (has_reads o.io_type) || split_fits cell reads)
     && (not (has_writes o.io_type) || split_fits cell writes)
+    && interval_fits o.kind o.interval cell
 
 -- a job with these options can be cut so
 pub record HasShape (o : JobOptions) (shape : Shape) : Type 0 where

@@ -41,6 +41,8 @@ pub enum TextKey {
     BlockSizes,
     Splits,
     Pattern,
+    /// `verify_interval`: a number of whole 512-byte blocks.
+    Interval,
     FileName,
     Directory,
     Description,

@@ -48,6 +48,8 @@ pub struct JobOptions {
     pub kind: VerifyKind,
     /// What its writes contain (`verify_pattern`).
     pub pattern: Option<Pattern>,
+    /// The bytes from one header of a block to the next; 0 is one header for the block (`verify_interval`).
+    pub interval: u32,
     /// After how many writes they are checked; 0 is after all of a pass (`verify_backlog`).
     pub backlog: u32,
     /// How many threads judge checks; with 0 the workers do (`verify_async`).
@@ -83,6 +85,7 @@ impl JobOptions {
             engine: EngineKind::File,
             kind: VerifyKind::Plain,
             pattern: None,
+            interval: 0,
             backlog: 0,
             verifiers: 0,
             is_fatal: false,
@@ -121,6 +124,7 @@ impl JobOptions {
             Setting::Engine(engine) => options.engine = engine,
             Setting::Verify(kind) => options.kind = kind,
             Setting::Pattern(pattern) => options.pattern = Some(pattern),
+            Setting::Interval(interval) => options.interval = interval,
             Setting::Backlog(backlog) => options.backlog = backlog,
             Setting::Verifiers(verifiers) => options.verifiers = verifiers,
             Setting::Fatal(is_fatal) => options.is_fatal = is_fatal,

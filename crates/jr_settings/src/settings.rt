@@ -5,7 +5,7 @@ ghost use Rattle.jr_settings.specs.Settings.{flag_setting, number_made, number_s
 
 use crate::faults::JobFault;
 use crate::keys::{ChoiceKey, FlagKey, Key, NumberKey, TextKey};
-use crate::values::{block_sizes, flag, number_within, pattern, splits};
+use crate::values::{block_sizes, flag, interval, number_within, pattern, splits};
 use crate::words;
 use jr_model::{
     EngineKind, IoType, MOST_CLONES, MOST_DEPTH, MOST_PASSES, MOST_VERIFIERS, Pattern, VerifyKind,
@@ -33,6 +33,7 @@ pub enum Setting {
     Engine(EngineKind),
     Verify(VerifyKind),
     Pattern(Pattern),
+    Interval(u32),
     Backlog(u32),
     Verifiers(u32),
     Fatal(bool),
@@ -177,6 +178,10 @@ fn form_setting(key: TextKey, text: &str, line: u32) -> Result<Setting, JobFault
         },
         TextKey::Pattern => match pattern(text) {
             Some(pattern) => Ok(Setting::Pattern(pattern)),
+            None => Err(JobFault::BadValue(line)),
+        },
+        TextKey::Interval => match interval(text) {
+            Some(interval) => Ok(Setting::Interval(interval)),
             None => Err(JobFault::BadValue(line)),
         },
         TextKey::FileName | TextKey::Directory => name_setting(text, line),

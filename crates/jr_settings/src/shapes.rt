@@ -63,6 +63,7 @@ impl JobOptions {
             && self.offset_step % sector == 0
             && (!self.io_type.has_reads() || reads.fits(cell))
             && (!self.io_type.has_writes() || writes.fits(cell))
+            && self.kind.fits_interval(self.interval, cell)
     }
 
     // Whether blocks can be verified as the job wants it: a pattern needs one.

@@ -4,9 +4,9 @@ ghost use Rattle.std.specs.Char.{is_ascii_digit};
 ghost use Rattle.std.specs.Option.{option_map};
 ghost use Rattle.jr_settings.specs.OptionValues.{number_within, flag_of, is_comma, by_direction, values_in, block_size};
 ghost use Rattle.jr_settings.specs.OptionValues.{block_sizes, split_part, splits, pattern_of, decimal_pattern, hex_digit};
-ghost use Rattle.jr_settings.specs.OptionValues.{hex_byte, hex_pairs, hex_pattern, with_bytes};
+ghost use Rattle.jr_settings.specs.OptionValues.{hex_byte, hex_pairs, hex_pattern, with_bytes, interval_of};
 
-use jr_model::{Pattern, all_digits};
+use jr_model::{LARGEST_BLOCK, Pattern, SECTOR, all_digits};
 use jr_sizes::{ReadSplit, Split};
 use jr_text::number;
 
@@ -143,6 +143,17 @@ fn decimal(text: &str) -> Option<Pattern>
     }
     let byte = number_within(text, 0, 255)?;
     Pattern::new(&[byte as u8])
+}
+
+// The bytes from one header to the next: whole 512-byte blocks, up to the largest block.
+pub(crate) fn interval(text: &str) -> Option<u32>
+    ensures { result ≡ interval_of text.now }
+{
+    let bytes = number_within(text, 0, u64::from(LARGEST_BLOCK))?;
+    if bytes % u64::from(SECTOR) != 0 {
+        return None;
+    }
+    Some(bytes as u32)
 }
 
 fn hexadecimal_digit(byte: u8) -> Option<u8>

@@ -4,7 +4,7 @@ ghost use Rattle.jr_settings.specs.OptionWords.{meaning_of, shown_words, keys, i
 use crate::keys::{ChoiceKey, FlagKey, Key, NumberKey, TextKey};
 use jr_model::{EngineKind, IoType, VerifyKind};
 
-const KEYS: [(&str, Key); 35] = [
+const KEYS: [(&str, Key); 36] = [
     ("rw", Key::Choice(ChoiceKey::IoType)),
     ("readwrite", Key::Choice(ChoiceKey::IoType)),
     ("rwmixread", Key::Number(NumberKey::ReadPercent)),
@@ -28,6 +28,7 @@ const KEYS: [(&str, Key); 35] = [
     ("ioengine", Key::Choice(ChoiceKey::Engine)),
     ("verify", Key::Choice(ChoiceKey::Verify)),
     ("verify_pattern", Key::Text(TextKey::Pattern)),
+    ("verify_interval", Key::Text(TextKey::Interval)),
     ("verify_backlog", Key::Number(NumberKey::Backlog)),
     ("verify_async", Key::Number(NumberKey::Verifiers)),
     ("verify_fatal", Key::Flag(FlagKey::Fatal)),

@@ -1,11 +1,11 @@
 ghost use Rattle.std.specs.Prelude.{◌≡◌, ◌++◌, IfOk, OnOk, flat_map, map};
-ghost use Rattle.jr_model.specs.Report.{file_name, in_order, miscompares, report_of, what_text};
+ghost use Rattle.jr_model.specs.Report.{file_name, in_order, miscompares, part_text, report_of, what_text};
 ghost use Rattle.jr_tallies.specs.Tallying.{miscompare_of};
 ghost use Rattle.jr_stats.specs.Miscompares.{bad_line, named_fields, place_fields};
 
 use crate::totals::totals_text;
 use jr_desk::{Bad, Desk};
-use jr_model::{Memory, Piece, What, WriteId, push_field, push_number, push_text};
+use jr_model::{Memory, Part, Piece, What, WriteId, push_field, push_number, push_text};
 use jr_plan::Plan;
 use std::alloc::Global;
 
@@ -86,12 +86,27 @@ fn push_what(text: &mut Vec<u8>, what: What) -> Result<(), Memory>
     ensures { OnOk result (text.new.items ≡ text.old.items ++ what_text what) }
 {
     match what {
-        What::Header => push_text(text, "header"),
-        What::Digest => push_text(text, "digest"),
-        What::DataArea => push_text(text, "data"),
+        What::Header => push_part(text, Part::Header),
+        What::Digest => push_part(text, Part::Digest),
+        What::DataArea => push_part(text, Part::DataArea),
         What::Byte(place) => {
             push_text(text, "byte:")?;
             push_number(text, u64::from(place))
         }
+        What::Chunk(chunk, part) => {
+            push_part(text, part)?;
+            push_text(text, ":")?;
+            push_number(text, u64::from(chunk))
+        }
+    }
+}
+
+fn push_part(text: &mut Vec<u8>, part: Part) -> Result<(), Memory>
+    ensures { OnOk result (text.new.items ≡ text.old.items ++ part_text part) }
+{
+    match part {
+        Part::Header => push_text(text, "header"),
+        Part::Digest => push_text(text, "digest"),
+        Part::DataArea => push_text(text, "data"),
     }
 }

@@ -114,7 +114,7 @@ impl Tallies {
     /// An I/O or check of the clone, of so many bytes, ended.
     pub fn ended(&mut self, clone: usize, kind: TicketKind, len: u32, outcome: Outcome)
         requires count { CanCount self.old clone }
-        requires block { len ≤ 2 ^ 24 - 1 }
+        requires block { len ≤ 2 ^ 24 }
         requires flying { (counts : Kept) → slice_get self.old.counts.items clone ≡ Some counts → 1 ≤ flying_in kind counts }
         ensures { (plan : Planned) (history : List Event) (worker id : ℕ) (io : Started) → slice_get (started history) id ≡ Some io
             → io.write.clone ≡ clone → io.kind ≡ kind → io.piece.len ≡ len
@@ -186,7 +186,7 @@ fn count_end(counts: &mut Counts, kind: TicketKind, outcome: Outcome)
 // The same in its totals.
 fn total_end(totals: &mut Totals, kind: TicketKind, len: u32, outcome: Outcome)
     requires small { AreSmall totals.old }
-    requires block { len ≤ 2 ^ 24 - 1 }
+    requires block { len ≤ 2 ^ 24 }
     ensures { totals.new ≡ totals_ended kind len outcome totals.old }
 {
     if outcome != Outcome::Whole {

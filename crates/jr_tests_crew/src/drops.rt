@@ -58,6 +58,7 @@ fn plan_with(alloc: Global, verifiers: u32) -> Result<Plan, Fail> {
         method: Method {
             kind: VerifyKind::Pattern,
             pattern: Pattern::new(&[1]),
+            interval: 0,
         },
         ..Workload::plain(IoType::Write, 512, 4)
     };

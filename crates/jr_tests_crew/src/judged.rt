@@ -4,7 +4,7 @@ use crate::plans::{checked, plan_of};
 use jr_crew::{Ran, Watch, run};
 use jr_desk::{Bad, Desk};
 use jr_engines::{Engine, MemoryEngine, NullEngine, Reply, ScriptedEngine};
-use jr_model::{EngineKind, IoType, Method, Totals, VerifyKind, What};
+use jr_model::{EngineKind, IoType, Method, Part, Totals, VerifyKind, What};
 use jr_plan::{Plan, Workload};
 use std::alloc::Global;
 use std::process::Abort;
@@ -41,17 +41,19 @@ fn ran_once<R: Threads + Wait + Sync>(
     }
 }
 
-// Four writes of 4096 bytes with md5, of which the third check reads a byte that was inverted on the way.
+// Four writes of 4096 bytes with md5 and headers at this interval, of which the third check reads a byte that was inverted on the way.
 fn flipped<R: Threads + Wait + Sync>(
     rt: &R,
     alloc: Global,
     verifiers: u32,
+    interval: u32,
     place: u32,
 ) -> Result<(Totals, Bad), Fail> {
     let four = Workload {
         method: Method {
             kind: VerifyKind::Md5,
             pattern: None,
+            interval,
         },
         ..Workload::plain(IoType::Write, 4096, 4)
     };
@@ -83,12 +85,15 @@ fn assert_third_bad(rt: &impl Abort, found: (Totals, Bad), what: What) {
 fn a_byte_that_was_inverted_is_found_whoever_judges(rt: HostRuntime) -> Result<(), Fail> {
     for verifiers in 0..3 {
         let parts = [
-            (100, What::DataArea),
-            (20, What::Header),
-            (40, What::Digest),
+            (0, 100, What::DataArea),
+            (0, 20, What::Header),
+            (0, 40, What::Digest),
+            (1024, 1124, What::Chunk(1, Part::DataArea)),
+            (1024, 1044, What::Chunk(1, Part::Header)),
+            (1024, 1064, What::Chunk(1, Part::Digest)),
         ];
-        for (place, what) in parts {
-            let found = flipped(&rt, rt.alloc(), verifiers, place)?;
+        for (interval, place, what) in parts {
+            let found = flipped(&rt, rt.alloc(), verifiers, interval, place)?;
             assert_third_bad(&rt, found, what);
         }
     }

@@ -28,6 +28,7 @@ pub(crate) fn checked(cells: u32, byte: u8) -> Workload {
         method: Method {
             kind: VerifyKind::Pattern,
             pattern: Pattern::new(&[byte]),
+            interval: 0,
         },
         ..Workload::plain(IoType::Write, 4096, cells)
     }

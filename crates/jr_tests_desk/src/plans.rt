@@ -28,6 +28,7 @@ pub(crate) fn checked(cells: u32) -> Workload {
         method: Method {
             kind: VerifyKind::Pattern,
             pattern: Pattern::new(&[1]),
+            interval: 0,
         },
         ..Workload::plain(IoType::Write, 4096, cells)
     }

@@ -51,6 +51,7 @@ fn draw_method(seed: &mut u64, io_type: IoType) -> Method {
         } else {
             None
         },
+        interval: 0,
     }
 }
 

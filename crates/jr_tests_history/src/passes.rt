@@ -73,6 +73,7 @@ fn in_rounds() -> Workload {
         method: Method {
             kind: VerifyKind::Pattern,
             pattern: Pattern::new(&[1]),
+            interval: 0,
         },
         ..Workload::plain(IoType::Write, 4096, 7)
     }

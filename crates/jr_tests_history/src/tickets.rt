@@ -16,6 +16,7 @@ fn two_clones(alloc: Global) -> Result<Plan, Fail> {
         method: Method {
             kind: VerifyKind::Pattern,
             pattern: Pattern::new(&[1, 2]),
+            interval: 0,
         },
         ..Workload::plain(IoType::Write, 4096, 4)
     };
@@ -23,6 +24,7 @@ fn two_clones(alloc: Global) -> Result<Plan, Fail> {
         method: Method {
             kind: VerifyKind::Md5,
             pattern: None,
+            interval: 0,
         },
         ..pattern
     };

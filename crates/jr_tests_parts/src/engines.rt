@@ -222,6 +222,7 @@ fn ticket_for(kind: TicketKind) -> Ticket {
         method: Method {
             kind: VerifyKind::Plain,
             pattern: None,
+            interval: 0,
         },
         expected: Expected::Nothing,
     }

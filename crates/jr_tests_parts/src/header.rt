@@ -4,8 +4,8 @@ use crate::plans::memory_of;
 use jr_engines::{Engine, ScriptedEngine};
 use jr_header::{Served, fill, room_for, rule, serve};
 use jr_model::{
-    Expected, LARGEST_BLOCK, Method, Pattern, Piece, Reply, ReplyBytes, SECTOR, Ticket, TicketKind,
-    Verdict, VerifyKind, What, WriteId,
+    Expected, LARGEST_BLOCK, Method, Part, Pattern, Piece, Reply, ReplyBytes, SECTOR, Ticket,
+    TicketKind, Verdict, VerifyKind, What, WriteId,
 };
 use sha2::{Digest, Sha256};
 use std::alloc::Global;
@@ -32,15 +32,23 @@ fn a_write(kind: VerifyKind, pattern: &[u8], len: u32) -> Ticket {
         method: Method {
             kind,
             pattern: Pattern::new(pattern),
+            interval: 0,
         },
         expected: Expected::Nothing,
     }
 }
 
+// The same with a header at each interval.
+fn in_chunks(mut ticket: Ticket, interval: u32) -> Ticket {
+    ticket.method.interval = interval;
+    ticket
+}
+
 // The block of a write, and what its check is judged by.
 fn filled(alloc: Global, ticket: &Ticket) -> Result<(Vec<u8>, Expected), Fail> {
     let mut block = room_for(alloc, ticket)?;
-    if !ticket.fits() {
+    let method = &ticket.method;
+    if !ticket.fits() || !method.kind.fits_interval(method.interval, ticket.piece.len) {
         return Err(Fail::from("a ticket that fits"));
     }
     let expected = fill(ticket, block.as_mut_slice());
@@ -53,6 +61,7 @@ fn is_begun(block: &[u8], begin: &[u8], expected: &Expected) -> bool {
         Expected::Header(header) => block.starts_with(begin) && block.starts_with(header),
         Expected::Pattern(pattern) => block.starts_with(begin)
             && begin.starts_with(pattern.as_slice()),
+        Expected::Seed(seed) => block.starts_with(begin) && *seed == 42,
         Expected::Nothing => false,
     }
 }
@@ -73,6 +82,27 @@ fn a_header_says_who_wrote_what_and_where(rt: HostRuntime) -> Result<(), Fail> {
     ];
     let (block, expected) = filled(rt.alloc(), &ticket)?;
     same(&rt, is_begun(&block, &begin, &expected), true);
+    Ok(())
+}
+
+// The bytes behind the header's first half are the MD5 of 960 bytes of the generator, seeded by 43, as Python's hashlib has it.
+#[test]
+fn a_chunk_has_a_header_of_its_own(rt: HostRuntime) -> Result<(), Fail> {
+    let mut ticket = in_chunks(a_write(VerifyKind::Md5, &[], 4096), 1024);
+    ticket.write = WriteId {
+        clone: 0,
+        pass: 1,
+        number: 2,
+    };
+    ticket.piece.offset = 8192;
+    let begin: [u8; 48] = [
+        0x4a, 0x52, 0x56, 0x32, 1, 16, 1, 0, 0, 4, 0, 0, 0, 0, 0, 0, 0, 0x24, 0, 0, 0, 0, 0, 0, 2,
+        0, 0, 0, 0, 0, 0, 0, 0x7e, 0xa8, 0xbc, 0x92, 0xf1, 0x64, 0x49, 0xd6, 0x37, 0xd0, 0xee,
+        0x41, 0x50, 0xf7, 0xc6, 0xf3,
+    ];
+    let (block, expected) = filled(rt.alloc(), &ticket)?;
+    let second = block.get(1024..).ok_or("a second chunk")?;
+    same(&rt, is_begun(second, &begin, &expected), true);
     Ok(())
 }
 
@@ -114,17 +144,33 @@ fn blocks_are_those_of_the_reference(rt: HostRuntime) -> Result<(), Fail> {
         (a_write(pattern, three, 4096), 0x35df_7542_580c_3c4d),
         (
             a_write(pattern, three, LARGEST_BLOCK),
-            0x7f5c_6799_7218_8eb4,
+            0xed51_1652_7f7d_3675,
         ),
         (a_write(md5, none, 512), 0x9bcd_2bf4_40cf_4413),
         (a_write(md5, three, 4096), 0xf6e9_fe73_656f_2ab1),
-        (a_write(md5, none, LARGEST_BLOCK), 0x84bb_2202_99e6_cde1),
+        (a_write(md5, none, LARGEST_BLOCK), 0x1f25_5f6a_d4dd_ff8c),
         (a_write(sha1, none, 512), 0x3cf7_e6b9_421d_c3a5),
         (a_write(sha1, three, 4096), 0x3b05_925d_cc6b_412d),
-        (a_write(sha1, none, LARGEST_BLOCK), 0x0276_6e5e_a76a_0d30),
+        (a_write(sha1, none, LARGEST_BLOCK), 0x6cd8_a324_4cb2_497f),
         (a_write(sha256, none, 512), 0x3661_ca88_eb9c_c150),
         (a_write(sha256, three, 4096), 0xdcec_ee82_5fc8_3490),
-        (a_write(sha256, none, LARGEST_BLOCK), 0x7b8d_c5c7_df59_42b4),
+        (a_write(sha256, none, LARGEST_BLOCK), 0xf3a1_f5ad_7137_16c0),
+        (
+            in_chunks(a_write(md5, none, 4096), 1024),
+            0xc5b8_9ec5_8941_6327,
+        ),
+        (
+            in_chunks(a_write(sha1, three, 4096), 512),
+            0x420f_36fe_a6d0_d3c5,
+        ),
+        (
+            in_chunks(a_write(sha256, none, 8192), 4096),
+            0xb25e_4cfd_170f_5261,
+        ),
+        (
+            in_chunks(a_write(sha256, three, 4096), 4096),
+            0xbdf3_e0d9_21b4_27a5,
+        ),
     ];
     for (ticket, digest) in blocks {
         assert_digest(&rt, rt.alloc(), &ticket, digest)?;
@@ -226,6 +272,41 @@ fn what_is_wrong_first_is_named(rt: HostRuntime) -> Result<(), Fail> {
     for kind in [VerifyKind::Md5, VerifyKind::Sha1, VerifyKind::Sha256] {
         for len in [512, 4096, LARGEST_BLOCK] {
             assert_named(&rt, rt.alloc(), &at_start(kind, &[], len))?;
+        }
+    }
+    Ok(())
+}
+
+// Is a byte that was inverted named by its chunk, in chunks of 1024 bytes?
+fn assert_named_in_chunk(rt: &impl Abort, alloc: Global, ticket: &Ticket) -> Result<(), Fail> {
+    let parts = [
+        (1044, What::Chunk(1, Part::Header)),
+        (1064, What::Chunk(1, Part::Digest)),
+        (1124, What::Chunk(1, Part::DataArea)),
+        (4095, What::Chunk(3, Part::DataArea)),
+    ];
+    for (place, what) in parts {
+        assert_flipped(rt, alloc, ticket, place, what)?;
+    }
+    let good = verdict_by(alloc, ticket, Reply::Pass, Reply::Pass)?;
+    let dropped = verdict_by(alloc, ticket, Reply::Drop, Reply::Pass)?;
+    let wanted = (Verdict::Good, Verdict::Bad(What::Chunk(0, Part::Header)));
+    same(rt, (good, dropped), wanted);
+    Ok(())
+}
+
+#[test]
+fn the_first_chunk_that_is_wrong_is_named(rt: HostRuntime) -> Result<(), Fail> {
+    let patterns: [&[u8]; 2] = [&[], &[0x61, 0x62, 0x63]];
+    for kind in [VerifyKind::Md5, VerifyKind::Sha1, VerifyKind::Sha256] {
+        for pattern in patterns {
+            let ticket = in_chunks(at_start(kind, pattern, 4096), 1024);
+            assert_named_in_chunk(&rt, rt.alloc(), &ticket)?;
+            let (mut block, expected) = filled(rt.alloc(), &ticket)?;
+            put_sevens(&mut block, 3100, 3101);
+            put_sevens(&mut block, 2088, 2089);
+            let found = verdict_over(rt.alloc(), &ticket, &expected, &block)?;
+            same(&rt, found, Verdict::Bad(What::Chunk(2, Part::Digest)));
         }
     }
     Ok(())

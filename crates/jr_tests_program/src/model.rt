@@ -43,6 +43,7 @@ fn write_of(pattern: Pattern) -> Ticket {
         method: Method {
             kind: VerifyKind::Pattern,
             pattern: Some(pattern),
+            interval: 0,
         },
         expected: Expected::Nothing,
     }
@@ -63,6 +64,7 @@ fn verified(mut ticket: Ticket, kind: VerifyKind) -> Ticket {
     ticket.method = Method {
         kind,
         pattern: None,
+        interval: 0,
     };
     ticket
 }
@@ -83,8 +85,8 @@ fn tickets_fit_in_whole_blocks(rt: HostRuntime) -> Result<(), Fail> {
     assert_fits(&rt, placed(write, 512, 0), false);
     assert_fits(&rt, placed(write, 512, 700), false);
     assert_fits(&rt, placed(write, 100, 512), false);
-    assert_fits(&rt, placed(write, 0, 4_194_304), true);
-    assert_fits(&rt, placed(write, 0, 4_194_816), false);
+    assert_fits(&rt, placed(write, 0, 16_777_216), true);
+    assert_fits(&rt, placed(write, 0, 16_777_728), false);
     assert_fits(&rt, placed(write, 1 << 50, 512), false);
     assert_fits(&rt, placed(write, (1 << 50) - 512, 512), true);
     assert_fits(&rt, in_pass(write, 999), true);
@@ -111,6 +113,30 @@ fn tickets_expect_what_their_method_is_judged_by(rt: HostRuntime) -> Result<(), 
     assert_fits(&rt, verified(headed, VerifyKind::Md5), true);
     assert_fits(&rt, verified(headed, VerifyKind::Plain), false);
     assert_fits(&rt, verified(write, VerifyKind::Pattern), false);
+    Ok(())
+}
+
+// A write of 1024 bytes with md5 and headers at this interval.
+fn cut(write: Ticket, interval: u32) -> Ticket {
+    let mut ticket = verified(write, VerifyKind::Md5);
+    ticket.method.interval = interval;
+    ticket
+}
+
+#[test]
+fn tickets_are_cut_into_whole_chunks(rt: HostRuntime) -> Result<(), Fail> {
+    let write = write_of(Pattern::new(&[1, 2]).ok_or("a pattern")?);
+    for (interval, want) in [(512, true), (1024, true), (1536, false), (256, false)] {
+        assert_fits(&rt, cut(write, interval), want);
+    }
+    let probe = expecting(cut(write, 512), TicketKind::Probe, Expected::Seed(7));
+    assert_fits(&rt, probe, true);
+    assert_fits(&rt, cut(probe, 0), false);
+    let headed = expecting(probe, TicketKind::Probe, Expected::Header([9; 64]));
+    assert_fits(&rt, headed, false);
+    assert_fits(&rt, cut(headed, 0), true);
+    let read = expecting(cut(write, 100), TicketKind::Read, Expected::Nothing);
+    assert_fits(&rt, read, true);
     Ok(())
 }
 

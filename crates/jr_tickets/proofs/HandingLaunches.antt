@@ -1,11 +1,12 @@
 -- What is kept of tickets, and the tickets made again of it.
 use Rattle.std.proofs.Common.{◌≡◌, ℕ, zero, suc, ◌+◌, ◌≤◌, List, [], ◌∷◌, ◌++◌, length, refl, sym, ◌∙◌, ap, arith}
-use Rattle.std.specs.Prelude.{Option, Some, None, slice_get}
+use Rattle.std.specs.Prelude.{◌==◌, Bool, true, false, cond, Option, Some, None, slice_get}
 use Rattle.std.specs.List.{cons_option, filter_map}
 use Rattle.std.specs.Option.{option_map, option_to_list}
 use Rattle.std.proofs.lemmas.Option.{same_Some}
 use Rattle.jr_model.specs.declared.blocks.Piece.{Piece}
 use Rattle.jr_model.specs.declared.contents.Expected.{Expected}
+use Rattle.jr_model.specs.declared.contents.Expected.TheVariants as expected
 use Rattle.jr_model.specs.declared.contents.Method.{Method}
 use Rattle.jr_model.specs.declared.contents.VerifyKind.{VerifyKind}
 use Rattle.jr_model.specs.declared.contents.VerifyKind.TheVariants as verify
@@ -15,7 +16,7 @@ use Rattle.jr_model.specs.declared.events.WriteId.{WriteId}
 use Rattle.jr_model.specs.declared.tickets.Ticket.{Ticket}
 use Rattle.jr_model.specs.declared.tickets.TicketKind.{TicketKind}
 use Rattle.jr_model.specs.declared.tickets.TicketKind.TheVariants as ticket
-use Rattle.jr_model.specs.Content.{expected_of, header_of}
+use Rattle.jr_model.specs.Content.{block_version, expected_of, header_of}
 use Rattle.jr_model.specs.History.{started}
 use Rattle.jr_model.specs.Plan.{Plan, clone_of}
 use Rattle.jr_tickets.specs.declared.launches.Launch.{Launch}
@@ -114,18 +115,24 @@ launched n (x ∷ tickets) (suc k) t at =
 
 -- the ticket made again
 
+headers_same : (one : Bool) (header : List ℕ) (seed : ℕ) (found : Option (List ℕ))
+    → ((h : List ℕ) → header_in (cond one (expected.Header header) (expected.Seed seed)) ≡ Some h → found ≡ Some h)
+    → cond one (header_expected found) (expected.Seed seed) ≡ cond one (expected.Header header) (expected.Seed seed)
+headers_same true header seed found has = ap header_expected (has header refl)
+headers_same false header seed found has = refl
+
 check_same : (kind : VerifyKind) (method : Method) (write : WriteId) (piece : Piece) (seed : ℕ) (found : Option (List ℕ))
     → ((h : List ℕ) → header_in (expected_of kind method write piece seed) ≡ Some h → found ≡ Some h)
-    → check_again kind method found ≡ expected_of kind method write piece seed
+    → check_again kind method seed found ≡ expected_of kind method write piece seed
 check_same verify.Plain method write piece seed found has = refl
 check_same verify.Pattern method write piece seed found has = refl
-check_same verify.Md5 method write piece seed found has = ap header_expected (has (header_of method write piece seed) refl)
-check_same verify.Sha1 method write piece seed found has = ap header_expected (has (header_of method write piece seed) refl)
-check_same verify.Sha256 method write piece seed found has = ap header_expected (has (header_of method write piece seed) refl)
+check_same verify.Md5 method write piece seed found has = headers_same (method.interval == 0) (header_of block_version method write piece seed) seed found has
+check_same verify.Sha1 method write piece seed found has = headers_same (method.interval == 0) (header_of block_version method write piece seed) seed found has
+check_same verify.Sha256 method write piece seed found has = headers_same (method.interval == 0) (header_of block_version method write piece seed) seed found has
 
 expected_same : (kind : TicketKind) (method : Method) (io : Started) (seed : ℕ) (found : Option (List ℕ))
     → ((h : List ℕ) → header_in (expected_by kind method io seed) ≡ Some h → found ≡ Some h)
-    → expected_again kind method found ≡ expected_by kind method io seed
+    → expected_again kind method seed found ≡ expected_by kind method io seed
 expected_same ticket.Read method io seed found has = refl
 expected_same ticket.Write method io seed found has = refl
 expected_same ticket.Probe method io seed found has = check_same method.kind method io.write io.piece seed found has

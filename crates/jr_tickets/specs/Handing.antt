@@ -1,5 +1,5 @@
 -- Internal: what is kept of the tickets of a run by number, and how far each of them has come.
-use Rattle.std.specs.Prelude.{◌≡◌, ◌+◌, ℕ, List, [], ◌∷◌, length, map, slice_get, Option, Some, None, if◌then◌else◌}
+use Rattle.std.specs.Prelude.{◌≡◌, ◌+◌, ◌==◌, ℕ, List, [], ◌∷◌, length, map, slice_get, Option, Some, None, if◌then◌else◌}
 use Rattle.std.specs.List.{filter_map, range_with_len}
 use Rattle.std.specs.Option.{option_to_list}
 use Rattle.jr_model.specs.declared.blocks.Piece.{Piece}
@@ -29,6 +29,7 @@ abbrev pub header_in : Expected → Option (List ℕ)
 header_in expected.Nothing = None
 header_in (expected.Pattern pattern) = None
 header_in (expected.Header header) = Some header
+header_in (expected.Seed seed) = None
 
 -- the header that is kept of a ticket: that of a check whose write has a digest
 abbrev pub header_wanted : Ticket → Option (List ℕ)
@@ -62,19 +63,23 @@ abbrev pub header_expected : Option (List ℕ) → Expected
 header_expected None = expected.Nothing
 header_expected (Some header) = expected.Header header
 
--- what the bytes of a check of this method are judged by, with the header that was kept
-abbrev pub check_again : VerifyKind → Method → Option (List ℕ) → Expected
-check_again verify.Plain method header = expected.Nothing
-check_again verify.Pattern method header = expected_pattern method.pattern
-check_again verify.Md5 method header = header_expected header
-check_again verify.Sha1 method header = header_expected header
-check_again verify.Sha256 method header = header_expected header
+-- bytes that are judged by headers: by the one that was kept, or by those that are made again of the seed
+abbrev pub headers_again : Method → ℕ → Option (List ℕ) → Expected
+headers_again method seed header = if method.interval == 0 then header_expected header else expected.Seed seed
+
+-- what the bytes of a check of this method are judged by, with its seed and the header that was kept
+abbrev pub check_again : VerifyKind → Method → ℕ → Option (List ℕ) → Expected
+check_again verify.Plain method seed header = expected.Nothing
+check_again verify.Pattern method seed header = expected_pattern method.pattern
+check_again verify.Md5 method seed header = headers_again method seed header
+check_again verify.Sha1 method seed header = headers_again method seed header
+check_again verify.Sha256 method seed header = headers_again method seed header
 
 -- what those of an I/O of this kind are
-abbrev pub expected_again : TicketKind → Method → Option (List ℕ) → Expected
-expected_again ticket.Read method header = expected.Nothing
-expected_again ticket.Write method header = expected.Nothing
-expected_again ticket.Probe method header = check_again method.kind method header
+abbrev pub expected_again : TicketKind → Method → ℕ → Option (List ℕ) → Expected
+expected_again ticket.Read method seed header = expected.Nothing
+expected_again ticket.Write method seed header = expected.Nothing
+expected_again ticket.Probe method seed header = check_again method.kind method seed header
 
 -- the ticket of this number, made again of what is kept of it
 abbrev pub ticket_again : Plan → List (List ℕ) → ℕ → Launch → Ticket
@@ -88,7 +93,7 @@ ticket_again plan headers id launch =
       piece = launched_piece launch;
       seed = launch.seed;
       method = method;
-      expected = expected_again launch.kind method (slice_get headers launch.headers);
+      expected = expected_again launch.kind method launch.seed (slice_get headers launch.headers);
     }
 
 -- in flight, or how it ended

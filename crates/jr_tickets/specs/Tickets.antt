@@ -12,11 +12,11 @@ use Rattle.jr_model.specs.Content.{expected_of}
 use Rattle.jr_model.specs.Draws.{draws_of}
 use Rattle.jr_model.specs.Machine.{seed_of_draw}
 use Rattle.jr_model.specs.Plan.{Plan, SubJob, clone_of}
-use Rattle.jr_model.specs.Tickets.{piece_fits, has_pattern}
+use Rattle.jr_model.specs.Tickets.{piece_fits, has_pattern, interval_fits}
 
 -- how the blocks of a clone are made and verified
 abbrev pub method_of : Option SubJob → Method
-method_of None = record { kind = verify.Plain; pattern = None }
+method_of None = record { kind = verify.Plain; pattern = None; interval = 0 }
 method_of (Some job) = job.method
 
 -- the seed of the filler of an I/O's draw
@@ -52,3 +52,4 @@ pub record CanBeServed (plan : Plan) (io : Started) : Type 0 where
   pub piece : piece_fits io.piece ≡ true
   pub pass : io.write.pass < 1000
   pub pattern : has_pattern (method_of (clone_of plan io.write.clone)).kind (method_of (clone_of plan io.write.clone)).pattern ≡ true
+  pub interval : interval_fits (method_of (clone_of plan io.write.clone)).kind (method_of (clone_of plan io.write.clone)).interval io.piece.len ≡ true

@@ -1,7 +1,7 @@
 ghost use Rattle.std.specs.Prelude.{◌≡◌, slice_get};
 ghost use Rattle.jr_model.specs.Content.{expected_pattern};
 ghost use Rattle.jr_model.specs.Plan.{clone_of};
-ghost use Rattle.jr_tickets.specs.Handing.{expected_again, header_expected, launch_of, launched_piece, ticket_again};
+ghost use Rattle.jr_tickets.specs.Handing.{expected_again, header_expected, headers_again, launch_of, launched_piece, ticket_again};
 ghost use Rattle.jr_tickets.specs.Tickets.{method_of};
 
 use jr_model::{Expected, IoId, Method, Piece, Ticket, TicketKind, VerifyKind, WriteId};
@@ -68,7 +68,7 @@ impl Launch {
 
     // What its bytes are judged by.
     fn expected(&self, method: &Method, headers: &[[u8; 64]]) -> Expected
-        ensures { result ≡ expected_again self.now.kind method.now (slice_get headers.now self.now.headers) }
+        ensures { result ≡ expected_again self.now.kind method.now self.now.seed (slice_get headers.now self.now.headers) }
     {
         match self.kind {
             TicketKind::Read => Expected::Nothing,
@@ -76,10 +76,21 @@ impl Launch {
             TicketKind::Probe => match method.kind {
                 VerifyKind::Plain => Expected::Nothing,
                 VerifyKind::Pattern => pattern_expected(method),
-                VerifyKind::Md5 => header_at(headers, self.headers),
-                VerifyKind::Sha1 => header_at(headers, self.headers),
-                VerifyKind::Sha256 => header_at(headers, self.headers),
+                VerifyKind::Md5 => self.headers_expected(method, headers),
+                VerifyKind::Sha1 => self.headers_expected(method, headers),
+                VerifyKind::Sha256 => self.headers_expected(method, headers),
             },
+        }
+    }
+
+    // What the bytes of a digest's check are judged by: the header that was kept, or those that its seed gives.
+    fn headers_expected(&self, method: &Method, headers: &[[u8; 64]]) -> Expected
+        ensures { result ≡ headers_again method.now self.now.seed (slice_get headers.now self.now.headers) }
+    {
+        if method.interval == 0 {
+            header_at(headers, self.headers)
+        } else {
+            Expected::Seed(self.seed)
         }
     }
 }
@@ -94,7 +105,7 @@ fn pattern_expected(method: &Method) -> Expected
     }
 }
 
-// What the bytes of a digest's check are judged by.
+// What bytes are judged by for which this header was kept.
 fn header_at(headers: &[[u8; 64]], place: u32) -> Expected
     ensures { result ≡ header_expected (slice_get headers.now place) }
 {
@@ -115,6 +126,7 @@ fn method_in(plan: &Plan, clone: u32) -> Method
         Method {
             kind: VerifyKind::Plain,
             pattern: None,
+            interval: 0,
         }
     }
 }

@@ -194,6 +194,7 @@ fn keep_header(headers: &mut Vec<[u8; 64]>, expected: &Expected)
     match expected {
         Expected::Nothing => {}
         Expected::Pattern(_) => {}
+        Expected::Seed(_) => {}
         Expected::Header(header) => headers.push_reserved(*header),
     }
 }

@@ -9,7 +9,8 @@ use Rattle.jr_model.specs.declared.events.Event.{Event}
 use Rattle.jr_model.specs.declared.events.Event.TheVariants.{Issue, Probe, Skip, End, Verdict}
 use Rattle.jr_model.specs.declared.events.Outcome.TheVariants.{Whole, Failed, Short}
 use Rattle.jr_model.specs.declared.events.Verdict.TheVariants.{Good, Bad}
-use Rattle.jr_model.specs.declared.events.What.TheVariants.{Header, Digest, DataArea, Byte}
+use Rattle.jr_model.specs.declared.events.Part.TheVariants as part
+use Rattle.jr_model.specs.declared.events.What.TheVariants.{Header, Digest, DataArea, Byte, Chunk}
 use Rattle.jr_model.specs.declared.workloads.Draw.{Draw}
 use Rattle.jr_model.specs.History.{started}
 use Rattle.jr_model.specs.Legal.{is_complete, legal_after, may_happen}
@@ -46,6 +47,7 @@ finding_back finding.Header = refl
 finding_back finding.Digest = refl
 finding_back finding.DataArea = refl
 finding_back (finding.Byte i) = refl
+finding_back (finding.Chunk i found) = refl
 
 -- an event that an entry speaks of has that entry
 entry_of_event : (plan : Plan) (history : List Event) (x : Entry) (e : Event) → is_numbered history x ≡ true → event_of plan x ≡ Some e → x ≡ entry_of (length (started history)) e
@@ -99,6 +101,9 @@ entry_text_is io (Verdict by id (Bad Header)) = join_word (codes "V") (decimal b
 entry_text_is io (Verdict by id (Bad Digest)) = join_word (codes "V") (decimal by) (decimal id) (codes "digest")
 entry_text_is io (Verdict by id (Bad DataArea)) = join_word (codes "V") (decimal by) (decimal id) (codes "data")
 entry_text_is io (Verdict by id (Bad (Byte i))) = join_number (codes "V") (decimal by) (decimal id) (codes "byte") (decimal i)
+entry_text_is io (Verdict by id (Bad (Chunk i part.Header))) = join_number (codes "V") (decimal by) (decimal id) (codes "header") (decimal i)
+entry_text_is io (Verdict by id (Bad (Chunk i part.Digest))) = join_number (codes "V") (decimal by) (decimal id) (codes "digest") (decimal i)
+entry_text_is io (Verdict by id (Bad (Chunk i part.DataArea))) = join_number (codes "V") (decimal by) (decimal id) (codes "data") (decimal i)
 
 -- a line that is read as an event is the event's line
 record IsLineOf (plan : Plan) (history : List Event) (line : List ℕ) (e : Event) : Type 0 where

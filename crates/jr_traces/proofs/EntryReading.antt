@@ -10,7 +10,8 @@ use Rattle.jr_model.specs.declared.events.Outcome.{Outcome}
 use Rattle.jr_model.specs.declared.events.Outcome.TheVariants.{Whole, Failed, Short}
 use Rattle.jr_model.specs.declared.events.Verdict.{Verdict as GivenVerdict}
 use Rattle.jr_model.specs.declared.events.Verdict.TheVariants.{Good, Bad}
-use Rattle.jr_model.specs.declared.events.What.TheVariants.{Header, Digest, DataArea, Byte}
+use Rattle.jr_model.specs.declared.events.Part.TheVariants as part
+use Rattle.jr_model.specs.declared.events.What.TheVariants.{Header, Digest, DataArea, Byte, Chunk}
 use Rattle.jr_model.specs.declared.events.WriteId.{WriteId}
 use Rattle.jr_traces.specs.declared.entries.Ending.{Ending}
 use Rattle.jr_traces.specs.declared.entries.Ending.TheVariants as ending
@@ -20,7 +21,7 @@ use Rattle.jr_traces.specs.declared.entries.Finding.TheVariants as finding
 use Rattle.jr_traces.specs.declared.entries.Name.{Name}
 use Rattle.jr_traces.specs.TraceChecks.{ending_fits, entry_fits, finding_fits, is_small, name_fits}
 use Rattle.jr_traces.specs.TraceLaws.{ending_of, entry_of, finding_of, name_of}
-use Rattle.jr_traces.specs.TraceLines.{end_of, ending_in, entry_in, fields_of, finding_in, named, read_line, skip_of, start_of, verdict_of}
+use Rattle.jr_traces.specs.TraceLines.{chunk_finding, end_of, ending_in, entry_in, fields_of, finding_in, named, read_line, skip_of, start_of, verdict_of}
 use Rattle.jr_traces.specs.Traces.{draw_fields, event_text, outcome_fields, spaced, verdict_fields}
 use Rattle.jr_traces.proofs.LineReading.{number_more, number_read, word_more}
 
@@ -101,6 +102,9 @@ verdict_parts (Bad Header) = codes "header" ∷ []
 verdict_parts (Bad Digest) = codes "digest" ∷ []
 verdict_parts (Bad DataArea) = codes "data" ∷ []
 verdict_parts (Bad (Byte i)) = codes "byte" ∷ decimal i ∷ []
+verdict_parts (Bad (Chunk i part.Header)) = codes "header" ∷ decimal i ∷ []
+verdict_parts (Bad (Chunk i part.Digest)) = codes "digest" ∷ decimal i ∷ []
+verdict_parts (Bad (Chunk i part.DataArea)) = codes "data" ∷ decimal i ∷ []
 
 verdict_more : (text : List ℕ) (a b c : List ℕ) (verdict : GivenVerdict) → finding_fits (finding_of verdict) ≡ true → fields_of text ≡ a ∷ b ∷ c ∷ [] → fields_of (text ++ verdict_fields verdict) ≡ a ∷ b ∷ c ∷ verdict_parts verdict
 unfolding verdict_parts
@@ -111,6 +115,15 @@ verdict_more text a b c (Bad DataArea) fits so = word_more text (a ∷ b ∷ c �
 verdict_more text a b c (Bad (Byte i)) fits so =
     ap fields_of (sym (append_assoc text (codes " byte") (spaced i)))
     ∙ number_more (text ++ codes " byte") (a ∷ b ∷ c ∷ codes "byte" ∷ []) i (small i fits) (word_more text (a ∷ b ∷ c ∷ []) (codes "byte") refl so)
+verdict_more text a b c (Bad (Chunk i part.Header)) fits so =
+    ap fields_of (sym (append_assoc text (codes " header") (spaced i)))
+    ∙ number_more (text ++ codes " header") (a ∷ b ∷ c ∷ codes "header" ∷ []) i (small i fits) (word_more text (a ∷ b ∷ c ∷ []) (codes "header") refl so)
+verdict_more text a b c (Bad (Chunk i part.Digest)) fits so =
+    ap fields_of (sym (append_assoc text (codes " digest") (spaced i)))
+    ∙ number_more (text ++ codes " digest") (a ∷ b ∷ c ∷ codes "digest" ∷ []) i (small i fits) (word_more text (a ∷ b ∷ c ∷ []) (codes "digest") refl so)
+verdict_more text a b c (Bad (Chunk i part.DataArea)) fits so =
+    ap fields_of (sym (append_assoc text (codes " data") (spaced i)))
+    ∙ number_more (text ++ codes " data") (a ∷ b ∷ c ∷ codes "data" ∷ []) i (small i fits) (word_more text (a ∷ b ∷ c ∷ []) (codes "data") refl so)
 
 finding_read : (a b c : List ℕ) (verdict : GivenVerdict) → finding_fits (finding_of verdict) ≡ true → finding_in (a ∷ b ∷ c ∷ verdict_parts verdict) ≡ Some (finding_of verdict)
 unfolding verdict_parts
@@ -119,6 +132,9 @@ finding_read a b c (Bad Header) fits = refl
 finding_read a b c (Bad Digest) fits = refl
 finding_read a b c (Bad DataArea) fits = refl
 finding_read a b c (Bad (Byte i)) fits = ap (λ (o : Option ℕ). option_map finding.Byte o) (number_read i (small i fits))
+finding_read a b c (Bad (Chunk i part.Header)) fits = ap (λ (o : Option ℕ). chunk_finding (Some part.Header) o) (number_read i (small i fits))
+finding_read a b c (Bad (Chunk i part.Digest)) fits = ap (λ (o : Option ℕ). chunk_finding (Some part.Digest) o) (number_read i (small i fits))
+finding_read a b c (Bad (Chunk i part.DataArea)) fits = ap (λ (o : Option ℕ). chunk_finding (Some part.DataArea) o) (number_read i (small i fits))
 
 -- the line of an event, read
 pub event_read : (io : ℕ) (e : Event) → entry_fits (entry_of io e) ≡ true → read_line (event_text io e) ≡ Some (entry_of io e)

@@ -11,7 +11,8 @@ use Rattle.jr_model.specs.declared.events.Outcome.{Outcome}
 use Rattle.jr_model.specs.declared.events.Outcome.TheVariants.{Whole, Failed, Short}
 use Rattle.jr_model.specs.declared.events.Verdict.{Verdict as GivenVerdict}
 use Rattle.jr_model.specs.declared.events.Verdict.TheVariants.{Good, Bad}
-use Rattle.jr_model.specs.declared.events.What.TheVariants.{Header, Digest, DataArea, Byte}
+use Rattle.jr_model.specs.declared.events.Part.TheVariants as part
+use Rattle.jr_model.specs.declared.events.What.TheVariants.{Header, Digest, DataArea, Byte, Chunk}
 use Rattle.jr_model.specs.declared.events.WriteId.{WriteId}
 use Rattle.jr_traces.specs.TraceChecks.{ending_fits, entry_fits, finding_fits, is_newline, is_small, name_fits}
 use Rattle.jr_traces.specs.TraceLaws.{ending_of, entry_of, finding_of, name_of}
@@ -60,6 +61,9 @@ verdict_line (Bad Header) fits = refl
 verdict_line (Bad Digest) fits = refl
 verdict_line (Bad DataArea) fits = refl
 verdict_line (Bad (Byte i)) fits = two_lines (codes " byte") (spaced i) refl (number_line i fits)
+verdict_line (Bad (Chunk i part.Header)) fits = two_lines (codes " header") (spaced i) refl (number_line i fits)
+verdict_line (Bad (Chunk i part.Digest)) fits = two_lines (codes " digest") (spaced i) refl (number_line i fits)
+verdict_line (Bad (Chunk i part.DataArea)) fits = two_lines (codes " data") (spaced i) refl (number_line i fits)
 
 -- a letter and two numbers
 head_line : (tag : List ℕ) (a b : ℕ) → is_line tag ≡ true → is_small a ≡ true → is_small b ≡ true → is_line ((tag ++ spaced a) ++ spaced b) ≡ true

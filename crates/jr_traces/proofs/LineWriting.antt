@@ -1,5 +1,5 @@
 -- What is read of a line is what was written there: the reading of a line has one line for each entry.
-use Rattle.std.proofs.Common.{◌≡◌, ℕ, zero, suc, ◌^◌, List, [], ◌∷◌, length, get_or, Bool, true, false, cond, not, ◌&&◌, ◌||◌, refl, sym, ap, ◌∙◌, inl, inr}
+use Rattle.std.proofs.Common.{◌≡◌, ℕ, zero, suc, ◌^◌, List, [], ◌∷◌, length, get_or, Bool, true, false, cond, not, ◌&&◌, ◌||◌, refl, sym, ap, subst, ◌∙◌, inl, inr}
 use Rattle.std.specs.Prelude.{◌⊎◌, Option, Some, None, codes, nat_lt, ◌==◌}
 use Rattle.std.specs.Char.{is_ascii_digit}
 use Rattle.std.specs.Cmp.Lexicographic.{same_text}
@@ -7,7 +7,7 @@ use Rattle.std.specs.Fmt.{decimal}
 use Rattle.std.specs.List.{join_with_byte, list_all}
 use Rattle.std.specs.Option.{option_map}
 use Rattle.std.specs.Str.Parse.{digits_value}
-use Rattle.std.proofs.lemmas.Bool.{and_parts, eq-eqb, eqb-true, ltb-true}
+use Rattle.std.proofs.lemmas.Bool.{and_from, and_parts, eq-eqb, eqb-true, ltb-true}
 use Rattle.std.proofs.lemmas.Fmt.{decimal-digits_value}
 use Rattle.std.proofs.lemmas.List.Splits.{join_with_byte-slice_split}
 use Rattle.jr_traces.specs.declared.entries.Ending.{Ending}
@@ -16,9 +16,11 @@ use Rattle.jr_traces.specs.declared.entries.Entry.{Entry}
 use Rattle.jr_traces.specs.declared.entries.Entry.TheVariants as entry
 use Rattle.jr_traces.specs.declared.entries.Finding.{Finding}
 use Rattle.jr_traces.specs.declared.entries.Finding.TheVariants as finding
+use Rattle.jr_model.specs.declared.events.Part.{Part}
+use Rattle.jr_model.specs.declared.events.Part.TheVariants as part
 use Rattle.jr_traces.specs.declared.entries.Name.{Name}
 use Rattle.jr_traces.specs.declared.entries.Start.{Start}
-use Rattle.jr_traces.specs.TraceLines.{end_in, end_of, ending_in, entry_in, field_at, fields_of, finding_in, is_numeral, is_word, name_at, named, number_at, number_in, read_line, skip_in, skip_of, start_in, start_of, verdict_in, verdict_of, word_finding}
+use Rattle.jr_traces.specs.TraceLines.{counted_finding, chunk_finding, part_of, end_in, end_of, ending_in, entry_in, field_at, fields_of, finding_in, is_numeral, is_word, name_at, named, number_at, number_in, read_line, skip_in, skip_of, start_in, start_of, verdict_in, verdict_of, word_finding}
 use Rattle.jr_traces.proofs.LineReading.{digits_model}
 use Rattle.jr_traces.proofs.ReadingLemmas.{from_cond}
 
@@ -34,12 +36,18 @@ ending_fields ending.Whole = codes "whole" ∷ []
 ending_fields ending.Failed = codes "failed" ∷ []
 ending_fields (ending.Short n) = codes "short" ∷ decimal n ∷ []
 
+abbrev pub part_word : Part → List ℕ
+part_word part.Header = codes "header"
+part_word part.Digest = codes "digest"
+part_word part.DataArea = codes "data"
+
 abbrev pub finding_fields : Finding → List (List ℕ)
 finding_fields finding.Good = codes "good" ∷ []
 finding_fields finding.Header = codes "header" ∷ []
 finding_fields finding.Digest = codes "digest" ∷ []
 finding_fields finding.DataArea = codes "data" ∷ []
 finding_fields (finding.Byte i) = codes "byte" ∷ decimal i ∷ []
+finding_fields (finding.Chunk i found) = part_word found ∷ decimal i ∷ []
 
 abbrev pub entry_fields : Entry → List (List ℕ)
 entry_fields (entry.Issue start) = codes "I" ∷ start_fields start
@@ -220,15 +228,43 @@ module _ (fields : List (List ℕ)) where
             ]
       ]
 
+  -- a part's word and a number
+  number_last_is : (word : List ℕ) (n : ℕ) → (length fields == 5) ≡ true → is_word (field_at fields 3) word ≡ true → number_at fields 4 ≡ Some n → fields ≡ field_at fields 0 ∷ field_at fields 1 ∷ field_at fields 2 ∷ word ∷ decimal n ∷ []
+  number_last_is word n five test h = number_last word n (and_from (length fields == 5) (is_word (field_at fields 3) word) five test) h
+
+  part_is : (found : Part) → part_of (field_at fields 3) ≡ Some found → is_word (field_at fields 3) (part_word found) ≡ true
+  part_is found h =
+      elim (cases_cond (is_word (field_at fields 3) (codes "header")) _ _ (Some found) h) [
+        | inl header ↦ subst (λ (p : Part). is_word (field_at fields 3) (part_word p) ≡ true) (same_some part.Header found header.1) header.0
+        | inr not_header ↦
+            elim (cases_cond (is_word (field_at fields 3) (codes "digest")) _ _ (Some found) not_header) [
+              | inl digest ↦ subst (λ (p : Part). is_word (field_at fields 3) (part_word p) ≡ true) (same_some part.Digest found digest.1) digest.0
+              | inr other ↦
+                  let area = from_cond (is_word (field_at fields 3) (codes "data")) (Some part.DataArea) found other in
+                  subst (λ (p : Part). is_word (field_at fields 3) (part_word p) ≡ true) (same_some part.DataArea found area.1) area.0
+            ]
+      ]
+
+  chunk_is : (said : Finding) (found : Option Part) (number : Option ℕ) → (length fields == 5) ≡ true → part_of (field_at fields 3) ≡ found → number_at fields 4 ≡ number → chunk_finding found number ≡ Some said → fields ≡ field_at fields 0 ∷ field_at fields 1 ∷ field_at fields 2 ∷ finding_fields said
+  chunk_is said (Some found) (Some i) five word number h =
+      number_last_is (part_word found) i five (part_is found word) number
+      ∙ ap (λ (f : Finding). field_at fields 0 ∷ field_at fields 1 ∷ field_at fields 2 ∷ finding_fields f) (same_some (finding.Chunk i found) said h)
+  chunk_is said (Some found) None five word number h = cc
+  chunk_is said None number five word is h = cc
+
   finding_is : (said : Finding) → finding_in fields ≡ Some said → fields ≡ field_at fields 0 ∷ field_at fields 1 ∷ field_at fields 2 ∷ finding_fields said
   finding_is said h =
       elim (cases_cond (length fields == 4) _ _ (Some said) h) [
         | inl four ↦ finding_word said four.0 four.1
         | inr other ↦
-            let byte = from_cond (length fields == 5 && is_word (field_at fields 3) (codes "byte")) (option_map finding.Byte (number_at fields 4)) said other in
-            let place = from_map finding.Byte (number_at fields 4) said byte.1 in
-            number_last (codes "byte") place.0 byte.0 place.1
-            ∙ ap (λ (f : Finding). field_at fields 0 ∷ field_at fields 1 ∷ field_at fields 2 ∷ finding_fields f) place.2
+            let five = from_cond (length fields == 5) (counted_finding (field_at fields 3) (number_at fields 4)) said other in
+            elim (cases_cond (is_word (field_at fields 3) (codes "byte")) _ _ (Some said) five.1) [
+              | inl byte ↦
+                  let place = from_map finding.Byte (number_at fields 4) said byte.1 in
+                  number_last_is (codes "byte") place.0 five.0 byte.0 place.1
+                  ∙ ap (λ (f : Finding). field_at fields 0 ∷ field_at fields 1 ∷ field_at fields 2 ∷ finding_fields f) place.2
+              | inr chunk ↦ chunk_is said (part_of (field_at fields 3)) (number_at fields 4) five.0 refl refl chunk
+            ]
       ]
 
   end_is : (x : Entry) → is_word (field_at fields 0) (codes "E") ≡ true → end_in fields ≡ Some x → fields ≡ entry_fields x

@@ -1,6 +1,6 @@
 -- The numbers in the lines of a legal history of a plan are small.
 use Rattle.std.proofs.Common.{◌≡◌, ℕ, ◌+◌, ◌%◌, ◌^◌, ◌<◌, ◌≤◌, List, [], ◌∷◌, ◌++◌, length, Bool, true, false, not, ◌&&◌, refl, ap, ◌∙◌, arith}
-use Rattle.std.specs.Prelude.{Option, Some, None, nat_le, nat_lt, slice_get, ◌==◌}
+use Rattle.std.specs.Prelude.{Option, Some, None, Bool, true, false, cond, ◌/◌, nat_le, nat_lt, slice_get, ◌==◌}
 use Rattle.std.proofs.lemmas.Bool.{and_parts, leb-true, lt-ltb, ltb-true}
 use Rattle.std.proofs.lemmas.Option.{slice_get_within}
 use Rattle.jr_model.specs.declared.blocks.Dir.{Dir}
@@ -13,14 +13,16 @@ use Rattle.jr_model.specs.declared.events.Outcome.TheVariants.{Whole, Failed, Sh
 use Rattle.jr_model.specs.declared.events.Started.{Started}
 use Rattle.jr_model.specs.declared.events.Verdict.{Verdict as GivenVerdict}
 use Rattle.jr_model.specs.declared.events.Verdict.TheVariants.{Good, Bad}
-use Rattle.jr_model.specs.declared.events.What.TheVariants.{Header, Digest, DataArea, Byte}
+use Rattle.jr_model.specs.declared.events.What.{What}
+use Rattle.jr_model.specs.declared.events.What.TheVariants.{Header, Digest, DataArea, Byte, Chunk}
 use Rattle.jr_model.specs.declared.events.WriteId.{WriteId}
 use Rattle.jr_model.specs.declared.contents.VerifyKind.{VerifyKind}
 use Rattle.jr_model.specs.declared.contents.VerifyKind.TheVariants as verify
 use Rattle.jr_model.specs.declared.workloads.Draw.{Draw}
 use Rattle.jr_model.specs.Draws.{draws_of_job}
 use Rattle.jr_model.specs.History.{ended_whole, flies, is_judged, is_probe, outcome_of, started}
-use Rattle.jr_model.specs.Legal.{end_fits, is_legal, job_says, kind_says, legal_after, may_happen, verdict_fits}
+use Rattle.std.proofs.Math.Nat.{div-le_self}
+use Rattle.jr_model.specs.Legal.{digest_finds, end_fits, is_legal, job_says, kind_says, legal_after, may_happen, verdict_fits}
 use Rattle.jr_model.specs.Plan.{Plan, SubJob, clone_of}
 use Rattle.jr_model.specs.Rounds.{pass_of}
 use Rattle.jr_model.proofs.LegalLaws.{is_legal-more}
@@ -98,22 +100,38 @@ module _ (plan : Plan) (planned : IsPlanned plan) where
         let parts = and_parts (io.worker == worker) (nat_lt n io.piece.len) h in
         less n io.piece.len (len_small id io at) (ltb-true n io.piece.len parts.1)
 
-    -- a byte that differs is one of the piece
-    byte_small : (kind : VerifyKind) (len : ℕ) (verdict : GivenVerdict) → len ≤ 2 ^ 32 → kind_says kind len verdict ≡ true → finding_fits (finding_of verdict) ≡ true
-    byte_small kind len Good most h = refl
-    byte_small kind len (Bad Header) most h = refl
-    byte_small kind len (Bad Digest) most h = refl
-    byte_small kind len (Bad DataArea) most h = refl
-    byte_small verify.Pattern len (Bad (Byte i)) most h = less i len most (ltb-true i len h)
-    byte_small verify.Plain len (Bad (Byte i)) most h = cc
-    byte_small verify.Md5 len (Bad (Byte i)) most h = cc
-    byte_small verify.Sha1 len (Bad (Byte i)) most h = cc
-    byte_small verify.Sha256 len (Bad (Byte i)) most h = cc
+    -- a byte that differs is one of the piece, and a chunk is one of its chunks
+    chunk_small : (interval len : ℕ) (what : What) → len ≤ 2 ^ 32 → digest_finds interval len what ≡ true → finding_fits (finding_of (Bad what)) ≡ true
+    chunk_small interval len Header most h = refl
+    chunk_small interval len Digest most h = refl
+    chunk_small interval len DataArea most h = refl
+    chunk_small interval len (Byte i) most h = by (interval == 0) h
+      where
+        by : (b : Bool) → cond b false false ≡ true → is_small i ≡ true
+        by true none = cc
+        by false none = cc
+    chunk_small interval len (Chunk i found) most h = by (interval == 0) h
+      where
+        by : (b : Bool) → cond b false (nat_lt i (len / interval)) ≡ true → is_small i ≡ true
+        by true none = cc
+        by false some = less i (len / interval) (omega (arith, most, div-le_self len interval)) (ltb-true i (len / interval) some)
+
+    byte_small : (kind : VerifyKind) (interval len : ℕ) (verdict : GivenVerdict) → len ≤ 2 ^ 32 → kind_says kind interval len verdict ≡ true → finding_fits (finding_of verdict) ≡ true
+    byte_small kind interval len Good most h = refl
+    byte_small verify.Plain interval len (Bad what) most h = cc
+    byte_small verify.Pattern interval len (Bad (Byte i)) most h = less i len most (ltb-true i len h)
+    byte_small verify.Pattern interval len (Bad Header) most h = refl
+    byte_small verify.Pattern interval len (Bad Digest) most h = refl
+    byte_small verify.Pattern interval len (Bad DataArea) most h = refl
+    byte_small verify.Pattern interval len (Bad (Chunk i found)) most h = cc
+    byte_small verify.Md5 interval len (Bad what) most h = chunk_small interval len what most h
+    byte_small verify.Sha1 interval len (Bad what) most h = chunk_small interval len what most h
+    byte_small verify.Sha256 interval len (Bad what) most h = chunk_small interval len what most h
 
     says_small : (job : Option SubJob) (len : ℕ) (verdict : GivenVerdict) → len ≤ 2 ^ 32 → job_says job len verdict ≡ true → finding_fits (finding_of verdict) ≡ true
     says_small None len Good most h = refl
     says_small None len (Bad what) most h = cc
-    says_small (Some job) len verdict most h = byte_small job.method.kind len verdict most h
+    says_small (Some job) len verdict most h = byte_small job.method.kind job.method.interval len verdict most h
 
     record IsOnStarted (id : ℕ) (fits : Bool) : Type 0 where
       below : id < length (started history)

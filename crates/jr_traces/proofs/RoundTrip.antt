@@ -14,7 +14,8 @@ use Rattle.jr_model.specs.declared.events.Outcome.{Outcome}
 use Rattle.jr_model.specs.declared.events.Outcome.TheVariants.{Whole, Failed, Short}
 use Rattle.jr_model.specs.declared.events.Verdict.{Verdict as GivenVerdict}
 use Rattle.jr_model.specs.declared.events.Verdict.TheVariants.{Good, Bad}
-use Rattle.jr_model.specs.declared.events.What.TheVariants.{Header, Digest, DataArea, Byte}
+use Rattle.jr_model.specs.declared.events.Part.TheVariants as part
+use Rattle.jr_model.specs.declared.events.What.TheVariants.{Header, Digest, DataArea, Byte, Chunk}
 use Rattle.jr_model.specs.declared.events.WriteId.{WriteId}
 use Rattle.jr_model.specs.declared.workloads.Draw.{Draw}
 use Rattle.jr_model.specs.Draws.{draws_of_clone, draws_of_job}
@@ -133,6 +134,7 @@ verdict_back (Bad Header) = refl
 verdict_back (Bad Digest) = refl
 verdict_back (Bad DataArea) = refl
 verdict_back (Bad (Byte i)) = refl
+verdict_back (Bad (Chunk i found)) = refl
 
 -- the entry of an event that may happen names it
 event_back : (plan : Plan) (history : List Event) (io : ℕ) (e : Event) → may_happen plan history e ≡ true → event_of plan (entry_of io e) ≡ Some e

@@ -49,6 +49,7 @@ finding_fits finding.Header = true
 finding_fits finding.Digest = true
 finding_fits finding.DataArea = true
 finding_fits (finding.Byte i) = is_small i
+finding_fits (finding.Chunk i part) = is_small i
 
 abbrev pub entry_fits : Entry → Bool
 entry_fits (entry.Issue start) = is_small start.worker && is_small start.io && name_fits start.write
@@ -80,6 +81,7 @@ verdict_of finding.Header = verdict.Bad what.Header
 verdict_of finding.Digest = verdict.Bad what.Digest
 verdict_of finding.DataArea = verdict.Bad what.DataArea
 verdict_of (finding.Byte i) = verdict.Bad (what.Byte i)
+verdict_of (finding.Chunk i part) = verdict.Bad (what.Chunk i part)
 
 -- the draw of this name, if the plan has it
 abbrev pub draw_of : Plan → WriteId → Option Draw

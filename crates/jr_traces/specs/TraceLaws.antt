@@ -48,6 +48,7 @@ finding_of (verdict.Bad w) = bad w
     bad what.Digest = finding.Digest
     bad what.DataArea = finding.DataArea
     bad (what.Byte i) = finding.Byte i
+    bad (what.Chunk i part) = finding.Chunk i part
 
 abbrev pub entry_of : ℕ → Event → Entry
 entry_of io (event.Issue worker dir write piece) = entry.Issue (start_by worker io write)

@@ -5,6 +5,8 @@ use Rattle.std.specs.Cmp.Lexicographic.{pointwise}
 use Rattle.std.specs.List.{list_all, slice_split}
 use Rattle.std.specs.Option.{option_map}
 use Rattle.std.specs.Str.Parse.{digits_value}
+use Rattle.jr_model.specs.declared.events.Part.{Part}
+use Rattle.jr_model.specs.declared.events.Part.TheVariants as part
 use Rattle.jr_traces.specs.declared.entries.Ending.{Ending}
 use Rattle.jr_traces.specs.declared.entries.Ending.TheVariants as ending
 use Rattle.jr_traces.specs.declared.entries.Entry.{Entry}
@@ -89,7 +91,7 @@ end_of None io ending = None
 abbrev pub end_in : List (List ℕ) → Option Entry
 end_in fields = end_of (number_at fields 1) (number_at fields 2) (ending_in fields)
 
--- what is said of a check: one word, or `byte` and a number
+-- what is said of a check: one word, or a word and a number
 abbrev pub word_finding : List ℕ → Option Finding
 word_finding word =
     if is_word word (codes "good") then Some finding.Good
@@ -97,10 +99,26 @@ word_finding word =
     else (if is_word word (codes "digest") then Some finding.Digest
     else (if is_word word (codes "data") then Some finding.DataArea else None)))
 
+abbrev pub part_of : List ℕ → Option Part
+part_of word =
+    if is_word word (codes "header") then Some part.Header
+    else (if is_word word (codes "digest") then Some part.Digest
+    else (if is_word word (codes "data") then Some part.DataArea else None))
+
+-- a part of the chunk of this number
+abbrev pub chunk_finding : Option Part → Option ℕ → Option Finding
+chunk_finding (Some part) (Some chunk) = Some (finding.Chunk chunk part)
+chunk_finding (Some part) None = None
+chunk_finding None number = None
+
+abbrev pub counted_finding : List ℕ → Option ℕ → Option Finding
+counted_finding word number =
+    if is_word word (codes "byte") then option_map finding.Byte number else chunk_finding (part_of word) number
+
 abbrev pub finding_in : List (List ℕ) → Option Finding
 finding_in fields =
     if length fields == 4 then word_finding (field_at fields 3)
-    else (if length fields == 5 && is_word (field_at fields 3) (codes "byte") then option_map finding.Byte (number_at fields 4) else None)
+    else (if length fields == 5 then counted_finding (field_at fields 3) (number_at fields 4) else None)
 
 abbrev pub verdict_of : Option ℕ → Option ℕ → Option Finding → Option Entry
 verdict_of (Some by) (Some io) (Some finding) = Some (entry.Verdict by io finding)

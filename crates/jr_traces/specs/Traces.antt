@@ -7,8 +7,10 @@ use Rattle.jr_model.specs.declared.events.Outcome.{Outcome}
 use Rattle.jr_model.specs.declared.events.Outcome.TheVariants.{Whole, Failed, Short}
 use Rattle.jr_model.specs.declared.events.Verdict.{Verdict as GivenVerdict}
 use Rattle.jr_model.specs.declared.events.Verdict.TheVariants.{Good, Bad}
+use Rattle.jr_model.specs.declared.events.Part.{Part}
+use Rattle.jr_model.specs.declared.events.Part.TheVariants as part
 use Rattle.jr_model.specs.declared.events.What.{What}
-use Rattle.jr_model.specs.declared.events.What.TheVariants.{Header, Digest, DataArea, Byte}
+use Rattle.jr_model.specs.declared.events.What.TheVariants.{Header, Digest, DataArea, Byte, Chunk}
 use Rattle.jr_model.specs.declared.events.WriteId.{WriteId}
 use Rattle.jr_model.specs.History.{started}
 
@@ -27,11 +29,17 @@ outcome_fields Failed = codes " failed"
 outcome_fields (Short n) = codes " short" ++ spaced n
 
 -- what is said of a check
+abbrev pub part_fields : Part → List ℕ
+part_fields part.Header = codes " header"
+part_fields part.Digest = codes " digest"
+part_fields part.DataArea = codes " data"
+
 abbrev pub what_fields : What → List ℕ
-what_fields Header = codes " header"
-what_fields Digest = codes " digest"
-what_fields DataArea = codes " data"
+what_fields Header = part_fields part.Header
+what_fields Digest = part_fields part.Digest
+what_fields DataArea = part_fields part.DataArea
 what_fields (Byte i) = codes " byte" ++ spaced i
+what_fields (Chunk i found) = part_fields found ++ spaced i
 
 abbrev pub verdict_fields : GivenVerdict → List ℕ
 verdict_fields Good = codes " good"

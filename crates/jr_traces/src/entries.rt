@@ -1,3 +1,5 @@
+use jr_model::Part;
+
 // The draw that a line names.
 #[derive(Clone, Copy)]
 pub struct Name {
@@ -30,6 +32,7 @@ pub enum Finding {
     Digest,
     DataArea,
     Byte(u64),
+    Chunk(u64, Part),
 }
 
 // What a line of a trace says. Its numbers may be too large for an event.

@@ -5,10 +5,10 @@ ghost use Rattle.std.specs.Option.{SomeIff};
 ghost use Rattle.std.specs.Str.Parse.{digits_value};
 ghost use Rattle.jr_traces.specs.TraceLines.{is_space, fields_of, field_at, is_word, is_numeral, number_in, number_at, named};
 ghost use Rattle.jr_traces.specs.TraceLines.{name_at, start_of, start_in, skip_of, skip_in, ending_in, end_of, end_in};
-ghost use Rattle.jr_traces.specs.TraceLines.{word_finding, finding_in, verdict_of, verdict_in, entry_in, read_line};
+ghost use Rattle.jr_traces.specs.TraceLines.{word_finding, counted_finding, part_of, finding_in, verdict_of, verdict_in, entry_in, read_line};
 
 use crate::entries::{Ending, Entry, Finding, Name, Start};
-use jr_model::{all_digits, digits_number};
+use jr_model::{Part, all_digits, digits_number};
 
 // What a line of a trace says, without its line feed; nothing where it is no line of a trace.
 pub(crate) fn read_line(line: &[u8]) -> Option<Entry>
@@ -143,7 +143,7 @@ fn verdict_of(by: Option<u64>, io: Option<u64>, finding: Option<Finding>) -> Opt
     })
 }
 
-// What is said of a check: a word, or `byte` and a number.
+// What is said of a check: a word, or a word and a number.
 fn finding_in(line: &[u8]) -> Option<Finding>
     ensures { result ≡ finding_in (fields_of line.now) }
 {
@@ -152,10 +152,35 @@ fn finding_in(line: &[u8]) -> Option<Finding>
     if count == 4 {
         return word_finding(word);
     }
-    if count == 5 && is_word(word, b"byte") {
-        return Some(Finding::Byte(number_at(line, 4)?));
+    if count == 5 {
+        return counted_finding(word, number_at(line, 4));
     }
     None
+}
+
+// A byte, or the part of a chunk that the word says, of this number.
+fn counted_finding(word: &[u8], number: Option<u64>) -> Option<Finding>
+    ensures { result ≡ counted_finding word.now number }
+{
+    if is_word(word, b"byte") {
+        return Some(Finding::Byte(number?));
+    }
+    let part = part_of(word)?;
+    Some(Finding::Chunk(number?, part))
+}
+
+fn part_of(word: &[u8]) -> Option<Part>
+    ensures { result ≡ part_of word.now }
+{
+    if is_word(word, b"header") {
+        Some(Part::Header)
+    } else if is_word(word, b"digest") {
+        Some(Part::Digest)
+    } else if is_word(word, b"data") {
+        Some(Part::DataArea)
+    } else {
+        None
+    }
 }
 
 fn word_finding(word: &[u8]) -> Option<Finding>

@@ -216,5 +216,6 @@ fn verdict_of(finding: &Finding) -> Option<Verdict>
         Finding::Digest => Some(Verdict::Bad(What::Digest)),
         Finding::DataArea => Some(Verdict::Bad(What::DataArea)),
         Finding::Byte(place) => Some(Verdict::Bad(What::Byte(small(*place)?))),
+        Finding::Chunk(chunk, part) => Some(Verdict::Bad(What::Chunk(small(*chunk)?, *part))),
     }
 }

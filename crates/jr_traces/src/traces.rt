@@ -2,10 +2,10 @@ ghost use Rattle.std.specs.Prelude.{◌≡◌, ◌++◌, IfOk, OnOk, codes, is_s
 ghost use Rattle.jr_model.specs.History.{started_by};
 ghost use Rattle.jr_traces.specs.TraceChecks.{is_small};
 ghost use Rattle.jr_traces.specs.TraceLaws.{worker_of, workers_fit};
-ghost use Rattle.jr_traces.specs.Traces.{draw_fields, event_text, outcome_fields, spaced, trace_of, verdict_fields, what_fields};
+ghost use Rattle.jr_traces.specs.Traces.{draw_fields, event_text, outcome_fields, part_fields, spaced, trace_of, verdict_fields, what_fields};
 
 use jr_history::started_by;
-use jr_model::{Event, Memory, Outcome, Verdict, What, WriteId, push_number, push_text};
+use jr_model::{Event, Memory, Outcome, Part, Verdict, What, WriteId, push_number, push_text};
 use std::alloc::Global;
 
 /// The trace of a history: a line for each event.
@@ -131,10 +131,24 @@ fn push_what(text: &mut Vec<u8>, what: What) -> Result<(), Memory>
     ensures { OnOk result (text.new.items ≡ text.old.items ++ what_fields what) }
 {
     match what {
-        What::Header => push_text(text, " header"),
-        What::Digest => push_text(text, " digest"),
-        What::DataArea => push_text(text, " data"),
+        What::Header => push_part(text, Part::Header),
+        What::Digest => push_part(text, Part::Digest),
+        What::DataArea => push_part(text, Part::DataArea),
         What::Byte(place) => push_counted(text, " byte", place),
+        What::Chunk(chunk, part) => {
+            push_part(text, part)?;
+            push_spaced(text, u64::from(chunk))
+        }
+    }
+}
+
+fn push_part(text: &mut Vec<u8>, part: Part) -> Result<(), Memory>
+    ensures { OnOk result (text.new.items ≡ text.old.items ++ part_fields part) }
+{
+    match part {
+        Part::Header => push_text(text, " header"),
+        Part::Digest => push_text(text, " digest"),
+        Part::DataArea => push_text(text, " data"),
     }
 }
 

@@ -62,3 +62,20 @@ filled n state whole =
     let length_is : length (word_bytes (words_from state (n / 8))) ≤ n =
     omega (arith, length-word_bytes (words_from state (n / 8)), length-words_from state (n / 8)) in
     rw (words, same_bytes, take_all n (word_bytes (words_from state (n / 8))) length_is) refl
+
+-- more words begin with fewer
+pub words_from-add : (m n : ℕ) (state : List ℕ) → words_from state (m + n) ≡ words_from state m ++ words_from (state_after state m) n
+unfolding words_from state_after
+words_from-add zero n state = let e : zero + n ≡ n = omega arith in ap (words_from state) e
+words_from-add (suc m) n state =
+    let e : suc m + n ≡ suc (m + n) = omega arith in
+    ap (words_from state) e
+    ∙ ap (λ (ws : List ℕ). (plus_plus state).0 ∷ ws) (words_from-add m n (plus_plus state).1)
+
+-- the state after more words
+pub state_after-add : (m n : ℕ) (state : List ℕ) → state_after state (m + n) ≡ state_after (state_after state m) n
+unfolding state_after
+state_after-add zero n state = let e : zero + n ≡ n = omega arith in ap (state_after state) e
+state_after-add (suc m) n state =
+    let e : suc m + n ≡ suc (m + n) = omega arith in
+    ap (state_after state) e ∙ state_after-add m n (plus_plus state).1

@@ -46,8 +46,8 @@ judge-requires-clause-may c =
     let probe : is_probe t.kind ≡ true =
     ap (λ (x : Ticket). is_probe x.kind) same ∙ judged_probe ruling.ticket.kind ruling.outcome c.served.ensures.to_judge in
     let len : length ruling.bytes ≡ t.piece.len = c.served.ensures.room ∙ ap (λ (x : Ticket). x.piece.len) (sym same) in
-    let said : verdict_of t.method.kind t.expected ruling.bytes ≡ c.verdict.result =
-    ap (λ (x : Ticket). verdict_of x.method.kind x.expected ruling.bytes) same ∙ sym c.verdict.ensures.value in
+    let said : verdict_of t.method t.write t.piece t.expected ruling.bytes ≡ c.verdict.result =
+    ap (λ (x : Ticket). verdict_of x.method x.write x.piece x.expected ruling.bytes) same ∙ sym c.verdict.ensures.value in
     subst (λ (d : DeskState). may_happen d.plan d.history (Verdict c.args.by t.id c.verdict.result) ≡ true) (sym c.self.view_is)
     (subst (λ (v : GivenVerdict). may_happen desk.plan desk.history (Verdict c.args.by t.id v) ≡ true) said
     (may_judge desk.plan desk.history t c.args.by ruling.bytes planned legal c.in_ok-check_own.ensures.ok unjudged whole probe (omega (arith, len))))

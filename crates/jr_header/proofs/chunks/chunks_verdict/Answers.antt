@@ -1,0 +1,41 @@
+use Rattle.std.proofs.Common.{◌≡◌, ℕ, ◌+◌, ◌-◌, ◌*◌, ◌<◌, ◌≤◌, List, take, drop, inl, inr, refl, sym, ap, ◌∙◌, arith}
+use Rattle.std.proofs.lemmas.Bool.{cases_lt}
+use Rattle.jr_model.specs.declared.events.Verdict.TheVariants.{Good}
+use Rattle.jr_model.specs.Content.{chunk_header, chunks_in}
+use Rattle.jr_model.specs.Judgement.{chunk_verdict, header_verdict, in_chunk}
+use Rattle.jr_header.proofs.ChunkLemmas.{all_good, bad_at}
+use Rattle.jr_header.proofs.chunks.chunks_verdict.Goals as goal
+
+pub returns-in-Bad : goal.returns-in-Bad
+returns-in-Bad c =
+    let t = c.args.ticket.now in
+    let bytes = c.args.bytes.now in
+    let i = c.loop-i.i in
+    let v = t.method.interval in
+    let step : i * v + v - i * v ≡ v = omega arith in
+    let here : chunk_verdict t.method t.write t.piece c.args.seed bytes i ≡ c.chunk_verdict.result =
+    sym (c.chunk_verdict.ensures ∙ ap (λ (k : ℕ). in_chunk i (header_verdict t.method.kind (chunk_header t.method t.write t.piece c.args.seed i) (take k (drop (i * v) bytes)))) step) in
+    sym (bad_at (chunk_verdict t.method t.write t.piece c.args.seed bytes) 0 (chunks_in v t.piece) i c.in-Bad.what (omega arith) (omega arith)
+    (λ (k : ℕ) (least : 0 ≤ k) (below : k < i). c.loop-i.invariant k below) (here ∙ c.in-Bad.is))
+
+pub loop-i-preserved : goal.loop-i-preserved
+loop-i-preserved c k below =
+    let t = c.args.ticket.now in
+    let bytes = c.args.bytes.now in
+    let i = c.loop-i.i in
+    let v = t.method.interval in
+    let step : i * v + v - i * v ≡ v = omega arith in
+    let here : chunk_verdict t.method t.write t.piece c.args.seed bytes i ≡ c.chunk_verdict.result =
+    sym (c.chunk_verdict.ensures ∙ ap (λ (k : ℕ). in_chunk i (header_verdict t.method.kind (chunk_header t.method t.write t.piece c.args.seed i) (take k (drop (i * v) bytes)))) step) in
+    elim (cases_lt k i) [
+      | inl before ↦ c.loop-i.invariant k before
+      | inr last ↦
+          let same : k ≡ i = omega (arith, below, last) in
+          ap (chunk_verdict t.method t.write t.piece c.args.seed bytes) same ∙ here ∙ c.in_default.is
+    ]
+
+pub returns : goal.returns
+returns c =
+    let t = c.args.ticket.now in
+    sym (all_good (chunk_verdict t.method t.write t.piece c.args.seed c.args.bytes.now) 0 (chunks_in t.method.interval t.piece)
+    (λ (k : ℕ) (least : 0 ≤ k) (below : k < 0 + chunks_in t.method.interval t.piece). c.loop-i.invariant k (omega (arith, below))))
