@@ -1,4 +1,5 @@
 pub mod Cells
 pub mod Lists
 pub mod Pieces
+mod Rows
 pub mod Sweeping

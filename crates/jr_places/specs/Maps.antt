@@ -5,7 +5,9 @@ use Rattle.std.specs.List.{list_any}
 use Rattle.jr_model.specs.declared.events.Event.{Event}
 use Rattle.jr_model.specs.declared.events.Event.TheVariants.{Issue, Probe, Skip, End, Verdict}
 use Rattle.jr_model.specs.declared.events.Outcome.{Outcome}
+use Rattle.jr_model.specs.declared.blocks.Piece.{Piece}
 use Rattle.jr_model.specs.declared.events.Verdict.{Verdict as GivenVerdict}
+use Rattle.jr_model.specs.declared.events.Verdict.TheVariants as given
 use Rattle.jr_model.specs.declared.events.WriteId.{WriteId}
 use Rattle.jr_model.specs.declared.limits.TheConstants.{SECTOR}
 use Rattle.jr_model.specs.declared.tickets.TicketKind.{TicketKind}
@@ -14,11 +16,11 @@ use Rattle.jr_model.specs.declared.events.Started.{Started}
 use Rattle.jr_model.specs.History.{started, same_write}
 use Rattle.jr_model.specs.Legal.{is_bad, is_fault}
 use Rattle.jr_model.specs.Pieces.{pieces_overlap}
-use Rattle.jr_places.specs.BadBlocks.{block_piece}
+use Rattle.jr_model.specs.Plan.{Plan}
+use Rattle.jr_places.specs.BadBlocks.{bad_bytes, block_piece}
 use Rattle.jr_places.specs.declared.fates.Fate.{Fate}
 use Rattle.jr_places.specs.declared.fates.Fate.TheVariants.{Untouched, Read, Good, Skipped, Unchecked, Fault, Bad}
 use Rattle.jr_places.specs.declared.maps.FileMap.{FileMap}
-use Rattle.jr_places.specs.declared.marks.Mark.{Mark}
 
 -- how bad it is
 abbrev pub rank : Fate → ℕ
@@ -71,38 +73,48 @@ fate_of_end history io outcome = if is_fault outcome then Fault else fate_of_who
 abbrev pub fate_of_verdict : GivenVerdict → Fate
 fate_of_verdict verdict = if is_bad verdict then Bad else Good
 
--- what an end or a verdict says of the bytes of its I/O
-abbrev pub end_mark : List Event → Outcome → Option Started → Option Mark
-end_mark history outcome None = None
-end_mark history outcome (Some io) = Some (record { piece = io.piece; fate = fate_of_end history io outcome })
+-- the bytes that a verdict is over
+abbrev pub verdict_bytes : Plan → GivenVerdict → Started → Piece
+verdict_bytes plan given.Good io = io.piece
+verdict_bytes plan (given.Bad what) io = bad_bytes plan io.write io.piece what
 
-abbrev pub verdict_mark : GivenVerdict → Option Started → Option Mark
-verdict_mark verdict None = None
-verdict_mark verdict (Some io) = Some (record { piece = io.piece; fate = fate_of_verdict verdict })
+-- some bytes, and what is said of them
+pub record Said : Type 0 where
+  pub piece : Piece
+  pub fate : Fate
 
-abbrev pub mark_of : List Event → Event → Option Mark
-mark_of history (End worker io outcome) = end_mark history outcome (slice_get (started history) io)
-mark_of history (Verdict worker io verdict) = verdict_mark verdict (slice_get (started history) io)
-mark_of history (Issue worker dir write piece) = None
-mark_of history (Probe worker write piece) = None
-mark_of history (Skip worker write) = None
+-- what an end or a verdict says
+abbrev pub said_by_end : List Event → Outcome → Option Started → Option Said
+said_by_end history outcome None = None
+said_by_end history outcome (Some io) = Some (record { piece = io.piece; fate = fate_of_end history io outcome })
+
+abbrev pub said_by_verdict : Plan → GivenVerdict → Option Started → Option Said
+said_by_verdict plan verdict None = None
+said_by_verdict plan verdict (Some io) = Some (record { piece = verdict_bytes plan verdict io; fate = fate_of_verdict verdict })
+
+abbrev pub said_of : Plan → List Event → Event → Option Said
+said_of plan history (End worker io outcome) = said_by_end history outcome (slice_get (started history) io)
+said_of plan history (Verdict worker io verdict) = said_by_verdict plan verdict (slice_get (started history) io)
+said_of plan history (Issue worker dir write piece) = None
+said_of plan history (Probe worker write piece) = None
+said_of plan history (Skip worker write) = None
 
 -- the fate of a cell once this is said; cells are blocks of so many bytes
-abbrev pub marked : ℕ → ℕ → ℕ → Fate → Option Mark → Fate
+abbrev pub marked : ℕ → ℕ → ℕ → Fate → Option Said → Fate
 marked file size cell fate None = fate
-marked file size cell fate (Some mark) =
-    if pieces_overlap mark.piece (block_piece file size cell) then worse fate mark.fate else fate
+marked file size cell fate (Some said) =
+    if pieces_overlap said.piece (block_piece file size cell) then worse fate said.fate else fate
 
 -- the worst of all that is said of a byte of the cell
-abbrev pub fate_of : List Event → ℕ → ℕ → ℕ → Fate
-fate_of history file size cell = fold (λ fate event. marked file size cell fate (mark_of history event)) Untouched history
+abbrev pub fate_of : Plan → List Event → ℕ → ℕ → ℕ → Fate
+fate_of plan history file size cell = fold (λ fate event. marked file size cell fate (said_of plan history event)) Untouched history
 
 -- the least multiple of 512 bytes of which no more than `most` reach to the end of the file
 abbrev pub cell_size : ℕ → ℕ → ℕ
 cell_size most end = SECTOR * max 1 (div_ceil end (SECTOR * most))
 
 -- the map of the first `end` bytes of a file
-pub record IsMapOf (history : List Event) (file end most : ℕ) (map : FileMap) : Type 0 where
+pub record IsMapOf (plan : Plan) (history : List Event) (file end most : ℕ) (map : FileMap) : Type 0 where
   pub size : map.size ≡ cell_size most end
   pub count : length map.fates.items ≡ div_ceil end map.size
-  pub fates : (cell : ℕ) (d : Fate) → cell < length map.fates.items → slice_index_or map.fates.items cell d ≡ fate_of history file map.size cell
+  pub fates : (cell : ℕ) (d : Fate) → cell < length map.fates.items → slice_index_or map.fates.items cell d ≡ fate_of plan history file map.size cell

@@ -1,13 +1,24 @@
--- Internal: a list of blocks while pieces are gone through, the least offset first.
+-- Internal: a list of blocks while spans are gone through, the least offset first.
 use Rattle.std.specs.Prelude.{◌≡◌, ℕ, ◌+◌, ◌*◌, ◌<◌, Bool, true, List, length, slice_index}
 use Rattle.std.specs.List.Sorted.{IsStrictlyIncreasing}
+use Rattle.jr_model.specs.declared.blocks.Piece.{Piece}
 use Rattle.jr_model.specs.Pieces.{pieces_overlap}
-use Rattle.jr_places.specs.BadBlocks.{block_piece, is_listed}
+use Rattle.jr_model.specs.Plan.{Plan}
+use Rattle.jr_places.specs.BadBlocks.{bad_bytes, block_piece, is_listed}
+use Rattle.jr_places.specs.Spans.{span_bytes}
+use Rattle.jr_places.specs.declared.spans.Span.{Span}
 use Rattle.jr_tallies.specs.declared.tallies.Bad.{Bad}
 
--- the bad verdict is over a byte of the block
-abbrev pub is_over : ℕ → ℕ → ℕ → Bad → Bool
-is_over file size block bad = pieces_overlap bad.piece (block_piece file size block)
+-- the bytes that a bad verdict is over
+abbrev pub bytes_of : Plan → Bad → Piece
+bytes_of plan bad = bad_bytes plan bad.write bad.piece bad.what
+
+-- these bytes, or those of the span, have one in the block
+abbrev pub is_in_block : ℕ → ℕ → ℕ → Piece → Bool
+is_in_block file size block piece = pieces_overlap piece (block_piece file size block)
+
+abbrev pub is_over : ℕ → ℕ → ℕ → Span → Bool
+is_over file size block span = is_in_block file size block (span_bytes span)
 
 -- the blocks ascend, and each is below `next`
 pub record IsRising (blocks : List ℕ) (next : ℕ) : Type 0 where

@@ -1,60 +1,86 @@
-ghost use Rattle.std.specs.Prelude.{◌≡◌, ◌≤◌, ◌<◌, ◌+◌, ◌-◌, ◌*◌, ◌/◌, ◌++◌, ◌&&◌, ◌||◌};
-ghost use Rattle.std.specs.Prelude.{◌==◌, ◌∷◌, nat_le, nat_lt, max, ℕ, [], true, map, IfOk, OnOk};
+ghost use Rattle.std.specs.Prelude.{◌≡◌, ◌≤◌, ◌<◌, ◌+◌, ◌*◌, ◌++◌, ◌&&◌, ◌||◌};
+ghost use Rattle.std.specs.Prelude.{◌∷◌, nat_le, nat_lt, max, ℕ, [], true, map, IfOk, OnOk};
 ghost use Rattle.std.specs.List.{list_any};
 ghost use Rattle.std.specs.List.Sorted.{IsNonDecreasingBy, IsStrictlyIncreasing};
-ghost use Rattle.jr_model.specs.Pieces.{pieces_overlap};
 ghost use Rattle.jr_tallies.specs.Tallying.{miscompare_of};
-ghost use Rattle.jr_tallies.specs.declared.tallies.Bad.{Bad as Found};
-ghost use Rattle.jr_places.specs.BadBlocks.{AreBadBlocks, block_line, block_piece, blocks_text, is_bad_block, is_listed};
-ghost use Rattle.jr_places.specs.Sweeps.{is_over, IsRising};
+ghost use Rattle.jr_places.specs.BadBlocks.{AreBadBlocks, block_line, blocks_text, is_bad_block, is_listed};
+ghost use Rattle.jr_places.specs.Spans.{span_bytes};
+ghost use Rattle.jr_places.specs.Sweeps.{bytes_of, is_over, IsRising};
+ghost use Rattle.jr_places.specs.declared.spans.Span.{Span as Place};
 
-use jr_model::{Memory, Piece, SECTOR, push_number, push_text};
+use crate::spans::{Span, bad_bytes, end_block, first_block, has_bytes};
+use jr_model::{Memory, SECTOR, push_number, push_text};
+use jr_plan::Plan;
 use jr_tallies::Bad;
 use std::alloc::Global;
 
 /// The numbers of the blocks of a file that bad verdicts are over, counted from the start of the file. A block has `size` bytes; the file
 /// is given by its place in the plan.
-pub fn bad_blocks(alloc: Global, bads: &[Bad], file: u32, size: u64) -> Result<Vec<u64>, Memory>
+pub fn bad_blocks(
+    alloc: Global,
+    plan: &Plan,
+    bads: &[Bad],
+    file: u32,
+    size: u64,
+) -> Result<Vec<u64>, Memory>
     requires { SECTOR ≤ size }
-    ensures { IfOk result (λ blocks. AreBadBlocks (map miscompare_of bads.now) file size blocks.items) }
+    ensures { IfOk result (λ blocks. AreBadBlocks plan.now (map miscompare_of bads.now) file size blocks.items) }
 {
-    let sorted = by_offset(alloc, bads)?;
-    blocks_of(alloc, sorted.as_slice(), file, size)
+    let spans = by_offset(alloc, plan, bads)?;
+    blocks_of(alloc, spans.as_slice(), file, size)
 }
 
-// The bad verdicts by their offsets.
-fn by_offset(alloc: Global, bads: &[Bad]) -> Result<Vec<Bad>, Memory>
-    ensures same { IfOk result (λ sorted. (file size block : ℕ) →
-        list_any (is_over file size block) sorted.items ≡ is_bad_block (map miscompare_of bads.now) file size block) }
-    ensures ascending { IfOk result (λ sorted. IsNonDecreasingBy (λ (bad : Found). bad.piece.offset) sorted.items) }
+// The bytes that bad verdicts are over, by their offsets.
+fn by_offset(alloc: Global, plan: &Plan, bads: &[Bad]) -> Result<Vec<Span>, Memory>
+    ensures same { IfOk result (λ spans. (file size block : ℕ) →
+        list_any (is_over file size block) spans.items ≡ is_bad_block plan.now (map miscompare_of bads.now) file size block) }
+    ensures ascending { IfOk result (λ spans. IsNonDecreasingBy (λ (span : Place). span.offset + span.skip) spans.items) }
 {
-    let mut sorted = Vec::from_slice(alloc, bads)?;
-    sorted.sort_unstable_by_key(|bad| bad.piece.offset);
-    Ok(sorted)
+    let mut spans = spans_of(alloc, plan, bads)?;
+    spans.sort_unstable_by_key(|span| u128::from(span.offset) + u128::from(span.skip));
+    Ok(spans)
 }
 
-// The blocks that these bad verdicts are over; their offsets ascend.
-fn blocks_of(alloc: Global, bads: &[Bad], file: u32, size: u64) -> Result<Vec<u64>, Memory>
+// The bytes that bad verdicts are over.
+fn spans_of(alloc: Global, plan: &Plan, bads: &[Bad]) -> Result<Vec<Span>, Memory>
+    ensures { IfOk result (λ spans. map span_bytes spans.items ≡ map (bytes_of plan.now) bads.now) }
+{
+    let mut spans = Vec::new(alloc);
+    for bad in bads {
+        add_span(&mut spans, plan, bad)?;
+    }
+    Ok(spans)
+}
+
+fn add_span(spans: &mut Vec<Span>, plan: &Plan, bad: &Bad) -> Result<(), Memory>
+    ensures { OnOk result (map span_bytes spans.new.items ≡ map span_bytes spans.old.items ++ bytes_of plan.now bad.now ∷ []) }
+{
+    spans.push(bad_bytes(plan, &bad.write, &bad.piece, bad.what))?;
+    Ok(())
+}
+
+// The blocks that these spans have a byte in; their offsets ascend.
+fn blocks_of(alloc: Global, spans: &[Span], file: u32, size: u64) -> Result<Vec<u64>, Memory>
     requires size { SECTOR ≤ size }
-    requires ascending { IsNonDecreasingBy (λ (bad : Found). bad.piece.offset) bads.now }
+    requires ascending { IsNonDecreasingBy (λ (span : Place). span.offset + span.skip) spans.now }
     ensures listed { IfOk result (λ blocks. (block : ℕ) →
-        is_listed blocks.items block ≡ list_any (is_over file size block) bads.now) }
+        is_listed blocks.items block ≡ list_any (is_over file size block) spans.now) }
     ensures ascending { IfOk result (λ blocks. IsStrictlyIncreasing blocks.items) }
 {
     let mut blocks = Vec::new(alloc);
     let mut next = 0u64;
-    for bad in bads {
-        let end = list_piece(&mut blocks, next, &bad.piece, file, size)?;
+    for span in spans {
+        let end = list_span(&mut blocks, next, span, file, size)?;
         next = end;
     }
     Ok(blocks)
 }
 
-// Lists the blocks of a piece from `next` on, and answers the first block behind it from which on none is listed.
-fn list_piece(
+// Lists the blocks of a span from `next` on, and answers the first block behind it from which on none is listed.
+fn list_span(
     blocks: &mut Vec<u64>,
     next: u64,
-    piece: &Piece,
+    span: &Span,
     file: u32,
     size: u64,
 ) -> Result<u64, Memory>
@@ -62,35 +88,17 @@ fn list_piece(
     requires rising { IsRising blocks.old.items next }
     ensures rising { IfOk result (λ end. IsRising blocks.new.items end) }
     ensures listed { OnOk result ((block : ℕ) → is_listed blocks.new.items block
-        ≡ (is_listed blocks.old.items block
-        || (nat_le next block && pieces_overlap piece.now (block_piece file size block)))) }
+        ≡ (is_listed blocks.old.items block || (nat_le next block && is_over file size block span.now))) }
     ensures reached { IfOk result (λ end. (block : ℕ) → next ≤ block → block < end
-        → piece.now.offset < block * size + size → pieces_overlap piece.now (block_piece file size block) ≡ true) }
+        → span.now.offset + span.now.skip < block * size + size → is_over file size block span.now ≡ true) }
 {
-    if !has_bytes(piece, file) {
+    if !has_bytes(span, file) {
         return Ok(next);
     }
-    let from = next.max(piece.offset / size);
-    let end = end_block(piece, size);
+    let from = next.max(first_block(span, size));
+    let end = end_block(span, size);
     list_range(blocks, from, end)?;
     Ok(from.max(end))
-}
-
-// Whether a piece has bytes of the file.
-pub(crate) fn has_bytes(piece: &Piece, file: u32) -> bool
-    ensures { result ≡ ((piece.now.file == file) && nat_lt 0 piece.now.len) }
-{
-    piece.file == file && 0 < piece.len
-}
-
-// The first block behind a piece that has bytes.
-pub(crate) fn end_block(piece: &Piece, size: u64) -> u64
-    requires size { SECTOR ≤ size }
-    requires bytes { 0 < piece.now.len }
-    ensures { result ≡ (piece.now.offset + piece.now.len - 1) / size + 1 }
-{
-    let last = u128::from(piece.offset) + u128::from(piece.len - 1);
-    (last / u128::from(size)) as u64 + 1
 }
 
 // Lists the blocks from `from` on up to `end`.

@@ -5,6 +5,7 @@ mod blocks;
 mod fates;
 mod maps;
 mod marks;
+mod spans;
 mod told;
 
 pub use blocks::{bad_blocks, blocks_text};

@@ -2,13 +2,16 @@ ghost use Rattle.std.specs.Prelude.{◌≡◌, ◌≤◌, ◌<◌, ◌&&◌, ◌
 ghost use Rattle.std.specs.Prelude.{nat_le, nat_lt, length, slice_index_or, IfOk, OnOk, Some, if◌then◌else◌};
 ghost use Rattle.jr_places.specs.declared.fates.Fate.{Fate as Shown};
 ghost use Rattle.jr_places.specs.Maps.{cell_size, fate_of, marked, worse, IsMapOf};
+ghost use Rattle.jr_places.specs.Spans.{said_by};
 ghost use Rattle.jr_places.specs.Told.{IsTold};
+ghost use Rattle.std.specs.Option.{option_map};
 
-use crate::blocks::{end_block, has_bytes};
 use crate::fates::{Fate, worse};
 use crate::marks::{Mark, mark_of};
+use crate::spans::{end_block, first_block, has_bytes};
 use crate::told::Told;
 use jr_model::{Event, LARGEST_END, Memory, SECTOR};
+use jr_plan::Plan;
 use std::alloc::Global;
 
 /// A map of a file, from its start on: what happened to the bytes of each of its cells.
@@ -23,6 +26,7 @@ pub struct FileMap {
 /// The map of the first `end` bytes of a file, with `most` cells or fewer. The file is given by its place in the plan.
 pub fn map_of(
     alloc: Global,
+    plan: &Plan,
     history: &[Event],
     file: u32,
     end: u64,
@@ -30,12 +34,12 @@ pub fn map_of(
 ) -> Result<FileMap, Memory>
     requires some { 1 ≤ most }
     requires end { end ≤ LARGEST_END }
-    ensures { IfOk result (IsMapOf history.now file end most) }
+    ensures { IfOk result (IsMapOf plan.now history.now file end most) }
 {
     let told = Told::new(alloc, history)?;
     let size = cell_size(end, most);
     let count = end.div_ceil(size) as usize;
-    let fates = painted(alloc, &told, history, file, size, count)?;
+    let fates = painted(alloc, &told, plan, history, file, size, count)?;
     Ok(FileMap { size, fates })
 }
 
@@ -54,6 +58,7 @@ fn cell_size(end: u64, most: u32) -> u64
 fn painted(
     alloc: Global,
     told: &Told,
+    plan: &Plan,
     history: &[Event],
     file: u32,
     size: u64,
@@ -63,10 +68,10 @@ fn painted(
     requires told { IsTold history.now told.now }
     ensures count { IfOk result (λ fates. length fates.items ≡ count) }
     ensures fates { IfOk result (λ fates. (cell : ℕ) (d : Shown) → cell < length fates.items
-        → slice_index_or fates.items cell d ≡ fate_of history.now file size cell) }
+        → slice_index_or fates.items cell d ≡ fate_of plan.now history.now file size cell) }
 {
     let mut fates = blank(alloc, count)?;
-    paint_all(fates.as_mut_slice(), told, history, file, size);
+    paint_all(fates.as_mut_slice(), told, plan, history, file, size);
     Ok(fates)
 }
 
@@ -91,17 +96,17 @@ fn add_blank(fates: &mut Vec<Fate>) -> Result<(), Memory>
 }
 
 // Paints what a history says over cells that nothing is said of.
-fn paint_all(fates: &mut [Fate], told: &Told, history: &[Event], file: u32, size: u64)
+fn paint_all(fates: &mut [Fate], told: &Told, plan: &Plan, history: &[Event], file: u32, size: u64)
     requires size { SECTOR ≤ size }
     requires told { IsTold history.now told.now }
     requires blank { (cell : ℕ) (d : Shown) → cell < length fates.old
         → slice_index_or fates.old cell d ≡ Fate.Untouched }
     ensures fates { (cell : ℕ) (d : Shown) → cell < length fates.new
-        → slice_index_or fates.new cell d ≡ fate_of history.now file size cell }
+        → slice_index_or fates.new cell d ≡ fate_of plan.now history.now file size cell }
     ensures len { length fates.new ≡ length fates.old }
 {
     for event in history {
-        let mark = mark_of(told, event);
+        let mark = mark_of(told, plan, event);
         paint(fates, file, size, mark);
     }
 }
@@ -110,7 +115,7 @@ fn paint_all(fates: &mut [Fate], told: &Told, history: &[Event], file: u32, size
 fn paint(fates: &mut [Fate], file: u32, size: u64, mark: Option<Mark>)
     requires { SECTOR ≤ size }
     ensures { (cell : ℕ) (d : Shown) → cell < length fates.old
-        → slice_index_or fates.new cell d ≡ marked file size cell (slice_index_or fates.old cell d) mark }
+        → slice_index_or fates.new cell d ≡ marked file size cell (slice_index_or fates.old cell d) (option_map said_by mark) }
 {
     let Some(mark) = mark else {
         return;
@@ -121,13 +126,14 @@ fn paint(fates: &mut [Fate], file: u32, size: u64, mark: Option<Mark>)
 fn paint_mark(fates: &mut [Fate], file: u32, size: u64, mark: &Mark)
     requires { SECTOR ≤ size }
     ensures { (cell : ℕ) (d : Shown) → cell < length fates.old
-        → slice_index_or fates.new cell d ≡ marked file size cell (slice_index_or fates.old cell d) (Some mark.now) }
+        → slice_index_or fates.new cell d ≡ marked file size cell (slice_index_or fates.old cell d) (Some (said_by mark.now)) }
 {
-    if !has_bytes(&mark.piece, file) {
+    if !has_bytes(&mark.span, file) {
         return;
     }
-    let end = end_block(&mark.piece, size);
-    paint_range(fates, mark.piece.offset / size, end, mark.fate);
+    let first = first_block(&mark.span, size);
+    let end = end_block(&mark.span, size);
+    paint_range(fates, first, end, mark.fate);
 }
 
 // Paints the cells from `first` on up to `end`.

@@ -1,31 +1,36 @@
 ghost use Rattle.std.specs.Prelude.{◌≡◌, List};
 ghost use Rattle.jr_model.specs.declared.events.Event.{Event as Happened};
-ghost use Rattle.jr_places.specs.Maps.{end_mark, fate_of_verdict, fate_of_whole, fate_of_write, judges, mark_of, skips, verdict_mark};
+ghost use Rattle.jr_places.specs.Maps.{fate_of_verdict, fate_of_whole, fate_of_write, judges, said_by_end, said_by_verdict, said_of, skips, verdict_bytes};
+ghost use Rattle.jr_places.specs.Spans.{said_by, span_bytes};
 ghost use Rattle.jr_model.specs.History.{started};
 ghost use Rattle.std.specs.List.{list_any};
+ghost use Rattle.std.specs.Option.{option_map};
 ghost use Rattle.jr_places.specs.Told.{IsTold};
 
 use crate::fates::Fate;
+use crate::spans::{Span, bad_bytes, whole};
 use crate::told::Told;
 use jr_history::{is_bad, is_fault};
-use jr_model::{Event, Outcome, Piece, Started, TicketKind, Verdict, WriteId};
+use jr_model::{Event, Outcome, Started, TicketKind, Verdict, WriteId};
+use jr_plan::Plan;
 
-// What an event says of the bytes of a piece.
+// Some bytes, and what an event says of them.
 #[derive(Clone, Copy)]
 pub(crate) struct Mark {
-    pub piece: Piece,
+    pub span: Span,
     pub fate: Fate,
 }
 
-pub(crate) fn mark_of(told: &Told, event: &Event) -> Option<Mark>
-    ensures { (history : List Happened) → IsTold history told.now → result ≡ mark_of history event.now }
+pub(crate) fn mark_of(told: &Told, plan: &Plan, event: &Event) -> Option<Mark>
+    ensures { (history : List Happened) → IsTold history told.now
+        → option_map said_by result ≡ said_of plan.now history event.now }
 {
     match *event {
         Event::End { io, outcome, .. } => {
             end_mark(told, outcome, told.ios.as_slice().get(io as usize).copied())
         }
         Event::Verdict { io, verdict, .. } => {
-            verdict_mark(verdict, told.ios.as_slice().get(io as usize).copied())
+            verdict_mark(plan, verdict, told.ios.as_slice().get(io as usize).copied())
         }
         _ => None,
     }
@@ -33,7 +38,7 @@ pub(crate) fn mark_of(told: &Told, event: &Event) -> Option<Mark>
 
 // What the end of an I/O says.
 fn end_mark(told: &Told, outcome: Outcome, io: Option<Started>) -> Option<Mark>
-    ensures { (history : List Happened) → IsTold history told.now → result ≡ end_mark history outcome io }
+    ensures { (history : List Happened) → IsTold history told.now → option_map said_by result ≡ said_by_end history outcome io }
 {
     let io = io?;
     let fate = if is_fault(outcome) {
@@ -42,20 +47,30 @@ fn end_mark(told: &Told, outcome: Outcome, io: Option<Started>) -> Option<Mark>
         fate_of_whole(told, io.kind, &io.write)
     };
     Some(Mark {
-        piece: io.piece,
+        span: whole(&io.piece),
         fate,
     })
 }
 
 // What a verdict says.
-fn verdict_mark(verdict: Verdict, io: Option<Started>) -> Option<Mark>
-    ensures { result ≡ verdict_mark verdict io }
+fn verdict_mark(plan: &Plan, verdict: Verdict, io: Option<Started>) -> Option<Mark>
+    ensures { option_map said_by result ≡ said_by_verdict plan.now verdict io }
 {
     let io = io?;
     Some(Mark {
-        piece: io.piece,
+        span: verdict_bytes(plan, verdict, &io),
         fate: fate_of_verdict(verdict),
     })
+}
+
+// The bytes that it is over.
+fn verdict_bytes(plan: &Plan, verdict: Verdict, io: &Started) -> Span
+    ensures { span_bytes result ≡ verdict_bytes plan.now verdict io.now }
+{
+    match verdict {
+        Verdict::Good => whole(&io.piece),
+        Verdict::Bad(what) => bad_bytes(plan, &io.write, &io.piece, what),
+    }
 }
 
 fn fate_of_verdict(verdict: Verdict) -> Fate
