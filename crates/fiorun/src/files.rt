@@ -175,10 +175,18 @@ impl<'a> Taken<'a> {
     }
 }
 
-// Whether a trace of this path would be written over the job file, or over a file of the plan.
-pub fn is_taken<R: Files>(rt: &R, trace: &str, job: Option<&str>, plan: &Plan) -> bool {
-    job.is_some_and(|job| is_one(rt, trace, job))
-        || plan.files().iter().any(|file| file.name() == trace || is_one(rt, trace, file.name()))
+// Whether a file of this path would be written over the job file, or over a file of the plan.
+pub fn is_taken<R: Files>(rt: &R, path: &str, job: Option<&str>, plan: &Plan) -> bool {
+    job.is_some_and(|job| is_one(rt, path, job))
+        || plan
+            .files()
+            .iter()
+            .any(|file| leads_to(rt, path, file.name()))
+}
+
+// Whether two paths are equal, or lead to one file that is there.
+pub fn leads_to<R: Files>(rt: &R, one: &str, other: &str) -> bool {
+    one == other || is_one(rt, one, other)
 }
 
 // Whether two paths lead to one file that is there.

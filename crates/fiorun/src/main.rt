@@ -24,6 +24,7 @@ use stops::{Stop, tell_all};
 
 mod asked;
 mod files;
+mod places;
 mod remarks;
 mod running;
 mod show;
@@ -32,10 +33,10 @@ mod stops;
 fn main(rt: HostRuntime) -> ExitCode {
     let _held = held(&rt);
     // The shares of a memory keep the runtime, so they are boxed here.
-    let run_shared = |job: SharedRun| -> Result<Ended, CliFault> {
+    let run_shared = |job: SharedRun| -> Result<Ended, Stop> {
         let mut engines: Vec<Box<dyn Engine + Send>> = Vec::new(rt.alloc());
         let Ok(shared) = rt.clone() else {
-            return Err(CliFault::Memory);
+            return Err(Stop::from(CliFault::Memory));
         };
         for share in shares(shared, rt.alloc(), &job.plan, job.workers)? {
             add(&mut engines, boxed(rt.alloc(), share)?)?;
@@ -48,7 +49,7 @@ fn main(rt: HostRuntime) -> ExitCode {
         Ok(Turn::Ran(ended)) => Ok(told(&rt, ended)),
         Ok(Turn::Shared(job)) => match run_shared(job) {
             Ok(ended) => Ok(told(&rt, ended)),
-            Err(fault) => Err(Stop::from(fault)),
+            Err(stop) => Err(stop),
         },
         Err(stop) => Err(stop),
     };

@@ -3,6 +3,7 @@ ghost use Rattle.std.specs.Prelude.{◌≤◌, ◌^◌};
 
 use crate::asked::asked_by;
 use crate::files::{Taken, is_taken, take_files};
+use crate::places::Wanted;
 use crate::show::{Extent, Screen, shown};
 use crate::stops::Stop;
 use jr_cli::{Choice, CliFault, Ended, StopFlag, execute, execute_serial};
@@ -27,13 +28,15 @@ pub enum Turn {
     Shared(SharedRun),
 }
 
-// A run whose workers share a memory: the plan, how many they are, the file that the trace goes to, and what asks it to stop.
+// A run whose workers share a memory: the plan, how many they are, the file that the trace goes to, what asks it to stop, and what is told
+// behind its report.
 #[derive(Drop)]
 pub struct SharedRun {
     pub plan: Plan,
     pub workers: u32,
     events: Option<BufWriter<File>>,
     stop: Option<Arc<StopFlag, Global>>,
+    wanted: Option<Wanted>,
 }
 
 // The file that the trace of a run goes to, made anew, where one is asked for.
@@ -49,12 +52,44 @@ fn trace_file<R: Files + AllocGlobal>(
             Ok(events) => Ok(Some(events)),
             Err(_) => Err(Stop::from(CliFault::Memory)),
         },
-        Err(error) => Err(Stop::trace_file(rt.alloc(), path, error)),
+        Err(error) => Err(Stop::unmade(rt.alloc(), path, error)),
     }
 }
 
-// Runs the plan over its kind of engine, but for one over a memory that several workers share.
+// Runs the plan, but for one over a memory that several workers share, and tells where it found what.
 pub fn run_plan<
+    R: Files<File = File> + Screen + AllocGlobal + Clock + Threads + Wait + Sync,
+    V: io::Write,
+>(
+    rt: &R,
+    choice: &Choice<'_>,
+    wishes: &[Wish],
+    plan: Plan,
+    workers: u32,
+    out: &mut V,
+) -> Result<Turn, Stop> {
+    let wanted = Wanted::of(rt, choice, &plan)?;
+    let turn = run_engines(rt, choice, wishes, plan, workers, out)?;
+    told(rt, wanted, turn)
+}
+
+// What is wanted is told of a run that has ended, and kept with one that is still to come.
+fn told<R: Files + Screen + AllocGlobal>(rt: &R, wanted: Wanted, turn: Turn) -> Result<Turn, Stop> {
+    match turn {
+        Turn::Ended(status) => Ok(Turn::Ended(status)),
+        Turn::Ran(ended) => {
+            wanted.tell(rt, &ended)?;
+            Ok(Turn::Ran(ended))
+        }
+        Turn::Shared(mut job) => {
+            job.wanted = Some(wanted);
+            Ok(Turn::Shared(job))
+        }
+    }
+}
+
+// Runs the plan over its kind of engine.
+fn run_engines<
     R: Files<File = File> + Screen + AllocGlobal + Clock + Threads + Wait + Sync,
     V: io::Write,
 >(
@@ -90,6 +125,7 @@ pub fn run_plan<
                 workers,
                 events,
                 stop,
+                wanted: None,
             }))
         }
         EngineKind::Null => {
@@ -249,22 +285,27 @@ pub fn shares<R: Wait + Clone + Drop>(
     Ok(shares)
 }
 
-// Runs the job over the shares of a memory, and writes its report to standard output.
-pub fn run_memory<R: Print + Screen + AllocGlobal + Clock + Threads + Wait + Sync>(
+// Runs the job over the shares of a memory, writes its report to standard output, and tells where it found what.
+pub fn run_memory<R: Files + Print + Screen + AllocGlobal + Clock + Threads + Wait + Sync>(
     rt: &R,
     job: SharedRun,
     engines: Vec<Box<dyn Engine + Send>>,
-) -> Result<Ended, CliFault> {
+) -> Result<Ended, Stop> {
     let Ok(mut out) = BufWriter::new(rt.alloc(), io::writer(rt)) else {
-        return Err(CliFault::Memory);
+        return Err(Stop::from(CliFault::Memory));
     };
     let SharedRun {
         plan,
         workers: _,
         events,
         stop,
+        wanted,
     } = job;
-    run_with(rt, stop.as_deref(), plan, engines, events, &mut out)
+    let ended = run_with(rt, stop.as_deref(), plan, engines, events, &mut out)?;
+    if let Some(wanted) = wanted {
+        wanted.tell(rt, &ended)?;
+    }
+    Ok(ended)
 }
 
 // Runs the plan with a worker for each engine, and writes the report and then the trace where one is asked for.

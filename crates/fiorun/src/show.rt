@@ -8,15 +8,22 @@ use std::thread::Threads;
 use std::time::{Clock, Duration};
 use std::{fmt, io, thread};
 
-// What knows where standard error goes.
+// What knows where standard output and standard error go.
 pub trait Screen: Eprint {
     // Whether that is a terminal.
     fn is_shown(&self) -> bool;
+
+    // Whether standard output goes to one.
+    fn prints_to_terminal(&self) -> bool;
 }
 
 impl Screen for HostRuntime {
     fn is_shown(&self) -> bool {
         self.stderr().is_terminal()
+    }
+
+    fn prints_to_terminal(&self) -> bool {
+        self.stdout().is_terminal()
     }
 }
 

@@ -19,6 +19,8 @@ enum Notes {
     Files(Refusal),
     // The trace would go over a file that is read or written otherwise.
     Trace,
+    // The list would go over one, or over what is no file.
+    List,
     Pipe,
     // This couldn't be done to the file of this name.
     File(&'static str, String, io::Error),
@@ -61,6 +63,14 @@ impl Stop {
         }
     }
 
+    // The list of bad blocks would go to such a file, or to what is no file.
+    pub fn list() -> Stop {
+        Stop {
+            fault: CliFault::Write,
+            notes: Notes::List,
+        }
+    }
+
     // The pipe whose end would ask the run to stop can't be opened.
     pub fn pipe() -> Stop {
         Stop {
@@ -69,8 +79,8 @@ impl Stop {
         }
     }
 
-    // The file of this path that the trace goes to can't be made.
-    pub fn trace_file(alloc: Global, path: &str, error: io::Error) -> Stop {
+    // The file of this path, which is to be written, can't be made.
+    pub fn unmade(alloc: Global, path: &str, error: io::Error) -> Stop {
         Stop::file(
             memory_or(&error, CliFault::Write),
             "make",
@@ -118,6 +128,11 @@ impl Notes {
             Notes::Trace => {
                 let _ = eprintln!(rt;
                     "fiorun: note: the trace's file is the job file or a file of a job"
+                );
+            }
+            Notes::List => {
+                let _ = eprintln!(rt;
+                    "fiorun: note: the list's path is that of the job file, a file of a job, the trace or no file"
                 );
             }
             Notes::Pipe => {

@@ -3,6 +3,8 @@ use Rattle.std.proofs.Common.{◌≡◌, List, Bool, true, false, not, refl, sym
 use Rattle.jr_model.specs.declared.events.Event.{Event}
 use Rattle.jr_model.specs.Legal.{is_complete}
 use Rattle.jr_model.specs.Plan.{Plan}
+use Rattle.jr_desk.specs.DeskState.{DeskState}
+use Rattle.jr_cli.specs.Executed.{IsDeskOf}
 use Rattle.jr_faults.specs.declared.faults.Faults.{Faults}
 use Rattle.jr_faults.specs.Faults.{AreFaultsOf}
 
@@ -25,3 +27,10 @@ module _ (found plan : Plan) (history : List Event) (interrupted : Bool) (same :
 pub faults_on : (found plan : Plan) (history : List Event) (faults told : Faults) → found ≡ plan → AreFaultsOf found history faults → told ≡ faults → AreFaultsOf plan history told
 faults_on found plan history faults told same are said =
     subst (λ (f : Faults). AreFaultsOf plan history f) (sym said) (subst (λ (p : Plan). AreFaultsOf p history faults) same are)
+
+-- and so is its desk, as it is handed on
+pub desk_on : (found told : DeskState) (plan : Plan) → found.plan ≡ plan → told ≡ found → IsDeskOf plan found.history told
+desk_on found told plan same said = record {
+  planned = ap (λ (d : DeskState). d.plan) said ∙ same;
+  happened = ap (λ (d : DeskState). d.history) said;
+}

@@ -54,14 +54,24 @@ interrupted_rule = flag_rule (codes "interrupted")
 abbrev pub stop_fd_rule : Rule
 stop_fd_rule = option_rule (codes "stop-fd")
 
+abbrev pub bad_blocks_rule : Rule
+bad_blocks_rule = option_rule (codes "bad-blocks")
+
+abbrev pub bad_blocks_size_rule : Rule
+bad_blocks_size_rule = option_rule (codes "bad-blocks-size")
+
+abbrev pub map_rule : Rule
+map_rule = flag_rule (codes "map")
+
 -- a program that tells its version
 abbrev pub with_version : App → App
 with_version app = on_top (λ shape. record shape { has_version = true }) app
 
 unfoldable pub command_line : App
-command_line = with_rule (with_rule (with_rule (with_rule (with_rule (with_rule (with_rule (with_rule (with_rule (with_rule (with_rule (with_rule
+command_line = with_rule (with_rule (with_rule (with_rule (with_rule (with_rule (with_rule (with_rule (with_rule (with_rule
+    (with_rule (with_rule (with_rule (with_rule (with_rule
     (with_version (new_app (codes "fiorun"))) job_rule) section_rule) parse_only_rule) workers_rule) trace_rule) check_trace_rule) cached_rule)
-    allow_mounted_write_rule) notes_rule) drop_pipes_rule) interrupted_rule) stop_fd_rule
+    allow_mounted_write_rule) notes_rule) drop_pipes_rule) interrupted_rule) stop_fd_rule) bad_blocks_rule) bad_blocks_size_rule) map_rule
 
 -- the number that a text of digits writes
 abbrev pub number_in : Text → ℕ
@@ -81,3 +91,6 @@ pub record IsChoiceOf (choice : Choice) (rows : List Row) : Type 0 where
   pub drop_pipes : option_copied choice.drop_pipes ≡ first_of (codes "drop-pipes") rows
   pub interrupted : choice.interrupted ≡ unwrap_or (option_map (bytes_eq (codes "true")) (one_of (codes "interrupted") rows)) false
   pub stop_fd : option_copied choice.stop_fd ≡ first_of (codes "stop-fd") rows
+  pub bad_blocks : option_copied choice.bad_blocks ≡ first_of (codes "bad-blocks") rows
+  pub bad_blocks_size : option_copied choice.bad_blocks_size ≡ first_of (codes "bad-blocks-size") rows
+  pub map : choice.map ≡ unwrap_or (option_map (bytes_eq (codes "true")) (one_of (codes "map") rows)) false

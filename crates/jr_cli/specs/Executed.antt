@@ -17,6 +17,12 @@ use Rattle.jr_crew.specs.Whole.{IsRun, IsCrewRun, IsEndedRun, IsEndedCrewRun}
 use Rattle.jr_cli.specs.declared.faults.CliFault.{CliFault}
 use Rattle.jr_cli.specs.declared.faults.CliFault.TheVariants as fault
 use Rattle.jr_cli.specs.Status.{status_of}
+use Rattle.jr_desk.specs.DeskState.{DeskState}
+
+-- the desk that is handed on is that of the run
+pub record IsDeskOf (plan : Plan) (history : List Event) (desk : DeskState) : Type 0 where
+  pub planned : desk.plan ≡ plan
+  pub happened : desk.history ≡ history
 
 -- the report of the history was written behind what stood there, and what was found is what its totals say
 pub record IsReported (plan : Plan) (history : List Event) (blank written : Option (List ℕ)) (status : ℕ) : Type 0 where

@@ -11,6 +11,8 @@ abbrev pub fault_text : CliFault → List ℕ
 fault_text fault.Words = codes "command line: not UTF-8"
 fault_text (fault.Text text) = text_fault_text text
 fault_text (fault.Job job) = job_fault_text job
+fault_text fault.SeveralFiles = codes "bad blocks of several files"
+fault_text fault.BlockSize = codes "command line: bad block size"
 fault_text fault.Read = codes "cannot read the job file"
 fault_text fault.Open = codes "cannot open the files"
 fault_text (fault.Run run) = run_fault_text run

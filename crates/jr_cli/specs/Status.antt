@@ -63,6 +63,8 @@ abbrev pub status_of_fault : CliFault → ℕ
 status_of_fault fault.Words = 2
 status_of_fault (fault.Text text) = status_of_text text
 status_of_fault (fault.Job job) = status_of_job job
+status_of_fault fault.SeveralFiles = 2
+status_of_fault fault.BlockSize = 2
 status_of_fault fault.Read = 3
 status_of_fault fault.Open = 3
 status_of_fault (fault.Run run) = 3

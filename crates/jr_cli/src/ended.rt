@@ -1,3 +1,4 @@
+use jr_desk::Desk;
 use jr_faults::Faults;
 
 /// How a run ended that has its report.
@@ -9,6 +10,8 @@ pub struct Ended {
     pub is_interrupted: bool,
     /// The I/Os and checks that failed or ended short: the first of them, and how many more.
     pub faults: Faults,
+    /// The desk of the run, with its plan and all that happened.
+    pub desk: Desk,
 }
 
 impl Ended {

@@ -16,6 +16,10 @@ pub enum CliFault {
     Words,
     Text(TextFault),
     Job(JobFault),
+    /// A list of bad blocks is wanted of several files.
+    SeveralFiles,
+    /// The size of its blocks isn't one that they may have.
+    BlockSize,
     /// Standard input or the job file can't be read.
     Read,
     /// The files of the plan can't be made, made long enough or opened.
@@ -42,7 +46,7 @@ impl CliFault {
             | CliFault::Job(JobFault::Memory)
             | CliFault::Trace(TraceFault::Memory) => 3,
             CliFault::Words | CliFault::Text(_) | CliFault::Job(_) => 2,
-            CliFault::Trace(_) => 2,
+            CliFault::Trace(_) | CliFault::SeveralFiles | CliFault::BlockSize => 2,
             CliFault::Read | CliFault::ReadTrace | CliFault::Open | CliFault::Run(_) => 3,
             CliFault::Write | CliFault::Memory => 3,
         }
@@ -60,6 +64,8 @@ impl fmt::Display for CliFault {
             CliFault::Words => write!(f, "command line: not UTF-8"),
             CliFault::Text(fault) => write!(f, "{fault}"),
             CliFault::Job(fault) => write!(f, "{fault}"),
+            CliFault::SeveralFiles => write!(f, "bad blocks of several files"),
+            CliFault::BlockSize => write!(f, "command line: bad block size"),
             CliFault::Read => write!(f, "cannot read the job file"),
             CliFault::Open => write!(f, "cannot open the files"),
             CliFault::Run(fault) => write!(f, "{fault}"),

@@ -8,7 +8,8 @@ ghost use Rattle.jr_model.specs.Serial.{serial_history};
 ghost use Rattle.jr_crew.specs.Runs.{IsFresh};
 ghost use Rattle.jr_faults.specs.Faults.{AreFaultsOf};
 ghost use Rattle.jr_cli.specs.Checked.{IsCheckFault};
-ghost use Rattle.jr_cli.specs.Executed.{HasRun, HasCrewRun, HasEndedRun, HasEndedCrewRun, IsCutShort, IsQuietlyReported, IsReported, IsRunFault, IsTraced};
+ghost use Rattle.jr_cli.specs.Executed.{HasRun, HasCrewRun, HasEndedRun, HasEndedCrewRun, IsCutShort, IsDeskOf};
+ghost use Rattle.jr_cli.specs.Executed.{IsQuietlyReported, IsReported, IsRunFault, IsTraced};
 ghost use Rattle.jr_plan.specs.PlanText.{plan_text};
 ghost use Rattle.jr_traces.specs.TraceChecks.{check_of, check_of_part};
 ghost use Rattle.jr_traces.specs.Traces.{trace_of};
@@ -61,12 +62,14 @@ pub fn execute_serial<W: Write, V: Write>(
     // The report, the trace and what was found are those of one run of this engine, whole or interrupted.
     ensures ended { IfOk result (λ ended. HasEndedRun plan (state engine.old) (state engine.new) ended.is_interrupted (λ history.
         IsReported plan history (V.contents out.old) (V.contents out.new) ended.found
-        × IsTraced W.contents events.entry events.exit history × AreFaultsOf plan history ended.faults)) }
+        × IsTraced W.contents events.entry events.exit history × AreFaultsOf plan history ended.faults
+        × IsDeskOf plan history ended.desk)) }
 
     // Where it isn't interrupted, that is a whole run; and nothing else can be where nobody can stop it.
     ensures run { IfOk result (λ ended. ended.is_interrupted ≡ false → HasRun plan (state engine.old) (state engine.new) (λ history.
         IsReported plan history (V.contents out.old) (V.contents out.new) ended.found
-        × IsTraced W.contents events.entry events.exit history × AreFaultsOf plan history ended.faults)) }
+        × IsTraced W.contents events.entry events.exit history × AreFaultsOf plan history ended.faults
+        × IsDeskOf plan history ended.desk)) }
     ensures unasked { watch.entry.stop ≡ None → IfOk result (λ ended. ended.is_interrupted ≡ false) }
 
     // Over a fresh memory it is the history of one worker, and nothing goes wrong.
@@ -82,9 +85,9 @@ pub fn execute_serial<W: Write, V: Write>(
     plan.facts();
     let desk = run_serial(alloc, plan, engine, watch)?;
     let faults = faults_found(alloc, &desk)?;
-    let ended = print_report(alloc, &desk, faults, out)?;
+    let ended = print_report(alloc, desk, faults, out)?;
     if let Some(events) = events {
-        print_trace(alloc, &desk, events)?;
+        print_trace(alloc, &ended.desk, events)?;
     }
     Ok(ended)
 }
@@ -103,13 +106,15 @@ pub fn execute<R: Threads + Wait + Sync, W: Write, V: Write>(
     // The report, the trace and what was found are those of one run of these engines, whole or interrupted.
     ensures ended { IfOk result (λ ended. HasEndedCrewRun plan (map (λ engine. state engine) engines.items) ended.is_interrupted
         (λ history. IsReported plan history (V.contents out.old) (V.contents out.new) ended.found
-        × IsTraced W.contents events.entry events.exit history × AreFaultsOf plan history ended.faults)) }
+        × IsTraced W.contents events.entry events.exit history × AreFaultsOf plan history ended.faults
+        × IsDeskOf plan history ended.desk)) }
 
     // Where it isn't interrupted, that is a whole run; and nothing else can be where nobody can stop it.
     ensures run { IfOk result (λ ended. ended.is_interrupted ≡ false
         → HasCrewRun plan (map (λ engine. state engine) engines.items) (λ history.
         IsReported plan history (V.contents out.old) (V.contents out.new) ended.found
-        × IsTraced W.contents events.entry events.exit history × AreFaultsOf plan history ended.faults)) }
+        × IsTraced W.contents events.entry events.exit history × AreFaultsOf plan history ended.faults
+        × IsDeskOf plan history ended.desk)) }
     ensures unasked { watch.entry.stop ≡ None → IfOk result (λ ended. ended.is_interrupted ≡ false) }
 
     // So the report is the same for every schedule, where the clones have files of their own and nothing goes wrong.
@@ -124,32 +129,34 @@ pub fn execute<R: Threads + Wait + Sync, W: Write, V: Write>(
     plan.facts();
     let ran = run(rt, alloc, plan, engines, watch)?;
     let faults = faults_found(alloc, &ran.desk)?;
-    let ended = print_report(alloc, &ran.desk, faults, out)?;
+    let told = print_report(alloc, ran.desk, faults, out)?;
     if let Some(events) = events {
-        print_trace(alloc, &ran.desk, events)?;
+        print_trace(alloc, &told.desk, events)?;
     }
-    Ok(ended)
+    Ok(told)
 }
 
 // Prints the report of the desk's history, and says what was found, with these faults, and whether there was more to come.
 fn print_report<V: Write>(
     alloc: Global,
-    desk: &Desk,
+    desk: Desk,
     faults: Faults,
     out: &mut V,
 ) -> Result<Ended, CliFault>
     ensures reported { IfOk result (λ ended.
-        IsReported desk.now.plan desk.now.history (V.contents out.old) (V.contents out.new) ended.found) }
-    ensures interrupted { IfOk result (λ ended. ended.is_interrupted ≡ not (is_complete desk.now.plan desk.now.history)) }
+        IsReported desk.plan desk.history (V.contents out.old) (V.contents out.new) ended.found) }
+    ensures interrupted { IfOk result (λ ended. ended.is_interrupted ≡ not (is_complete desk.plan desk.history)) }
     ensures faults { IfOk result (λ ended. ended.faults ≡ faults) }
+    ensures desk { IfOk result (λ ended. ended.desk ≡ desk) }
     ensures failed { IfErr result IsCutShort }
 {
-    let text = report(alloc, desk)?;
+    let text = report(alloc, &desk)?;
     write_out(text.as_slice(), out)?;
     Ok(Ended {
         found: status_of(desk.totals()),
         is_interrupted: !desk.is_complete(),
         faults,
+        desk,
     })
 }
 

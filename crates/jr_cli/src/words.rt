@@ -15,6 +15,9 @@ ghost use Rattle.jr_cli.specs.CommandLine.{
   drop_pipes_rule,
   interrupted_rule,
   stop_fd_rule,
+  bad_blocks_rule,
+  bad_blocks_size_rule,
+  map_rule,
   IsChoiceOf,
 };
 
@@ -54,6 +57,12 @@ pub struct Choice<'a> {
     pub interrupted: bool,
     /// The number of the open pipe whose end asks the run to stop.
     pub stop_fd: Option<&'a str>,
+    /// The file that the list of the run's bad blocks goes to.
+    pub bad_blocks: Option<&'a str>,
+    /// How many bytes a block of that list has, in digits.
+    pub bad_blocks_size: Option<&'a str>,
+    /// Show a map of each file, also where standard output is no terminal.
+    pub map: bool,
 }
 
 /// Reads the words of the command line, of which the first is the program's name. Help and the version are
@@ -79,6 +88,9 @@ pub fn choose<'a, S: AsStr>(alloc: Global, words: &'a [S]) -> Result<Choice<'a>,
         drop_pipes: matches.get_str("drop-pipes"),
         interrupted: matches.get_flag("interrupted"),
         stop_fd: matches.get_str("stop-fd"),
+        bad_blocks: matches.get_str("bad-blocks"),
+        bad_blocks_size: matches.get_str("bad-blocks-size"),
+        map: matches.get_flag("map"),
     })
 }
 
@@ -119,7 +131,10 @@ fn command<'a>(alloc: Global) -> Result<Command<'a>, AllocError>
         .arg(notes_arg(alloc))?
         .arg(drop_pipes_arg(alloc))?
         .arg(interrupted_arg(alloc))?
-        .arg(stop_fd_arg(alloc))
+        .arg(stop_fd_arg(alloc))?
+        .arg(bad_blocks_arg(alloc))?
+        .arg(bad_blocks_size_arg(alloc))?
+        .arg(map_arg(alloc))
 }
 
 fn job_arg<'a>(alloc: Global) -> Arg<'a>
@@ -252,4 +267,37 @@ fn stop_fd_arg<'a>(alloc: Global) -> Arg<'a>
         .value_name("N")
         .action(ArgAction::Set)
         .help("A pipe, by its number: where its other end is closed, the run stops and reports")
+}
+
+fn bad_blocks_arg<'a>(alloc: Global) -> Arg<'a>
+    ensures rule { rule_of result ≡ bad_blocks_rule }
+    ensures local { result.global ≡ false }
+{
+    Arg::new(alloc, "bad-blocks")
+        .long("bad-blocks")
+        .value_name("FILE")
+        .action(ArgAction::Set)
+        .help("Where to write the numbers of the blocks that came back wrong")
+}
+
+fn bad_blocks_size_arg<'a>(alloc: Global) -> Arg<'a>
+    ensures rule { rule_of result ≡ bad_blocks_size_rule }
+    ensures local { result.global ≡ false }
+{
+    Arg::new(alloc, "bad-blocks-size")
+        .long("bad-blocks-size")
+        .value_name("N")
+        .action(ArgAction::Set)
+        .help("How many bytes such a block has, a power of two from 512 to 65536 [default: 1024]")
+}
+
+fn map_arg<'a>(alloc: Global) -> Arg<'a>
+    ensures rule { rule_of result ≡ map_rule }
+    ensures local { result.global ≡ false }
+{
+    Arg::new(alloc, "map")
+        .long("map")
+        .action(ArgAction::SetTrue)
+        .value_parser(value_parser!(bool))
+        .help("Show where each file was bad or failed, also where standard output is no terminal")
 }

@@ -17,6 +17,9 @@ const NOTHING: Choice<'static> = Choice {
     drop_pipes: None,
     interrupted: false,
     stop_fd: None,
+    bad_blocks: None,
+    bad_blocks_size: None,
+    map: false,
 };
 
 #[test]
@@ -35,6 +38,9 @@ fn each_word_goes_to_its_field(rt: HostRuntime) -> Result<(), Fail> {
         "--drop-pipes=3:4",
         "--interrupted",
         "--stop-fd=5",
+        "--bad-blocks=l",
+        "--bad-blocks-size=4096",
+        "--map",
     ];
     let want = Choice {
         job: Some("disk.fio"),
@@ -49,6 +55,9 @@ fn each_word_goes_to_its_field(rt: HostRuntime) -> Result<(), Fail> {
         drop_pipes: Some("3:4"),
         interrupted: true,
         stop_fd: Some("5"),
+        bad_blocks: Some("l"),
+        bad_blocks_size: Some("4096"),
+        map: true,
     };
     same(&rt, choose(rt.alloc(), &words)?, want);
     Ok(())

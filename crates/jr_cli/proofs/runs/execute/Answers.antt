@@ -1,5 +1,5 @@
 use Rattle.std.proofs.Common.{refl}
-use Rattle.jr_cli.proofs.EndedRuns.{interrupted_on, complete_on, uninterrupted_on, faults_on}
+use Rattle.jr_cli.proofs.EndedRuns.{interrupted_on, complete_on, desk_on, uninterrupted_on, faults_on}
 use Rattle.jr_cli.proofs.QuietRuns.{reported_on, quietly_reported}
 use Rattle.jr_cli.proofs.runs.execute.Goals as goal
 use Rattle.jr_cli.proofs.runs.execute.Goals.{in-Some+in_ok-print_trace, in_default}
@@ -9,14 +9,15 @@ returns-clause-ended g c =
     let ran = c.in_ok-ran.ran in
     let done = c.in_ok-ran.ensures in
     let history = ran.desk.history in
-    let told = c.in_ok-ended.ensures in
+    let told = c.in_ok-told.ensures in
     let reported = reported_on ran.desk.plan c.args.plan history history _ _ _ done.plan refl told.reported in
-    let found = faults_on ran.desk.plan c.args.plan history c.in_ok-faults.faults c.in_ok-ended.ended.faults done.plan c.in_ok-faults.ensures told.faults in
+    let found = faults_on ran.desk.plan c.args.plan history c.in_ok-faults.faults c.in_ok-told.told.faults done.plan c.in_ok-faults.ensures told.faults in
+    let kept = desk_on ran.desk c.in_ok-told.told.desk c.args.plan done.plan told.desk in
     let left = interrupted_on ran.desk.plan c.args.plan history _ done.plan told.interrupted in
     elim c.match-events.branch [
       | in-Some+in_ok-print_trace w ↦
-          rw (w.events-is, w.in-Some.is) (history, _, _, done.ended, left, (reported, w.in_ok-print_trace.ensures.printed, found))
-      | in_default w ↦ rw w.in_default.is (history, _, _, done.ended, left, (reported, tt, found))
+          rw (w.events-is, w.in-Some.is) (history, _, _, done.ended, left, (reported, rw told.desk at w.in_ok-print_trace.ensures.printed, found, kept))
+      | in_default w ↦ rw w.in_default.is (history, _, _, done.ended, left, (reported, tt, found, kept))
     ]
 
 pub returns-clause-run : goal.returns-clause-run
@@ -24,27 +25,28 @@ returns-clause-run g c whole =
     let ran = c.in_ok-ran.ran in
     let done = c.in_ok-ran.ensures in
     let history = ran.desk.history in
-    let told = c.in_ok-ended.ensures in
+    let told = c.in_ok-told.ensures in
     let reported = reported_on ran.desk.plan c.args.plan history history _ _ _ done.plan refl told.reported in
-    let found = faults_on ran.desk.plan c.args.plan history c.in_ok-faults.faults c.in_ok-ended.ended.faults done.plan c.in_ok-faults.ensures told.faults in
+    let found = faults_on ran.desk.plan c.args.plan history c.in_ok-faults.faults c.in_ok-told.told.faults done.plan c.in_ok-faults.ensures told.faults in
+    let kept = desk_on ran.desk c.in_ok-told.told.desk c.args.plan done.plan told.desk in
     let run = done.run (complete_on ran.desk.plan c.args.plan history _ done.plan told.interrupted whole) in
     elim c.match-events.branch [
       | in-Some+in_ok-print_trace w ↦
-          rw (w.events-is, w.in-Some.is) (history, _, _, run, (reported, w.in_ok-print_trace.ensures.printed, found))
-      | in_default w ↦ rw w.in_default.is (history, _, _, run, (reported, tt, found))
+          rw (w.events-is, w.in-Some.is) (history, _, _, run, (reported, rw told.desk at w.in_ok-print_trace.ensures.printed, found, kept))
+      | in_default w ↦ rw w.in_default.is (history, _, _, run, (reported, tt, found, kept))
     ]
 
 pub returns-clause-unasked : goal.returns-clause-unasked
 returns-clause-unasked g c unasked =
     let ran = c.in_ok-ran.ran in
     let done = c.in_ok-ran.ensures in
-    uninterrupted_on ran.desk.plan c.args.plan ran.desk.history _ done.plan c.in_ok-ended.ensures.interrupted (done.unasked unasked)
+    uninterrupted_on ran.desk.plan c.args.plan ran.desk.history _ done.plan c.in_ok-told.ensures.interrupted (done.unasked unasked)
 
 pub returns-clause-quiet : goal.returns-clause-quiet
 returns-clause-quiet g c whole =
     let ran = c.in_ok-ran.ran in
     let done = c.in_ok-ran.ensures in
-    let told = c.in_ok-ended.ensures in
+    let told = c.in_ok-told.ensures in
     let complete = complete_on ran.desk.plan c.args.plan ran.desk.history _ done.plan told.interrupted whole in
     quietly_reported c.args.plan ran.desk.history _ _ _ c.facts.ensures done.ended.legal complete
     (reported_on ran.desk.plan c.args.plan ran.desk.history ran.desk.history _ _ _ done.plan refl told.reported)

@@ -2,7 +2,7 @@ use Rattle.std.proofs.Common.{◌∙◌, refl}
 use Rattle.jr_model.specs.Serial.{serial_history}
 use Rattle.jr_laws_bytes.proofs.CleanLaws.{serial_clean}
 use Rattle.jr_cli.proofs.CleanRuns.{clean_status}
-use Rattle.jr_cli.proofs.EndedRuns.{interrupted_on, complete_on, uninterrupted_on, faults_on}
+use Rattle.jr_cli.proofs.EndedRuns.{interrupted_on, complete_on, desk_on, uninterrupted_on, faults_on}
 use Rattle.jr_cli.proofs.QuietRuns.{reported_on, quietly_reported}
 use Rattle.jr_cli.proofs.runs.execute_serial.Goals as goal
 use Rattle.jr_cli.proofs.runs.execute_serial.Goals.{in-Some+in_ok-print_trace, in_default}
@@ -15,11 +15,12 @@ returns-clause-ended g c =
     let told = c.in_ok-ended.ensures in
     let reported = reported_on desk.plan c.args.plan history history _ _ _ done.plan refl told.reported in
     let found = faults_on desk.plan c.args.plan history c.in_ok-faults.faults c.in_ok-ended.ended.faults done.plan c.in_ok-faults.ensures told.faults in
+    let kept = desk_on desk c.in_ok-ended.ended.desk c.args.plan done.plan told.desk in
     let left = interrupted_on desk.plan c.args.plan history _ done.plan told.interrupted in
     elim c.match-events.branch [
       | in-Some+in_ok-print_trace w ↦
-          rw (w.events-is, w.in-Some.is) (history, done.ended, left, (reported, w.in_ok-print_trace.ensures.printed, found))
-      | in_default w ↦ rw w.in_default.is (history, done.ended, left, (reported, tt, found))
+          rw (w.events-is, w.in-Some.is) (history, done.ended, left, (reported, rw told.desk at w.in_ok-print_trace.ensures.printed, found, kept))
+      | in_default w ↦ rw w.in_default.is (history, done.ended, left, (reported, tt, found, kept))
     ]
 
 pub returns-clause-run : goal.returns-clause-run
@@ -30,11 +31,12 @@ returns-clause-run g c whole =
     let told = c.in_ok-ended.ensures in
     let reported = reported_on desk.plan c.args.plan history history _ _ _ done.plan refl told.reported in
     let found = faults_on desk.plan c.args.plan history c.in_ok-faults.faults c.in_ok-ended.ended.faults done.plan c.in_ok-faults.ensures told.faults in
+    let kept = desk_on desk c.in_ok-ended.ended.desk c.args.plan done.plan told.desk in
     let run = done.run (complete_on desk.plan c.args.plan history _ done.plan told.interrupted whole) in
     elim c.match-events.branch [
       | in-Some+in_ok-print_trace w ↦
-          rw (w.events-is, w.in-Some.is) (history, run, (reported, w.in_ok-print_trace.ensures.printed, found))
-      | in_default w ↦ rw w.in_default.is (history, run, (reported, tt, found))
+          rw (w.events-is, w.in-Some.is) (history, run, (reported, rw told.desk at w.in_ok-print_trace.ensures.printed, found, kept))
+      | in_default w ↦ rw w.in_default.is (history, run, (reported, tt, found, kept))
     ]
 
 pub returns-clause-unasked : goal.returns-clause-unasked
@@ -52,7 +54,7 @@ returns-clause-serial g c fresh whole =
     let reported = reported_on desk.plan c.args.plan desk.history (serial_history c.args.plan) _ _ _ done.plan same told.reported in
     elim c.match-events.branch [
       | in-Some+in_ok-print_trace w ↦
-          rw (w.events-is, w.in-Some.is) (reported, rw same at w.in_ok-print_trace.ensures.printed)
+          rw (w.events-is, w.in-Some.is) (reported, rw (told.desk, same) at w.in_ok-print_trace.ensures.printed)
       | in_default w ↦ rw w.in_default.is (reported, tt)
     ]
 

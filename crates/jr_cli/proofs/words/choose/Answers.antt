@@ -6,7 +6,7 @@ use Rattle.std.specs.declared.num.ParseIntError.{ParseIntError}
 use Rattle.clap.specs.Words.{App, Text, fault_of, found_of, one_of, one_text, first_of, first_value, is_simple_and_free, matches_of, HasKind}
 use Rattle.clap.proofs.WalkLemmas.{first_value-rows, one_text-rows}
 use Rattle.jr_cli.specs.CommandLine.{command_line, number_in}
-use Rattle.jr_cli.proofs.CommandLineFacts.{allow_mounted_write_parser, cached_parser, interrupted_parser, notes_parser, parse_only_parser, line_is_free, workers_read, flag_read, rows_are, handed_on}
+use Rattle.jr_cli.proofs.CommandLineFacts.{allow_mounted_write_parser, cached_parser, interrupted_parser, map_parser, notes_parser, parse_only_parser, line_is_free, workers_read, flag_read, rows_are, handed_on}
 use Rattle.jr_cli.proofs.words.choose.Goals as goal
 
 -- how the number of a text is read
@@ -36,6 +36,7 @@ returns-clause-fields g c =
     let allowed = flag_read c.in_ok-command.command m is parsed (codes "allow-mounted-write") allow_mounted_write_parser refl refl refl c.get_flag-3.result c.get_flag-3.ensures.none c.get_flag-3.ensures.value c.get_flag-3.ensures.other in
     let notes = flag_read c.in_ok-command.command m is parsed (codes "notes") notes_parser refl refl refl c.get_flag-4.result c.get_flag-4.ensures.none c.get_flag-4.ensures.value c.get_flag-4.ensures.other in
     let interrupted = flag_read c.in_ok-command.command m is parsed (codes "interrupted") interrupted_parser refl refl refl c.get_flag-5.result c.get_flag-5.ensures.none c.get_flag-5.ensures.value c.get_flag-5.ensures.other in
+    let map_shown = flag_read c.in_ok-command.command m is parsed (codes "map") map_parser refl refl refl c.get_flag-6.result c.get_flag-6.ensures.none c.get_flag-6.ensures.value c.get_flag-6.ensures.other in
     record {
       job = c.get_str.ensures ∙ first (codes "job");
       section = c.get_str-2.ensures ∙ first (codes "section");
@@ -49,6 +50,9 @@ returns-clause-fields g c =
       drop_pipes = c.get_str-5.ensures ∙ first (codes "drop-pipes");
       interrupted = interrupted ∙ ap (λ (o : Option Text). unwrap_or (option_map (bytes_eq (codes "true")) o) false) (one (codes "interrupted"));
       stop_fd = c.get_str-6.ensures ∙ first (codes "stop-fd");
+      bad_blocks = c.get_str-7.ensures ∙ first (codes "bad-blocks");
+      bad_blocks_size = c.get_str-8.ensures ∙ first (codes "bad-blocks-size");
+      map = map_shown ∙ ap (λ (o : Option Text). unwrap_or (option_map (bytes_eq (codes "true")) o) false) (one (codes "map"));
     }
 
 pub returns-clause-workers : goal.returns-clause-workers

@@ -21,4 +21,7 @@ returns c =
     let with_notes = c.in_ok-arg-9.ensures.shape c.notes_arg.ensures.local ∙ ap₂ with_rule with_allowed c.notes_arg.ensures.rule in
     let with_pipes = c.in_ok-arg-10.ensures.shape c.drop_pipes_arg.ensures.local ∙ ap₂ with_rule with_notes c.drop_pipes_arg.ensures.rule in
     let with_interrupted = c.in_ok-arg-11.ensures.shape c.interrupted_arg.ensures.local ∙ ap₂ with_rule with_pipes c.interrupted_arg.ensures.rule in
-    IfOk-weaker c.arg-12.result _ _ (λ r added. added.shape c.stop_fd_arg.ensures.local ∙ ap₂ with_rule with_interrupted c.stop_fd_arg.ensures.rule) c.arg-12.ensures
+    let with_stop = c.in_ok-arg-12.ensures.shape c.stop_fd_arg.ensures.local ∙ ap₂ with_rule with_interrupted c.stop_fd_arg.ensures.rule in
+    let with_list = c.in_ok-arg-13.ensures.shape c.bad_blocks_arg.ensures.local ∙ ap₂ with_rule with_stop c.bad_blocks_arg.ensures.rule in
+    let with_size = c.in_ok-arg-14.ensures.shape c.bad_blocks_size_arg.ensures.local ∙ ap₂ with_rule with_list c.bad_blocks_size_arg.ensures.rule in
+    IfOk-weaker c.arg-15.result _ _ (λ r added. added.shape c.map_arg.ensures.local ∙ ap₂ with_rule with_size c.map_arg.ensures.rule) c.arg-15.ensures
