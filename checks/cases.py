@@ -17,6 +17,7 @@ which are indented by four spaces and end in line feeds. In quotes a text is one
     fault       what is said on standard error behind `fiorun: `, and nothing else is
     notes       the lines behind `fiorun: note: ` that come after it, the whole of them
     says        the first line on standard error, where there may be more
+    err         the whole of standard error, where it is neither a fault nor notes
     status      the exit status, where it isn't 0
     trace       the whole file `trace` after the run
     starts      the first letters of its lines that start an I/O (I), a check (P) or a skip (S)
@@ -44,7 +45,7 @@ from concurrent.futures import ThreadPoolExecutor
 
 HERE = os.path.dirname(os.path.realpath(__file__))
 SECONDS = 60
-PARTS = set("words job out has like fault notes says status trace starts who times again refused lines".split())
+PARTS = set("words job out has like fault notes says err status trace starts who times again refused lines".split())
 NAMED = {"file", "bytes"}
 ROWS = {"refused", "lines"}
 QUOTED = re.compile(r"""(b?"(?:[^"\\]|\\.)*")(?: x (\d+))?""")
@@ -191,7 +192,7 @@ def differences(case, ended, before, after):
         pairs.append((True, bool(re.fullmatch(case.get("like"), ended.stdout)) or ended.stdout))
     elif "has" not in case.parts:
         pairs.append((case.get("out"), ended.stdout))
-    pairs.append((case.get("says"), said) if "says" in case.parts else (fault, ended.stderr))
+    pairs.append((case.get("says"), said) if "says" in case.parts else (case.get("err", fault), ended.stderr))
     if status == 2:
         pairs.append((before, after))
     if "trace" in case.parts:

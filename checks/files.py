@@ -230,14 +230,14 @@ def ending(child):
         child.kill()
 
 
-def held_run(place, jobs, fault, wanted, meanwhile=None):
+def held_run(place, jobs, fault, wanted, meanwhile=None, more=()):
     """Runs jobs at a terminal, held at a call until this line stands there, and something is done meanwhile: how that ends, and all that
     the terminal showed."""
     gate, key = os.pipe()
     end, terminal = os.openpty()
     how = {"stdin": subprocess.DEVNULL, "stderr": terminal, "pass_fds": (gate,), "env": {**place.fault(fault), "GATE": str(gate)}}
     with open(place.at("out"), "w+b") as out:
-        with subprocess.Popen(place.words(jobs, 1), stdout=out, **how) as child:
+        with subprocess.Popen([*place.words(jobs, 1), *more], stdout=out, **how) as child:
             os.close(terminal)
             os.close(gate)
             text = shown(end, wanted)
@@ -303,7 +303,7 @@ def hundredths(place, ios):
 
 
 def flipped_chunk(place):
-    """A bit that is flipped in the file, between a block's write and its check, in the last of its chunks: that chunk is named."""
+    """A bit that is flipped in the file, between a block's write and its check, in its last chunk: that chunk is named, and listed."""
     jobs = "[w]\nfilename=f\nrw=write\nbs=1m\nsize=2m\nverify=sha256\nverify_interval=4k\n"
     wanted = "fiorun: 50 % done, 2 I/Os, 0 checked, 0 bad"
 
@@ -314,8 +314,10 @@ def flipped_chunk(place):
             it.seek(2 * MIB - 100)
             it.write(bytes([byte ^ 4]))
 
-    ended, text = held_run(place, jobs, "pread 1 wait", wanted, flip)
+    ended, text = held_run(place, jobs, "pread 1 wait", wanted, flip, [f"--bad-blocks={place.at('list')}"])
     stands(wanted, lines_of(text))
+    with open(place.at("list"), encoding="ascii") as it:
+        same("list", it.read(), "2044\n2045\n2046\n2047\n")
     bad = f"miscompare: clone=0 pass=0 number=1 file={place.jobs}/f offset={MIB} length={MIB} what=data:255\n"
     counts = {"writes": 2, "wbytes": 2 * MIB, "checks": 2, "good": 1, "bad": 1}
     same("run", ended, said(1, total("w", **counts) + bad))

@@ -1,0 +1,88 @@
+#!/usr/bin/env python3
+"""checks/places.py [PROGRAM [NUMBER]] compares the list of bad blocks with the report, over random jobs.
+
+PROGRAM is the built program (bin/fiorun's where none is given, which is built first where it has to be). NUMBER jobs are tried, 200 where
+none is given. They run over nothing, so what is checked comes back as zeros: all of it is bad, but where zeros are what was written. The
+list that --bad-blocks writes must be that of the miscompares of the report: of each the blocks that its piece lies in, or its chunk where
+the line names one. It ends with 0 where all lists are so, else it prints the jobs of which they aren't.
+"""
+
+import os
+import random
+import re
+import subprocess
+import sys
+import tempfile
+
+from program import find_program
+
+SECONDS = 60
+LINE = re.compile(r"miscompare: .* offset=(\d+) length=(\d+) what=(\w+)(?::(\d+))?")
+
+
+def job(rng, size, interval):
+    """A random section, and whether it may have bad blocks."""
+    cells = rng.randrange(1, 40)
+    lines = [f"bs={size}", f"offset={512 * rng.randrange(200)}", f"size={size * cells}"]
+    lines.append(f"rw={rng.choice(['write', 'randwrite', 'rw', 'randrw', 'read'])}")
+    lines.append(f"randseed={rng.randrange(1 << 32)}")
+    if interval is None:
+        lines += ["verify=pattern", f"verify_pattern={rng.choice(['0', '1', '0xab00'])}"]
+    else:
+        lines += [f"verify={rng.choice(['md5', 'sha1', 'sha256'])}", f"verify_interval={interval}"]
+    # (a job that only reads can't be verified)
+    return [it for it in lines if not (lines[3] == "rw=read" and it.startswith("verify"))]
+
+
+def jobs(rng):
+    """A random job file over one file, and the interval between its headers, which is the same in all of its sections."""
+    interval = rng.choice([None, 0, 512, 1024, 1536])
+    size = rng.choice([1, 2, 4]) * (interval or 512)
+    text = ["[global]", "ioengine=null", "filename=f"]
+    for number in range(rng.randrange(1, 4)):
+        text += [f"[j{number}]", *job(rng, size, interval)]
+    return "\n".join(text) + "\n", interval
+
+
+def listed(report, interval, block):
+    """The blocks that the bad verdicts of a report are over."""
+    blocks = set()
+    for offset, length, what, place in LINE.findall(report):
+        first, count = int(offset), int(length)
+        if place and what != "byte":
+            first, count = first + interval * int(place), interval
+        blocks.update(range(first // block, (first + count - 1) // block + 1))
+    return "".join(f"{it}\n" for it in sorted(blocks))
+
+
+def tried(program, rng, folder):
+    """What is wrong with a random job; None where nothing is."""
+    text, interval = jobs(rng)
+    block = 512 << rng.randrange(8)
+    path = os.path.join(folder, "list")
+    words = [program, f"--workers={rng.randrange(1, 5)}", f"--bad-blocks={path}", f"--bad-blocks-size={block}"]
+    how = {"input": text, "capture_output": True, "text": True, "timeout": SECONDS, "check": False}
+    ended = subprocess.run(words, **how)
+    if ended.returncode not in (0, 1) or ended.stderr:
+        return f"status {ended.returncode}, {ended.stderr!r} of\n{text}"
+    with open(path, encoding="ascii") as it:
+        came = it.read()
+    wanted = listed(ended.stdout, interval, block)
+    return None if came == wanted else f"blocks of {block}: {came!r:.200}, and not {wanted!r:.200}, of\n{text}"
+
+
+def main(words):
+    program = find_program(words[0] if words else None, "places")
+    number = int(words[1]) if len(words) > 1 else 200
+    rng = random.Random(46)
+    with tempfile.TemporaryDirectory(prefix="places-") as folder:
+        wrong = [it for it in (tried(program, rng, folder) for _ in range(number)) if it]
+    for it in wrong[:5]:
+        print(f"places: FAILED: {it}")
+    if not wrong:
+        print(f"places: {number} lists are those of their reports")
+    return 1 if wrong else 0
+
+
+if __name__ == "__main__":
+    sys.exit(main(sys.argv[1:]))
