@@ -6,7 +6,7 @@ medians.
 fio is installed by the system's package manager where it isn't there, and its columns are empty where that can't be. What it prints on
 standard error is how far it is. From the environment:
 
-    SIZE       how much a job writes, in MiB (256)
+    SIZE       how much a job writes, in MiB (256); those of direct and sync have sizes of their own
     TIMES      how often each run is made (5)
     LIMIT      after how many seconds a run is stopped (60); where one is, the row has a '-'
     PLACES     where the files are: tmpfs, disk or both (tmpfs disk)
@@ -16,10 +16,11 @@ standard error is how far it is. From the environment:
     COUNTS     runs of how many I/Os are tried for what an I/O costs (10000 100000 1000000 10000000)
     EVENTS     traces of how many events are checked (10000 100000 1000000)
     PROGRAM    the program (bin/fiorun)
-    PARTS      which parts of the page are measured (fio jobs floor verifiers chunks cost traces); of the others
+    PARTS      which parts of the page are measured (fio jobs floor verifiers chunks direct sync cost traces); of the others
     KEPT       a page that was printed before has the figures
 """
 
+import contextlib
 import itertools
 import os
 import platform
@@ -48,8 +49,12 @@ VERIFIERS = listed("VERIFIERS", "0 1 2")
 COUNTS = listed("COUNTS", "10000 100000 1000000 10000000")
 EVENTS = [int(it) for it in listed("EVENTS", "10000 100000 1000000")]
 PROGRAM = os.environ.get("PROGRAM", os.path.join(HERE, "..", "bin", "fiorun"))
-PARTS = listed("PARTS", "fio jobs floor verifiers chunks cost traces")
+PARTS = listed("PARTS", "fio jobs floor verifiers chunks direct sync cost traces")
 METHODS = ("0", "pattern", "md5", "sha256")
+# Jobs with direct=1: the engine that fio has, rw, bs, iodepth, with how many workers fiorun has the same, and how many MiB.
+DIRECT = (("psync", "randwrite", "4k", 1, 32), ("libaio", "randwrite", "4k", 16, 64), ("psync", "write", "1m", 1, 256))
+# Jobs through the cache: verify_backlog, and how many MiB.
+BACKLOGS = ((1, 4), (1000, 64), (0, 64))
 
 
 def has_fio():
@@ -96,6 +101,13 @@ def seconds(words, folder):
     if child.returncode:
         sys.exit(f"bench: {' '.join(words)} ended with {child.returncode} and said: {said[-600:]}")
     return time.monotonic() - began
+
+
+def must_say_nothing(words, folder):
+    """Runs a command, of which a note would say that it doesn't do what is measured."""
+    said = subprocess.run(words, cwd=folder, stdout=subprocess.DEVNULL, stderr=subprocess.PIPE, check=False).stderr.decode()
+    if said:
+        sys.exit(f"bench: {' '.join(words)} says: {said}")
 
 
 def medians(sides, folder):
@@ -198,6 +210,50 @@ def by_chunks():
             yield [place, verify, shown(took["small"]), shown(took["large"], took["small"])]
 
 
+@contextlib.contextmanager
+def direct_place(place):
+    """A folder and lines of a job that name a file on the disk, or a loop device over a file of the memory."""
+    with tempfile.TemporaryDirectory(prefix="bench-", dir=PLACES[place]) as folder:
+        if place == "disk":
+            yield folder, ["filename=data"]
+            return
+        with open(os.path.join(folder, "image"), "wb") as it:
+            it.truncate(max(mib for *_, mib in DIRECT) << 20)
+        device = said_by("losetup", "-f", "--show", os.path.join(folder, "image"))
+        try:
+            yield folder, ["directory=/dev", f"filename={os.path.basename(device)}"] if device else None
+        finally:
+            said_by("losetup", "-d", device)
+
+
+def by_direct(with_fio):
+    """A row for each place, job and method with direct=1: fio, and fiorun with as many workers as the job is deep."""
+    for place in PLACES:
+        with direct_place(place) as (folder, lines):
+            for (engine, rw, block, depth, mib), verify in itertools.product(DIRECT, ("0", "md5") if lines else ()):
+                words = ["[w]", "direct=1", f"ioengine={engine}", f"rw={rw}", f"bs={block}", f"iodepth={depth}", f"size={mib}m"]
+                put(folder, "job.fio", "\n".join([*words, f"verify={verify}", *lines]) + "\n")
+                must_say_nothing(fiorun(depth, "--notes", "job.fio"), folder)
+                sides = {"fio": ["fio", "--minimal", "job.fio"]} if with_fio else {}
+                took = medians({**sides, "fiorun": fiorun(depth, "job.fio")}, folder)
+                yield [place, engine, rw, block, depth, mib, verify, shown(took.get("fio")), shown(took["fiorun"], took.get("fio"))]
+
+
+def by_sync(with_fio):
+    """A row for each place, order and backlog, through the cache: fio, fio with as many syncs, and fiorun with and without --cached."""
+    for place, rw, (backlog, mib) in itertools.product(PLACES, ("write", "randwrite"), BACKLOGS):
+        words = ["[w]", "ioengine=psync", f"rw={rw}", "bs=4k", f"size={mib}m", "verify=md5", f"verify_backlog={backlog}"]
+        with tempfile.TemporaryDirectory(prefix="bench-", dir=PLACES[place]) as folder:
+            for name, more in {"job": [], "synced": [f"fdatasync={backlog}"], "plain": ["fadvise_hint=0"]}.items():
+                put(folder, f"{name}.fio", "\n".join([*words, *more]) + "\n")
+            files = ("job", "synced", "plain") if with_fio else ()
+            sides = {it: ["fio", "--minimal", f"{it}.fio"] for it in files}
+            took = medians({**sides, "fiorun": fiorun(1, "job.fio"), "cached": fiorun(1, "--cached", "job.fio")}, folder)
+        fio = took.get("job")
+        beside = [shown(took.get(it), fio) for it in ("synced", "plain", "fiorun", "cached")]
+        yield [place, rw, backlog or "none", mib, shown(fio), *beside]
+
+
 def by_count():
     """The rows of bench/cost."""
     words = [os.path.join(HERE, "cost"), PROGRAM, *COUNTS]
@@ -237,7 +293,7 @@ def main():
     print(f"- {model}, {os.cpu_count()} processors, {memory} GiB, Linux {platform.release()}")
     fio_is = said_by("fio", "--version") if with_fio else "fio is not there: its columns are empty"
     print(f"- kit `{said_by('rt', 'version') or 'unknown'}`, {fio_is}")
-    print(f"- {SIZE} MiB a job, medians of {TIMES} runs in turn, no run longer than {LIMIT:.0f} s ('-')\n")
+    print(f"- {SIZE} MiB a job where its table says no other, medians of {TIMES} runs in turn, no run longer than {LIMIT:.0f} s ('-')\n")
     heads = [f"{it} workers" if it != "1" else "1 worker" for it in WORKERS]
     beside = ["Place", "rw", "bs", "verify", "jobs", "fio", *heads]
     place = next(iter(PLACES))
@@ -266,6 +322,19 @@ def main():
         print("`verify_interval=4k`. Behind the seconds of these stands what part of the others they are.\n")
         table(["Place", "verify", "bs=4k", "bs=1m"], by_chunks())
 
+    def direct():
+        print("Writes with `direct=1`, and then their checks where there is a method: to a file on the disk, and to a loop device over a")
+        print("file on tmpfs (as root). fiorun has as many workers as the job is deep. Behind its seconds stands what part of fio's they")
+        print("are.\n")
+        table(["Place", "ioengine", "rw", "bs", "iodepth", "MiB", "verify", "fio", "fiorun"], by_direct(with_fio))
+
+    def sync():
+        print("Writes of 4 KiB and their checks by md5, through the cache, by one worker. fiorun syncs the file and drops its cached")
+        print("pages before each round of checks, with `--cached` neither. fio does both before the checks at the end, and neither")
+        print("before those of a backlog: with `fdatasync` it syncs as often. With `fadvise_hint=0` it gives the system no hint, as")
+        print("fiorun gives none. Behind the seconds stands what part of those of fio's same job they are.\n")
+        table(["Place", "rw", "verify_backlog", "MiB", "fio", "fdatasync", "fadvise_hint=0", "fiorun", "--cached"], by_sync(with_fio))
+
     def cost():
         print("Random writes of 512 bytes into a memory, each checked against a pattern, by `bench/cost`.\n")
         table(["I/Os", "seconds", "us an I/O", "peak MiB", "bytes an I/O"], by_count())
@@ -280,6 +349,8 @@ def main():
         "One worker against its floor": floor,
         "Workers and verifiers": verifiers,
         "Large blocks of small chunks": chunks,
+        "Direct I/O": direct,
+        "Sync and drop": sync,
         "What an I/O costs as a run grows": cost,
         "The check of a trace": traces,
     }

@@ -1,20 +1,27 @@
 #!/usr/bin/env python3
-"""checks/direct.py [PROGRAM [CASE..]] runs the program (the built one where none is given) below bin/launch with direct=1, as root over loop
-devices, and looks that a device gets each block of the job as a request of its own and that what can't be direct is refused or said. What
-can't be tried here is skipped with a word. The status is 1 where something is wrong."""
+"""checks/direct.py [PROGRAM [CASE..]] runs the program (the built one where none is given) below bin/launch with direct=1, as root over
+loop devices, and looks that a device gets each block of the job as a request of its own, as many at once as the job asks for, and that
+what can't be direct is refused or said. What can't be tried here is skipped with a word. The status is 1 where something is wrong."""
 
+import concurrent.futures
 import contextlib
+import fcntl
 import os
 import shutil
 import subprocess
 import sys
 import tempfile
+import time
 
-from disk import MIB, Skipped, Wrong, expect, job_of, loop_device, run, tmpfs, totals_of
+from disk import MIB, Skipped, Wrong, expect, job_of, loop_device, needs, run, tmpfs, totals_of
 from drop import Launcher, launched
 from program import TOP, UNDROPPED
 
 PAGE = 4096
+# How often a job is done that has to last for some tenths of a second.
+LOOPS = 16
+# Calls that freeze a file system, and thaw it.
+FIFREEZE, FITHAW = 0xC0045877, 0xC0045878
 REFUSED = "fiorun: cannot open the files\nfiorun: note: "
 # The places of a device's counts in its stat file. A flush stands among the writes too, with no sectors.
 FIELDS = {"reads": 0, "read_merges": 1, "read_sectors": 2, "writes": 4, "write_merges": 5, "write_sectors": 6, "flushes": 15}
@@ -110,6 +117,71 @@ def large_blocks_are_split_by_the_device_alone(program, room):
             expect(got["write_sectors"] == got["read_sectors"] == 8 * MIB // 512, f"{what}: {got}")
             expect(got["write_merges"] == got["read_merges"] == 0, f"{what}: {got}")
             expect(all(8 <= got[way] <= 8 * most for way in ("writes", "reads")), f"{what}: {got}, at most {most} a block")
+
+
+@contextlib.contextmanager
+def file_system(room):
+    """A file system in memory that can be frozen: writes to its files wait then."""
+    needs("a file system", "mkfs.ext4", "mount")
+    with tmpfs(room, "96m") as memory, loop_device(os.path.join(memory, "image"), 64 * MIB) as device:
+        folder = os.path.join(room, "frozen")
+        os.mkdir(folder)
+        subprocess.run(["mkfs.ext4", "-q", device], capture_output=True, check=True)
+        if subprocess.run(["mount", device, folder], capture_output=True, check=False).returncode:
+            raise Skipped("no file system can be mounted")
+        try:
+            yield folder
+        finally:
+            # (a run that was killed may still be there for a moment)
+            subprocess.run(["umount", "--lazy", folder], capture_output=True, check=False)
+
+
+def in_flight(device):
+    with open(f"/sys/block/{os.path.basename(device)}/inflight", encoding="ascii") as it:
+        return sum(int(word) for word in it.read().split())
+
+
+@contextlib.contextmanager
+def frozen(folder):
+    place = os.open(folder, os.O_RDONLY)
+    fcntl.ioctl(place, FIFREEZE, 0)
+    try:
+        yield
+    finally:
+        fcntl.ioctl(place, FITHAW, 0)
+        os.close(place)
+
+
+def waits_for(is_so):
+    """Waits until it is so, for half a minute at most."""
+    end = time.monotonic() + 30
+    while not is_so() and time.monotonic() < end:
+        time.sleep(0.001)
+
+
+def held_back(device, folder, wanted, start):
+    """Starts a run, has the writes of its device wait from an early one on, and looks how many calls are in the device then."""
+    before = requests_of(device)["write_sectors"]
+    with concurrent.futures.ThreadPoolExecutor(1) as pool:
+        ran = pool.submit(start)
+        waits_for(lambda: requests_of(device)["write_sectors"] > before or ran.done())
+        with frozen(folder):
+            expect(not ran.done(), "the run ended too soon")
+            waits_for(lambda: in_flight(device) >= wanted)
+            time.sleep(0.2)
+            found = in_flight(device)
+        return ran.result(), found
+
+
+def as_many_are_in_the_device_as_depth_and_workers_let(program, room):
+    """Calls that wait are as many as workers, and at most the depth: with 16 of both 16."""
+    with file_system(room) as folder, loop_device(os.path.join(folder, "image"), 16 * MIB) as device:
+        for depth, workers in ((1, 16), (16, 1), (4, 16), (16, 16)):
+            job = device_job(device, "16m", [f"loops={LOOPS}", f"iodepth={depth}", "rw=randwrite"], verify="0")
+            words, wanted = [f"--workers={workers}", "--notes"], min(depth, workers)
+            ran, found = held_back(device, folder, wanted, lambda job=job, words=words: launched(program, room, job, *words))
+            went_well(ran, f"iodepth={depth}, {workers} workers")
+            expect(found == wanted, f"iodepth={depth}, {workers} workers: {found} were in the device at once")
 
 
 def through_the_cache_it_gets_others(program, room):
@@ -268,6 +340,7 @@ def engines_without_files_take_no_notice(program, room):
 CASES = [
     each_block_is_a_request,
     large_blocks_are_split_by_the_device_alone,
+    as_many_are_in_the_device_as_depth_and_workers_let,
     through_the_cache_it_gets_others,
     all_else_is_the_same,
     plain_files_go_past_the_cache,

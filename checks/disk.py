@@ -44,7 +44,7 @@ def tmpfs(room, size):
     try:
         yield folder
     finally:
-        subprocess.run(["umount", folder], capture_output=True, check=False)
+        subprocess.run(["umount", "--lazy", folder], capture_output=True, check=False)
 
 
 @contextlib.contextmanager

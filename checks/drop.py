@@ -307,7 +307,7 @@ def statuses_are_passed_on(_program, room):
 
 def all_else_is_passed_on(_program, room):
     """Standard input, words, folder, group, environment, open descriptors, and which signals are ignored or blocked, but those that ask
-    for a stop."""
+    for a stop or a line."""
     seen = script(
         room,
         "seen",
@@ -315,7 +315,7 @@ def all_else_is_passed_on(_program, room):
 words = [it for it in sys.argv[1:] if not it.startswith(("--drop-pipes=", "--stop-fd="))]
 pipes = [it for it in sys.argv[1:] if it not in words]
 ours = {int(it) for some in pipes for it in some.split("=")[1].replace(":", ",").split(",")}
-asked = sum(1 << it - 1 for it in (signal.SIGHUP, signal.SIGINT, signal.SIGTERM))
+asked = sum(1 << it - 1 for it in (signal.SIGHUP, signal.SIGINT, signal.SIGTERM, signal.SIGUSR1))
 if set(words) & {"open"}:
     numbers = sorted(int(it) for it in os.listdir("/proc/self/fd"))
     print([it for it in numbers if it not in ours and os.path.exists(f"/proc/self/fd/{it}")], file=sys.stderr)
@@ -360,13 +360,15 @@ def lives(pid):
 
 
 def signals_end_both(_program, room):
-    """What comes to the launcher alone, or to the whole group, ends both at once by that signal, where the launcher can't ask for a stop."""
+    """What comes to the launcher alone, or to the whole group, ends both at once by that signal, where the launcher can't ask for a stop;
+    and one that asks for a line ends neither."""
     sleep = script(room, "sleep", "signal.signal(signal.SIGINT, signal.SIG_DFL)\nprint(os.getpid(), flush=True)\ntime.sleep(50)\n")
-    for name in ("TERM", "HUP", "INT", "QUIT", "KILL", "USR1"):
+    for name in ("TERM", "HUP", "INT", "QUIT", "KILL"):
         for group in (False, True):
             it, pid = begun([LAUNCH, sleep, "--stop-fd=0"], room, start_new_session=True)
             number = signal.Signals["SIG" + name]
-            (os.killpg if group else os.kill)(it.pid, number)
+            for one in (signal.SIGUSR1, number):
+                (os.killpg if group else os.kill)(it.pid, one)
             status = it.wait(timeout=SECONDS)
             for _ in range(100):
                 if not lives(pid):
@@ -466,7 +468,8 @@ def what_is_installed_runs(program, room):
         expect(ran.stdout.startswith("fiorun "), f"{command}: {ran.stdout}{ran.stderr}")
     prefix = os.path.join(room, "prefix")
     found = sorted(os.path.relpath(os.path.join(where, it), room) for where, _, names in os.walk(prefix) for it in names)
-    wanted = ["bin/fiorun", "lib/fiorun/fiorun", "lib/fiorun/launch", "lib/fiorun/start", "share/man/man1/fiorun.1"]
+    wanted = ["bin/fiorun", "lib/fiorun/fiorun", "lib/fiorun/launch", "lib/fiorun/start"]
+    wanted += ["share/bash-completion/completions/fiorun", "share/man/man1/fiorun.1"]
     expect(found == [f"prefix/{it}" for it in wanted], f"{found}")
     for it in found[:4]:
         expect(os.stat(os.path.join(room, it)).st_mode & stat.S_IXOTH, f"{it} can't be run")

@@ -13,7 +13,7 @@ FAULTS = (
     r"job file: (?:not UTF-8|no job|several engine kinds|limit of (?:clones|region|cells|work)"
     r"|line \d+: (?:no closing bracket|empty section name|option before any section|option out of scope"
     r"|bad value|bad split|several files))"
-    r"|job at line \d+: (?:no size|bad block size or place|no verify_pattern|verify needs a write)"
+    r"|job at line \d+: (?:no size|bad block size or place|no verify_pattern)"
 )
 # Comments, blanks and carriage returns, and options that there aren't.
 LOOSE = "; two jobs\n[global]\nbs=4k ; x\n\n[a] of the night\r\n\tstonewall # y=1\nsize = 1m\n[global]\n=5\n[a]\nk=a=b"
@@ -73,7 +73,7 @@ LIMITS = [
     (PATTERN_OF + "ab" * 64, 1),
     (PATTERN_OF + "a" * 129, "job file: line 5: bad value"),
     ("size=4k\nrw=write\nverify=pattern", "job at line 1: no verify_pattern"),
-    ("size=4k\nverify=md5", "job at line 1: verify needs a write"),
+    ("size=4k\nverify=md5", 1),
     ("size=4k\nioengine=null\n[b]\nsize=4k\nioengine=memory", "job file: several engine kinds"),
 ]
 

@@ -1,23 +1,28 @@
 #!/usr/bin/env python3
-"""checks/places.py [PROGRAM [NUMBER]] compares the list of bad blocks with the report, over random jobs.
+"""checks/places.py [PROGRAM [NUMBER]] compares the list of bad blocks and the JSON with the report, over random jobs.
 
 PROGRAM is the built program (bin/fiorun's where none is given, which is built first where it has to be). NUMBER jobs are tried, 200 where
 none is given. They run over nothing, so what is checked comes back as zeros: all of it is bad, but where zeros are what was written. The
 list that --bad-blocks writes must be that of the miscompares of the report: of each the blocks that its piece lies in, or its chunk where
-the line names one. It ends with 0 where all lists are so, else it prints the jobs of which they aren't.
+the line names one. The object that --json writes must have the numbers and the lines of the report. As root a list goes through mke2fs on
+a loop device, and dumpe2fs must give its blocks back. It ends with 0 where all lists are so, else it prints the jobs of which they aren't.
 """
 
+import contextlib
+import json
 import os
 import random
 import re
+import shutil
 import subprocess
 import sys
 import tempfile
 
-from program import find_program
+from program import Skipped, Wrong, expect, find_program
+from report_json import agrees
 
 SECONDS = 60
-LINE = re.compile(r"miscompare: .* offset=(\d+) length=(\d+) what=(\w+)(?::(\d+))?")
+LINE = re.compile(r"(miscompare|badread): .* offset=(\d+) length=(\d+) what=(\w+)(?::(\d+))?")
 
 
 def job(rng, size, interval):
@@ -30,8 +35,7 @@ def job(rng, size, interval):
         lines += ["verify=pattern", f"verify_pattern={rng.choice(['0', '1', '0xab00'])}"]
     else:
         lines += [f"verify={rng.choice(['md5', 'sha1', 'sha256'])}", f"verify_interval={interval}"]
-    # (a job that only reads can't be verified)
-    return [it for it in lines if not (lines[3] == "rw=read" and it.startswith("verify"))]
+    return lines
 
 
 def jobs(rng):
@@ -47,9 +51,10 @@ def jobs(rng):
 def listed(report, interval, block):
     """The blocks that the bad verdicts of a report are over."""
     blocks = set()
-    for offset, length, what, place in LINE.findall(report):
+    for word, offset, length, what, place in LINE.findall(report):
         first, count = int(offset), int(length)
-        if place and what != "byte":
+        # (of a checked read it isn't known at which interval it was written)
+        if place and what != "byte" and word == "miscompare":
             first, count = first + interval * int(place), interval
         blocks.update(range(first // block, (first + count - 1) // block + 1))
     return "".join(f"{it}\n" for it in sorted(blocks))
@@ -61,6 +66,7 @@ def tried(program, rng, folder):
     block = 512 << rng.randrange(8)
     path = os.path.join(folder, "list")
     words = [program, f"--workers={rng.randrange(1, 5)}", f"--bad-blocks={path}", f"--bad-blocks-size={block}"]
+    words.append(f"--json={path}.json")
     how = {"input": text, "capture_output": True, "text": True, "timeout": SECONDS, "check": False}
     ended = subprocess.run(words, **how)
     if ended.returncode not in (0, 1) or ended.stderr:
@@ -68,7 +74,52 @@ def tried(program, rng, folder):
     with open(path, encoding="ascii") as it:
         came = it.read()
     wanted = listed(ended.stdout, interval, block)
-    return None if came == wanted else f"blocks of {block}: {came!r:.200}, and not {wanted!r:.200}, of\n{text}"
+    if came != wanted:
+        return f"blocks of {block}: {came!r:.200}, and not {wanted!r:.200}, of\n{text}"
+    try:
+        with open(f"{path}.json", encoding="utf-8") as it:
+            agrees(ended.stdout, ended.returncode, json.load(it))
+    except (Wrong, ValueError) as why:
+        return f"{why!s:.1000} of\n{text}"
+    return None
+
+
+@contextlib.contextmanager
+def loop_device(folder):
+    """A loop device of 16 MiB."""
+    if os.geteuid() != 0:
+        raise Skipped("not root")
+    for tool in ("losetup", "mke2fs", "dumpe2fs"):
+        if not shutil.which(tool):
+            raise Skipped(f"there is no {tool}")
+    image = os.path.join(folder, "image")
+    with open(image, "wb") as it:
+        it.truncate(16 << 20)
+    made = subprocess.run(["losetup", "-f", "--show", image], capture_output=True, text=True, check=False)
+    if made.returncode:
+        raise Skipped(f"no loop device: {made.stderr.strip()}")
+    device = made.stdout.strip()
+    try:
+        yield device
+    finally:
+        subprocess.run(["losetup", "-d", device], check=False)
+
+
+def given_to_mke2fs(program, folder):
+    """A list of bad blocks that mke2fs takes: the file system has exactly those."""
+    path = os.path.join(folder, "list")
+    # (the first blocks of a file system may not be bad)
+    text = "[n]\nioengine=null\nrw=randwrite\nbs=4k\noffset=8m\nsize=128k\nnorandommap\nverify=md5\n"
+    words = [program, f"--bad-blocks={path}", "--bad-blocks-size=4096"]
+    subprocess.run(words, input=text, capture_output=True, text=True, timeout=SECONDS, check=False)
+    with open(path, encoding="ascii") as it:
+        wanted = it.read()
+    expect(wanted, "an empty list")
+    with loop_device(folder) as device:
+        made = ["mke2fs", "-q", "-F", "-t", "ext4", "-b", "4096", "-l", path, device]
+        subprocess.run(made, capture_output=True, timeout=SECONDS, check=True)
+        shown = subprocess.run(["dumpe2fs", "-b", device], capture_output=True, text=True, timeout=SECONDS, check=True)
+    expect(sorted(shown.stdout.split(), key=int) == wanted.split(), "the file system's", shown.stdout, wanted)
 
 
 def main(words):
@@ -77,6 +128,12 @@ def main(words):
     rng = random.Random(46)
     with tempfile.TemporaryDirectory(prefix="places-") as folder:
         wrong = [it for it in (tried(program, rng, folder) for _ in range(number)) if it]
+        try:
+            given_to_mke2fs(program, folder)
+        except Skipped as why:
+            print(f"places: no list goes through mke2fs: {why}")
+        except (Wrong, subprocess.CalledProcessError) as why:
+            wrong.append(f"mke2fs: {why}")
     for it in wrong[:5]:
         print(f"places: FAILED: {it}")
     if not wrong:

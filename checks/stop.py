@@ -1,8 +1,8 @@
 #!/usr/bin/env python3
 """checks/stop.py [PROGRAM [COUNT [CASE..]]] stops runs of the program (the built one where none is given) COUNT times (30) at random
 moments, below bin/launch and by a pipe of its own, and looks that each ends soon, that what it had begun has ended and what was to be
-judged is, and that its report is that of its trace. Then come signals at a terminal, `timeout`, and a launcher that is killed. The status
-is 1 where something is wrong. SEED chooses other moments."""
+judged is, and that its report is that of its trace. Then come signals at a terminal, `timeout`, a launcher that is killed, and signals that
+ask for a line. The status is 1 where something is wrong. SEED chooses other moments."""
 
 import concurrent.futures
 import contextlib
@@ -19,10 +19,11 @@ import tempfile
 import termios
 import time
 
-from program import FIELDS, Skipped, Wrong, expect, find_program
+from program import FIELDS, PRINTED, Skipped, Wrong, expect, find_program
 
 HERE = os.path.dirname(os.path.realpath(__file__))
 LAUNCH = os.path.join(HERE, "..", "bin", "launch")
+START = os.path.join(HERE, "..", "bin", "start")
 SECONDS = 120
 INTERRUPTED = b"fiorun: interrupted\n"
 ALREADY = os.environ.get("SEED", str(random.randrange(1 << 32)))
@@ -368,6 +369,85 @@ def at_a_terminal(program, room):
         terminal.close()
 
 
+# Signals that ask for a line.
+
+
+def lines_of(said):
+    """The numbers of the printed lines, of which none falls."""
+    read = [PRINTED.fullmatch(it) for it in said.decode().splitlines()]
+    expect(None not in read, "another line:", said)
+    numbers = [tuple(int(it) for it in line.groups()) for line in read]
+    for older, newer in zip(numbers, numbers[1:]):
+        expect(all(before <= now for before, now in zip(older, newer)), "a number fell:", older, newer)
+    return numbers
+
+
+def five_signals_print_five_lines(program, room):
+    """With standard error a file; to the launcher, and to all processes of the program's name."""
+    needs_perl()
+    with_job(room, PLAIN.replace("loops=900", "loops=150"))
+    plain = subprocess.run([LAUNCH, program, "job"], cwd=room, capture_output=True, check=True, timeout=SECONDS)
+    expect(plain.stderr == b"", "said unasked:", plain.stderr)
+    name = os.path.basename(program)
+    for tell in (lambda it: it.send_signal(signal.SIGUSR1), lambda it: subprocess.run(["pkill", "-USR1", "-s", str(it.pid), name], check=True)):
+        with open(os.path.join(room, "err"), "w+b") as err, subprocess.Popen(
+            [LAUNCH, program, "job"], cwd=room, stdin=subprocess.DEVNULL, stdout=subprocess.PIPE, stderr=err, start_new_session=True
+        ) as it:
+            time.sleep(0.4)
+            for count in range(1, 6):
+                tell(it)
+                deadline = time.monotonic() + 10
+                while len(lines := open(os.path.join(room, "err"), "rb").readlines()) < count:
+                    expect(time.monotonic() < deadline, f"no line number {count}:", lines)
+                    time.sleep(0.05)
+            out = it.communicate(timeout=SECONDS)[0]
+            err.seek(0)
+            numbers = lines_of(err.read())
+        expect((it.returncode, out) == (0, plain.stdout), f"another report, or status {it.returncode}: {out}")
+        expect(len(numbers) == 5 and all(percent <= 100 for percent, *_ in numbers), "other lines:", numbers)
+        expect(len({ios for _, ios, *_ in numbers}) == 5, "the same line twice:", numbers)
+
+
+def signalled(program, room, chance, stops):
+    """A run with fifty of these signals at any moments, begun by somebody who has them ignored; and one more that stops it."""
+    numbers = [(chance.random() * 0.5, signal.SIGUSR1) for _ in range(50)] + [(0.3, signal.SIGINT)] * stops
+    with subprocess.Popen(
+        [START, program, LAUNCH, "job"],
+        cwd=room,
+        stdin=subprocess.DEVNULL,
+        stdout=subprocess.PIPE,
+        stderr=subprocess.PIPE,
+        preexec_fn=lambda: signal.signal(signal.SIGUSR1, signal.SIG_IGN),
+    ) as it:
+        begun = time.monotonic()
+        for moment, number in sorted(numbers):
+            time.sleep(max(0, begun + moment - time.monotonic()))
+            # (it isn't waited for before, so that nobody else has its number)
+            os.kill(it.pid, number)
+        out, err = it.communicate(timeout=SECONDS)
+    return it.returncode, out, err
+
+
+def a_thousand_signals_do_no_harm(program, room):
+    """From before the launcher is there until behind the program's end."""
+    needs_perl()
+    chance = random.Random(f"{ALREADY} lines")
+    with_job(room, PLAIN.replace("loops=900", "loops=10"))
+    plain = subprocess.run([program, "job"], cwd=room, capture_output=True, check=True, timeout=SECONDS)
+    printed = 0
+    for _ in range(16):
+        status, out, err = signalled(program, room, chance, 0)
+        expect((status, out) == (0, plain.stdout), f"SEED={ALREADY}: another report, or status {status}: {out}")
+        printed += len(lines_of(err))
+    with_job(room, PLAIN)
+    for _ in range(4):
+        status, out, err = signalled(program, room, chance, 1)
+        expect(status == 130 and totals_of(out)["writes"] > 0, f"SEED={ALREADY}: status {status}: {out}")
+        expect(err.endswith(INTERRUPTED), f"SEED={ALREADY}: {err}")
+        printed += len(lines_of(err[: -len(INTERRUPTED)]))
+    expect(0 < printed <= 1000, f"SEED={ALREADY}: {printed} lines")
+
+
 CASES = [
     timeout_reports,
     a_killed_launcher_leaves_a_report,
@@ -375,6 +455,8 @@ CASES = [
     ignored_signals_stay_ignored,
     other_values_are_refused,
     at_a_terminal,
+    five_signals_print_five_lines,
+    a_thousand_signals_do_no_harm,
 ]
 
 

@@ -1,7 +1,8 @@
 // The files of a run: taken before it begins, shared by its engines, and settled at its end.
 ghost use Rattle.std.specs.Prelude.{◌≡◌, IfOk};
 
-use crate::remarks::Remarks;
+use crate::remarks::{Remarks, reasons_of};
+use crate::running::Ran;
 use crate::show::Screen;
 use crate::stops::Stop;
 use jr_cli::{Choice, CliFault, Ended};
@@ -165,11 +166,14 @@ impl<'a> Taken<'a> {
     }
 
     // How a run ended, once its faults were told and all that it wrote was synced.
-    pub fn settled<R: Eprint + AllocGlobal>(&self, rt: &R, ended: Ended) -> Result<Ended, Stop> {
+    pub fn settled<R: Eprint + AllocGlobal>(&self, rt: &R, ended: Ended) -> Result<Ran, Stop> {
         self.remarks.faults(rt, &self.files, &ended.faults);
         self.remarks.undropped(rt, self.launcher.has_failed());
+        let Ok(reasons) = reasons_of(rt.alloc(), &self.files, &ended.faults) else {
+            return Err(Stop::from(CliFault::Memory));
+        };
         match self.files.settle() {
-            Ok(()) => Ok(ended),
+            Ok(()) => Ok(Ran { ended, reasons }),
             Err(failed) => Err(self.remarks.unsettled(rt.alloc(), &failed)),
         }
     }

@@ -3,18 +3,19 @@
 
 use files::wishes;
 use jr_cli::{
-    Choice, CliFault, Ended, answer_words, choose, memory_or, print_check, print_part, print_plan,
+    Choice, CliFault, answer_words, choose, memory_or, print_check, print_part, print_plan,
     read_job, read_text, read_trace, workers_of,
 };
 use jr_engines::Engine;
 use jr_notes::{job_notes, plan_notes};
 use jr_plan::Plan;
-use running::{SharedRun, Turn, add, boxed, run_memory, run_plan, shares};
+use places::Wanted;
+use running::{Ran, SharedRun, Turn, add, boxed, run_memory, run_plan, shares};
 use show::Screen;
 use std::alloc::Global;
 use std::env::Env;
 use std::fs::{File, Files};
-use std::io::BufWriter;
+use std::io::{BufWriter, Write};
 use std::process::ExitCode;
 use std::sync::Wait;
 use std::thread::Threads;
@@ -24,6 +25,7 @@ use stops::{Stop, tell_all};
 
 mod asked;
 mod files;
+mod outputs;
 mod places;
 mod remarks;
 mod running;
@@ -33,7 +35,7 @@ mod stops;
 fn main(rt: HostRuntime) -> ExitCode {
     let _held = held(&rt);
     // The shares of a memory keep the runtime, so they are boxed here.
-    let run_shared = |job: SharedRun| -> Result<Ended, Stop> {
+    let run_shared = |job: SharedRun| -> Result<Ran, Stop> {
         let mut engines: Vec<Box<dyn Engine + Send>> = Vec::new(rt.alloc());
         let Ok(shared) = rt.clone() else {
             return Err(Stop::from(CliFault::Memory));
@@ -46,9 +48,9 @@ fn main(rt: HostRuntime) -> ExitCode {
     let mut has_notes = rt.is_shown();
     let ended = match begin(&rt, &mut has_notes) {
         Ok(Turn::Ended(status)) => Ok(status),
-        Ok(Turn::Ran(ended)) => Ok(told(&rt, ended)),
+        Ok(Turn::Ran(ran)) => Ok(told(&rt, ran)),
         Ok(Turn::Shared(job)) => match run_shared(job) {
-            Ok(ended) => Ok(told(&rt, ended)),
+            Ok(ran) => Ok(told(&rt, ran)),
             Err(stop) => Err(stop),
         },
         Err(stop) => Err(stop),
@@ -60,11 +62,11 @@ fn main(rt: HostRuntime) -> ExitCode {
 }
 
 // Says on standard error where a run was interrupted, and gives the exit status.
-fn told<R: Eprint>(rt: &R, ended: Ended) -> u8 {
-    if ended.is_interrupted {
+fn told<R: Eprint>(rt: &R, ran: Ran) -> u8 {
+    if ran.ended.is_interrupted {
         let _ = eprintln!(rt; "fiorun: interrupted");
     }
-    ended.status()
+    ran.ended.status()
 }
 
 // Holds the numbers of standard input, output and error where they are closed, so that no file of a job gets one of them.
@@ -124,12 +126,7 @@ fn perform<
         return Ok(Turn::Ended(0));
     }
     if let Some(path) = choice.check_trace {
-        let events = trace_text(rt, path)?;
-        if choice.interrupted {
-            print_part(rt.alloc(), &plan, events.as_slice(), &mut out)?;
-        } else {
-            print_check(rt.alloc(), &plan, events.as_slice(), &mut out)?;
-        }
+        check_trace(rt, choice, path, &plan, &mut out)?;
         return Ok(Turn::Ended(0));
     }
     let workers = workers_of(&plan, choice.workers);
@@ -137,6 +134,24 @@ fn perform<
         return Err(Stop::from(CliFault::Memory));
     };
     run_plan(rt, choice, wishes.as_slice(), plan, workers, &mut out)
+}
+
+// Checks a trace of the plan, and tells of its run what is wanted beside the totals.
+fn check_trace<R: Files + Screen + AllocGlobal, V: Write>(
+    rt: &R,
+    choice: &Choice<'_>,
+    path: &str,
+    plan: &Plan,
+    out: &mut V,
+) -> Result<(), Stop> {
+    let wanted = Wanted::of(rt, choice, plan)?;
+    let events = trace_text(rt, path)?;
+    if choice.interrupted {
+        print_part(rt.alloc(), plan, events.as_slice(), out)?;
+    } else {
+        print_check(rt.alloc(), plan, events.as_slice(), out)?;
+    }
+    wanted.tell_trace(rt, plan, events.as_slice())
 }
 
 // The plan of a job text, or its fault, with what is worth knowing of it where notes are wanted.

@@ -98,13 +98,30 @@ fn tell_fault<R: Eprint>(rt: &R, note: &FaultNote, reason: Option<io::Error>) {
     };
 }
 
+// Why the system refused each of the first faults, where it did and the files have kept that.
+pub fn reasons_of(
+    alloc: Global,
+    files: &FileEngine<SharedFile>,
+    faults: &Faults,
+) -> Result<Vec<Option<String>>, AllocError> {
+    let mut reasons = Vec::new(alloc);
+    for note in faults.first.as_slice() {
+        let reason = match reason_of(files, &note.fault) {
+            Some(reason) => Some(format!(in alloc; "{reason}")?),
+            None => None,
+        };
+        reasons.push(reason)?;
+    }
+    Ok(reasons)
+}
+
 // Why the system refused it, where it did and the files have kept that.
 fn reason_of(files: &FileEngine<SharedFile>, fault: &Fault) -> Option<io::Error> {
     if fault.outcome != Outcome::Failed {
         return None;
     }
     let dir = match fault.kind {
-        TicketKind::Read | TicketKind::Probe => Dir::Read,
+        TicketKind::Read | TicketKind::Probe | TicketKind::ReadCheck => Dir::Read,
         TicketKind::Write => Dir::Write,
     };
     let piece = &fault.piece;
@@ -120,7 +137,7 @@ fn names_of(alloc: Global, plan: &Plan) -> Result<Vec<String>, AllocError> {
     Ok(names)
 }
 
-// Whether any job of the plan checks what it writes.
+// Whether any job of the plan checks what it reads.
 fn has_checks(plan: &Plan) -> bool {
     for place in 0..plan.clones() {
         if checks(plan.clone_at(place)) {
@@ -131,5 +148,5 @@ fn has_checks(plan: &Plan) -> bool {
 }
 
 fn checks(clone: &SubJob) -> bool {
-    clone.io_type().has_writes() && clone.method().kind.is_verified() && clone.checks_writes()
+    clone.method().kind.is_verified() && clone.checks_writes()
 }

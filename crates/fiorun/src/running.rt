@@ -1,12 +1,12 @@
 // Runs of a plan over its kind of engine.
 ghost use Rattle.std.specs.Prelude.{◌≤◌, ◌^◌};
 
-use crate::asked::asked_by;
+use crate::asked::{Asked, asked_by};
 use crate::files::{Taken, is_taken, take_files};
 use crate::places::Wanted;
-use crate::show::{Extent, Screen, shown};
+use crate::show::{Extent, Pace, Screen, Wiper, shown};
 use crate::stops::Stop;
-use jr_cli::{Choice, CliFault, Ended, StopFlag, execute, execute_serial};
+use jr_cli::{Choice, CliFault, Ended, Wiping, execute, execute_serial};
 use jr_direct::Wish;
 use jr_engines::{Engine, MemoryEngine, NullEngine, SharedMemory};
 use jr_files::{FileEngine, SharedFile};
@@ -24,18 +24,35 @@ use std::{fs, io};
 #[derive(Drop)]
 pub enum Turn {
     Ended(u8),
-    Ran(Ended),
+    Ran(Ran),
     Shared(SharedRun),
 }
 
-// A run whose workers share a memory: the plan, how many they are, the file that the trace goes to, what asks it to stop, and what is told
+// How a run ended, and why the system refused the first of its faults, where that is known.
+#[derive(Drop)]
+pub struct Ran {
+    pub ended: Ended,
+    pub reasons: Vec<Option<String>>,
+}
+
+impl Ran {
+    // A run of which no reasons are known.
+    pub fn new(alloc: Global, ended: Ended) -> Ran {
+        Ran {
+            ended,
+            reasons: Vec::new(alloc),
+        }
+    }
+}
+
+// A run whose workers share a memory: the plan, how many they are, the file that the trace goes to, what is asked of it, and what is told
 // behind its report.
 #[derive(Drop)]
 pub struct SharedRun {
     pub plan: Plan,
     pub workers: u32,
     events: Option<BufWriter<File>>,
-    stop: Option<Arc<StopFlag, Global>>,
+    asked: Arc<Asked, Global>,
     wanted: Option<Wanted>,
 }
 
@@ -77,9 +94,9 @@ pub fn run_plan<
 fn told<R: Files + Screen + AllocGlobal>(rt: &R, wanted: Wanted, turn: Turn) -> Result<Turn, Stop> {
     match turn {
         Turn::Ended(status) => Ok(Turn::Ended(status)),
-        Turn::Ran(ended) => {
-            wanted.tell(rt, &ended)?;
-            Ok(Turn::Ran(ended))
+        Turn::Ran(ran) => {
+            wanted.tell(rt, &ran)?;
+            Ok(Turn::Ran(ran))
         }
         Turn::Shared(mut job) => {
             job.wanted = Some(wanted);
@@ -104,10 +121,9 @@ fn run_engines<
     if plan.engine() == EngineKind::File && choice.trace.is_some_and(is_over) {
         return Err(Stop::trace());
     }
-    let stop = asked_by(rt, choice.stop_fd)?;
+    let asked = asked_by(rt, Pace::of(rt, choice.progress), choice.stop_fd)?;
     if workers == 1 && plan.verifiers() == 0 {
-        let stop = stop.as_deref();
-        return Ok(Turn::Ran(run_alone(rt, choice, stop, wishes, plan, out)?));
+        return Ok(Turn::Ran(run_alone(rt, choice, &asked, wishes, plan, out)?));
     }
     let trace = choice.trace;
     match plan.engine() {
@@ -115,7 +131,7 @@ fn run_engines<
             let files = take_files(rt, &plan, choice, wishes)?;
             let events = trace_file(rt, trace)?;
             let engines = file_engines(rt, &files, workers)?;
-            let ended = run_files(rt, stop.as_deref(), plan, engines, events, out)?;
+            let ended = run_files(rt, &asked, plan, engines, events, out)?;
             Ok(Turn::Ran(files.settled(rt, ended)?))
         }
         EngineKind::Memory => {
@@ -124,13 +140,14 @@ fn run_engines<
                 plan,
                 workers,
                 events,
-                stop,
+                asked,
                 wanted: None,
             }))
         }
         EngineKind::Null => {
             let events = trace_file(rt, trace)?;
-            Ok(Turn::Ran(run_nulls(rt, stop.as_deref(), plan, workers, events, out)?))
+            let ended = run_nulls(rt, &asked, plan, workers, events, out)?;
+            Ok(Turn::Ran(Ran::new(rt.alloc(), ended)))
         }
     }
 }
@@ -142,11 +159,11 @@ fn run_alone<
 >(
     rt: &R,
     choice: &Choice<'_>,
-    stop: Option<&StopFlag>,
+    asked: &Asked,
     wishes: &[Wish],
     plan: Plan,
     out: &mut V,
-) -> Result<Ended, Stop> {
+) -> Result<Ran, Stop> {
     let trace = choice.trace;
     match plan.engine() {
         EngineKind::File => {
@@ -154,7 +171,7 @@ fn run_alone<
             let mut engine = files.engine(rt, 0)?;
             files.begin(rt, &engine);
             let events = trace_file(rt, trace)?;
-            let ended = run_over(rt, stop, events, plan, &mut engine, out)?;
+            let ended = run_over(rt, asked, events, plan, &mut engine, out)?;
             files.settled(rt, ended)
         }
         EngineKind::Memory => {
@@ -163,12 +180,14 @@ fn run_alone<
                 Err(_) => return Err(Stop::from(CliFault::Memory)),
             };
             let events = trace_file(rt, trace)?;
-            Ok(run_over(rt, stop, events, plan, &mut engine, out)?)
+            let ended = run_over(rt, asked, events, plan, &mut engine, out)?;
+            Ok(Ran::new(rt.alloc(), ended))
         }
         EngineKind::Null => {
             let mut engine = NullEngine::new();
             let events = trace_file(rt, trace)?;
-            Ok(run_over(rt, stop, events, plan, &mut engine, out)?)
+            let ended = run_over(rt, asked, events, plan, &mut engine, out)?;
+            Ok(Ran::new(rt.alloc(), ended))
         }
     }
 }
@@ -208,7 +227,7 @@ pub fn add<X: Drop>(all: &mut Vec<X>, one: X) -> Result<(), CliFault> {
 // Runs the plan over this engine with one worker, and writes the report and then the trace where one is asked for.
 fn run_over<R: Screen + AllocGlobal + Clock + Threads + Wait + Sync, V: io::Write>(
     rt: &R,
-    stop: Option<&StopFlag>,
+    asked: &Asked,
     events: Option<BufWriter<File>>,
     plan: Plan,
     engine: &mut dyn Engine,
@@ -220,17 +239,19 @@ fn run_over<R: Screen + AllocGlobal + Clock + Threads + Wait + Sync, V: io::Writ
     shown(
         rt,
         Extent::of(&plan),
-        stop,
-        move |watch| -> Result<Ended, CliFault>
+        asked,
+        move |watch, meter| -> Result<Ended, CliFault>
             requires { (state engine.now).calls ≤ 2 ^ 63 }
         {
+            let line = &Wiper { rt, meter };
+            let mut out = Wiping { line, out };
             match events {
                 None => {
                     let none = None::<&mut Vec<u8>>;
-                    execute_serial(alloc, plan, engine, watch, none, out)
+                    execute_serial(alloc, plan, engine, watch, none, &mut out)
                 }
                 Some(mut events) => {
-                    execute_serial(alloc, plan, engine, watch, Some(&mut events), out)
+                    execute_serial(alloc, plan, engine, watch, Some(&mut events), &mut out)
                 }
             }
         },
@@ -240,7 +261,7 @@ fn run_over<R: Screen + AllocGlobal + Clock + Threads + Wait + Sync, V: io::Writ
 // Runs the plan over the system's files, with a worker for each of these engines.
 fn run_files<R: Screen + AllocGlobal + Clock + Threads + Wait + Sync, V: io::Write>(
     rt: &R,
-    stop: Option<&StopFlag>,
+    asked: &Asked,
     plan: Plan,
     shares: Vec<FileEngine<SharedFile>>,
     events: Option<BufWriter<File>>,
@@ -250,13 +271,13 @@ fn run_files<R: Screen + AllocGlobal + Clock + Threads + Wait + Sync, V: io::Wri
     for engine in shares {
         add(&mut engines, boxed(rt.alloc(), engine)?)?;
     }
-    run_with(rt, stop, plan, engines, events, out)
+    run_with(rt, asked, plan, engines, events, out)
 }
 
 // Runs the plan over nothing, with so many workers.
 fn run_nulls<R: Screen + AllocGlobal + Clock + Threads + Wait + Sync, V: io::Write>(
     rt: &R,
-    stop: Option<&StopFlag>,
+    asked: &Asked,
     plan: Plan,
     workers: u32,
     events: Option<BufWriter<File>>,
@@ -266,7 +287,7 @@ fn run_nulls<R: Screen + AllocGlobal + Clock + Threads + Wait + Sync, V: io::Wri
     for _ in 0..workers {
         add(&mut engines, boxed(rt.alloc(), NullEngine::new())?)?;
     }
-    run_with(rt, stop, plan, engines, events, out)
+    run_with(rt, asked, plan, engines, events, out)
 }
 
 // So many shares of one memory for the plan's files.
@@ -290,7 +311,7 @@ pub fn run_memory<R: Files + Print + Screen + AllocGlobal + Clock + Threads + Wa
     rt: &R,
     job: SharedRun,
     engines: Vec<Box<dyn Engine + Send>>,
-) -> Result<Ended, Stop> {
+) -> Result<Ran, Stop> {
     let Ok(mut out) = BufWriter::new(rt.alloc(), io::writer(rt)) else {
         return Err(Stop::from(CliFault::Memory));
     };
@@ -298,31 +319,38 @@ pub fn run_memory<R: Files + Print + Screen + AllocGlobal + Clock + Threads + Wa
         plan,
         workers: _,
         events,
-        stop,
+        asked,
         wanted,
     } = job;
-    let ended = run_with(rt, stop.as_deref(), plan, engines, events, &mut out)?;
+    let ended = run_with(rt, &asked, plan, engines, events, &mut out)?;
+    let ran = Ran::new(rt.alloc(), ended);
     if let Some(wanted) = wanted {
-        wanted.tell(rt, &ended)?;
+        wanted.tell(rt, &ran)?;
     }
-    Ok(ended)
+    Ok(ran)
 }
 
 // Runs the plan with a worker for each engine, and writes the report and then the trace where one is asked for.
 fn run_with<R: Screen + AllocGlobal + Clock + Threads + Wait + Sync, V: io::Write>(
     rt: &R,
-    stop: Option<&StopFlag>,
+    asked: &Asked,
     plan: Plan,
     engines: Vec<Box<dyn Engine + Send>>,
     events: Option<BufWriter<File>>,
     out: &mut V,
 ) -> Result<Ended, CliFault> {
     let alloc = rt.alloc();
-    shown(rt, Extent::of(&plan), stop, move |watch| match events {
-        None => {
-            let none = None::<&mut Vec<u8>>;
-            execute(rt, alloc, plan, engines, watch, none, out)
+    shown(rt, Extent::of(&plan), asked, move |watch, meter| {
+        let line = &Wiper { rt, meter };
+        let mut out = Wiping { line, out };
+        match events {
+            None => {
+                let none = None::<&mut Vec<u8>>;
+                execute(rt, alloc, plan, engines, watch, none, &mut out)
+            }
+            Some(mut events) => {
+                execute(rt, alloc, plan, engines, watch, Some(&mut events), &mut out)
+            }
         }
-        Some(mut events) => { execute(rt, alloc, plan, engines, watch, Some(&mut events), out) }
     })
 }

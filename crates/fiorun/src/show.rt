@@ -1,11 +1,12 @@
-// The line that a terminal shows of a run that goes on: how much was started, what was checked, and how much of that was bad.
-use jr_cli::{Progress, StopFlag, Watch};
+// What standard error shows of a run that goes on: how much was started, what was checked, and how much of that was bad.
+use crate::asked::Asked;
+use jr_cli::{Progress, Watch, Wipe};
 use jr_model::IoType;
 use jr_plan::{Plan, SubJob};
 use std::io::IsTerminal;
-use std::sync::{Condvar, CondvarTimeouts, Mutex, Wait};
+use std::sync::{Mutex, Wait};
 use std::thread::Threads;
-use std::time::{Clock, Duration};
+use std::time::{Clock, Duration, Instant};
 use std::{fmt, io, thread};
 
 // What knows where standard output and standard error go.
@@ -30,25 +31,52 @@ impl Screen for HostRuntime {
 // Back to the line's begin, and nothing on it.
 const WIPED: &str = "\r\x1b[K";
 
-// Calls `f`, which may be asked to stop by this flag. Where standard error is a terminal, that shows meanwhile how far a run of this
-// extent is, a line once a second, and the line is wiped at the end.
-pub fn shown<R: Screen + Clock + Threads + Wait + Sync, T, F: for<'p> FnOnce(Watch<'p>) -> T>(
-    rt: &R,
-    extent: Extent,
-    stop: Option<&StopFlag>,
-    f: F,
-) -> T
+// When a run says by itself how far it is.
+#[derive(Clone, Copy)]
+pub enum Pace {
+    Never,
+    // Once a second, on the one line of a terminal.
+    Drawn,
+    // Each so many seconds, on a line of its own.
+    Printed(u32),
+}
+
+impl Pace {
+    // As it was asked for; else on a terminal only.
+    pub fn of<R: Screen>(rt: &R, seconds: Option<u32>) -> Pace {
+        match seconds {
+            Some(seconds) => Pace::Printed(seconds),
+            None if rt.is_shown() => Pace::Drawn,
+            None => Pace::Never,
+        }
+    }
+
+    // The seconds from one line to the next.
+    fn seconds(self) -> Option<u64> {
+        match self {
+            Pace::Never => None,
+            Pace::Drawn => Some(1),
+            Pace::Printed(seconds) => Some(u64::from(seconds)),
+        }
+    }
+}
+
+// Calls `f`, which may be asked to stop. Meanwhile standard error shows how far a run of this extent is, at its pace and where it is asked
+// for. `f` is handed the meter, to end that before the report; else it ends with `f`.
+pub fn shown<
+    R: Screen + Clock + Threads + Wait + Sync,
+    T,
+    F: for<'p> FnOnce(Watch<'p>, &'p Meter) -> T,
+>(rt: &R, extent: Extent, asked: &Asked, f: F) -> T
     requires { F.IsAlwaysCallable f }
 {
-    if !rt.is_shown() {
-        return f(Watch {
-            progress: None,
-            stop,
-        });
+    let stop = asked.stop();
+    let meter = Meter::new(rt, extent);
+    let meter = &meter;
+    if asked.pace().seconds().is_none() && !asked.has_pipe() {
+        let progress = None;
+        return f(Watch { progress, stop }, meter);
     }
-    let progress = Progress::new();
-    let bell = Bell::new();
-    let (progress, bell) = (&progress, &bell);
     thread::scope(
         thread::scope_env(),
         rt,
@@ -56,12 +84,11 @@ pub fn shown<R: Screen + Clock + Threads + Wait + Sync, T, F: for<'p> FnOnce(Wat
             requires { F.IsAlwaysCallable f }
         {
             // (a run that can't be shown goes on)
-            let _shown = scope.spawn(move || show(rt, extent, stop, progress, bell));
-            let ended = f(Watch {
-                progress: Some(progress),
-                stop,
-            });
-            bell.ring(rt);
+            let _shown = scope.spawn(move || show(rt, meter, asked));
+            let progress = Some(&meter.progress);
+            let ended = f(Watch { progress, stop }, meter);
+            meter.end(rt);
+            asked.wake();
             ended
         },
     )
@@ -117,12 +144,13 @@ struct Line {
 }
 
 impl Line {
-    fn of(extent: Extent, progress: &Progress) -> Line {
+    fn of(meter: &Meter) -> Line {
+        let progress = &meter.progress;
         // (what counts fewer is read first, so that no number of a line is above one that it can't be above)
         let bad = progress.bad();
         let checks = progress.checks();
         let bytes = progress.bytes().saturating_add(progress.checked_bytes());
-        let percent = extent.percent(bytes).min(100);
+        let percent = meter.extent.percent(bytes).min(100);
         Line {
             percent,
             ios: progress.ios(),
@@ -142,51 +170,133 @@ impl fmt::Display for Line {
     }
 }
 
-// Prints the line once a second until the bell rings, and then wipes it. Once the run is asked to stop there are no more lines.
-fn show<R: Screen + Clock + Wait>(
-    rt: &R,
+// What measures a run that goes on, and shows it.
+#[derive(Drop)]
+pub struct Meter {
     extent: Extent,
-    stop: Option<&StopFlag>,
-    progress: &Progress,
-    bell: &Bell,
-) {
-    for _ in rt.forever() {
-        if bell.rings_within(rt, Duration::from_secs(1)) {
-            let _ = eprint!(rt; "{WIPED}");
+    progress: Progress,
+    begun: Option<Instant>,
+    stage: Mutex<Stage>,
+}
+
+// What stands on the terminal of a run.
+#[derive(Clone, Copy, PartialEq, Eq)]
+enum Stage {
+    // Nothing.
+    Blank,
+    // A line without its end.
+    Drawn,
+    // Nothing, and no more lines come.
+    Over,
+}
+
+impl Meter {
+    // Of a run of this extent that begins now.
+    fn new<R: Clock>(rt: &R, extent: Extent) -> Meter {
+        Meter {
+            extent,
+            progress: Progress::new(),
+            begun: Instant::now(rt).ok(),
+            stage: Mutex::new(Stage::Blank),
+        }
+    }
+
+    // How long ago the run began; no time where the clock can't be read.
+    fn passed<R: Clock>(&self, rt: &R) -> Duration {
+        match self.begun {
+            Some(begun) => begun.elapsed(rt).unwrap_or(Duration::ZERO),
+            None => Duration::ZERO,
+        }
+    }
+
+    // Draws the line in place of the one that stands there.
+    fn draw<R: Eprint + Wait>(&self, rt: &R) {
+        let mut stage = self.stage.lock(rt);
+        if *stage != Stage::Over {
+            let _ = eprint!(rt; "{WIPED}{}", Line::of(self));
+            *stage = Stage::Drawn;
+        }
+    }
+
+    // Prints the line and the time, and ends it. One that was drawn goes.
+    fn print<R: Eprint + Clock + Wait>(&self, rt: &R) {
+        let mut stage = self.stage.lock(rt);
+        if *stage == Stage::Over {
             return;
         }
-        if !stop.is_some_and(|stop| stop.is_set()) {
-            let _ = eprint!(rt; "{WIPED}{}", Line::of(extent, progress));
+        let front = if *stage == Stage::Drawn { WIPED } else { "" };
+        let seconds = self.passed(rt).as_secs();
+        let _ = eprintln!(rt; "{front}{}, after {seconds} s", Line::of(self));
+        *stage = Stage::Blank;
+    }
+
+    // Wipes the line that was drawn, once. No more come.
+    fn end<R: Eprint + Wait>(&self, rt: &R) {
+        let mut stage = self.stage.lock(rt);
+        if *stage == Stage::Drawn {
+            let _ = eprint!(rt; "{WIPED}");
         }
+        *stage = Stage::Over;
+    }
+
+    fn is_over<R: Wait>(&self, rt: &R) -> bool {
+        *self.stage.lock(rt) == Stage::Over
     }
 }
 
-// What says that a run has ended.
+// What wipes the line of a run before its report.
 #[derive(Drop)]
-struct Bell {
-    rung: Mutex<bool>,
-    changed: Condvar,
+pub struct Wiper<'a, R> {
+    pub rt: &'a R,
+    pub meter: &'a Meter,
 }
 
-impl Bell {
-    fn new() -> Bell {
-        Bell {
-            rung: Mutex::new(false),
-            changed: Condvar::new(),
+impl<'a, R: Eprint + Wait> Wipe for Wiper<'a, R> {
+    fn wipe(&self) {
+        self.meter.end(self.rt);
+    }
+}
+
+// Shows how far the run is, at its pace and where it is asked for, until it is over.
+fn show<R: Eprint + Clock + Wait>(rt: &R, meter: &Meter, asked: &Asked) {
+    let period = asked.pace().seconds();
+    let mut due = period.unwrap_or(0);
+    for _ in rt.forever() {
+        let left = Duration::from_secs(due).saturating_sub(meter.passed(rt));
+        asked.sleep(rt, period.map(|_| left));
+        if meter.is_over(rt) {
+            return;
+        }
+        print_asked(rt, meter, asked);
+        let seconds = meter.passed(rt).as_secs();
+        if let Some(period) = period
+            && seconds >= due
+        {
+            show_one(rt, meter, asked);
+            due = next_of(seconds, period);
         }
     }
+}
 
-    fn ring<R: Wait>(&self, rt: &R) {
-        *self.rung.lock(rt) = true;
-        self.changed.notify_all();
+// The next multiple of the period.
+fn next_of(seconds: u64, period: u64) -> u64 {
+    let past = seconds / period.max(1);
+    past.saturating_add(1).saturating_mul(period)
+}
+
+// Prints the lines that were asked for.
+fn print_asked<R: Eprint + Clock + Wait>(rt: &R, meter: &Meter, asked: &Asked) {
+    for _ in 0..asked.take_lines() {
+        meter.print(rt);
     }
+}
 
-    // Waits until it rings, but no longer than this, and says whether it has rung.
-    fn rings_within<R: Wait + Clock>(&self, rt: &R, limit: Duration) -> bool {
-        let rung = self.rung.lock(rt);
-        let waited = self
-            .changed
-            .wait_timeout_while(rt, rung, limit, |rung| !*rung);
-        *waited.0
+// Shows one line as the pace has it. None is drawn once the run is asked to stop.
+fn show_one<R: Eprint + Clock + Wait>(rt: &R, meter: &Meter, asked: &Asked) {
+    let is_stopped = asked.stop().is_some_and(|stop| stop.is_set());
+    match asked.pace() {
+        Pace::Printed(_) => meter.print(rt),
+        Pace::Drawn if !is_stopped => meter.draw(rt),
+        Pace::Drawn | Pace::Never => {}
     }
 }

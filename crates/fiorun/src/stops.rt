@@ -19,8 +19,8 @@ enum Notes {
     Files(Refusal),
     // The trace would go over a file that is read or written otherwise.
     Trace,
-    // The list would go over one, or over what is no file.
-    List,
+    // The output that this word asks for would go over one, or over another output or what is no file.
+    Output(&'static str),
     Pipe,
     // This couldn't be done to the file of this name.
     File(&'static str, String, io::Error),
@@ -63,11 +63,11 @@ impl Stop {
         }
     }
 
-    // The list of bad blocks would go to such a file, or to what is no file.
-    pub fn list() -> Stop {
+    // The output that this word asks for would go to such a file, to that of another output, or to what is no file.
+    pub fn output(word: &'static str) -> Stop {
         Stop {
             fault: CliFault::Write,
-            notes: Notes::List,
+            notes: Notes::Output(word),
         }
     }
 
@@ -130,9 +130,9 @@ impl Notes {
                     "fiorun: note: the trace's file is the job file or a file of a job"
                 );
             }
-            Notes::List => {
+            Notes::Output(word) => {
                 let _ = eprintln!(rt;
-                    "fiorun: note: the list's path is that of the job file, a file of a job, the trace or no file"
+                    "fiorun: note: the path of {word} is that of the job file, a file of a job, a trace, another output or no file"
                 );
             }
             Notes::Pipe => {

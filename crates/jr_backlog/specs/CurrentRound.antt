@@ -1,8 +1,8 @@
 -- Believed: the current round of a clone as a history has it: the group of the write that was issued last.
 use Rattle.std.specs.Prelude.{ℕ, ◌-◌, ◌==◌, nat_lt, min, Bool, not, ◌&&◌, List, length, map, filter, filter_map, slice_get, Option, Some, None, if◌then◌else◌}
-use Rattle.jr_model.specs.declared.blocks.Dir.TheVariants as direction
 use Rattle.jr_model.specs.declared.events.Event.{Event}
 use Rattle.jr_model.specs.declared.events.Event.TheVariants.{Issue, Probe, Skip, End, Verdict}
+use Rattle.jr_model.specs.declared.events.IssueKind.TheVariants as issue
 use Rattle.jr_model.specs.declared.events.WriteId.{WriteId}
 use Rattle.jr_model.specs.declared.workloads.Draw.{Draw}
 use Rattle.jr_model.specs.Plan.{SubJob}
@@ -11,8 +11,9 @@ use Rattle.jr_backlog.specs.Rounds.{Round, new_round}
 
 -- the clone's write that the event issues
 abbrev pub write_issued : ℕ → Event → Option WriteId
-write_issued c (Issue worker direction.Write write piece) = if write.clone == c then Some write else None
-write_issued c (Issue worker direction.Read write piece) = None
+write_issued c (Issue worker issue.Write write piece) = if write.clone == c then Some write else None
+write_issued c (Issue worker issue.Read write piece) = None
+write_issued c (Issue worker issue.ReadCheck write piece) = None
 write_issued c (Probe worker write piece) = None
 write_issued c (Skip worker write) = None
 write_issued c (End worker io outcome) = None

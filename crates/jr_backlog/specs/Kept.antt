@@ -1,10 +1,10 @@
 -- Internal: the round that is left by the calls that a desk makes at a clone's events, one after another. It is the current
 -- round of each legal history in which the clone isn't halted.
 use Rattle.std.specs.Prelude.{◌==◌, ◌&&◌, List, [], ◌∷◌, ◌++◌, slice_get, Option, Some, None, if◌then◌else◌}
-use Rattle.jr_model.specs.declared.blocks.Dir.{Dir}
-use Rattle.jr_model.specs.declared.blocks.Dir.TheVariants as direction
 use Rattle.jr_model.specs.declared.events.Event.{Event}
 use Rattle.jr_model.specs.declared.events.Event.TheVariants.{Issue, Probe, Skip, End, Verdict}
+use Rattle.jr_model.specs.declared.events.IssueKind.{IssueKind}
+use Rattle.jr_model.specs.declared.events.IssueKind.TheVariants as issue
 use Rattle.jr_model.specs.declared.events.Outcome.{Outcome}
 use Rattle.jr_model.specs.declared.events.WriteId.{WriteId}
 use Rattle.jr_model.specs.declared.events.Started.{Started}
@@ -14,14 +14,15 @@ use Rattle.jr_model.specs.Rounds.{pass_of, all_issued}
 use Rattle.jr_backlog.specs.Rounds.{Round, new_round, with_written, with_exhausted, with_passed}
 
 -- with the draw added, where it is a write
-abbrev pub with_issued : Dir → Round → WriteId → Round
-with_issued direction.Write round write = with_written round write
-with_issued direction.Read round write = round
+abbrev pub with_issued : IssueKind → Round → WriteId → Round
+with_issued issue.Write round write = with_written round write
+with_issued issue.Read round write = round
+with_issued issue.ReadCheck round write = round
 
 -- and exhausted, where it was the last draw of its pass: the history ends with its issue
-abbrev pub after_issue : SubJob → List Event → Dir → WriteId → Round → Round
-after_issue job history dir write round =
-    let now = with_issued dir round write in
+abbrev pub after_issue : SubJob → List Event → IssueKind → WriteId → Round → Round
+after_issue job history kind write round =
+    let now = with_issued kind round write in
     if all_issued history (pass_of job write.pass) then with_exhausted now else now
 
 -- without the write whose check ended whole
@@ -32,8 +33,8 @@ after_end job outcome (Some io) round =
 
 -- after one event more: a write is added at its issue, and passed at its skip and at its check's end
 abbrev pub round_after : SubJob → List Event → Event → Round → Round
-round_after job before (Issue worker dir write piece) round =
-    if write.clone == job.clone then after_issue job (before ++ Issue worker dir write piece ∷ []) dir write round else round
+round_after job before (Issue worker kind write piece) round =
+    if write.clone == job.clone then after_issue job (before ++ Issue worker kind write piece ∷ []) kind write round else round
 round_after job before (Skip worker write) round = if write.clone == job.clone then with_passed round write else round
 round_after job before (End worker io outcome) round = after_end job (Some outcome) (slice_get (started before) io) round
 round_after job before (Probe worker write piece) round = round

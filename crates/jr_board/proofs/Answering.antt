@@ -1,5 +1,5 @@
 -- What a take answers: a ticket that fits, a right wait, or the end of the run.
-use Rattle.std.proofs.Common.{◌≡◌, ℕ, ◌<◌, List, [], ◌∷◌, ◌++◌, length, Bool, true, false, ◌&&◌, refl, sym, ◌∙◌, ap, subst, arith, inl, inr, append_assoc, append-nil}
+use Rattle.std.proofs.Common.{◌≡◌, ◌⊎◌, ℕ, ◌<◌, List, [], ◌∷◌, ◌++◌, length, Bool, true, false, ◌&&◌, refl, sym, ◌∙◌, ap, subst, arith, inl, inr, append_assoc, append-nil}
 use Rattle.std.specs.Prelude.{Option, Some, None, cond, nat_lt, nat_eq, ◌==◌}
 use Rattle.std.specs.Option.{option_or}
 use Rattle.std.specs.List.{list_all}
@@ -17,22 +17,23 @@ use Rattle.jr_model.specs.declared.tickets.TicketKind.{TicketKind}
 use Rattle.jr_model.specs.declared.tickets.TicketKind.TheVariants as ticket
 use Rattle.jr_model.specs.Choice.{choice}
 use Rattle.jr_model.specs.Content.{block_version, expected_of, expected_pattern, header_of}
-use Rattle.jr_model.specs.History.{first_given, started, started_by, end_of, outcome_of, in_flight, awaiting, is_probe}
+use Rattle.jr_model.specs.History.{first_given, started, started_by, end_of, outcome_of, in_flight, awaiting, is_judged_kind}
 use Rattle.jr_model.specs.Legal.{is_legal, is_complete, is_over, may_happen}
 use Rattle.jr_model.specs.Machine.{Appends, is_skip}
-use Rattle.jr_model.specs.Plan.{Plan, SubJob, IsNumbered, is_verified}
+use Rattle.jr_model.specs.Plan.{Plan, SubJob, IsNumbered, clone_of, is_verified}
 use Rattle.jr_model.specs.Rounds.{pass_of}
 use Rattle.jr_model.specs.Tickets.{piece_fits, has_pattern, is_header, is_pattern, is_seed, interval_fits, chunks_fit, suits_kind, suits_method, ticket_fits}
 use Rattle.jr_model.proofs.LegalLaws.{choice_is_step, cases_step_of}
 use Rattle.jr_model.proofs.SerialLaws.{EndsWereStarted, ends-more, first_given-append}
 use Rattle.jr_model.specs.PlanFacts.{IsPlanned}
+use Rattle.jr_header.specs.Served.{ExpectsOwn}
 use Rattle.jr_laws_steps.specs.Drawn.{FitsPlan}
 use Rattle.jr_laws_steps.proofs.CountLaws.{numbered_of, along_legal}
 use Rattle.jr_laws_steps.proofs.DrawnLaws.{started_fit-law}
 use Rattle.jr_laws_steps.proofs.IdleLaws.{idle_is_over}
 use Rattle.jr_laws_steps.proofs.RestLaws.{each_ended, none_by_length}
 use Rattle.jr_tickets.specs.Tickets.{method_of, seed_of, expected_by, ticket_of}
-use Rattle.jr_board.specs.Takes.{IsChosen, last_started, ticket_for, answer_with, handing, is_fitting, is_finished, WaitsRightly}
+use Rattle.jr_board.specs.Takes.{IsChosen, HandsOutOwn, last_started, ticket_for, answer_with, handing, is_fitting, is_finished, WaitsRightly}
 use Rattle.jr_board.proofs.Keeping.{by_is_skip, last-skip, chosen_at, chosen_legal}
 
 -- a ticket fits
@@ -57,14 +58,16 @@ suits verify.Md5 method io seed v h = suits_headers (method.interval == 0) (head
 suits verify.Sha1 method io seed v h = suits_headers (method.interval == 0) (header_of block_version method io.write io.piece seed) seed
 suits verify.Sha256 method io seed v h = suits_headers (method.interval == 0) (header_of block_version method io.write io.piece seed) seed
 
-suits-kind : (kind : TicketKind) (job : SubJob) (io : Started) (seed : ℕ) → (is_probe kind ≡ true → is_verified job.method.kind ≡ true) → has_pattern job.method.kind job.method.pattern ≡ true → suits_kind kind job.method (expected_by kind job.method io seed) ≡ true
+suits-kind : (kind : TicketKind) (job : SubJob) (io : Started) (seed : ℕ) → (is_judged_kind kind ≡ true → is_verified job.method.kind ≡ true) → has_pattern job.method.kind job.method.pattern ≡ true → suits_kind kind job.method (expected_by kind job.method io seed) ≡ true
 suits-kind ticket.Read job io seed v h = refl
 suits-kind ticket.Write job io seed v h = refl
+suits-kind ticket.ReadCheck job io seed v h = v refl
 suits-kind ticket.Probe job io seed v h = suits job.method.kind job.method io seed (v refl) h
 
 -- whole chunks, whatever the ticket's kind
 cut_kind : (kind : TicketKind) (method : Method) (len : ℕ) → interval_fits method.kind method.interval len ≡ true → chunks_fit kind method len ≡ true
 cut_kind ticket.Read method len h = refl
+cut_kind ticket.ReadCheck method len h = refl
 cut_kind ticket.Write method len h = h
 cut_kind ticket.Probe method len h = h
 
@@ -83,6 +86,7 @@ fits_by plan id io job fits =
 handing_fits : (kind : TicketKind) (t : Ticket) → ticket_fits t ≡ true → is_fitting (handing kind t) ≡ true
 handing_fits ticket.Read t h = h
 handing_fits ticket.Write t h = h
+handing_fits ticket.ReadCheck t h = h
 handing_fits ticket.Probe t h = h
 
 none_fits : (complete : Bool) → is_fitting (answer_with complete None) ≡ true
@@ -96,6 +100,37 @@ answer_fits plan worker before history (Some io) complete planned legal chosen =
     let fits = started_fit-law plan history id io planned
     (chosen_legal plan worker before history (Some io) planned legal chosen) (chosen_at plan worker before history io chosen) in
     handing_fits io.kind (ticket_of plan (id, io)) (fits_by plan id io fits.0 fits.1)
+
+-- what is handed out expects nothing, or what its own write put there
+
+expects_own : (plan : Plan) (id : ℕ) (io : Started) → ExpectsOwn (ticket_of plan (id, io))
+expects_own plan id io = by io.kind
+  where
+    method : Method
+    method = method_of (clone_of plan io.write.clone)
+
+    seed : ℕ
+    seed = seed_of plan io
+
+    by : (kind : TicketKind) → (expected_by kind method io seed ≡ expected.Nothing) ⊎ (expected_by kind method io seed ≡ expected_of method.kind method io.write io.piece seed)
+    by ticket.Read = inl refl
+    by ticket.Write = inl refl
+    by ticket.ReadCheck = inl refl
+    by ticket.Probe = inr refl
+
+handing_own : (kind : TicketKind) (t : Ticket) → ExpectsOwn t → HandsOutOwn (handing kind t)
+handing_own ticket.Read t own = own
+handing_own ticket.Write t own = own
+handing_own ticket.ReadCheck t own = own
+handing_own ticket.Probe t own = own
+
+none_own : (complete : Bool) → HandsOutOwn (answer_with complete None)
+none_own true = tt
+none_own false = tt
+
+pub answer_own : (plan : Plan) (id : ℕ) (io : Option Started) (complete : Bool) → HandsOutOwn (answer_with complete (ticket_for plan id io))
+answer_own plan id None complete = none_own complete
+answer_own plan id (Some io) complete = handing_own io.kind (ticket_of plan (id, io)) (expects_own plan id io)
 
 -- what was started flies
 
@@ -159,6 +194,7 @@ incomplete plan worker before history io planned legal chosen =
 handing_goes_on : (kind : TicketKind) (t : Ticket) → is_finished (handing kind t) ≡ false
 handing_goes_on ticket.Read t = refl
 handing_goes_on ticket.Write t = refl
+handing_goes_on ticket.ReadCheck t = refl
 handing_goes_on ticket.Probe t = refl
 
 idle_finished : (complete : Bool) → is_finished (answer_with complete None) ≡ complete
@@ -202,6 +238,7 @@ none_left plan worker before (e ∷ events) numbered appends none =
 handing_waits : (plan : Plan) (worker : ℕ) (history : List Event) (kind : TicketKind) (t : Ticket) → WaitsRightly plan worker history (handing kind t)
 handing_waits plan worker history ticket.Read t = tt
 handing_waits plan worker history ticket.Write t = tt
+handing_waits plan worker history ticket.ReadCheck t = tt
 handing_waits plan worker history ticket.Probe t = tt
 
 waits_if : (plan : Plan) (worker : ℕ) (history : List Event) (b : Bool) → (b ≡ false → (choice plan history worker ≡ None) × ¬ ((in_flight history ≡ []) × (awaiting history ≡ []))) → WaitsRightly plan worker history (answer_with b None)

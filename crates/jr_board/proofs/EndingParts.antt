@@ -1,5 +1,5 @@
 -- What is known of a ticket of the desk's own: its I/O and its clone.
-use Rattle.std.proofs.Common.{◌≡◌, ◌^◌, ◌-◌, ◌≤◌, ◌+◌, List, Bool, true, ◌&&◌, sym, ◌∙◌, ap, arith}
+use Rattle.std.proofs.Common.{◌≡◌, ◌^◌, ◌≤◌, ◌+◌, List, Bool, true, ◌&&◌, sym, ◌∙◌, ap, arith}
 use borrow.Author.Tests.{leb-true}
 use Rattle.std.proofs.lemmas.Bool.{and_parts}
 use Rattle.std.specs.Prelude.{Some, slice_get, nat_lt, nat_le, ◌==◌, ◌%◌}

@@ -1,5 +1,5 @@
 -- What each event makes of what is in flight and of the write log.
-use Rattle.std.proofs.Common.{◌≡◌, ℕ, ◌+◌, ◌<◌, List, [], ◌∷◌, ◌++◌, length, Bool, true, false, cond, refl, sym, ◌∙◌, ap, subst}
+use Rattle.std.proofs.Common.{◌≡◌, ℕ, ◌<◌, List, [], ◌∷◌, ◌++◌, length, Bool, true, false, cond, refl, sym, ◌∙◌, ap, subst}
 use Rattle.std.specs.Prelude.{Option, Some, None, IfSome, nat_lt, ◌==◌, slice_get}
 use Rattle.std.specs.BTreeMap.{insert_entry, is_at}
 use Rattle.std.specs.Map.{keys_of, remove_entry}
@@ -9,7 +9,7 @@ use Rattle.std.specs.Ordering.{nat_cmp, is_eq}
 use Rattle.std.proofs.lemmas.Bool.{ne_eqb}
 use Rattle.std.proofs.lemmas.Cmp.{nat_cmp_total}
 use Rattle.jr_model.specs.declared.blocks.Dir.{Dir}
-use Rattle.jr_model.specs.declared.blocks.Dir.TheVariants as direction
+use Rattle.jr_model.specs.declared.events.IssueKind.{IssueKind}
 use Rattle.jr_model.specs.declared.blocks.Piece.{Piece}
 use Rattle.jr_model.specs.declared.contents.Expected.{Expected}
 use Rattle.jr_model.specs.declared.events.Event.{Event}
@@ -24,7 +24,7 @@ use Rattle.jr_model.specs.Draws.{draws_of_job}
 use Rattle.jr_model.specs.History.{started, started_by, kind_for, is_write, ended_whole}
 use Rattle.jr_model.specs.LastWrite.{is_intact}
 use Rattle.jr_model.specs.Legal.{is_legal, may_happen, is_clear as is_clear_after}
-use Rattle.jr_model.specs.Plan.{Plan, SubJob, clone_of}
+use Rattle.jr_model.specs.Plan.{Plan, SubJob, clone_of, issued_as}
 use Rattle.jr_model.specs.Rounds.{pass_of, is_write_draw}
 use Rattle.jr_model.specs.Tickets.{piece_fits}
 use Rattle.jr_model.proofs.LegalLaws.{is_legal-more}
@@ -41,7 +41,7 @@ use Rattle.jr_laws_steps.proofs.StartedLemmas.{started_next, same_some}
 use Rattle.jr_laws_steps.proofs.StepLaws.{may_issue_of, may_probe_of}
 use Rattle.jr_laws_log.specs.Flying.{dir_of, io_of, flight_of}
 use Rattle.jr_laws_log.proofs.DrawLaws.{log_is_intact_of_draws}
-use Rattle.jr_laws_log.proofs.FlyingLaws.{next_is_free, clear_is_clear, next_flies, others_fly_on, ended_flies_no_more, flight-skips}
+use Rattle.jr_laws_log.proofs.FlyingLaws.{next_is_free, clear_is_clear, next_flies, others_fly_on, ended_flies_no_more, flight-skips, writes_as}
 use Rattle.jr_laws_log.proofs.IntactLaws.{fresh_at_end}
 use Rattle.jr_laws_log.proofs.LogGrowth.{log-same, log-read, log-whole, log-failed}
 use Rattle.jr_laws_steps.specs.Nexts.{IsNext, grown}
@@ -51,6 +51,7 @@ use Rattle.jr_board.specs.declared.flying.Flying.{Flying}
 use Rattle.jr_board.specs.Flyings.{with_begun, CanBegin, IsFlying}
 use Rattle.jr_board.specs.WriteLogs.{checked_by, log_of_run}
 use Rattle.jr_board.proofs.FlyingEntries.{absent_still, none_passes_still, remove_beside, flight_in_order}
+use Rattle.jr_laws_quiet.proofs.Steps.{write_kind}
 
 -- a skip changes nothing of what flies
 pub flying_skip : (plan : Plan) (history : List Event) (worker : ℕ) (write : WriteId) (flying : Flying)
@@ -70,12 +71,8 @@ flying_verdict plan history worker id verdict flying next was =
     record { all = (others_fly_on history worker id any verdict).1 ∙ was.all; begins = was.begins }
 
 -- a draw's direction is that of its I/O
-drawn_way : (draw : Draw) → is_write_draw draw ≡ writes (dir_of (kind_for draw.dir))
-drawn_way draw = by draw.dir
-  where
-    by : (dir : Dir) → is_write_draw (record draw { dir = dir }) ≡ writes (dir_of (kind_for dir))
-    by direction.Read = refl
-    by direction.Write = refl
+drawn_way : (job : SubJob) (draw : Draw) → is_write_draw draw ≡ writes (dir_of (kind_for (issued_as job draw.dir)))
+drawn_way job draw = sym (write_kind job draw) ∙ sym (writes_as (kind_for (issued_as job draw.dir)))
 
 -- what is started is clear of what flies
 clear_of_start : (plan : Plan) (history : List Event) (event : Event) (begun : Started)
@@ -87,7 +84,7 @@ clear_of_start plan h (Issue worker dir write piece) begun may starts =
     let issue = may_issue_of plan h worker dir write piece may in
     let clear = (may_issue_parts plan h (pass_of issue.job write.pass) issue.draw issue.may).clear in
     let way : is_write_draw issue.draw ≡ writes (dir_of (kind_for dir)) =
-    drawn_way issue.draw ∙ ap (λ (d : Dir). writes (dir_of (kind_for d))) issue.same_way in
+    drawn_way issue.job issue.draw ∙ ap (λ (k : IssueKind). writes (dir_of (kind_for k))) issue.same_way in
     let here : is_clear_after h (writes (dir_of (kind_for dir))) piece ≡ true =
     subst (λ (p : Piece). is_clear_after h (writes (dir_of (kind_for dir))) p ≡ true) issue.same_place
     (subst (λ (b : Bool). is_clear_after h b issue.draw.piece ≡ true) way clear) in
@@ -208,7 +205,7 @@ flying_end_other h worker id outcome flying apart was = by flying.begun apart wa
 -- the log
 
 -- an issue is no step of the log
-pub log_issue : (plan : Plan) (history : List Event) (worker : ℕ) (dir : Dir) (write : WriteId) (piece : Piece)
+pub log_issue : (plan : Plan) (history : List Event) (worker : ℕ) (dir : IssueKind) (write : WriteId) (piece : Piece)
     → IsNext plan history (Issue worker dir write piece)
     → log_of_run plan (grown history (Issue worker dir write piece)) ≡ log_of_run plan history
 log_issue plan history worker dir write piece next =

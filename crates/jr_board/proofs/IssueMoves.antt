@@ -10,11 +10,11 @@ use Rattle.std.proofs.lemmas.Bool.{and_parts, eqb-true, eq-eqb, ltb-true, or_rig
 use Rattle.std.proofs.lemmas.List.{drop_all, length-drop}
 use Rattle.std.proofs.lemmas.List.Folds.{list_any-append}
 use Rattle.std.proofs.lemmas.Option.{slice_get_within}
-use Rattle.jr_model.specs.declared.blocks.Dir.{Dir}
-use Rattle.jr_model.specs.declared.blocks.Dir.TheVariants as direction
 use Rattle.jr_model.specs.declared.blocks.Piece.{Piece}
 use Rattle.jr_model.specs.declared.events.Event.{Event}
 use Rattle.jr_model.specs.declared.events.Event.TheVariants.{Issue}
+use Rattle.jr_model.specs.declared.events.IssueKind.{IssueKind}
+use Rattle.jr_model.specs.declared.events.IssueKind.TheVariants as issue
 use Rattle.jr_model.specs.declared.events.Started.{Started}
 use Rattle.jr_model.specs.declared.events.WriteId.{WriteId}
 use Rattle.jr_model.specs.declared.workloads.Draw.{Draw}
@@ -125,9 +125,10 @@ takes_where true true rests = refl
 takes_where true false rests = absurd (false≢true (sym rests))
 takes_where false closed rests = refl
 
-issues_no_check : (dir : Dir) → is_probe (kind_for dir) ≡ false
-issues_no_check direction.Read = refl
-issues_no_check direction.Write = refl
+issues_no_check : (dir : IssueKind) → is_probe (kind_for dir) ≡ false
+issues_no_check issue.Read = refl
+issues_no_check issue.Write = refl
+issues_no_check issue.ReadCheck = refl
 
 later_draws : (o : Option (List Draw)) (before all : List Draw) → is_some o ≡ true → IfSome o (λ ds. ds ≡ all) → unwrap_or o before ≡ all
 later_draws None before all some is = absurd (false≢true some)
@@ -138,14 +139,16 @@ drop_next zero xs = refl
 drop_next (suc n) [] = refl
 drop_next (suc n) (x ∷ xs) = drop_next n xs
 
--- what is written, where a draw of this direction is issued
-abbrev pub written : Dir → WriteId → Option WriteId
-written direction.Write write = Some write
-written direction.Read write = None
+-- what is written, where a draw is issued so
+abbrev pub written : IssueKind → WriteId → Option WriteId
+written issue.Write write = Some write
+written issue.Read write = None
+written issue.ReadCheck write = None
 
-waits_issued : (dir : Dir) (write : WriteId) (round : Round) → with_waiting (written dir write) round ≡ with_issued dir round write
-waits_issued direction.Write write round = refl
-waits_issued direction.Read write round = refl
+waits_issued : (dir : IssueKind) (write : WriteId) (round : Round) → with_waiting (written dir write) round ≡ with_issued dir round write
+waits_issued issue.Write write round = refl
+waits_issued issue.Read write round = refl
+waits_issued issue.ReadCheck write round = refl
 
 -- the clone stands in the pass of the draw that is issued next, with its draws from that one on
 pub record IsAt (history : List Event) (job : SubJob) (write : WriteId) (at : Standing) : Type 0 where
@@ -191,7 +194,7 @@ some_of : {X : Type 0} (xs : List X) → (length xs == 0) ≡ false → xs ≡ [
 some_of xs some none = false≢true (sym some ∙ ap (λ (ys : List _). length ys == 0) none)
 
 -- an issue that may happen next, of a clone of the plan
-module _ (plan : Plan) (history : List Event) (worker : ℕ) (dir : Dir) (write : WriteId) (piece : Piece) (job : SubJob) (next : IsNext plan history (Issue worker dir write piece)) (at : clone_of plan write.clone ≡ Some job) where
+module _ (plan : Plan) (history : List Event) (worker : ℕ) (dir : IssueKind) (write : WriteId) (piece : Piece) (job : SubJob) (next : IsNext plan history (Issue worker dir write piece)) (at : clone_of plan write.clone ≡ Some job) where
   abbrev after : List Event
   after = grown history (Issue worker dir write piece)
 
@@ -447,7 +450,7 @@ module _ (plan : Plan) (history : List Event) (worker : ℕ) (dir : Dir) (write 
       put_in b = ap (λ (r : Round). cond b (with_exhausted r) r) (waits_issued dir write standing.rounds.round)
 
 -- what an issue asks of the round, of a write or of a read
-pub issue_fills_by : (plan : Plan) (history : List Event) (worker : ℕ) (dir : Dir) (write : WriteId) (piece : Piece) (job : SubJob) (standing : Standing)
+pub issue_fills_by : (plan : Plan) (history : List Event) (worker : ℕ) (dir : IssueKind) (write : WriteId) (piece : Piece) (job : SubJob) (standing : Standing)
     → IsNext plan history (Issue worker dir write piece)
     → clone_of plan write.clone ≡ Some job
     → has_rounds job ≡ true
@@ -462,15 +465,16 @@ issue_fills_by plan history worker dir write piece job standing next at has is s
 
 -- of a write
 pub issue_fills : (plan : Plan) (history : List Event) (worker : ℕ) (write : WriteId) (piece : Piece) (job : SubJob) (standing : Standing)
-    → IsNext plan history (Issue worker direction.Write write piece)
+    → IsNext plan history (Issue worker issue.Write write piece)
     → clone_of plan write.clone ≡ Some job
     → has_rounds job ≡ true
     → IsStanding history job standing
     → is_settled standing.rounds ≡ true
     → (takes_writes standing.rounds.round ≡ true) × (comes_last standing.rounds.round write ≡ true)
-issue_fills plan history worker write piece = issue_fills_by plan history worker direction.Write write piece
+issue_fills plan history worker write piece = issue_fills_by plan history worker issue.Write write piece
 
 -- the same, by what holds at each direction
-pub written_is : (dir : Dir) (write : WriteId) (o : Option WriteId) → (dir ≡ direction.Write → o ≡ Some write) → (dir ≡ direction.Read → o ≡ None) → o ≡ written dir write
-written_is direction.Write write o writes reads = writes refl
-written_is direction.Read write o writes reads = reads refl
+pub written_is : (dir : IssueKind) (write : WriteId) (o : Option WriteId) → (dir ≡ issue.Write → o ≡ Some write) → (dir ≡ issue.Read → o ≡ None) → (dir ≡ issue.ReadCheck → o ≡ None) → o ≡ written dir write
+written_is issue.Write write o writes reads checks = writes refl
+written_is issue.Read write o writes reads checks = reads refl
+written_is issue.ReadCheck write o writes reads checks = checks refl

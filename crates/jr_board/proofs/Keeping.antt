@@ -12,12 +12,9 @@ use Rattle.jr_model.specs.declared.events.Outcome.{Outcome}
 use Rattle.jr_model.specs.declared.events.Started.{Started}
 use Rattle.jr_model.specs.declared.events.WriteId.{WriteId}
 use Rattle.jr_model.specs.declared.tickets.Ticket.{Ticket}
-use Rattle.jr_model.specs.declared.tickets.TicketKind.{TicketKind}
-use Rattle.jr_model.specs.declared.tickets.TicketKind.TheVariants as ticket
-use Rattle.jr_model.specs.Content.{expected_of}
-use Rattle.jr_model.specs.History.{started, started_by, flies, outcome_of, is_judged, is_probe, ended_whole}
+use Rattle.jr_model.specs.History.{started, started_by, flies, outcome_of, is_judged, is_judged_kind, ended_whole}
 use Rattle.jr_model.specs.Judgement.{verdict_of}
-use Rattle.jr_model.specs.Legal.{is_legal, may_happen, outcome_fits, end_fits, verdict_fits, job_says, kind_says}
+use Rattle.jr_model.specs.Legal.{is_legal, may_happen, outcome_fits, end_fits, verdict_fits, job_says}
 use Rattle.jr_model.specs.Machine.{Appends, is_skip}
 use Rattle.jr_model.specs.declared.contents.Expected.{Expected}
 use Rattle.jr_model.specs.declared.contents.Method.{Method}
@@ -25,7 +22,7 @@ use Rattle.jr_model.specs.declared.events.Verdict.{Verdict as GivenVerdict}
 use Rattle.std.proofs.lemmas.List.Elements.{filter_map-append}
 use Rattle.jr_model.specs.Plan.{Plan, SubJob, IsNumbered, clone_of}
 use Rattle.jr_model.proofs.LegalLaws.{is_legal-more, choice_may_happen}
-use Rattle.jr_model.proofs.MachineLaws.{verdict_of_fits}
+use Rattle.jr_model.proofs.MachineLaws.{job_says_fits}
 use Rattle.jr_model.specs.PlanFacts.{IsPlanned}
 use Rattle.jr_laws_steps.proofs.CountLaws.{numbered_of}
 use Rattle.jr_laws_steps.proofs.DrawnLaws.{started_fit-law}
@@ -130,35 +127,29 @@ may_end plan history t outcome own unended fits =
     (and_from (io.0.worker == t.worker) (outcome_fits outcome io.0.piece.len) (eq-eqb io.0.worker t.worker worker)
     (subst (λ (n : ℕ). outcome_fits outcome n ≡ true) (sym len) fits)))
 
-expected-probe : (kind : TicketKind) (job : SubJob) (io : Started) (seed : ℕ) → is_probe kind ≡ true → expected_by kind job.method io seed ≡ expected_of job.method.kind job.method io.write io.piece seed
-expected-probe ticket.Probe job io seed h = refl
-expected-probe ticket.Read job io seed h = cc
-expected-probe ticket.Write job io seed h = cc
-
-pub may_judge : (plan : Plan) (history : List Event) (t : Ticket) (by : ℕ) (bytes : List ℕ) → IsPlanned plan → is_legal plan history ≡ true → IsOwn plan history t → is_judged history t.id ≡ false → ended_whole (outcome_of history t.id) ≡ true → is_probe t.kind ≡ true → length bytes ≤ t.piece.len → may_happen plan history (Verdict by t.id (verdict_of t.method t.write t.piece t.expected bytes)) ≡ true
-may_judge plan history t by bytes planned legal own unjudged whole probe short =
+pub may_judge : (plan : Plan) (history : List Event) (t : Ticket) (by : ℕ) (bytes : List ℕ) → IsPlanned plan → is_legal plan history ≡ true → IsOwn plan history t → is_judged history t.id ≡ false → ended_whole (outcome_of history t.id) ≡ true → is_judged_kind t.kind ≡ true → length bytes ≤ t.piece.len → may_happen plan history (Verdict by t.id (verdict_of t.method t.write t.piece t.expected bytes)) ≡ true
+may_judge plan history t by bytes planned legal own unjudged whole judged short =
     let io = own_started plan history t own in
     let fits = started_fit-law plan history t.id io.0 planned legal io.1 in
     let job = fits.0 in
     let s = io.0 in
     let seed = seed_of plan s in
-    let is_check : is_probe s.kind ≡ true = ap is_probe (ap (λ (x : Ticket). x.kind) io.2) ∙ probe in
+    let is_check : is_judged_kind s.kind ≡ true = ap is_judged_kind (ap (λ (x : Ticket). x.kind) io.2) ∙ judged in
     let method : job.method ≡ t.method = ap method_of (sym fits.1.planned) ∙ ap (λ (x : Ticket). x.method) io.2 in
     let len : s.piece.len ≡ t.piece.len = ap (λ (x : Ticket). x.piece.len) io.2 in
-    let expects : expected_of job.method.kind job.method s.write s.piece seed ≡ t.expected =
-    sym (expected-probe s.kind job s seed is_check)
-    ∙ ap (λ (o : Option SubJob). expected_by s.kind (method_of o) s seed) (sym fits.1.planned)
+    let expects : expected_by s.kind job.method s seed ≡ t.expected =
+    ap (λ (o : Option SubJob). expected_by s.kind (method_of o) s seed) (sym fits.1.planned)
     ∙ ap (λ (x : Ticket). x.expected) io.2 in
     let said = verdict_of t.method t.write t.piece t.expected bytes in
     let write : s.write ≡ t.write = ap (λ (x : Ticket). x.write) io.2 in
     let piece : s.piece ≡ t.piece = ap (λ (x : Ticket). x.piece) io.2 in
-    let says : kind_says job.method.kind job.method.interval s.piece.len said ≡ true =
-    subst (λ (v : GivenVerdict). kind_says job.method.kind job.method.interval s.piece.len v ≡ true)
+    let says : job_says (Some job) s.kind s.piece.len said ≡ true =
+    subst (λ (v : GivenVerdict). job_says (Some job) s.kind s.piece.len v ≡ true)
     (ap (λ (x : Expected). verdict_of job.method s.write s.piece x bytes) expects ∙ ap (λ (m : Method). verdict_of m s.write s.piece t.expected bytes) method
     ∙ ap (λ (w : WriteId). verdict_of t.method w s.piece t.expected bytes) write ∙ ap (λ (p : Piece). verdict_of t.method t.write p t.expected bytes) piece)
-    (verdict_of_fits job.method.kind job.method s.write s.piece seed bytes (omega (arith, short, len))) in
+    (job_says_fits (Some job) job s seed bytes refl is_check (omega (arith, short, len))) in
     and_from (ended_whole (outcome_of history t.id) && not (is_judged history t.id)) (verdict_fits plan said (slice_get (started history) t.id))
     (and_from (ended_whole (outcome_of history t.id)) (not (is_judged history t.id)) whole (ap not unjudged))
     (subst (λ (o : Option Started). verdict_fits plan said o ≡ true) (sym io.1)
-    (and_from (is_probe s.kind) (job_says (clone_of plan s.write.clone) s.piece.len said) is_check
-    (subst (λ (o : Option SubJob). job_says o s.piece.len said ≡ true) (sym fits.1.planned) says)))
+    (and_from (is_judged_kind s.kind) (job_says (clone_of plan s.write.clone) s.kind s.piece.len said) is_check
+    (subst (λ (o : Option SubJob). job_says o s.kind s.piece.len said ≡ true) (sym fits.1.planned) says)))

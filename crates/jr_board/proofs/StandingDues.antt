@@ -5,10 +5,10 @@ use Rattle.std.specs.Prelude.{◌⊎◌, Option, Some, None, slice_get, ◌==◌
 use Rattle.std.specs.Option.{option_or}
 use Rattle.std.specs.List.{list_any}
 use Rattle.std.proofs.lemmas.Bool.{and_parts, and_from, cases_order, eq-eqb, not-true, not_from_false, false_from_ne_true, both_ways}
-use Rattle.jr_model.specs.declared.blocks.Dir.{Dir}
-use Rattle.jr_model.specs.declared.blocks.Dir.TheVariants as direction
 use Rattle.jr_model.specs.declared.events.Event.{Event}
 use Rattle.jr_model.specs.declared.events.Event.TheVariants.{Issue, Probe, Skip, End, Verdict}
+use Rattle.jr_model.specs.declared.events.IssueKind.{IssueKind}
+use Rattle.jr_model.specs.declared.events.IssueKind.TheVariants as issue
 use Rattle.jr_model.specs.declared.events.Outcome.{Outcome}
 use Rattle.jr_model.specs.declared.events.Started.{Started}
 use Rattle.jr_model.specs.declared.events.WriteId.{WriteId}
@@ -154,9 +154,10 @@ module _ (plan : Plan) (planned : IsPlanned plan) (job : SubJob) (there : clone_
   abbrev checks : WriteId → Started → Bool
   checks w io = is_probe io.kind && same_write io.write w
 
-  no_check : (d : Dir) → is_probe (kind_for d) ≡ true → ⊥
-  no_check direction.Read h = cc
-  no_check direction.Write h = cc
+  no_check : (d : IssueKind) → is_probe (kind_for d) ≡ true → ⊥
+  no_check issue.Read h = cc
+  no_check issue.Write h = cc
+  no_check issue.ReadCheck h = cc
 
   -- a write whose check an event starts
   left_where_probed : (h : List Event) (e : Event) (w : WriteId) (io : Started)

@@ -7,10 +7,10 @@ use Rattle.std.specs.Vec.{with_item}
 use Rattle.std.proofs.lemmas.Bool.{and_parts, and_from, and_left, and_right, eq-eqb, ne_eqb, not-true, or_right, false≢true}
 use Rattle.std.proofs.lemmas.List.{length-set}
 use Rattle.std.proofs.lemmas.List.Folds.{list_any-append}
-use Rattle.jr_model.specs.declared.blocks.Dir.{Dir}
 use Rattle.jr_model.specs.declared.blocks.Piece.{Piece}
 use Rattle.jr_model.specs.declared.events.Event.{Event}
 use Rattle.jr_model.specs.declared.events.Event.TheVariants.{Issue, Probe, Skip, End, Verdict}
+use Rattle.jr_model.specs.declared.events.IssueKind.{IssueKind}
 use Rattle.jr_model.specs.declared.events.Outcome.{Outcome}
 use Rattle.jr_model.specs.declared.events.Outcome.TheVariants.{Whole}
 use Rattle.jr_model.specs.declared.events.Started.{Started}
@@ -307,7 +307,7 @@ module _ (plan : Plan) (h : List Event) (job : SubJob) (s : Standing) (now : IsS
       (left_in_flight plan next.planned job there h next.legal io.write own f)
 
   -- a clone stands as before where the event is another's
-  pub stays_other_issue : (worker : ℕ) (dir : Dir) (write : WriteId) (piece : Piece)
+  pub stays_other_issue : (worker : ℕ) (dir : IssueKind) (write : WriteId) (piece : Piece)
       → IsNext plan h (Issue worker dir write piece)
       → clone_of plan job.clone ≡ Some job
       → (write.clone ≡ job.clone → ⊥)

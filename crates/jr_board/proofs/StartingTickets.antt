@@ -5,13 +5,14 @@ use Rattle.std.specs.Option.{option_map}
 use Rattle.std.proofs.lemmas.Bool.{ltb-true, false≢true}
 use Rattle.std.proofs.lemmas.Option.{slice_get_read}
 use Rattle.jr_model.specs.declared.blocks.Dir.{Dir}
-use Rattle.jr_model.specs.declared.blocks.Dir.TheVariants as direction
 use Rattle.jr_model.specs.declared.blocks.Piece.{Piece}
 use Rattle.jr_model.specs.declared.contents.Expected.{Expected}
 use Rattle.jr_model.specs.declared.contents.Expected.TheVariants as expected
 use Rattle.jr_model.specs.declared.contents.Method.{Method}
 use Rattle.jr_model.specs.declared.events.Event.{Event}
 use Rattle.jr_model.specs.declared.events.Event.TheVariants.{Issue, Probe, Skip}
+use Rattle.jr_model.specs.declared.events.IssueKind.{IssueKind}
+use Rattle.jr_model.specs.declared.events.IssueKind.TheVariants as issue
 use Rattle.jr_model.specs.declared.events.Started.{Started}
 use Rattle.jr_model.specs.declared.events.WriteId.{WriteId}
 use Rattle.jr_model.specs.declared.tickets.Ticket.{Ticket}
@@ -22,7 +23,7 @@ use Rattle.jr_model.specs.History.{kind_for}
 use Rattle.jr_model.specs.LastWrite.{is_intact}
 use Rattle.jr_model.specs.Legal.{may_happen, may_issue, may_take_up, is_this_probe, step_of, step_of_draw, step_of_clone}
 use Rattle.jr_model.specs.Machine.{seed_of_draw}
-use Rattle.jr_model.specs.Plan.{Plan, SubJob, clone_of}
+use Rattle.jr_model.specs.Plan.{Plan, SubJob, clone_of, issued_as}
 use Rattle.jr_model.specs.Rounds.{pass_of, write_id}
 use Rattle.jr_writes.specs.declared.logs.Logged.{Logged}
 use Rattle.jr_writes.specs.LoggedWrites.{logged}
@@ -112,9 +113,10 @@ ticket_missing plan history write id has read =
 abbrev ticket_wants : Plan → Started → Expected
 ticket_wants plan io = expected_by io.kind (method_of (clone_of plan io.write.clone)) io (seed_of plan io)
 
-nothing_expected : (dir : Dir) (method : Method) (io : Started) (seed : ℕ) → expected_by (kind_for dir) method io seed ≡ expected.Nothing
-nothing_expected direction.Read method io seed = refl
-nothing_expected direction.Write method io seed = refl
+nothing_expected : (dir : IssueKind) (method : Method) (io : Started) (seed : ℕ) → expected_by (kind_for dir) method io seed ≡ expected.Nothing
+nothing_expected issue.Read method io seed = refl
+nothing_expected issue.Write method io seed = refl
+nothing_expected issue.ReadCheck method io seed = refl
 
 -- what a ticket is made of
 abbrev made_of : ℕ → TicketKind → WriteId → Piece → ℕ → ℕ → Method → Expected → Ticket
@@ -151,7 +153,7 @@ pub method_planned : (plan : Plan) (c : ℕ) (job : SubJob) (method : Method) �
     → method ≡ method_of (clone_of plan c)
 method_planned plan c job method planned same = same ∙ ap method_of (sym planned)
 
-pub issue_ticket : (plan : Plan) (n worker : ℕ) (dir : Dir) (kind : TicketKind) (write : WriteId) (piece : Piece) (id seed : ℕ)
+pub issue_ticket : (plan : Plan) (n worker : ℕ) (dir : IssueKind) (kind : TicketKind) (write : WriteId) (piece : Piece) (id seed : ℕ)
     (method : Method) (job : SubJob)
     → clone_of plan write.clone ≡ Some job
     → kind ≡ kind_for dir
@@ -169,21 +171,18 @@ issue_ticket plan n worker dir kind write piece id seed method job planned kinds
     (sym (nothing_expected dir (method_of (clone_of plan write.clone)) io (seed_of plan io)))
 
 -- and what flies of it
-same_way : (dir : Dir) → dir_of (kind_for dir) ≡ dir
-same_way direction.Read = refl
-same_way direction.Write = refl
-
-pub issue_io : (n worker : ℕ) (dir : Dir) (write : WriteId) (piece : Piece) (id : ℕ) (io : Io)
-    → io ≡ record { id = id; clone = write.clone; piece = piece; dir = dir }
+pub issue_io : (n worker : ℕ) (dir : IssueKind) (way : Dir) (write : WriteId) (piece : Piece) (id : ℕ) (io : Io)
+    → io ≡ record { id = id; clone = write.clone; piece = piece; dir = way }
+    → way ≡ dir_of (kind_for dir)
     → id ≡ n
     → io ≡ io_of n (start_of worker (kind_for dir) write piece)
-issue_io n worker dir write piece id io is same =
+issue_io n worker dir way write piece id io is ways same =
     let made : ℕ → Dir → Io = λ (i : ℕ). λ (d : Dir). record { id = i; clone = write.clone; piece = piece; dir = d } in
-    is ∙ ap (λ (i : ℕ). made i dir) same ∙ ap (made n) (sym (same_way dir))
+    is ∙ ap (λ (i : ℕ). made i way) same ∙ ap (made n) ways
 
 -- a write that is checked is intact
 
-intact_if : (b t i : Bool) (worker : ℕ) (dir : Dir) (w write : WriteId) (p piece : Piece)
+intact_if : (b t i : Bool) (worker : ℕ) (dir : IssueKind) (w write : WriteId) (p piece : Piece)
     → is_this_probe write piece
     (cond t (Some (cond b (Probe worker w p) (Skip worker w))) (cond i (Some (Issue worker dir w p)) None)) ≡ true
     → b ≡ true
@@ -204,7 +203,7 @@ probe_intact plan history worker write piece job draw named may =
     ∙ ap (λ (o : Option Draw). is_this_probe write piece (step_of_draw plan history worker pass o)) named.drawn) ∙ may in
     subst (λ (x : WriteId). is_intact history x draw.piece ≡ true) named.name
     (intact_if (is_intact history w draw.piece) (may_take_up history pass draw) (may_issue plan history pass draw)
-    worker draw.dir w write draw.piece piece step)
+    worker (issued_as job draw.dir) w write draw.piece piece step)
 
 -- what an entry of the log is judged by, if there is one
 abbrev wanted_of : Option Logged → Expected

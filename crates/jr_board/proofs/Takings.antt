@@ -2,10 +2,10 @@
 use Rattle.std.proofs.Common.{◌≡◌, ℕ, List, [], ◌∷◌, ◌++◌, length, true, false, refl, sym, ◌∙◌, ap, subst, append-nil, inl, inr}
 use Rattle.std.specs.Prelude.{Option, Some, None}
 use Rattle.std.proofs.lemmas.List.Elements.{filter_map-append}
-use Rattle.jr_model.specs.declared.blocks.Dir.{Dir}
 use Rattle.jr_model.specs.declared.blocks.Piece.{Piece}
 use Rattle.jr_model.specs.declared.events.Event.{Event}
 use Rattle.jr_model.specs.declared.events.Event.TheVariants.{Issue, Probe, Skip, End, Verdict}
+use Rattle.jr_model.specs.declared.events.IssueKind.{IssueKind}
 use Rattle.jr_model.specs.declared.events.Started.{Started}
 use Rattle.jr_model.specs.declared.events.WriteId.{WriteId}
 use Rattle.jr_model.specs.declared.tickets.Ticket.{Ticket}
@@ -95,7 +95,7 @@ pub chosen_skip : (plan : Plan) (history : List Event) (worker by : ℕ) (write 
 chosen_skip plan history worker by write planned chosen =
     chosen ∙ ap (λ (w : ℕ). Some (Skip w write)) (chosen_step plan history worker (Skip by write) planned chosen)
 
-pub chosen_issue : (plan : Plan) (history : List Event) (worker by : ℕ) (dir : Dir) (write : WriteId) (piece : Piece) → IsPlanned plan
+pub chosen_issue : (plan : Plan) (history : List Event) (worker by : ℕ) (dir : IssueKind) (write : WriteId) (piece : Piece) → IsPlanned plan
     → choice plan history worker ≡ Some (Issue by dir write piece) → choice plan history worker ≡ Some (Issue worker dir write piece)
 chosen_issue plan history worker by dir write piece planned chosen =
     chosen ∙ ap (λ (w : ℕ). Some (Issue w dir write piece)) (chosen_step plan history worker (Issue by dir write piece) planned chosen)

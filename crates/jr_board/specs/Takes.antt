@@ -11,6 +11,7 @@ use Rattle.jr_model.specs.Legal.{is_complete}
 use Rattle.jr_model.specs.Machine.{Appends}
 use Rattle.jr_model.specs.Plan.{Plan}
 use Rattle.jr_model.specs.Tickets.{ticket_fits}
+use Rattle.jr_header.specs.Served.{ExpectsOwn}
 use Rattle.jr_tickets.specs.Tickets.{ticket_of}
 use Rattle.jr_board.specs.declared.takes.Take.{Take}
 use Rattle.jr_board.specs.declared.takes.Take.TheVariants as take
@@ -25,6 +26,7 @@ last_started (event ∷ next ∷ events) = last_started (next ∷ events)
 abbrev pub handing : TicketKind → Ticket → Take
 handing ticket.Read t = take.Io t
 handing ticket.Write t = take.Io t
+handing ticket.ReadCheck t = take.Io t
 handing ticket.Probe t = take.Probe t
 
 -- the answer where this ticket is handed out, if any is, and the run is complete or not
@@ -66,6 +68,13 @@ is_fitting (take.Io t) = ticket_fits t
 is_fitting (take.Probe t) = ticket_fits t
 is_fitting take.Wait = true
 is_fitting take.Finished = true
+
+-- nothing is expected of its bytes, or what its own write put there
+abbrev pub HandsOutOwn : Take → Type 0
+HandsOutOwn (take.Io t) = ExpectsOwn t
+HandsOutOwn (take.Probe t) = ExpectsOwn t
+HandsOutOwn take.Wait = Unit {0}
+HandsOutOwn take.Finished = Unit {0}
 
 -- where the answer is to wait, nothing may be started after this history, and something flies or awaits its verdict
 abbrev pub WaitsRightly : Plan → ℕ → List Event → Take → Type 0

@@ -164,6 +164,7 @@ fn issue_of(
 ) -> Option<Event>
     requires board { IsBoard plan.now board.now }
     requires ready { IsReady plan.now board.now }
+    requires there { clone < length plan.now.clones }
     requires fits { IfSome draw (λ draw. piece_fits draw.piece ≡ true) }
     ensures { (job : Clone) → clone_of plan.now clone ≡ Some job → phase_is_open plan.now board.now.history.items job ≡ true
         → result ≡ issue_of plan.now board.now.history.items worker (pass_of job pass) draw }
@@ -174,7 +175,7 @@ fn issue_of(
     }
     Some(Event::Issue {
         worker,
-        dir: draw.dir,
+        kind: plan.clone_at(clone as usize).issued_as(draw.dir),
         write: WriteId {
             clone,
             pass,

@@ -1,6 +1,6 @@
 ghost use Rattle.std.specs.Prelude.{◌≡◌, ◌<◌, ℕ, suc, true, false, List, [], length, slice_get, Some, None, IfOk, OnOk};
 ghost use Rattle.std.specs.Prelude.{unwrap_or, vec_capacity};
-ghost use Rattle.jr_model.specs.declared.blocks.Dir.TheVariants as direction;
+ghost use Rattle.jr_model.specs.declared.events.IssueKind.TheVariants as issue;
 ghost use Rattle.jr_model.specs.declared.blocks.Piece.{Piece as Place};
 ghost use Rattle.jr_model.specs.declared.events.Event.{Event};
 ghost use Rattle.jr_model.specs.declared.events.Event.TheVariants.{Issue, Probe, Skip, End};
@@ -21,7 +21,7 @@ ghost use Rattle.jr_board.specs.Standings.{IsPrepared, IsStanding};
 
 use jr_backlog::DeferredRounds;
 use jr_draw::DrawsLeft;
-use jr_model::{Dir, IoId, Memory, VerifyKind, WriteId};
+use jr_model::{IoId, IssueKind, Memory, VerifyKind, WriteId};
 use jr_plan::SubJob;
 use std::alloc::Global;
 
@@ -77,19 +77,19 @@ impl Standing {
     }
 
     // Issues the next draw under this number, and gives its seed. The first draw of the next pass moves the clone there.
-    pub fn issue(&mut self, job: &SubJob, id: IoId, dir: Dir, write: WriteId) -> u64
+    pub fn issue(&mut self, job: &SubJob, id: IoId, kind: IssueKind, write: WriteId) -> u64
         requires prepared { IsPrepared job.now self.old }
         requires pass { self.old.pass < job.now.passes }
-        requires room { has_rounds job.now ≡ true → dir ≡ direction.Write → takes_writes self.old.rounds.round ≡ true }
-        requires last { has_rounds job.now ≡ true → dir ≡ direction.Write → comes_last self.old.rounds.round write ≡ true }
+        requires room { has_rounds job.now ≡ true → kind ≡ issue.Write → takes_writes self.old.rounds.round ≡ true }
+        requires last { has_rounds job.now ≡ true → kind ≡ issue.Write → comes_last self.old.rounds.round write ≡ true }
         ensures seed { (plan : Planned) (history : List Event) (worker : ℕ) (piece : Place)
-            → IsNext plan history (Issue worker dir write piece)
+            → IsNext plan history (Issue worker kind write piece)
             → clone_of plan write.clone ≡ Some job.now → IsStanding history job.now self.old
             → result ≡ seed_of_draw (slice_get (draws_of_job job.now write.pass) write.number) }
         ensures kept { (plan : Planned) (history : List Event) (worker : ℕ) (piece : Place)
-            → IsNext plan history (Issue worker dir write piece)
+            → IsNext plan history (Issue worker kind write piece)
             → clone_of plan write.clone ≡ Some job.now → id ≡ length (started history) → IsStanding history job.now self.old
-            → IsStanding (grown history (Issue worker dir write piece)) job.now self.new }
+            → IsStanding (grown history (Issue worker kind write piece)) job.now self.new }
     {
         job.facts();
         if self.draws.is_over() {
@@ -103,7 +103,7 @@ impl Standing {
         });
         if has_rounds(job) {
             self.rounds
-                .issued(written(dir, write), self.draws.is_over());
+                .issued(written(kind, write), self.draws.is_over());
         }
         seed
     }
@@ -172,13 +172,14 @@ impl Standing {
 }
 
 // The write that is issued, where the draw is one.
-fn written(dir: Dir, write: WriteId) -> Option<WriteId>
-    ensures write { dir ≡ direction.Write → result ≡ Some write }
-    ensures read { dir ≡ direction.Read → result ≡ None }
+fn written(kind: IssueKind, write: WriteId) -> Option<WriteId>
+    ensures write { kind ≡ issue.Write → result ≡ Some write }
+    ensures read { kind ≡ issue.Read → result ≡ None }
+    ensures checked { kind ≡ issue.ReadCheck → result ≡ None }
 {
-    match dir {
-        Dir::Write => Some(write),
-        Dir::Read => None,
+    match kind {
+        IssueKind::Write => Some(write),
+        IssueKind::Read | IssueKind::ReadCheck => None,
     }
 }
 

@@ -1,18 +1,19 @@
 ghost use Rattle.std.specs.Prelude.{◌≡◌, ◌<◌, ◌++◌, ◌∷◌, [], true, length, slice_get, Some};
 ghost use Rattle.jr_model.specs.declared.events.Event.TheVariants.{Issue, Probe, Skip};
-ghost use Rattle.jr_model.specs.declared.tickets.TicketKind.TheVariants as kind;
+ghost use Rattle.jr_model.specs.declared.tickets.TicketKind.TheVariants as ticket;
 ghost use Rattle.jr_model.specs.Draws.{draws_of};
 ghost use Rattle.jr_model.specs.History.{kind_for, started};
 ghost use Rattle.jr_model.specs.Legal.{may_happen};
 ghost use Rattle.jr_model.specs.Machine.{seed_of_draw};
 ghost use Rattle.jr_model.specs.Plan.{Plan as Planned, SubJob as Clone, clone_of};
+ghost use Rattle.jr_laws_log.specs.Flying.{dir_of};
 ghost use Rattle.jr_board.specs.Boards.{IsBoard, IsReady, left_of};
 ghost use Rattle.jr_tickets.specs.Tickets.{ticket_of};
 ghost use Rattle.jr_board.specs.declared.standings.Standing.{Standing as Stood};
 
 use crate::board::Board;
 use jr_flight::Io;
-use jr_model::{Dir, Event, Expected, Piece, Ticket, TicketKind, WriteId};
+use jr_model::{Dir, Event, Expected, IssueKind, Piece, Ticket, TicketKind, WriteId};
 use jr_plan::Plan;
 
 // Skips a write.
@@ -37,18 +38,18 @@ pub(crate) fn issue(
     plan: &Plan,
     board: &mut Board,
     worker: u32,
-    dir: Dir,
+    kind: IssueKind,
     write: WriteId,
     piece: Piece,
 ) -> Ticket
     requires board { IsBoard plan.now board.old }
     requires ready { IsReady plan.now board.old }
-    requires may { may_happen plan.now board.old.history.items (Issue worker dir write piece) ≡ true }
+    requires may { may_happen plan.now board.old.history.items (Issue worker kind write piece) ≡ true }
     ensures board { IsBoard plan.now board.new }
-    ensures history { board.new.history.items ≡ board.old.history.items ++ Issue worker dir write piece ∷ [] }
+    ensures history { board.new.history.items ≡ board.old.history.items ++ Issue worker kind write piece ∷ [] }
     ensures ticket { result ≡ ticket_of plan.now (
       length (started board.old.history.items),
-      record { worker = worker; kind = kind_for dir; write = write; piece = piece },
+      record { worker = worker; kind = kind_for kind; write = write; piece = piece },
     ) }
 {
     plan.facts();
@@ -58,16 +59,16 @@ pub(crate) fn issue(
     let ticket = Ticket {
         id,
         worker,
-        kind: kind_for(dir),
+        kind: kind_for(kind),
         write,
         piece,
-        seed: board.standings[clone].issue(job, id, dir, write),
+        seed: board.standings[clone].issue(job, id, kind, write),
         method: job.method(),
         expected: Expected::Nothing,
     };
     board.history.push_reserved(Event::Issue {
         worker,
-        dir,
+        kind,
         write,
         piece,
     });
@@ -76,7 +77,7 @@ pub(crate) fn issue(
         id,
         clone: write.clone,
         piece,
-        dir,
+        dir: dir_for(kind),
     });
     board.tallies.issued(clone);
     ticket
@@ -97,7 +98,7 @@ pub(crate) fn probe(
     ensures history { board.new.history.items ≡ board.old.history.items ++ Probe worker write piece ∷ [] }
     ensures ticket { result ≡ ticket_of plan.now (
       length (started board.old.history.items),
-      record { worker = worker; kind = kind.Probe; write = write; piece = piece },
+      record { worker = worker; kind = ticket.Probe; write = write; piece = piece },
     ) }
 {
     plan.facts();
@@ -153,12 +154,23 @@ fn seed_of(board: &Board, write: WriteId) -> u64
     }
 }
 
-// The kind of ticket for a draw of this direction.
-fn kind_for(dir: Dir) -> TicketKind
-    ensures { result ≡ kind_for dir }
+// The kind of ticket for a draw that is issued so.
+fn kind_for(kind: IssueKind) -> TicketKind
+    ensures { result ≡ kind_for kind }
 {
-    match dir {
-        Dir::Read => TicketKind::Read,
-        Dir::Write => TicketKind::Write,
+    match kind {
+        IssueKind::Read => TicketKind::Read,
+        IssueKind::Write => TicketKind::Write,
+        IssueKind::ReadCheck => TicketKind::ReadCheck,
+    }
+}
+
+// Which way its bytes go.
+fn dir_for(kind: IssueKind) -> Dir
+    ensures { result ≡ dir_of (kind_for kind) }
+{
+    match kind {
+        IssueKind::Read | IssueKind::ReadCheck => Dir::Read,
+        IssueKind::Write => Dir::Write,
     }
 }

@@ -73,11 +73,11 @@ pub fn start_next(plan: &Plan, board: &mut Board, worker: u32) -> Option<Ticket>
         match step {
             Event::Skip { write, .. } => skip(plan, board, worker, write),
             Event::Issue {
-                dir,
+                kind,
                 write,
                 piece,
                 ..
-            } => return Some(issue(plan, board, worker, dir, write, piece)),
+            } => return Some(issue(plan, board, worker, kind, write, piece)),
             Event::Probe { write, piece, .. } => {
                 return Some(probe(plan, board, worker, write, piece));
             }

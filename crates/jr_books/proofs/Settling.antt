@@ -5,7 +5,7 @@ use Rattle.std.proofs.lemmas.Bool.{and_parts}
 use Rattle.jr_model.specs.declared.events.Event.{Event}
 use Rattle.jr_model.specs.declared.events.Outcome.{Outcome}
 use Rattle.jr_model.specs.declared.events.Started.{Started}
-use Rattle.jr_model.specs.History.{started, outcome_of, if_flying, if_awaiting, is_judged, is_probe, ended_whole}
+use Rattle.jr_model.specs.History.{started, outcome_of, if_flying, if_awaiting, is_judged, is_judged_kind, ended_whole}
 use Rattle.jr_laws_steps.proofs.PlaceLemmas.{keeps_none}
 use Rattle.jr_laws_steps.proofs.StartedLemmas.{same_some}
 use Rattle.jr_model.specs.declared.tickets.Ticket.{Ticket}
@@ -25,7 +25,7 @@ judged_by false io h = refl
 
 module _ (history : List Event) (id : ℕ) (io : Started) (settled : is_settled history id io ≡ true) where
   abbrev waits : Bool
-  waits = is_probe io.kind && ended_whole (outcome_of history id) && not (is_judged history id)
+  waits = is_judged_kind io.kind && ended_whole (outcome_of history id) && not (is_judged history id)
 
   flown : if_flying history (id, io) ≡ None
   flown = flown_by (outcome_of history id) io (and_parts (is_some (outcome_of history id)) (not waits) settled).0
@@ -43,9 +43,9 @@ all_settled history each = record {
 
 -- a ticket is of a check where what was started is one
 module _ (plan : Plan) (history : List Event) (id : ℕ) (io : Started) (at : slice_get (started history) id ≡ Some io) where
-  pub kind_of_ticket : (ticket : Ticket) → Some ticket ≡ slice_get (tickets_of plan history) id → is_probe ticket.kind ≡ is_probe io.kind
+  pub kind_of_ticket : (ticket : Ticket) → Some ticket ≡ slice_get (tickets_of plan history) id → is_judged_kind ticket.kind ≡ is_judged_kind io.kind
   kind_of_ticket ticket is =
-      ap (λ (t : Ticket). is_probe t.kind) (same_some ticket (ticket_of plan (id, io)) (is ∙ ticket_started plan history id io at))
+      ap (λ (t : Ticket). is_judged_kind t.kind) (same_some ticket (ticket_of plan (id, io)) (is ∙ ticket_started plan history id io at))
 
   pub has_its_ticket : {A : Type 0} → None ≡ slice_get (tickets_of plan history) id → A
   has_its_ticket none =

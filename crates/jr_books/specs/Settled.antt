@@ -2,7 +2,7 @@
 use Rattle.std.specs.Prelude.{◌≡◌, ℕ, Bool, not, ◌&&◌, List, [], is_some}
 use Rattle.jr_model.specs.declared.events.Event.{Event}
 use Rattle.jr_model.specs.declared.events.Started.{Started}
-use Rattle.jr_model.specs.History.{outcome_of, ended_whole, is_judged, is_probe, in_flight, awaiting}
+use Rattle.jr_model.specs.History.{outcome_of, ended_whole, is_judged, is_judged_kind, in_flight, awaiting}
 
 -- nothing is in flight, and each check that ended whole has its verdict
 pub record HasSettled (history : List Event) : Type 0 where
@@ -13,4 +13,4 @@ pub record HasSettled (history : List Event) : Type 0 where
 abbrev pub is_settled : List Event → ℕ → Started → Bool
 is_settled history id io =
     is_some (outcome_of history id)
-    && not (is_probe io.kind && ended_whole (outcome_of history id) && not (is_judged history id))
+    && not (is_judged_kind io.kind && ended_whole (outcome_of history id) && not (is_judged history id))

@@ -1,5 +1,5 @@
 ghost use Rattle.std.specs.Prelude.{◌≡◌};
-ghost use Rattle.jr_model.specs.History.{is_probe};
+ghost use Rattle.jr_model.specs.History.{is_judged_kind};
 ghost use Rattle.jr_tickets.specs.Handing.{IsHanded};
 
 use jr_model::{Event, IoId, Ticket, TicketKind};
@@ -30,7 +30,7 @@ impl<'a> Model for Account<'a> {
 impl<'a> Account<'a> {
     ghost use Rattle.std.specs.Prelude.{◌≡◌, true, length, slice_get, Some};
     ghost use Rattle.jr_model.specs.declared.events.Started.{Started as StartedIo};
-    ghost use Rattle.jr_model.specs.History.{started, is_probe};
+    ghost use Rattle.jr_model.specs.History.{started, is_judged_kind};
     ghost use Rattle.jr_model.specs.Legal.{is_legal};
     ghost use Rattle.jr_tickets.specs.Kept.{tickets_of};
     ghost use Rattle.jr_books.specs.Settled.{is_settled};
@@ -75,7 +75,7 @@ impl<'a> Account<'a> {
         self.tickets.count()
     }
 
-    /// Whether the I/O of this number has ended, and has its verdict where it is a check that ended whole.
+    /// Whether the I/O of this number has ended, and has its verdict where it gets one and ended whole.
     pub fn is_settled(&self, id: IoId) -> bool
         requires { is_legal self.now.plan self.now.history ≡ true }
         ensures { (io : StartedIo) → slice_get (started self.now.history) id ≡ Some io
@@ -84,22 +84,25 @@ impl<'a> Account<'a> {
         let has_ended = self.tickets.has_ended(id);
         let is_whole = self.tickets.has_ended_whole(id);
         let is_judged = self.tickets.is_judged(id);
-        has_ended && !(self.is_check(id) && is_whole && !is_judged)
+        has_ended && !(self.gets_verdict(id) && is_whole && !is_judged)
     }
 
-    // Whether it is a check.
-    fn is_check(&self, id: IoId) -> bool
-        ensures { (io : StartedIo) → slice_get (started self.now.history) id ≡ Some io → result ≡ is_probe io.kind }
+    // Whether it gets a verdict: it is a check, or a checked read.
+    fn gets_verdict(&self, id: IoId) -> bool
+        ensures { (io : StartedIo) → slice_get (started self.now.history) id ≡ Some io → result ≡ is_judged_kind io.kind }
     {
         match self.ticket_at(id) {
-            Some(ticket) => is_probe(ticket.kind),
+            Some(ticket) => is_judged_kind(ticket.kind),
             None => false,
         }
     }
 }
 
-fn is_probe(kind: TicketKind) -> bool
-    ensures { result ≡ is_probe kind }
+fn is_judged_kind(kind: TicketKind) -> bool
+    ensures { result ≡ is_judged_kind kind }
 {
-    kind == TicketKind::Probe
+    match kind {
+        TicketKind::Probe | TicketKind::ReadCheck => true,
+        TicketKind::Read | TicketKind::Write => false,
+    }
 }

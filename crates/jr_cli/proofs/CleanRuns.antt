@@ -12,8 +12,7 @@ use Rattle.jr_model.specs.Legal.{is_io_of, is_fault, is_bad}
 use Rattle.jr_model.specs.Plan.{Plan, SubJob}
 use Rattle.jr_model.specs.Report.{all_totals}
 use Rattle.jr_model.specs.Totals.{is_verdict_of, is_fault_of, totals_of}
-use Rattle.jr_laws_bytes.specs.Checks.{is_miscompare, has_miscompare}
-use Rattle.jr_laws_bytes.specs.Clean.{is_faulty_end, has_fault}
+use Rattle.jr_laws_bytes.specs.Clean.{is_bad_verdict, is_faulty_end, has_bad, has_fault}
 use Rattle.jr_cli.specs.Status.{is_unclean, status_of}
 
 -- none is counted where a test that each counted one meets is met by none
@@ -25,7 +24,7 @@ count_none counted test (e ∷ history) misses none =
     let first : ◌≡◌ {A = ℕ} (cond (counted e) 1 0) 0 = ap {B = ℕ} (λ (b : Bool). cond b 1 0) (misses e parts.0) in
     omega (arith, sum_by-cons (λ (x : Event). cond (counted x) 1 0) e history, first, rest)
 
-not_bad : (ios : List Started) (c : ℕ) (e : Event) → is_miscompare e ≡ false → is_verdict_of ios is_bad c e ≡ false
+not_bad : (ios : List Started) (c : ℕ) (e : Event) → is_bad_verdict e ≡ false → is_verdict_of ios is_bad c e ≡ false
 not_bad ios c (Issue worker dir write piece) none = refl
 not_bad ios c (Probe worker write piece) none = refl
 not_bad ios c (Skip worker write) none = refl
@@ -40,11 +39,11 @@ no_fault ios c (End worker io outcome) none = and_right (is_io_of c (slice_get i
 no_fault ios c (Verdict worker io verdict) none = refl
 
 -- the history of a run in which nothing went wrong
-module _ (history : List Event) (whole : has_fault history ≡ false) (good : has_miscompare history ≡ false) where
+module _ (history : List Event) (whole : has_fault history ≡ false) (good : has_bad history ≡ false) where
   clean_totals : (c : ℕ) → is_unclean (totals_of history c) ≡ false
   clean_totals c =
       let ios = started history in
-      let bad = count_none (is_verdict_of ios is_bad c) is_miscompare history (not_bad ios c) good in
+      let bad = count_none (is_verdict_of ios is_bad c) is_bad_verdict history (not_bad ios c) good in
       let faults = count_none (is_fault_of ios c) is_faulty_end history (no_fault ios c) whole in
       or_from (nat_lt 0 (totals_of history c).bad) (nat_lt 0 (totals_of history c).faults)
       (ap (λ (n : ℕ). nat_lt 0 n) bad) (ap (λ (n : ℕ). nat_lt 0 n) faults)

@@ -1,6 +1,6 @@
 -- What the matches of the command line hold: clap's facts of a parse, for these arguments.
 use Rattle.std.proofs.Common.{◌≡◌, ◌∙◌, ◌<◌, ◌≤◌, ◌||◌, ℕ, Bool, true, false, true≢false, zero, suc, refl, sym, ap, subst, inl, inr, arith, List, [], ◌∷◌, map, length, Option, Some, None, option_map, codes}
-use Rattle.std.specs.Prelude.{Result, Ok, Err, IsErrAnd, IfSome, pos, slice_get, unwrap_or}
+use Rattle.std.specs.Prelude.{◌^◌, Result, Ok, Err, IsErrAnd, IfSome, pos, slice_get, unwrap_or}
 use Rattle.std.specs.Borrow.{Bor}
 use Rattle.std.specs.List.{All, slice_index_or}
 use Rattle.std.specs.Str.{bytes_eq}
@@ -49,31 +49,35 @@ other_id e = absurd (true≢false (sym e))
 
 pub workers_parser : AllHaveParser (codes "workers") (parser.Signed (pos 1) (pos 16)) command_line.top.rules
 unfolding command_line
-workers_parser = (other_id, (other_id, (other_id, ((λ e. (refl, refl)), (other_id, (other_id, (other_id, (other_id, (other_id, (other_id, (other_id, (other_id, (other_id, (other_id, (other_id, tt)))))))))))))))
+workers_parser = (other_id, (other_id, (other_id, ((λ e. (refl, refl)), (other_id, (other_id, (other_id, (other_id, (other_id, (other_id, (other_id, (other_id, (other_id, (other_id, (other_id, (other_id, (other_id, (other_id, tt))))))))))))))))))
 
 pub parse_only_parser : AllHaveParser (codes "parse-only") parser.Bool command_line.top.rules
 unfolding command_line
-parse_only_parser = (other_id, (other_id, ((λ e. (refl, refl)), (other_id, (other_id, (other_id, (other_id, (other_id, (other_id, (other_id, (other_id, (other_id, (other_id, (other_id, (other_id, tt)))))))))))))))
+parse_only_parser = (other_id, (other_id, ((λ e. (refl, refl)), (other_id, (other_id, (other_id, (other_id, (other_id, (other_id, (other_id, (other_id, (other_id, (other_id, (other_id, (other_id, (other_id, (other_id, (other_id, tt))))))))))))))))))
 
 pub cached_parser : AllHaveParser (codes "cached") parser.Bool command_line.top.rules
 unfolding command_line
-cached_parser = (other_id, (other_id, (other_id, (other_id, (other_id, (other_id, ((λ e. (refl, refl)), (other_id, (other_id, (other_id, (other_id, (other_id, (other_id, (other_id, (other_id, tt)))))))))))))))
+cached_parser = (other_id, (other_id, (other_id, (other_id, (other_id, (other_id, ((λ e. (refl, refl)), (other_id, (other_id, (other_id, (other_id, (other_id, (other_id, (other_id, (other_id, (other_id, (other_id, (other_id, tt))))))))))))))))))
 
 pub allow_mounted_write_parser : AllHaveParser (codes "allow-mounted-write") parser.Bool command_line.top.rules
 unfolding command_line
-allow_mounted_write_parser = (other_id, (other_id, (other_id, (other_id, (other_id, (other_id, (other_id, ((λ e. (refl, refl)), (other_id, (other_id, (other_id, (other_id, (other_id, (other_id, (other_id, tt)))))))))))))))
+allow_mounted_write_parser = (other_id, (other_id, (other_id, (other_id, (other_id, (other_id, (other_id, ((λ e. (refl, refl)), (other_id, (other_id, (other_id, (other_id, (other_id, (other_id, (other_id, (other_id, (other_id, (other_id, tt))))))))))))))))))
 
 pub notes_parser : AllHaveParser (codes "notes") parser.Bool command_line.top.rules
 unfolding command_line
-notes_parser = (other_id, (other_id, (other_id, (other_id, (other_id, (other_id, (other_id, (other_id, ((λ e. (refl, refl)), (other_id, (other_id, (other_id, (other_id, (other_id, (other_id, tt)))))))))))))))
+notes_parser = (other_id, (other_id, (other_id, (other_id, (other_id, (other_id, (other_id, (other_id, ((λ e. (refl, refl)), (other_id, (other_id, (other_id, (other_id, (other_id, (other_id, (other_id, (other_id, (other_id, tt))))))))))))))))))
 
 pub interrupted_parser : AllHaveParser (codes "interrupted") parser.Bool command_line.top.rules
 unfolding command_line
-interrupted_parser = (other_id, (other_id, (other_id, (other_id, (other_id, (other_id, (other_id, (other_id, (other_id, (other_id, ((λ e. (refl, refl)), (other_id, (other_id, (other_id, (other_id, tt)))))))))))))))
+interrupted_parser = (other_id, (other_id, (other_id, (other_id, (other_id, (other_id, (other_id, (other_id, (other_id, (other_id, ((λ e. (refl, refl)), (other_id, (other_id, (other_id, (other_id, (other_id, (other_id, (other_id, tt))))))))))))))))))
 
 pub map_parser : AllHaveParser (codes "map") parser.Bool command_line.top.rules
 unfolding command_line
-map_parser = (other_id, (other_id, (other_id, (other_id, (other_id, (other_id, (other_id, (other_id, (other_id, (other_id, (other_id, (other_id, (other_id, (other_id, ((λ e. (refl, refl)), tt)))))))))))))))
+map_parser = (other_id, (other_id, (other_id, (other_id, (other_id, (other_id, (other_id, (other_id, (other_id, (other_id, (other_id, (other_id, (other_id, (other_id, ((λ e. (refl, refl)), (other_id, (other_id, (other_id, tt))))))))))))))))))
+
+pub progress_parser : AllHaveParser (codes "progress") (parser.Signed (pos 1) (pos 86400)) command_line.top.rules
+unfolding command_line
+progress_parser = (other_id, (other_id, (other_id, (other_id, (other_id, (other_id, (other_id, (other_id, (other_id, (other_id, (other_id, (other_id, (other_id, (other_id, (other_id, ((λ e. (refl, refl)), (other_id, (other_id, tt))))))))))))))))))
 
 line_is_plain : command_line.top.is_plain ≡ true
 unfolding command_line
@@ -185,30 +189,32 @@ module _ (c : Command) (m : ArgMatches) (is : app_of c ≡ command_line) (p : Is
             cc
         go (Some x) e h = entry_passes t x (entry_by_id (EntryPasses p.built) (found_of m).entries.items id x parsed.values e) (rw e at h)
 
-  -- the number of workers is the one that its text writes, and is in its range
-  pub workers_read : {E : Type 0} (G : Text → Result ℕ E → Type 0) (r : Option ℕ) → ((u : Text) (x : Result ℕ E) → G u x → ParsesUnsigned 32 10 u x)
-      → (one_text (found_of m) (codes "workers") ≡ None → r ≡ None)
-      → ((t : Text) → one_text (found_of m) (codes "workers") ≡ Some t → ReadsOne G t r)
-      → (r ≡ option_map number_in (one_text (found_of m) (codes "workers"))) × IfSome r (λ n. (1 ≤ n) × (n ≤ 16))
-  workers_read {E} G r only none value = go (one_text (found_of m) (codes "workers")) refl
+  -- a number is the one that its text writes, and is in its range
+  pub number_read : (id : Text) (high : ℕ) → AllHaveParser id (parser.Signed (pos 1) (pos high)) command_line.top.rules
+      → bytes_eq id [] ≡ false → bytes_eq id (codes "help") ≡ false → bytes_eq id (codes "version") ≡ false → high < 2 ^ 32
+      → {E : Type 0} (G : Text → Result ℕ E → Type 0) (r : Option ℕ) → ((u : Text) (x : Result ℕ E) → G u x → ParsesUnsigned 32 10 u x)
+      → (one_text (found_of m) id ≡ None → r ≡ None)
+      → ((t : Text) → one_text (found_of m) id ≡ Some t → ReadsOne G t r)
+      → (r ≡ option_map number_in (one_text (found_of m) id)) × IfSome r (λ n. (1 ≤ n) × (n ≤ high))
+  number_read id high rules not_empty not_help not_version fits {E} G r only none value = go (one_text (found_of m) id) refl
     where
       IsRead : Option Text → Type 0
-      IsRead o = (r ≡ option_map number_in o) × IfSome r (λ n. (1 ≤ n) × (n ≤ 16))
+      IsRead o = (r ≡ option_map number_in o) × IfSome r (λ n. (1 ≤ n) × (n ≤ high))
 
       given : (t : Text) (o : Option ℕ) → ReadsOne G t o → (n : ℕ) → o ≡ Some n → n ≡ number_in t
       given t None one n e = cc
       given t (Some v) one n e = ap (λ (x : Option ℕ). unwrap_or x n) (sym e) ∙ (only t (Ok v) one).1
 
-      read : (t : Text) → ReadsOne G t r → ((w : Text) × (t ≡ without_minus w) × Accepts false (parser.Signed (pos 1) (pos 16)) w) → IsRead (Some t)
+      read : (t : Text) → ReadsOne G t r → ((w : Text) × (t ≡ without_minus w) × Accepts false (parser.Signed (pos 1) (pos high)) w) → IsRead (Some t)
       read t one passed =
           let as_w : ReadsOne G (without_minus passed.0) r = subst (λ (u : Text). ReadsOne G u r) passed.1 one in
-          let n = signed_reads E G 32 1 16 passed.0 r as_w only (omega arith) passed.2 in
+          let n = signed_reads E G 32 1 high passed.0 r as_w only fits passed.2 in
           (n.1 ∙ ap (λ (x : ℕ). Some x) (given t r one n.0 n.1), rw n.1 (n.2, n.3))
 
-      go : (o : Option Text) → one_text (found_of m) (codes "workers") ≡ o → IsRead (one_text (found_of m) (codes "workers"))
+      go : (o : Option Text) → one_text (found_of m) id ≡ o → IsRead (one_text (found_of m) id)
       go None e = rw (e, none e) (refl, tt)
       go (Some t) e =
-          subst IsRead (sym e) (read t (value t e) (text_passes (codes "workers") (parser.Signed (pos 1) (pos 16)) workers_parser refl refl refl t e))
+          subst IsRead (sym e) (read t (value t e) (text_passes id (parser.Signed (pos 1) (pos high)) rules not_empty not_help not_version t e))
 
   -- a flag is set exactly where its text says so
   pub flag_read : (id : Text) → AllHaveParser id parser.Bool command_line.top.rules → bytes_eq id [] ≡ false → bytes_eq id (codes "help") ≡ false → bytes_eq id (codes "version") ≡ false

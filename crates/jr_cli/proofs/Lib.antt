@@ -1,4 +1,5 @@
 pub mod CleanRuns
 pub mod CommandLineFacts
 pub mod EndedRuns
+pub mod JsonLines
 pub mod QuietRuns

@@ -63,15 +63,26 @@ bad_blocks_size_rule = option_rule (codes "bad-blocks-size")
 abbrev pub map_rule : Rule
 map_rule = flag_rule (codes "map")
 
+-- from 1 to 86400, the seconds of a day
+abbrev pub progress_rule : Rule
+progress_rule = record (option_rule (codes "progress")) { parser = Some (parser.Signed (pos 1) (pos 86400)) }
+
+abbrev pub json_rule : Rule
+json_rule = option_rule (codes "json")
+
+abbrev pub page_rule : Rule
+page_rule = option_rule (codes "page")
+
 -- a program that tells its version
 abbrev pub with_version : App → App
 with_version app = on_top (λ shape. record shape { has_version = true }) app
 
 unfoldable pub command_line : App
 command_line = with_rule (with_rule (with_rule (with_rule (with_rule (with_rule (with_rule (with_rule (with_rule (with_rule
-    (with_rule (with_rule (with_rule (with_rule (with_rule
+    (with_rule (with_rule (with_rule (with_rule (with_rule (with_rule (with_rule (with_rule
     (with_version (new_app (codes "fiorun"))) job_rule) section_rule) parse_only_rule) workers_rule) trace_rule) check_trace_rule) cached_rule)
-    allow_mounted_write_rule) notes_rule) drop_pipes_rule) interrupted_rule) stop_fd_rule) bad_blocks_rule) bad_blocks_size_rule) map_rule
+    allow_mounted_write_rule) notes_rule) drop_pipes_rule) interrupted_rule) stop_fd_rule) bad_blocks_rule) bad_blocks_size_rule) map_rule)
+    progress_rule) json_rule) page_rule
 
 -- the number that a text of digits writes
 abbrev pub number_in : Text → ℕ
@@ -94,3 +105,6 @@ pub record IsChoiceOf (choice : Choice) (rows : List Row) : Type 0 where
   pub bad_blocks : option_copied choice.bad_blocks ≡ first_of (codes "bad-blocks") rows
   pub bad_blocks_size : option_copied choice.bad_blocks_size ≡ first_of (codes "bad-blocks-size") rows
   pub map : choice.map ≡ unwrap_or (option_map (bytes_eq (codes "true")) (one_of (codes "map") rows)) false
+  pub progress : choice.progress ≡ option_map number_in (one_of (codes "progress") rows)
+  pub json : option_copied choice.json ≡ first_of (codes "json") rows
+  pub page : option_copied choice.page ≡ first_of (codes "page") rows

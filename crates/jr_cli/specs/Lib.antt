@@ -2,6 +2,7 @@ pub mod Checked
 pub mod CommandLine
 pub mod Executed
 pub mod FaultTexts
+pub mod Findings
 pub mod JobRefusals
 pub mod Places
 pub mod Status

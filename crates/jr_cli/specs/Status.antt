@@ -45,7 +45,6 @@ status_of_job (job.MissingSize line) = 2
 status_of_job (job.BadBlock line) = 2
 status_of_job (job.BadSplit line) = 2
 status_of_job (job.NoPattern line) = 2
-status_of_job (job.VerifyNeedsWrite line) = 2
 status_of_job job.MixedEngines = 2
 status_of_job (job.SeveralFiles line) = 2
 status_of_job (job.Limit bound) = 2

@@ -4,7 +4,7 @@ ghost use Rattle.jr_cli.specs.CommandLine.{number_in};
 ghost use Rattle.jr_cli.specs.Places.{IsListOf, is_block_size};
 
 use crate::faults::CliFault;
-use jr_desk::Desk;
+use crate::findings::Findings;
 use jr_model::{Memory, SECTOR};
 use jr_places::{bad_blocks, blocks_text};
 use jr_plan::Plan;
@@ -81,10 +81,14 @@ fn size_in(digits: Option<&str>) -> Option<BlockSize>
     }
 }
 
-/// The list of the bad blocks of the desk's run, over one file: a number a line.
-pub fn list_text(alloc: Global, desk: &Desk, size: &BlockSize) -> Result<Vec<u8>, Memory>
-    ensures { IfOk result (λ text. IsListOf desk.now.plan desk.now.history size.now text.items) }
+/// The list of the bad blocks of a run over one file: a number a line.
+pub fn list_text(
+    alloc: Global,
+    findings: &Findings<'_>,
+    size: &BlockSize,
+) -> Result<Vec<u8>, Memory>
+    ensures { IfOk result (λ text. IsListOf findings.now.plan findings.now.history size.now text.items) }
 {
-    let blocks = bad_blocks(alloc, desk.plan(), desk.bads(), 0, size.bytes())?;
+    let blocks = bad_blocks(alloc, findings.plan(), findings.bads(), 0, size.bytes())?;
     blocks_text(alloc, blocks.as_slice())
 }

@@ -5,6 +5,7 @@ ghost use Rattle.std.specs.Io.KnownBytes.{Appends};
 ghost use Rattle.jr_model.specs.Legal.{is_complete};
 ghost use Rattle.jr_model.specs.Report.{totals_lines};
 ghost use Rattle.jr_model.specs.Serial.{serial_history};
+ghost use Rattle.jr_laws_bytes.specs.Clean.{has_bad};
 ghost use Rattle.jr_crew.specs.Runs.{IsFresh};
 ghost use Rattle.jr_faults.specs.Faults.{AreFaultsOf};
 ghost use Rattle.jr_cli.specs.Checked.{IsCheckFault};
@@ -72,11 +73,12 @@ pub fn execute_serial<W: Write, V: Write>(
         × IsDeskOf plan history ended.desk)) }
     ensures unasked { watch.entry.stop ≡ None → IfOk result (λ ended. ended.is_interrupted ≡ false) }
 
-    // Over a fresh memory it is the history of one worker, and nothing goes wrong.
+    // Over a fresh memory it is the history of one worker, and nothing goes wrong: only a checked read can be found bad there.
     ensures serial { IsFresh plan (state engine.old) → IfOk result (λ ended. ended.is_interrupted ≡ false
         → IsReported plan (serial_history plan) (V.contents out.old) (V.contents out.new) ended.found
         × IsTraced W.contents events.entry events.exit (serial_history plan)) }
-    ensures clean { IsFresh plan (state engine.old) → IfOk result (λ ended. ended.is_interrupted ≡ false → ended.found ≡ 0) }
+    ensures clean { IsFresh plan (state engine.old) → has_bad (serial_history plan) ≡ false
+        → IfOk result (λ ended. ended.is_interrupted ≡ false → ended.found ≡ 0) }
     ensures quiet { IfOk result (λ ended. ended.is_interrupted ≡ false
         → IsQuietlyReported plan (V.contents out.old) (V.contents out.new) ended.found) }
     ensures failed { IfErr result IsCutShort }
@@ -222,7 +224,7 @@ fn write_out<V: Write>(text: &[u8], out: &mut V) -> Result<(), CliFault>
 }
 
 // 1 where a verdict was bad or an I/O was a fault, else 0.
-fn status_of(totals: &[Totals]) -> u8
+pub(crate) fn status_of(totals: &[Totals]) -> u8
     ensures { result ≡ status_of totals.now }
 {
     if any_unclean(totals) { 1 } else { 0 }

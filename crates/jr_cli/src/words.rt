@@ -18,6 +18,9 @@ ghost use Rattle.jr_cli.specs.CommandLine.{
   bad_blocks_rule,
   bad_blocks_size_rule,
   map_rule,
+  progress_rule,
+  json_rule,
+  page_rule,
   IsChoiceOf,
 };
 
@@ -28,7 +31,7 @@ use std::alloc::{AllocError, Global};
 use std::convert::AsStr;
 
 // The program's version, and the logic that it is proved in: several kits have the same.
-const VERSION: &str = "0.1.0\nlogic dac8208d650f15bf";
+pub(crate) const VERSION: &str = "0.1.0\nlogic dac8208d650f15bf";
 
 /// What the words of the command line ask for.
 #[derive(Clone, Copy, Debug, PartialEq, Eq)]
@@ -63,6 +66,12 @@ pub struct Choice<'a> {
     pub bad_blocks_size: Option<&'a str>,
     /// Show a map of each file, also where standard output is no terminal.
     pub map: bool,
+    /// Print how far the run is each so many seconds, from 1 to 86400.
+    pub progress: Option<u32>,
+    /// The file that the report goes to as JSON.
+    pub json: Option<&'a str>,
+    /// The file that the report goes to as a page for a browser.
+    pub page: Option<&'a str>,
 }
 
 /// Reads the words of the command line, of which the first is the program's name. Help and the version are
@@ -70,6 +79,7 @@ pub struct Choice<'a> {
 pub fn choose<'a, S: AsStr>(alloc: Global, words: &'a [S]) -> Result<Choice<'a>, Error>
     ensures fields { IfOk result (λ choice. IsChoiceOf choice (matches_of command_line (map S.text words.entry.now))) }
     ensures workers { IfOk result (λ choice. IfSome choice.workers (λ n. (1 ≤ n) × (n ≤ 16))) }
+    ensures progress { IfOk result (λ choice. IfSome choice.progress (λ n. (1 ≤ n) × (n ≤ 86400))) }
     // Refused exactly where clap's rules for these arguments refuse the words, and by their kind.
     ensures refused { FailsBy (fault_of command_line (map S.text words.entry.now)) result }
 {
@@ -91,6 +101,9 @@ pub fn choose<'a, S: AsStr>(alloc: Global, words: &'a [S]) -> Result<Choice<'a>,
         bad_blocks: matches.get_str("bad-blocks"),
         bad_blocks_size: matches.get_str("bad-blocks-size"),
         map: matches.get_flag("map"),
+        progress: matches.get_one::<u32>("progress"),
+        json: matches.get_str("json"),
+        page: matches.get_str("page"),
     })
 }
 
@@ -134,7 +147,10 @@ fn command<'a>(alloc: Global) -> Result<Command<'a>, AllocError>
         .arg(stop_fd_arg(alloc))?
         .arg(bad_blocks_arg(alloc))?
         .arg(bad_blocks_size_arg(alloc))?
-        .arg(map_arg(alloc))
+        .arg(map_arg(alloc))?
+        .arg(progress_arg(alloc))?
+        .arg(json_arg(alloc))?
+        .arg(page_arg(alloc))
 }
 
 fn job_arg<'a>(alloc: Global) -> Arg<'a>
@@ -300,4 +316,38 @@ fn map_arg<'a>(alloc: Global) -> Arg<'a>
         .action(ArgAction::SetTrue)
         .value_parser(value_parser!(bool))
         .help("Show where each file was bad or failed, also where standard output is no terminal")
+}
+
+fn progress_arg<'a>(alloc: Global) -> Arg<'a>
+    ensures rule { rule_of result ≡ progress_rule }
+    ensures local { result.global ≡ false }
+{
+    Arg::new(alloc, "progress")
+        .long("progress")
+        .value_name("SECONDS")
+        .action(ArgAction::Set)
+        .value_parser(value_parser!(u32).range(1..=86400))
+        .help("Print each so many seconds how far the run is, from 1 to 86400")
+}
+
+fn json_arg<'a>(alloc: Global) -> Arg<'a>
+    ensures rule { rule_of result ≡ json_rule }
+    ensures local { result.global ≡ false }
+{
+    Arg::new(alloc, "json")
+        .long("json")
+        .value_name("FILE")
+        .action(ArgAction::Set)
+        .help("Where to write the report as JSON")
+}
+
+fn page_arg<'a>(alloc: Global) -> Arg<'a>
+    ensures rule { rule_of result ≡ page_rule }
+    ensures local { result.global ≡ false }
+{
+    Arg::new(alloc, "page")
+        .long("page")
+        .value_name("FILE")
+        .action(ArgAction::Set)
+        .help("Where to write the report as a page for a browser")
 }

@@ -52,6 +52,15 @@ is_call plan engine next kept id io ticket.Probe answer job planned leaves scrip
           ap (λ (b : Bool). cond b (asked (next_reply engine) engine.memory ticket.Probe io.piece (replicate io.piece.len 0)).bytes (bytes_read kept id)) (eq-eqb id id refl)
           ∙ sym leaves.bytes;
     }
+is_call plan engine next kept id io ticket.ReadCheck answer job planned leaves script calls =
+    let after = called plan (known_engine engine kept) id ticket.ReadCheck io in record {
+      outcome = sym leaves.outcome;
+      leaves = same_engine next.memory engine.memory next.script engine.script next.calls (suc engine.calls) after.engine.read_back
+          leaves.memory script (omega (arith, calls));
+      bytes = λ h.
+          ap (λ (b : Bool). cond b (asked (next_reply engine) engine.memory ticket.ReadCheck io.piece (replicate io.piece.len 0)).bytes (bytes_read kept id)) (eq-eqb id id refl)
+          ∙ sym leaves.bytes;
+    }
 is_call plan engine next kept id io ticket.Write answer job planned leaves script calls =
     let after = called plan (known_engine engine kept) id ticket.Write io in
     let left : Leaves (asked (next_reply engine) engine.memory ticket.Write io.piece (content_of_io plan io)) answer next =

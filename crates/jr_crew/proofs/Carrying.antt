@@ -13,7 +13,7 @@ use Rattle.jr_model.specs.declared.events.Started.{Started}
 use Rattle.jr_model.specs.declared.tickets.Ticket.{Ticket}
 use Rattle.jr_model.specs.declared.tickets.TicketKind.{TicketKind}
 use Rattle.jr_model.specs.declared.tickets.TicketKind.TheVariants as ticket
-use Rattle.jr_model.specs.History.{first_given, started, end_of, outcome_of, is_verdict_on, is_judged, is_probe, ended_whole}
+use Rattle.jr_model.specs.History.{first_given, started, end_of, outcome_of, is_verdict_on, is_judged, is_judged_kind, ended_whole}
 use Rattle.jr_model.specs.Judgement.{verdict_of}
 use Rattle.jr_model.specs.Legal.{is_legal, may_happen}
 use Rattle.jr_model.specs.Plan.{Plan}
@@ -79,11 +79,15 @@ whole_ended ticket.Write how h = cc
 whole_ended ticket.Probe Whole h = refl
 whole_ended ticket.Probe Failed h = cc
 whole_ended ticket.Probe (Short n) h = cc
+whole_ended ticket.ReadCheck Whole h = refl
+whole_ended ticket.ReadCheck Failed h = cc
+whole_ended ticket.ReadCheck (Short n) h = cc
 
-probe_room : (kind : TicketKind) (t : Ticket) (n : ℕ) → is_probe kind ≡ true → length (asked_with kind t (replicate n 0)) ≡ n
-probe_room ticket.Probe t n h = length-replicate n 0
-probe_room ticket.Read t n h = cc
-probe_room ticket.Write t n h = cc
+judged_room : (kind : TicketKind) (t : Ticket) (n : ℕ) → is_judged_kind kind ≡ true → length (asked_with kind t (replicate n 0)) ≡ n
+judged_room ticket.Probe t n h = length-replicate n 0
+judged_room ticket.ReadCheck t n h = length-replicate n 0
+judged_room ticket.Read t n h = cc
+judged_room ticket.Write t n h = cc
 
 -- a turn of worker 0
 module _ (plan : Plan) (history begun : List Event) (io : Started) (engine next : EngineState) (answer : AnswerParts) (planned : IsPlanned plan) (legal : is_legal plan history ≡ true) (chosen : IsChosen plan 0 history begun (Some io)) (asked : Answers engine (next_of plan history io) (buffer_for (next_of plan history io)) answer next) where
@@ -101,13 +105,13 @@ module _ (plan : Plan) (history begun : List Event) (io : Started) (engine next 
   verdict_legal whole =
       let t = next_of plan history io in
       let ended = begun ++ End t.worker t.id answer.outcome ∷ [] in
-      let probe : is_probe io.kind ≡ true = judged_probe io.kind answer.outcome whole in
-      let room : length answer.bytes ≡ t.piece.len = asked.room ∙ probe_room io.kind t io.piece.len probe in
+      let judged : is_judged_kind io.kind ≡ true = judged_probe io.kind answer.outcome whole in
+      let room : length answer.bytes ≡ t.piece.len = asked.room ∙ judged_room io.kind t io.piece.len judged in
       may_judge plan ended t 0 answer.bytes planned ended_legal
       (own_then plan begun t t.worker t.id answer.outcome (chosen_own plan 0 history begun io planned legal chosen))
       (unjudged_then begun t.worker t.id t.id answer.outcome (chosen_unjudged plan 0 history begun io planned legal chosen))
       (ap ended_whole (outcome_then begun t.worker t.id answer.outcome [] (chosen_unended plan 0 history begun io planned legal chosen)) ∙ whole_ended io.kind answer.outcome whole)
-      probe (omega (arith, room))
+      judged (omega (arith, room))
 
   -- the longer history is legal
   pub turn_legal : is_legal plan (begun ++ ended_with (next_of plan history io) answer.outcome answer.bytes) ≡ true

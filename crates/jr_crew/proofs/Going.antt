@@ -1,22 +1,16 @@
 -- One worker over a right memory goes on as the serial history does: what a take appends are its next choices.
 use Rattle.std.proofs.Common.{◌≡◌, ℕ, zero, suc, List, [], ◌∷◌, ◌++◌, length, true, false, refl, sym, ◌∙◌, ap, subst, append_assoc, append-nil}
 use Rattle.std.specs.Prelude.{Option, Some, None}
-use Rattle.jr_model.specs.declared.blocks.Dir.{Dir}
-use Rattle.jr_model.specs.declared.blocks.Dir.TheVariants as direction
 use Rattle.jr_model.specs.declared.events.Event.{Event}
 use Rattle.jr_model.specs.declared.events.Event.TheVariants.{Issue, Probe, Skip, End, Verdict}
-use Rattle.jr_model.specs.declared.events.Outcome.TheVariants.{Whole}
 use Rattle.jr_model.specs.declared.events.Started.{Started}
-use Rattle.jr_model.specs.declared.events.Verdict.TheVariants.{Good}
-use Rattle.jr_model.specs.declared.tickets.TicketKind.{TicketKind}
-use Rattle.jr_model.specs.declared.tickets.TicketKind.TheVariants as ticket
 use Rattle.jr_model.specs.Choice.{choice}
-use Rattle.jr_model.specs.History.{started, started_by, kind_for}
+use Rattle.jr_model.specs.History.{started, started_by}
 use Rattle.jr_model.specs.Legal.{is_legal}
 use Rattle.jr_model.specs.Machine.{Appends, is_skip}
 use Rattle.jr_model.specs.Plan.{Plan}
 use Rattle.jr_model.specs.Replies.{FileBytes}
-use Rattle.jr_model.specs.Serial.{carried_out, goes_on, serial_after, serial_history}
+use Rattle.jr_model.specs.Serial.{carried_out, followed_by, goes_on, memory_after, serial_after, serial_history}
 use Rattle.jr_model.proofs.LegalLaws.{is_legal-more, choice_may_happen}
 use Rattle.jr_model.specs.PlanFacts.{IsPlanned}
 use Rattle.jr_laws_bytes.specs.Memory.{HoldsLastWrites}
@@ -27,39 +21,27 @@ use Rattle.jr_laws_steps.proofs.StartedLemmas.{length-started-other}
 use Rattle.jr_board.specs.Takes.{last_started}
 use Rattle.jr_board.proofs.Keeping.{by_is_skip, last-skip}
 use Rattle.jr_crew.proofs.Chosen.{IsStep, choice_steps}
+use Rattle.jr_crew.proofs.Remembering.{memory_step}
 
 -- the serial history goes on from here
 pub record IsAhead (plan : Plan) (history : List Event) : Type 0 where
   pub limit : ℕ
   pub ahead : serial_history plan ≡ serial_after limit plan history
 
--- what is appended behind an I/O or check that is carried out
-abbrev pub tail_for : ℕ → TicketKind → List Event
-tail_for io ticket.Read = End 0 io Whole ∷ []
-tail_for io ticket.Write = End 0 io Whole ∷ []
-tail_for io ticket.Probe = End 0 io Whole ∷ Verdict 0 io Good ∷ []
-
 none_some : (e : Event) → None ≡ Some e → ⊥
 none_some e h = cc
 
 -- a choice that is carried out
-ahead_by : (plan : Plan) (history : List Event) (e : Event) (limit : ℕ) → IsPlanned plan → choice plan history 0 ≡ Some e → serial_history plan ≡ serial_after limit plan history → IsAhead plan (history ++ carried_out (length (started history)) e)
+ahead_by : (plan : Plan) (history : List Event) (e : Event) (limit : ℕ) → IsPlanned plan → choice plan history 0 ≡ Some e → serial_history plan ≡ serial_after limit plan history → IsAhead plan (history ++ carried_out plan history e)
 ahead_by plan history e zero planned chosen ahead =
     absurd (none_some e (sym (serial_stops_all plan planned) ∙ ap (λ (h : List Event). choice plan h 0) ahead ∙ chosen))
 ahead_by plan history e (suc limit) planned chosen ahead = record {
   limit = limit;
-  ahead = ahead ∙ ap (goes_on (serial_after limit plan) history) chosen;
+  ahead = ahead ∙ ap (goes_on plan (serial_after limit plan) history) chosen;
 }
 
-one_ahead : (plan : Plan) (history : List Event) (e : Event) → IsPlanned plan → choice plan history 0 ≡ Some e → IsAhead plan history → IsAhead plan (history ++ carried_out (length (started history)) e)
+one_ahead : (plan : Plan) (history : List Event) (e : Event) → IsPlanned plan → choice plan history 0 ≡ Some e → IsAhead plan history → IsAhead plan (history ++ carried_out plan history e)
 one_ahead plan history e planned chosen here = ahead_by plan history e here.limit planned chosen here.ahead
-
-carried_skip : (io : ℕ) (e : Event) → is_skip e ≡ true → carried_out io e ≡ e ∷ []
-carried_skip io (Skip worker write) skip = refl
-carried_skip io (Issue worker dir write piece) skip = cc
-carried_skip io (Probe worker write piece) skip = cc
-carried_skip io (End worker id outcome) skip = cc
-carried_skip io (Verdict worker id verdict) skip = cc
 
 skip_starts : (e : Event) → is_skip e ≡ true → started_by e ≡ None
 skip_starts (Skip worker write) skip = refl
@@ -76,24 +58,10 @@ starts_or_skips (Probe worker write piece) step other none = cc
 starts_or_skips (End worker id outcome) step other none = step
 starts_or_skips (Verdict worker id verdict) step other none = step
 
-abbrev tail_of : ℕ → Option Started → List Event
-tail_of io None = []
-tail_of io (Some s) = tail_for io s.kind
-
-dir_tail : (io : ℕ) (dir : Dir) → End 0 io Whole ∷ [] ≡ tail_for io (kind_for dir)
-dir_tail io direction.Read = refl
-dir_tail io direction.Write = refl
-
-carried_start : (io : ℕ) (e : Event) (s : Started) → started_by e ≡ Some s → carried_out io e ≡ e ∷ tail_for io s.kind
-carried_start io (Issue worker dir write piece) s starts =
-    let e = Issue worker dir write piece in
-    ap (λ (rest : List Event). e ∷ rest) (dir_tail io dir) ∙ ap (λ (o : Option Started). e ∷ tail_of io o) starts
-carried_start io (Probe worker write piece) s starts =
-    let e = Probe worker write piece in
-    ap (λ (o : Option Started). e ∷ tail_of io o) starts
-carried_start io (Skip worker write) s starts = cc
-carried_start io (End worker id outcome) s starts = cc
-carried_start io (Verdict worker id verdict) s starts = cc
+-- what it appends, by what it starts
+carried_by : (plan : Plan) (history : List Event) (e : Event) (o : Option Started) → started_by e ≡ o → carried_out plan history e ≡ e ∷ followed_by plan (memory_after plan history) (length (started history)) o
+carried_by plan history e o starts =
+    ap (λ (s : Option Started). e ∷ followed_by plan (memory_after plan history) (length (started history)) s) starts
 
 -- where a take starts nothing
 pub ahead_none : (plan : Plan) (before events : List Event) → IsPlanned plan → Appends plan 0 before events → last_started events ≡ None → IsAhead plan before → IsAhead plan (before ++ events)
@@ -102,7 +70,7 @@ ahead_none plan before (e ∷ events) planned appends none here =
     by_is_skip e (Appends plan 0 (before ++ e ∷ []) events) (events ≡ []) (IsAhead plan (before ++ e ∷ events)) appends.1
     (λ (skip : is_skip e ≡ true) (more : Appends plan 0 (before ++ e ∷ []) events).
     let next : IsAhead plan (before ++ e ∷ []) =
-    subst (λ (xs : List Event). IsAhead plan (before ++ xs)) (carried_skip (length (started before)) e skip) (one_ahead plan before e planned appends.0 here) in
+    subst (λ (xs : List Event). IsAhead plan (before ++ xs)) (carried_by plan before e None (skip_starts e skip)) (one_ahead plan before e planned appends.0 here) in
     subst (λ (h : List Event). IsAhead plan h) (append_assoc before (e ∷ []) events)
     (ahead_none plan (before ++ e ∷ []) events planned more (sym (last-skip e events skip) ∙ none) next))
     (λ (other : is_skip e ≡ false) (last : events ≡ []).
@@ -110,28 +78,34 @@ ahead_none plan before (e ∷ events) planned appends none here =
     absurd (starts_or_skips e (choice_steps plan before 0 e (numbered_of plan planned) appends.0) other starts))
 
 -- where a take starts something, which is carried out
-pub ahead_some : (plan : Plan) (before events : List Event) (s : Started) → IsPlanned plan → Appends plan 0 before events → last_started events ≡ Some s → IsAhead plan before → IsAhead plan ((before ++ events) ++ tail_for (length (started before)) s.kind)
-ahead_some plan before [] s planned appends starts here = cc
-ahead_some plan before (e ∷ events) s planned appends starts here =
+pub ahead_some : (plan : Plan) (before events : List Event) (s : Started) → IsPlanned plan → is_legal plan before ≡ true → Appends plan 0 before events → last_started events ≡ Some s → IsAhead plan before → IsAhead plan ((before ++ events) ++ followed_by plan (memory_after plan before) (length (started before)) (Some s))
+ahead_some plan before [] s planned legal appends starts here = cc
+ahead_some plan before (e ∷ events) s planned legal appends starts here =
     let id = length (started before) in
-    by_is_skip e (Appends plan 0 (before ++ e ∷ []) events) (events ≡ []) (IsAhead plan ((before ++ e ∷ events) ++ tail_for id s.kind)) appends.1
+    let memory = memory_after plan before in
+    let Goal : ℕ → List FileBytes → Type 0 = λ n m. IsAhead plan (((before ++ e ∷ []) ++ events) ++ followed_by plan m n (Some s)) in
+    let numbered = numbered_of plan planned in
+    by_is_skip e (Appends plan 0 (before ++ e ∷ []) events) (events ≡ []) (IsAhead plan ((before ++ e ∷ events) ++ followed_by plan memory id (Some s))) appends.1
     (λ (skip : is_skip e ≡ true) (more : Appends plan 0 (before ++ e ∷ []) events).
     let next : IsAhead plan (before ++ e ∷ []) =
-    subst (λ (xs : List Event). IsAhead plan (before ++ xs)) (carried_skip id e skip) (one_ahead plan before e planned appends.0 here) in
-    subst (λ (h : List Event). IsAhead plan (h ++ tail_for id s.kind)) (append_assoc before (e ∷ []) events)
-    (subst (λ (n : ℕ). IsAhead plan (((before ++ e ∷ []) ++ events) ++ tail_for n s.kind)) (length-started-other before e (skip_starts e skip))
-    (ahead_some plan (before ++ e ∷ []) events s planned more (sym (last-skip e events skip) ∙ starts) next)))
+    subst (λ (xs : List Event). IsAhead plan (before ++ xs)) (carried_by plan before e None (skip_starts e skip)) (one_ahead plan before e planned appends.0 here) in
+    let legal_next = is_legal-more plan before e legal (choice_may_happen plan before 0 e numbered appends.0) in
+    let rest : Goal (length (started (before ++ e ∷ []))) (memory_after plan (before ++ e ∷ [])) =
+    ahead_some plan (before ++ e ∷ []) events s planned legal_next more (sym (last-skip e events skip) ∙ starts) next in
+    subst (λ (h : List Event). IsAhead plan (h ++ followed_by plan memory id (Some s))) (append_assoc before (e ∷ []) events)
+    (subst (λ (n : ℕ). Goal n memory) (length-started-other before e (skip_starts e skip))
+    (subst (λ (m : List FileBytes). Goal (length (started (before ++ e ∷ []))) m) (memory_step plan before e legal (choice_steps plan before 0 e numbered appends.0)) rest)))
     (λ (other : is_skip e ≡ false) (last : events ≡ []).
     let begins : started_by e ≡ Some s = subst (λ (rest : List Event). last_started (e ∷ rest) ≡ Some s) last starts in
-    let next : IsAhead plan (before ++ e ∷ tail_for id s.kind) =
-    subst (λ (xs : List Event). IsAhead plan (before ++ xs)) (carried_start id e s begins) (one_ahead plan before e planned appends.0 here) in
-    subst (λ (rest : List Event). IsAhead plan ((before ++ e ∷ rest) ++ tail_for id s.kind)) (sym last)
-    (subst (λ (h : List Event). IsAhead plan h) (sym (append_assoc before (e ∷ []) (tail_for id s.kind))) next))
+    let next : IsAhead plan (before ++ e ∷ followed_by plan memory id (Some s)) =
+    subst (λ (xs : List Event). IsAhead plan (before ++ xs)) (carried_by plan before e (Some s) begins) (one_ahead plan before e planned appends.0 here) in
+    subst (λ (rest : List Event). IsAhead plan ((before ++ e ∷ rest) ++ followed_by plan memory id (Some s))) (sym last)
+    (subst (λ (h : List Event). IsAhead plan h) (sym (append_assoc before (e ∷ []) (followed_by plan memory id (Some s)))) next))
 
 -- at the end of the choices the history is the serial one
 ends_by : (plan : Plan) (history : List Event) (limit : ℕ) → choice plan history 0 ≡ None → serial_history plan ≡ serial_after limit plan history → history ≡ serial_history plan
 ends_by plan history zero none ahead = sym ahead
-ends_by plan history (suc limit) none ahead = sym (ahead ∙ ap (goes_on (serial_after limit plan) history) none)
+ends_by plan history (suc limit) none ahead = sym (ahead ∙ ap (goes_on plan (serial_after limit plan) history) none)
 
 pub ahead_ends : (plan : Plan) (history : List Event) → choice plan history 0 ≡ None → IsAhead plan history → history ≡ serial_history plan
 ahead_ends plan history none here = ends_by plan history here.limit none here.ahead

@@ -10,6 +10,7 @@ use Rattle.jr_model.specs.History.{started, outcome_of, is_judged}
 use Rattle.jr_model.specs.Legal.{is_complete}
 use Rattle.jr_model.specs.Plan.{Plan}
 use Rattle.jr_model.specs.Tickets.{ticket_fits}
+use Rattle.jr_header.specs.Served.{ExpectsOwn}
 use Rattle.jr_tickets.specs.Kept.{IsOwn}
 use Rattle.jr_tickets.specs.Tickets.{ticket_of}
 use Rattle.jr_board.specs.declared.takes.Take.TheVariants as take
@@ -24,6 +25,7 @@ no_wait : (kind : TicketKind) (t : Ticket) → take.Wait ≡ handing kind t → 
 no_wait ticket.Read t h = cc
 no_wait ticket.Write t h = cc
 no_wait ticket.Probe t h = cc
+no_wait ticket.ReadCheck t h = cc
 
 -- where all is settled, no take says to wait
 pub never_waits : (plan : Plan) (before after : List Event) → AreSettled before → IsTaken plan 0 before after take.Wait → WaitsRightly plan 0 after take.Wait → ⊥
@@ -39,11 +41,13 @@ io_of : (kind : TicketKind) (t next : Ticket) → take.Io t ≡ handing kind nex
 io_of ticket.Read t next h = cc
 io_of ticket.Write t next h = cc
 io_of ticket.Probe t next h = cc
+io_of ticket.ReadCheck t next h = cc
 
 probe_of : (kind : TicketKind) (t next : Ticket) → take.Probe t ≡ handing kind next → t ≡ next
 probe_of ticket.Read t next h = cc
 probe_of ticket.Write t next h = cc
 probe_of ticket.Probe t next h = cc
+probe_of ticket.ReadCheck t next h = cc
 
 no_io : (complete : Bool) (t : Ticket) → take.Io t ≡ answer_with complete None → ⊥
 no_io true t h = cc
@@ -73,8 +77,8 @@ handed_probe plan before after t taken = by taken.0 taken.1 taken.2
     by None chosen is = absurd (no_probe (is_complete plan after) t is)
 
 -- and it is open
-pub handed_open : (desk after : DeskState) (t : Ticket) → IsBetweenTurns desk → IsHanded desk.plan desk.history after.history t → after.plan ≡ desk.plan → after.is_stopped ≡ desk.is_stopped → ticket_fits t ≡ true → IsOpen after t
-handed_open desk after t between handed plan stop fits =
+pub handed_open : (desk after : DeskState) (t : Ticket) → IsBetweenTurns desk → IsHanded desk.plan desk.history after.history t → after.plan ≡ desk.plan → after.is_stopped ≡ desk.is_stopped → ticket_fits t ≡ true → ExpectsOwn t → IsOpen after t
+handed_open desk after t between handed plan stop fits expects =
     let io = handed.0 in
     let chosen = handed.1 in
     let is = handed.2 in record {
@@ -82,6 +86,7 @@ handed_open desk after t between handed plan stop fits =
           (subst (λ (x : Ticket). IsOwn desk.plan after.history x) (sym is)
           (chosen_own desk.plan 0 desk.history after.history io between.planned between.legal chosen));
       fits = fits;
+      expects = expects;
       unended =
           ap (λ (x : Ticket). outcome_of after.history x.id) is
           ∙ chosen_unended desk.plan 0 desk.history after.history io between.planned between.legal chosen;

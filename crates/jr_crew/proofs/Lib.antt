@@ -10,6 +10,7 @@ pub mod Going
 pub mod Handing
 pub mod Matching
 pub mod Numbering
+pub mod Remembering
 pub mod Running
 pub mod Serially
 pub mod Settling

@@ -109,6 +109,8 @@ kept_other plan engine kept id io ticket.Read s other =
     ap (λ (b : Bool). cond b (asked (next_reply engine) engine.memory ticket.Read s.piece (replicate s.piece.len 0)).bytes (bytes_read kept io)) other
 kept_other plan engine kept id io ticket.Probe s other =
     ap (λ (b : Bool). cond b (asked (next_reply engine) engine.memory ticket.Probe s.piece (replicate s.piece.len 0)).bytes (bytes_read kept io)) other
+kept_other plan engine kept id io ticket.ReadCheck s other =
+    ap (λ (b : Bool). cond b (asked (next_reply engine) engine.memory ticket.ReadCheck s.piece (replicate s.piece.len 0)).bytes (bytes_read kept io)) other
 kept_other plan engine kept id io ticket.Write s other = refl
 
 -- what has ended whole after an end had before, or is what ended
@@ -192,7 +194,7 @@ module _ (plan : Plan) (inline : Bool) (history : List Event) (worker : ℕ) (pl
         let so = judged_so (is_to_judge call.answer) (answer_verdict call.answer) v (sym given ∙ noted) in
         let whole : is_whole_check s.kind call.answer.outcome ≡ true = ap (λ (t : Ticket). is_whole_check t.kind call.answer.outcome) (sym call.asked.ticket) ∙ so.0 in
         ap (verdict_on plan s) (is.bytes whole)
-        ∙ verdict_is plan s job.0 s.kind call.answer.outcome call.answer.bytes job.2.planned whole
+        ∙ verdict_is plan s job.0 call.answer.bytes job.2.planned
         ∙ ap (λ (t : Ticket). verdict_of t.method t.write t.piece t.expected call.answer.bytes) (sym call.asked.ticket)
         ∙ so.1
 

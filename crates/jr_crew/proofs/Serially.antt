@@ -1,5 +1,5 @@
 -- Over a fresh memory that keeps what is written, each call ends whole and each check is good.
-use Rattle.std.proofs.Common.{◌≡◌, ℕ, ◌-◌, ◌*◌, ◌<◌, List, [], ◌∷◌, ◌++◌, length, drop, Bool, true, false, cond, refl, sym, ◌∙◌, ap, subst, arith, append_assoc}
+use Rattle.std.proofs.Common.{◌≡◌, ℕ, ◌-◌, ◌*◌, ◌<◌, List, [], ◌∷◌, ◌++◌, length, drop, true, cond, refl, sym, ◌∙◌, ap, subst, arith, append_assoc}
 use Rattle.std.specs.Prelude.{Option, Some, slice_get, nat_lt, IsTrue}
 use Rattle.std.proofs.lemmas.Bool.{cond_both, ltb-true}
 use Rattle.std.proofs.lemmas.List.{length-take-le, length-drop}
@@ -15,13 +15,13 @@ use Rattle.jr_model.specs.declared.replies.Reply.TheVariants.{Pass}
 use Rattle.jr_model.specs.declared.tickets.TicketKind.{TicketKind}
 use Rattle.jr_model.specs.declared.tickets.TicketKind.TheVariants as ticket
 use Rattle.jr_model.specs.declared.workloads.Draw.{Draw}
-use Rattle.jr_model.specs.History.{started, is_probe, is_write}
+use Rattle.jr_model.specs.History.{started, is_judged_kind, is_probe, is_write}
 use Rattle.jr_model.specs.Judgement.{verdict_of}
 use Rattle.jr_model.specs.Legal.{is_legal}
 use Rattle.jr_model.specs.Machine.{content_of_io, verdict_on, work_of}
-use Rattle.jr_model.specs.Plan.{Plan, SubJob}
+use Rattle.jr_model.specs.Plan.{Plan, SubJob, clone_of}
 use Rattle.jr_model.specs.Replies.{EngineState, FileBytes, asked, covers, memory_with, outcome_for, scripted_reply, stored, stored_in}
-use Rattle.jr_model.specs.Serial.{serial_history}
+use Rattle.jr_model.specs.Serial.{ends_as, followed_by, memory_after, serial_history, stored_for, with_io}
 use Rattle.jr_model.specs.PlanFacts.{IsPlanned}
 use Rattle.jr_engines.specs.Answers.{AnswerParts, Answers, Leaves}
 use Rattle.jr_engines.proofs.MemoryLemmas.{covers_after_asked}
@@ -33,14 +33,14 @@ use Rattle.jr_laws_bytes.proofs.Memories.{has_range, covers_piece, covers-fresh_
 use Rattle.jr_laws_bytes.proofs.Verdicts.{good_on_own}
 use Rattle.jr_board.specs.Takes.{IsChosen}
 use Rattle.jr_board.proofs.Keeping.{chosen_at}
-use Rattle.jr_desk.proofs.Refusing.{judged_probe}
 use Rattle.jr_board.proofs.Serving.{content_is, verdict_is}
 use Rattle.jr_crew.specs.Runs.{IsFresh}
 use Rattle.jr_crew.specs.Turns.{IsTurn, IsLastTurn}
 use Rattle.jr_crew.proofs.Chosen.{chosen_worker, chosen_unended}
 use Rattle.jr_crew.proofs.Carrying.{next_of, buffer_for, ended_with, ended_by-with, begun_legal, ended_legal}
 use Rattle.jr_crew.proofs.Calling.{data_for}
-use Rattle.jr_crew.proofs.Going.{IsAhead, tail_for, ahead_none, ahead_some, ahead_ends, none_left, holds_appends}
+use Rattle.jr_crew.proofs.Going.{IsAhead, ahead_none, ahead_some, ahead_ends, none_left, holds_appends}
+use Rattle.jr_crew.proofs.Remembering.{memory_appends, memory_ended}
 use Rattle.jr_crew.proofs.Turning.{asked_room_for}
 
 -- a run over such a memory so far
@@ -49,6 +49,7 @@ pub record IsSerialSoFar (plan : Plan) (history : List Event) (engine : EngineSt
   pub script : engine.script ≡ []
   pub covers : CoversFiles plan engine.memory
   pub holds : HoldsLastWrites plan history engine.memory
+  pub memory : engine.memory ≡ memory_after plan history
   pub ahead : IsAhead plan history
 
 pub serial_first : (plan : Plan) (history : List Event) (engine : EngineState) → IsPlanned plan → history ≡ [] → IsFresh plan engine → IsSerialSoFar plan history engine
@@ -58,6 +59,7 @@ serial_first plan history engine planned none fresh =
       script = fresh.script;
       covers = subst (λ (m : List FileBytes). CoversFiles plan m) (sym fresh.memory) (covers-fresh_memory plan planned);
       holds = holds_none plan engine.memory;
+      memory = fresh.memory;
       ahead = record { limit = 2 * work_of plan; ahead = refl };
     } in
     subst (λ (h : List Event). IsSerialSoFar plan h engine) (sym none) first
@@ -87,13 +89,24 @@ ends_whole plan engine next id io ticket.Read answer covered room leaves =
     leaves.outcome ∙ all_moved (length (stored engine.memory io.piece.file io.piece.offset io.piece.len)) io.piece.len (stored_size engine.memory io.piece.file io.piece.offset io.piece.len covered)
 ends_whole plan engine next id io ticket.Probe answer covered room leaves =
     leaves.outcome ∙ all_moved (length (stored engine.memory io.piece.file io.piece.offset io.piece.len)) io.piece.len (stored_size engine.memory io.piece.file io.piece.offset io.piece.len covered)
+ends_whole plan engine next id io ticket.ReadCheck answer covered room leaves =
+    leaves.outcome ∙ all_moved (length (stored engine.memory io.piece.file io.piece.offset io.piece.len)) io.piece.len (stored_size engine.memory io.piece.file io.piece.offset io.piece.len covered)
 ends_whole plan engine next id io ticket.Write answer covered room leaves =
     leaves.outcome ∙ all_moved (length (data_for plan id io ticket.Write)) io.piece.len room
 
-gives_stored : (plan : Plan) (engine next : EngineState) (id : ℕ) (io : Started) (kind : TicketKind) (answer : AnswerParts) → is_probe kind ≡ true → LeavesAll plan engine next id io kind answer → answer.bytes ≡ stored engine.memory io.piece.file io.piece.offset io.piece.len
-gives_stored plan engine next id io ticket.Probe answer probe leaves = leaves.bytes
-gives_stored plan engine next id io ticket.Read answer probe leaves = cc
-gives_stored plan engine next id io ticket.Write answer probe leaves = cc
+gives_stored : (plan : Plan) (engine next : EngineState) (id : ℕ) (io : Started) (kind : TicketKind) (answer : AnswerParts) → is_judged_kind kind ≡ true → LeavesAll plan engine next id io kind answer → answer.bytes ≡ stored_for engine.memory io
+gives_stored plan engine next id io ticket.Probe answer judged leaves = leaves.bytes
+gives_stored plan engine next id io ticket.ReadCheck answer judged leaves = leaves.bytes
+gives_stored plan engine next id io ticket.Read answer judged leaves = cc
+gives_stored plan engine next id io ticket.Write answer judged leaves = cc
+
+-- and what it leaves in the memory
+leaves_with : (plan : Plan) (engine next : EngineState) (id : ℕ) (io : Started) (kind : TicketKind) (answer : AnswerParts) (job : SubJob) → clone_of plan io.write.clone ≡ Some job → LeavesAll plan engine next id io kind answer → next.memory ≡ cond (is_write kind) (memory_with engine.memory io.piece.file io.piece.offset (content_of_io plan io)) engine.memory
+leaves_with plan engine next id io ticket.Read answer job planned leaves = leaves.memory
+leaves_with plan engine next id io ticket.Probe answer job planned leaves = leaves.memory
+leaves_with plan engine next id io ticket.ReadCheck answer job planned leaves = leaves.memory
+leaves_with plan engine next id io ticket.Write answer job planned leaves =
+    leaves.memory ∙ ap (λ (bytes : List ℕ). memory_with engine.memory io.piece.file io.piece.offset bytes) (content_is plan id io job planned)
 
 -- the memory goes on to hold the last writes
 holds_end : (plan : Plan) (begun : List Event) (engine next : EngineState) (id : ℕ) (io : Started) (kind : TicketKind) (answer : AnswerParts) (job : SubJob) (draw : Draw) → IsPlanned plan → is_legal plan begun ≡ true → slice_get (started begun) id ≡ Some io → io.kind ≡ kind → IsDrawOf plan io.write io.piece job draw → CoversFiles plan engine.memory → HoldsLastWrites plan begun engine.memory → LeavesAll plan engine next id io kind answer → HoldsLastWrites plan (begun ++ End io.worker id answer.outcome ∷ []) next.memory
@@ -103,23 +116,25 @@ holds_end plan begun engine next id io ticket.Read answer job draw planned legal
 holds_end plan begun engine next id io ticket.Probe answer job draw planned legal at kind names covered holds leaves =
     subst (λ (m : List FileBytes). HoldsLastWrites plan (begun ++ End io.worker id answer.outcome ∷ []) m) (sym leaves.memory)
     (holds_read plan begun engine.memory io.worker id answer.outcome io legal at (ap is_write kind) holds)
+holds_end plan begun engine next id io ticket.ReadCheck answer job draw planned legal at kind names covered holds leaves =
+    subst (λ (m : List FileBytes). HoldsLastWrites plan (begun ++ End io.worker id answer.outcome ∷ []) m) (sym leaves.memory)
+    (holds_read plan begun engine.memory io.worker id answer.outcome io legal at (ap is_write kind) holds)
 holds_end plan begun engine next id io ticket.Write answer job draw planned legal at kind names covered holds leaves =
     let content = content_of_io plan io in
     let room : length content ≡ io.piece.len = length-content_of_io plan io job draw planned names in
-    let memory : next.memory ≡ memory_with engine.memory io.piece.file io.piece.offset content =
-    leaves.memory ∙ ap (λ (bytes : List ℕ). memory_with engine.memory io.piece.file io.piece.offset bytes) (content_is plan id io job names.planned) in
-    subst (λ (m : List FileBytes). HoldsLastWrites plan (begun ++ End io.worker id answer.outcome ∷ []) m) (sym memory)
+    subst (λ (m : List FileBytes). HoldsLastWrites plan (begun ++ End io.worker id answer.outcome ∷ []) m) (sym (leaves_with plan engine next id io ticket.Write answer job names.planned leaves))
     (holds_write plan begun engine.memory io.worker id answer.outcome io content planned legal at (ap is_write kind) covered holds (omega (arith, room)) (λ h. refl))
 
 -- what is appended is what the serial history has
 tail_with : TicketKind → ℕ → ℕ → Outcome → GivenVerdict → List Event
 tail_with kind worker id outcome said = End worker id outcome ∷ cond (is_whole_check kind outcome) (Verdict 0 id said ∷ []) []
 
-tail_is : (kind : TicketKind) (id : ℕ) → tail_with kind 0 id Whole Good ≡ tail_for id kind
+tail_is : (plan : Plan) (memory : List FileBytes) (id : ℕ) (io : Started) (kind : TicketKind) (said : GivenVerdict) → (is_probe kind ≡ true → said ≡ Good) → (is_judged_kind kind ≡ true → said ≡ verdict_on plan io (stored_for memory io)) → tail_with kind 0 id Whole said ≡ ends_as plan memory id io kind
 unfolding tail_with
-tail_is ticket.Read id = refl
-tail_is ticket.Write id = refl
-tail_is ticket.Probe id = refl
+tail_is plan memory id io ticket.Read said good stored = refl
+tail_is plan memory id io ticket.Write said good stored = refl
+tail_is plan memory id io ticket.Probe said good stored = ap (λ (v : GivenVerdict). End 0 id Whole ∷ Verdict 0 id v ∷ []) (good refl)
+tail_is plan memory id io ticket.ReadCheck said good stored = ap (λ (v : GivenVerdict). End 0 id Whole ∷ Verdict 0 id v ∷ []) (stored refl)
 
 -- a turn of worker 0
 module _ (plan : Plan) (history begun : List Event) (io : Started) (engine next : EngineState) (answer : AnswerParts) (planned : IsPlanned plan) (legal : is_legal plan history ≡ true) (chosen : IsChosen plan 0 history begun (Some io)) (asked_so : Answers engine (next_of plan history io) (buffer_for (next_of plan history io)) answer next) (sofar : IsSerialSoFar plan history engine) where
@@ -157,34 +172,55 @@ module _ (plan : Plan) (history begun : List Event) (io : Started) (engine next 
       subst (λ (h : List Event). HoldsLastWrites plan h engine.memory) (sym chosen.1)
       (holds_appends plan history chosen.0 engine.memory planned legal chosen.2 sofar.holds)
 
-  -- a check reads what its write put there
-  good : is_whole_check io.kind answer.outcome ≡ true → verdict_of (next_of plan history io).method (next_of plan history io).write (next_of plan history io).piece (next_of plan history io).expected answer.bytes ≡ Good
-  good check =
-      let job = drawn in
-      let id = length (started history) in
-      let probe : is_probe io.kind ≡ true = judged_probe io.kind answer.outcome check in
-      sym (verdict_is plan io job.0 io.kind answer.outcome answer.bytes job.2.planned check)
-      ∙ ap (verdict_on plan io)
-      (gives_stored plan engine next id io io.kind answer probe leaves
-      ∙ stored_check plan begun engine.memory id io planned legal_so sofar.covers holds_so here probe (chosen_unended plan 0 history begun io planned legal chosen))
-      ∙ good_on_own plan begun id io planned legal_so here
+  -- the verdict is that on the bytes that are there
+  said : GivenVerdict
+  said =
+      let t = next_of plan history io in
+      verdict_of t.method t.write t.piece t.expected answer.bytes
 
-  ended_so : ended_with (next_of plan history io) answer.outcome answer.bytes ≡ tail_for (length (started history)) io.kind
-  unfolding tail_with
+  on_stored : is_judged_kind io.kind ≡ true → said ≡ verdict_on plan io (stored_for engine.memory io)
+  unfolding said
+  on_stored judged =
+      let job = drawn in
+      sym (verdict_is plan io job.0 answer.bytes job.2.planned)
+      ∙ ap (verdict_on plan io) (gives_stored plan engine next (length (started history)) io io.kind answer judged leaves)
+
+  -- a check reads what its write put there
+  good : is_probe io.kind ≡ true → said ≡ Good
+  good probe =
+      let id = length (started history) in
+      on_stored (probe_judged io.kind probe)
+      ∙ ap (verdict_on plan io)
+      (stored_check plan begun engine.memory id io planned legal_so sofar.covers holds_so here probe (chosen_unended plan 0 history begun io planned legal chosen))
+      ∙ good_on_own plan begun id io planned legal_so here probe
+    where
+      probe_judged : (kind : TicketKind) → is_probe kind ≡ true → is_judged_kind kind ≡ true
+      probe_judged ticket.Probe h = refl
+      probe_judged ticket.ReadCheck h = refl
+      probe_judged ticket.Read h = cc
+      probe_judged ticket.Write h = cc
+
+  ended_so : ended_with (next_of plan history io) answer.outcome answer.bytes ≡ followed_by plan (memory_after plan history) (length (started history)) (Some io)
+  unfolding tail_with said
   ended_so =
       let id = length (started history) in
+      ap (λ (w : ℕ). tail_with io.kind w id answer.outcome said) (chosen_worker plan 0 history begun io planned chosen)
+      ∙ ap (λ (o : Outcome). tail_with io.kind 0 id o said) whole
+      ∙ tail_is plan engine.memory id io io.kind said good on_stored
+      ∙ ap (λ (m : List FileBytes). ends_as plan m id io io.kind) sofar.memory
+
+  -- the memory stays that of the history
+  memory_so : next.memory ≡ memory_after plan (begun ++ ended_with (next_of plan history io) answer.outcome answer.bytes)
+  memory_so =
+      let id = length (started history) in
+      let job = drawn in
       let t = next_of plan history io in
-      let said = verdict_of t.method t.write t.piece t.expected answer.bytes in
-      let judged : cond (is_whole_check io.kind answer.outcome) (Verdict 0 id said ∷ []) [] ≡ cond (is_whole_check io.kind answer.outcome) (Verdict 0 id Good ∷ []) [] =
-      where_good (is_whole_check io.kind answer.outcome) id said good in
-      ap (λ (xs : List Event). End io.worker id answer.outcome ∷ xs) judged
-      ∙ ap (λ (w : ℕ). tail_with io.kind w id answer.outcome Good) (chosen_worker plan 0 history begun io planned chosen)
-      ∙ ap (λ (o : Outcome). tail_with io.kind 0 id o Good) whole
-      ∙ tail_is io.kind id
-    where
-      where_good : (b : Bool) (n : ℕ) (v : GivenVerdict) → (b ≡ true → v ≡ Good) → cond b (Verdict 0 n v ∷ []) [] ≡ cond b (Verdict 0 n Good ∷ []) []
-      where_good true n v h = ap (λ (x : GivenVerdict). Verdict 0 n x ∷ []) (h refl)
-      where_good false n v h = refl
+      let kept : memory_after plan begun ≡ memory_after plan history =
+      ap (memory_after plan) chosen.1 ∙ memory_appends plan history chosen.0 planned legal chosen.2 in
+      leaves_with plan engine next id io io.kind answer job.0 job.2.planned leaves
+      ∙ ap (λ (m : List FileBytes). with_io plan m (Some io)) (sofar.memory ∙ sym kept)
+      ∙ sym (memory_ended plan begun io.worker id 0 io (is_whole_check io.kind answer.outcome) (verdict_of t.method t.write t.piece t.expected answer.bytes) legal_so here)
+      ∙ ap (λ (o : Outcome). memory_after plan (begun ++ End io.worker id o ∷ cond (is_whole_check io.kind answer.outcome) (Verdict 0 id (verdict_of t.method t.write t.piece t.expected answer.bytes) ∷ []) [])) (sym whole)
 
   holds_longer : HoldsLastWrites plan (begun ++ ended_with (next_of plan history io) answer.outcome answer.bytes) next.memory
   holds_longer =
@@ -211,10 +247,11 @@ module _ (plan : Plan) (history begun : List Event) (io : Started) (engine next 
     script = asked_so.script ∙ sofar.script;
     covers = next_covers;
     holds = holds_longer;
+    memory = memory_so;
     ahead =
         subst (λ (xs : List Event). IsAhead plan (begun ++ xs)) (sym ended_so)
-        (subst (λ (h : List Event). IsAhead plan (h ++ tail_for (length (started history)) io.kind)) (sym chosen.1)
-        (ahead_some plan history chosen.0 io planned chosen.2 (sym chosen.3) sofar.ahead));
+        (subst (λ (h : List Event). IsAhead plan (h ++ followed_by plan (memory_after plan history) (length (started history)) (Some io))) (sym chosen.1)
+        (ahead_some plan history chosen.0 io planned legal chosen.2 (sym chosen.3) sofar.ahead));
   }
 
 -- each turn goes on so

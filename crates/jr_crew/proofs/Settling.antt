@@ -10,7 +10,7 @@ use Rattle.jr_model.specs.declared.events.Outcome.TheVariants.{Whole, Failed, Sh
 use Rattle.jr_model.specs.declared.events.Started.{Started}
 use Rattle.jr_model.specs.declared.tickets.TicketKind.{TicketKind}
 use Rattle.jr_model.specs.declared.tickets.TicketKind.TheVariants as ticket
-use Rattle.jr_model.specs.History.{started, end_of, first_given, if_flying, in_flight, is_verdict_on, is_judged, is_probe, ended_whole, if_awaiting, awaiting}
+use Rattle.jr_model.specs.History.{started, end_of, first_given, if_flying, in_flight, is_verdict_on, is_judged, is_judged_kind, ended_whole, if_awaiting, awaiting}
 use Rattle.jr_model.proofs.SerialLaws.{first_given-append, any-append}
 use Rattle.jr_header.specs.Served.{is_whole_check}
 use Rattle.jr_laws_steps.proofs.PlaceLemmas.{keeps_none}
@@ -20,12 +20,15 @@ use Rattle.jr_crew.specs.Turns.{IsSettled, AreSettled}
 pub none_settled : AreSettled []
 none_settled id io at = cc
 
-whole_check : (kind : TicketKind) (o : Outcome) → (is_probe kind && ended_whole (Some o)) ≡ is_whole_check kind o
+whole_check : (kind : TicketKind) (o : Outcome) → (is_judged_kind kind && ended_whole (Some o)) ≡ is_whole_check kind o
 whole_check ticket.Read o = refl
 whole_check ticket.Write o = refl
 whole_check ticket.Probe Whole = refl
 whole_check ticket.Probe Failed = refl
 whole_check ticket.Probe (Short n) = refl
+whole_check ticket.ReadCheck Whole = refl
+whole_check ticket.ReadCheck Failed = refl
+whole_check ticket.ReadCheck (Short n) = refl
 
 no_flight : (history : List Event) (id : ℕ) (io : Started) → IsSettled history id io → if_flying history (id, io) ≡ None
 no_flight history id io settled = ap (λ (o : Option Outcome). cond (is_none o) (Some io) None) settled.ended
@@ -36,7 +39,7 @@ waits_not false judged h = refl
 
 no_wait : (history : List Event) (id : ℕ) (io : Started) → IsSettled history id io → if_awaiting history (id, io) ≡ None
 no_wait history id io settled =
-    ap (λ (o : Option Outcome). cond (is_probe io.kind && ended_whole o && not (is_judged history id)) (Some io) None) settled.ended
+    ap (λ (o : Option Outcome). cond (is_judged_kind io.kind && ended_whole o && not (is_judged history id)) (Some io) None) settled.ended
     ∙ ap (λ (b : Bool). cond (b && not (is_judged history id)) (Some io) None) (whole_check io.kind settled.outcome)
     ∙ ap (λ (b : Bool). cond b (Some io) None) (waits_not (is_whole_check io.kind settled.outcome) (is_judged history id) settled.judged)
 

@@ -70,6 +70,7 @@ one_failed false before now old counted is was = omega (arith, is, was)
 pub asked_room_for : (t : Ticket) (kind : TicketKind) (n : ℕ) → length (ticket_content t) ≡ n → length (asked_with kind t (replicate n 0)) ≡ n
 asked_room_for t ticket.Read n content = length-replicate n 0
 asked_room_for t ticket.Probe n content = length-replicate n 0
+asked_room_for t ticket.ReadCheck n content = length-replicate n 0
 asked_room_for t ticket.Write n content = content
 
 -- a turn of worker 0 whose engine is known
@@ -126,7 +127,7 @@ module _ (plan : Plan) (history begun : List Event) (io : Started) (old engine n
           io,
           at,
           match_true (io.worker == 0) (verdict_on plan io (bytes_read after_call.read_back id) ≡ said) (Unit {0}) by_worker
-              (ap (verdict_on plan io) (call.bytes whole) ∙ verdict_is plan io job.0 io.kind answer.outcome answer.bytes job.2.planned whole),
+              (ap (verdict_on plan io) (call.bytes whole) ∙ verdict_is plan io job.0 answer.bytes job.2.planned),
         ),
         call.leaves,
       ))

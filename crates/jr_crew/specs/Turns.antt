@@ -12,7 +12,7 @@ use Rattle.jr_model.specs.Replies.{EngineState}
 use Rattle.jr_model.specs.Tickets.{ticket_fits}
 use Rattle.jr_model.specs.PlanFacts.{IsPlanned}
 use Rattle.jr_engines.specs.Answers.{AnswerParts, Answers}
-use Rattle.jr_header.specs.Served.{asked_with, is_whole_check, is_to_judge, answer_verdict}
+use Rattle.jr_header.specs.Served.{ExpectsOwn, asked_with, is_whole_check, is_to_judge, answer_verdict}
 use Rattle.jr_tickets.specs.Kept.{IsOwn}
 use Rattle.jr_tickets.specs.Tickets.{ticket_of}
 use Rattle.jr_desk.specs.DeskState.{DeskState}
@@ -39,6 +39,7 @@ pub record IsBetweenTurns (desk : DeskState) : Type 0 where
 pub record IsOpen (desk : DeskState) (ticket : Ticket) : Type 0 where
   pub own : IsOwn desk.plan desk.history ticket
   pub fits : ticket_fits ticket ≡ true
+  pub expects : ExpectsOwn ticket
   pub unended : outcome_of desk.history ticket.id ≡ None
   pub unjudged : is_judged desk.history ticket.id ≡ false
   pub going : IsFalse desk.is_stopped

@@ -1,7 +1,7 @@
 ghost use Rattle.std.specs.Prelude.{◌≡◌, ◌++◌, ◌∷◌, [], true, Some, IfOk, IfErr, IfSome, OnOk, OnErr};
 ghost use Rattle.jr_model.specs.Tickets.{ticket_fits};
-ghost use Rattle.jr_header.specs.Served.{answer_verdict};
-ghost use Rattle.jr_board.specs.Takes.{is_fitting};
+ghost use Rattle.jr_header.specs.Served.{ExpectsOwn, answer_verdict};
+ghost use Rattle.jr_board.specs.Takes.{HandsOutOwn, is_fitting};
 ghost use Rattle.jr_crew.specs.Halts.{first_cause};
 
 use crate::halts::Halt;
@@ -40,6 +40,7 @@ pub struct Held<P: Naming> {
 impl<P: Naming> Held<P> {
     fn take(&mut self, worker: u32) -> Result<Take, DeskFault>
         ensures fits { IfOk result (λ answer. is_fitting answer ≡ true) }
+        ensures own { IfOk result HandsOutOwn }
         ensures err { OnErr result ((self.new.desk ≡ self.old.desk) × (self.new.halt ≡ self.old.halt)) }
         ensures memory { IfErr result (λ fault. fault ≡ DeskFault.Memory) }
     {
@@ -151,6 +152,7 @@ impl<'p, P: Naming> Shared<'p, P> {
     // anybody waits, for then something flies or awaits its verdict.
     pub fn next<R: Wait>(&self, rt: &R, worker: u32) -> Result<Option<Ticket>, Halt>
         ensures fits { IfOk result (λ ticket. IfSome ticket (λ t. ticket_fits t ≡ true)) }
+        ensures own { IfOk result (λ ticket. IfSome ticket ExpectsOwn) }
         ensures memory { IfErr result (λ halt. halt ≡ Halt.Memory) }
     {
         let held = self.enter(rt);
@@ -165,6 +167,7 @@ impl<'p, P: Naming> Shared<'p, P> {
         held: MutexGuard<'_, Held<P>>,
     ) -> Result<Option<Ticket>, Halt>
         ensures fits { IfOk result (λ ticket. IfSome ticket (λ t. ticket_fits t ≡ true)) }
+        ensures own { IfOk result (λ ticket. IfSome ticket ExpectsOwn) }
         ensures memory { IfErr result (λ halt. halt ≡ Halt.Memory) }
     {
         let mut held = held;
@@ -202,7 +205,8 @@ impl<'p, P: Naming> Shared<'p, P> {
         served: &Served,
         ruling: Option<&Ruling<'_>>,
     ) -> Result<Option<Ticket>, Halt>
-        ensures { IfOk result (λ ticket. IfSome ticket (λ t. ticket_fits t ≡ true)) }
+        ensures fits { IfOk result (λ ticket. IfSome ticket (λ t. ticket_fits t ≡ true)) }
+        ensures own { IfOk result (λ ticket. IfSome ticket ExpectsOwn) }
     {
         let mut held = self.enter(rt);
         held.end(served)?;

@@ -13,7 +13,7 @@ use crate::progress::{Progress, note_start, note_verdict};
 use crate::watch::{StopFlag, Watch, is_asked};
 use jr_desk::{Desk, Take};
 use jr_engines::Engine;
-use jr_header::{Served, room_for, rule, serve};
+use jr_header::{Served, room_for, rule, serve_own};
 use jr_model::{Event, Ticket};
 use jr_plan::Plan;
 use std::alloc::Global;
@@ -125,7 +125,7 @@ fn carry_out(
     ensures memory { IfErr result (λ fault. fault ≡ RunFault.Memory) }
 {
     let buffer = room_for(alloc, &ticket)?;
-    let served = serve(engine, ticket, buffer);
+    let served = serve_own(engine, ticket, buffer);
     end(desk, &served)?;
     judge(desk, &served, progress)
 }

@@ -1,7 +1,7 @@
 ghost use Rattle.std.specs.Prelude.{◌≡◌, ◌&&◌, true, replicate, vec_len, IfOk, IfSome, OnOk, Some, None, IfErr, if◌then◌else◌};
 ghost use Rattle.jr_model.specs.Tickets.{ticket_fits};
 ghost use Rattle.jr_handover.specs.Passes.{pass_state};
-ghost use Rattle.jr_header.specs.Served.{is_to_judge, answer_verdict};
+ghost use Rattle.jr_header.specs.Served.{ExpectsOwn, is_to_judge, answer_verdict};
 ghost use Rattle.jr_crew.specs.Working.{IsCalledFor, AreCallsFor, handed_on};
 
 use crate::channels::ChannelEnd;
@@ -9,7 +9,7 @@ use crate::halts::Halt;
 use crate::held::{Naming, Shared};
 use jr_books::Done;
 use jr_engines::Engine;
-use jr_header::{Served, rule, serve};
+use jr_header::{Served, rule, serve_own};
 use jr_model::{Ticket, Verdict};
 use std::alloc::Global;
 use std::sync::Wait;
@@ -89,16 +89,18 @@ fn carry_out<P: Naming, R: Wait>(
     ticket: Ticket,
     buffer: Vec<u8>,
 ) -> Result<CarriedOut, Halt>
-    requires { ticket_fits ticket ≡ true }
+    requires fits { ticket_fits ticket ≡ true }
+    requires own { ExpectsOwn ticket }
     ensures called { IfOk result (λ turn. IsCalledFor post.now.inline (state engine.old) turn.done (state engine.new)) }
     ensures fits { IfOk result (λ turn. IfSome turn.next (λ t. ticket_fits t ≡ true)) }
+    ensures own { IfOk result (λ turn. IfSome turn.next ExpectsOwn) }
 {
     if engine.calls() == u64::MAX {
         return Err(Halt::Books);
     }
     let mut buffer = buffer;
     clear(&mut buffer, &ticket)?;
-    let served = serve(engine, ticket, buffer);
+    let served = serve_own(engine, ticket, buffer);
     let outcome = served.outcome();
     let Settled {
         verdict,
@@ -137,6 +139,7 @@ fn settle<P: Naming, R: Wait>(
     ensures said { IfOk result (λ settled. settled.verdict
         ≡ (if post.now.inline && is_to_judge served then Some (answer_verdict served) else None)) }
     ensures fits { IfOk result (λ settled. IfSome settled.next (λ t. ticket_fits t ≡ true)) }
+    ensures own { IfOk result (λ settled. IfSome settled.next ExpectsOwn) }
     ensures handed { OnOk result (pass_state channel.new.pass ≡ handed_on post.now.inline served (pass_state channel.old.pass)) }
 {
     if !served.to_judge() {
@@ -165,6 +168,7 @@ fn judge<P: Naming, R: Wait>(rt: &R, post: &Post<'_, P>, served: Served) -> Resu
     requires { is_to_judge served ≡ true }
     ensures said { IfOk result (λ settled. settled.verdict ≡ Some (answer_verdict served)) }
     ensures fits { IfOk result (λ settled. IfSome settled.next (λ t. ticket_fits t ≡ true)) }
+    ensures own { IfOk result (λ settled. IfSome settled.next ExpectsOwn) }
 {
     let ruling = rule(&served);
     let verdict = ruling.verdict();

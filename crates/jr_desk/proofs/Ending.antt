@@ -42,6 +42,7 @@ abbrev read_by : TicketKind → ℕ → List ℕ → List (ℕ × List ℕ) → 
 read_by ticket.Write io bytes read_back = read_back
 read_by ticket.Read io bytes read_back = (io, bytes) ∷ read_back
 read_by ticket.Probe io bytes read_back = (io, bytes) ∷ read_back
+read_by ticket.ReadCheck io bytes read_back = (io, bytes) ∷ read_back
 
 -- what a call leaves, in the machine's state
 abbrev left_by : State → ℕ → ℕ → TicketKind → Asked → State
@@ -59,6 +60,7 @@ data_of plan id io kind = asked_with kind (ticket_of plan (id, io)) (replicate i
 ends_as : (plan : Plan) (s : State) (id : ℕ) (reply : Reply) (io : Started) (kind : TicketKind) (job : SubJob) → clone_of plan io.write.clone ≡ Some job → ends_by plan s id reply kind io ≡ left_by s io.worker id kind (asked reply s.memory kind io.piece (data_of plan id io kind))
 ends_as plan s id reply io ticket.Read job planned = refl
 ends_as plan s id reply io ticket.Probe job planned = refl
+ends_as plan s id reply io ticket.ReadCheck job planned = refl
 ends_as plan s id reply io ticket.Write job planned =
     ap (λ (bytes : List ℕ). left_by s io.worker id ticket.Write (asked_write reply s.memory io.piece bytes)) (sym (content_is plan id io job planned))
 
@@ -66,10 +68,12 @@ kept_read : (kind : TicketKind) (reads : List AnswerParts) (answer : AnswerParts
 kept_read ticket.Write reads answer = refl
 kept_read ticket.Read reads answer = ap (map (λ (a : AnswerParts). (a.ticket.id, a.bytes))) (reverse-append reads (answer ∷ []))
 kept_read ticket.Probe reads answer = ap (map (λ (a : AnswerParts). (a.ticket.id, a.bytes))) (reverse-append reads (answer ∷ []))
+kept_read ticket.ReadCheck reads answer = ap (map (λ (a : AnswerParts). (a.ticket.id, a.bytes))) (reverse-append reads (answer ∷ []))
 
 length-data : (plan : Plan) (id : ℕ) (io : Started) (kind : TicketKind) (job : SubJob) → clone_of plan io.write.clone ≡ Some job → length (asked_with ticket.Write (ticket_of plan (id, io)) []) ≡ io.piece.len → length (data_of plan id io kind) ≡ io.piece.len
 length-data plan id io ticket.Read job planned written = length-replicate io.piece.len 0
 length-data plan id io ticket.Probe job planned written = length-replicate io.piece.len 0
+length-data plan id io ticket.ReadCheck job planned written = length-replicate io.piece.len 0
 length-data plan id io ticket.Write job planned written = written
 
 none_of : (o : Option Outcome) → is_none o ≡ true → o ≡ None

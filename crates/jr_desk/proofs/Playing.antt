@@ -2,8 +2,8 @@
 use Rattle.std.proofs.Common.{◌≡◌, ℕ, ◌+◌, List, [], ◌∷◌, ◌++◌, length, map, Bool, true, false, ◌&&◌, cond, refl, sym, ◌∙◌, ap, subst, arith, inl, inr}
 use Rattle.std.specs.Prelude.{Option, Some, None, Result, Ok, Err, IfSome, IfOk, OnOk, IsTrue, IsFalse, slice_get, is_none, is_some, is_ok, nat_lt, ◌==◌, find, reverse}
 use Rattle.std.proofs.lemmas.Bool.{and_parts, cases_Bool, cond_both, eqb-true, lt-ltb, ltb-true}
-use Rattle.jr_model.specs.declared.blocks.Dir.{Dir}
-use Rattle.jr_model.specs.declared.blocks.Dir.TheVariants as direction
+use Rattle.jr_model.specs.declared.events.IssueKind.{IssueKind}
+use Rattle.jr_model.specs.declared.events.IssueKind.TheVariants as issue
 use Rattle.jr_model.specs.declared.events.Event.{Event}
 use Rattle.jr_model.specs.declared.events.Event.TheVariants.{Issue, Probe, Skip, End, Verdict}
 use Rattle.jr_model.specs.declared.events.Outcome.{Outcome}
@@ -15,8 +15,7 @@ use Rattle.jr_model.specs.declared.steps.DeskFault.TheVariants.{Memory, Stranger
 use Rattle.jr_model.specs.declared.steps.StepReply.{StepReply}
 use Rattle.jr_model.specs.declared.steps.StepReply.TheVariants as answer
 use Rattle.jr_model.specs.declared.tickets.Ticket.{Ticket}
-use Rattle.jr_model.specs.History.{started, kind_for, outcome_of, is_judged, is_probe, is_verdict_on, ended_whole}
-use Rattle.jr_model.specs.Honest.{IsWholeCheck}
+use Rattle.jr_model.specs.History.{started, kind_for, outcome_of, is_judged, is_judged_kind, is_verdict_on, ended_whole}
 use Rattle.jr_model.specs.Legal.{is_legal, is_complete}
 use Rattle.jr_model.specs.Machine.{State, Stepped, taken as taken_by, take_answer, machine_take, end_refusal, judge_refusal, is_judgeable, machine_judge, machine_judge_by, bytes_read, verdict_on}
 use Rattle.jr_model.specs.Plan.{Plan}
@@ -36,7 +35,7 @@ use Rattle.jr_tickets.proofs.OwnTickets.{got_ticket, tickets_count}
 use Rattle.jr_board.specs.declared.takes.Take.{Take}
 use Rattle.jr_board.specs.declared.takes.Take.TheVariants as take
 use Rattle.jr_desk.specs.DeskState.{DeskState}
-use Rattle.jr_desk.specs.Plays.{GoesOn, IsReady, KeepsReads, is_for, judge_reply, judged_desk, last_read, read_back_of, reply_for, state_of}
+use Rattle.jr_desk.specs.Plays.{GoesOn, IsReady, KeepsReads, is_for, judge_reply, judged_desk, last_read, read_back_of, reply_for, state_of, IsJudgeable}
 use Rattle.jr_desk.specs.Refusals.{judge_fault}
 use Rattle.jr_board.specs.Takes.{IsTaken, answer_with, handing, last_started, ticket_for}
 use Rattle.jr_board.proofs.Answering.{fits_by, no_ends}
@@ -66,9 +65,10 @@ idle_reply : (complete : Bool) → reply_for (answer_with complete None) ≡ con
 idle_reply true = refl
 idle_reply false = refl
 
-issue_reply : (dir : Dir) (t : Ticket) → reply_for (handing (kind_for dir) t) ≡ answer.Io t.id
-issue_reply direction.Read t = refl
-issue_reply direction.Write t = refl
+issue_reply : (dir : IssueKind) (t : Ticket) → reply_for (handing (kind_for dir) t) ≡ answer.Io t.id
+issue_reply issue.Read t = refl
+issue_reply issue.Write t = refl
+issue_reply issue.ReadCheck t = refl
 
 -- the desk's answer is the machine's
 take_reply : (plan : Plan) (history : List Event) (id : ℕ) (events : List Event) → reply_for (answer_with (is_complete plan history) (ticket_for plan id (last_started events))) ≡ take_answer plan history id events
@@ -197,22 +197,23 @@ verdict_at io (Probe worker write piece) h = cc
 verdict_at io (Skip worker write) h = cc
 verdict_at io (End worker id outcome) h = cc
 
-judged_whole : (plan : Plan) (history : List Event) (io : ℕ) → is_legal plan history ≡ true → is_judged history io ≡ true → (s : Started) × IsWholeCheck history io s
+judged_whole : (plan : Plan) (history : List Event) (io : ℕ) → is_legal plan history ≡ true → is_judged history io ≡ true → (s : Started) × IsJudgeable history io s
 judged_whole plan history io legal judged =
     let found = any_found (is_verdict_on io) history judged in
     let said = verdict_at io found.1 found.3 in
-    judged_check plan history found.0 said.0 io said.1 legal (found.2 ∙ ap Some said.2)
+    let check = judged_check plan history found.0 said.0 io said.1 legal (found.2 ∙ ap Some said.2) in
+    (check.0, (check.1, check.2, check.3))
 
-unjudged : (plan : Plan) (history : List Event) (io : ℕ) → is_legal plan history ≡ true → ((s : Started) → IsWholeCheck history io s → ⊥) → is_judged history io ≡ false
+unjudged : (plan : Plan) (history : List Event) (io : ℕ) → is_legal plan history ≡ true → ((s : Started) → IsJudgeable history io s → ⊥) → is_judged history io ≡ false
 unjudged plan history io legal nothing = elim (cases_Bool (is_judged history io)) [
   | inl judged ↦ let check = judged_whole plan history io legal judged in absurd (nothing check.0 check.1)
   | inr not_yet ↦ not_yet
 ]
 
-no_verdict : (history : List Event) (io : ℕ) (s : Started) → slice_get (started history) io ≡ Some s → ((x : Started) → IsWholeCheck history io x → ⊥) → (is_probe s.kind && ended_whole (outcome_of history io)) ≡ false
-no_verdict history io s at nothing = elim (cases_Bool (is_probe s.kind && ended_whole (outcome_of history io))) [
+no_verdict : (history : List Event) (io : ℕ) (s : Started) → slice_get (started history) io ≡ Some s → ((x : Started) → IsJudgeable history io x → ⊥) → (is_judged_kind s.kind && ended_whole (outcome_of history io)) ≡ false
+no_verdict history io s at nothing = elim (cases_Bool (is_judged_kind s.kind && ended_whole (outcome_of history io))) [
   | inl check ↦
-      let parts = and_parts (is_probe s.kind) (ended_whole (outcome_of history io)) check in
+      let parts = and_parts (is_judged_kind s.kind) (ended_whole (outcome_of history io)) check in
       absurd (nothing s (at, parts.0, parts.1))
   | inr none ↦ none
 ]
@@ -235,7 +236,7 @@ judge_stranger player io going none =
     refusals_are player io (slice_get (started player.desk.history) io) false (is_judged player.desk.history io) (is_judgeable player.desk.history io (slice_get (started player.desk.history) io))
     going refl (unknown player.desk.plan player.desk.history io none) refl refl
 
-pub judge_wrong_kind : (player : Player) (io : ℕ) (t : Ticket) → IsReady player → ((s : Started) → IsWholeCheck player.desk.history io s → ⊥) → player.desk.is_stopped ≡ false → slice_get (tickets_of player.desk.plan player.desk.history) io ≡ Some t → judge_refusal (state_of player) io ≡ Some WrongKind
+pub judge_wrong_kind : (player : Player) (io : ℕ) (t : Ticket) → IsReady player → ((s : Started) → IsJudgeable player.desk.history io s → ⊥) → player.desk.is_stopped ≡ false → slice_get (tickets_of player.desk.plan player.desk.history) io ≡ Some t → judge_refusal (state_of player) io ≡ Some WrongKind
 judge_wrong_kind player io t ready nothing going at =
     let is = known player.desk.plan player.desk.history io t at in
     refusals_are player io (Some is.0) true false false going is.1 is.3
@@ -283,7 +284,7 @@ module _ (player : Player) (by : ℕ) (check : AnswerParts) (ready : IsReady pla
   same_verdict =
       let fits = started_fit-law plan history id its.0 ready.planned ready.legal its.1 in
       ap (λ (t : Ticket). answer_verdict (record check { ticket = t })) (sym its.2)
-      ∙ sym (verdict_is plan its.0 fits.0 its.0.kind check.outcome check.bytes fits.1.planned whole)
+      ∙ sym (verdict_is plan its.0 fits.0 check.bytes fits.1.planned)
       ∙ ap (verdict_on plan its.0) (sym (bytes_found (reverse player.reads.items) id check found))
 
   judged_by : (o : Option DeskFault) → GoesOn player (machine_judge_by plan (state_of player) by id o (Some its.0)) (judge_reply o) (record player { desk = judged_desk player.desk by check o })

@@ -13,15 +13,14 @@ use Rattle.jr_model.specs.declared.events.Started.{Started}
 use Rattle.jr_model.specs.declared.tickets.Ticket.{Ticket}
 use Rattle.jr_model.specs.declared.tickets.TicketKind.{TicketKind}
 use Rattle.jr_model.specs.declared.tickets.TicketKind.TheVariants as ticket
-use Rattle.jr_model.specs.History.{first_given, started, end_of, outcome_of, is_probe, ended_whole}
-use Rattle.jr_model.specs.Honest.{IsWholeCheck}
+use Rattle.jr_model.specs.History.{first_given, started, end_of, outcome_of, is_judged_kind, ended_whole}
 use Rattle.jr_model.specs.Legal.{is_legal}
 use Rattle.jr_model.specs.Plan.{Plan}
 use Rattle.jr_model.proofs.SerialLaws.{first_given-append, whole_some}
 use Rattle.jr_engines.specs.Answers.{AnswerParts}
 use Rattle.jr_header.specs.Served.{is_to_judge, is_whole_check}
 use Rattle.jr_laws_steps.proofs.StartedLemmas.{started-other, started-append, started_stays, got_within, same_some}
-use Rattle.jr_desk.specs.Plays.{KeepsReads, kept_by, last_read, is_for}
+use Rattle.jr_desk.specs.Plays.{KeepsReads, kept_by, last_read, is_for, IsJudgeable}
 use Rattle.jr_tickets.specs.Kept.{IsOwn, tickets_of}
 use Rattle.jr_tickets.specs.Tickets.{ticket_of}
 use Rattle.jr_tickets.proofs.OwnTickets.{own_started}
@@ -58,7 +57,7 @@ option_or-none None = refl
 option_or-none (Some o) = refl
 
 -- a check that ended whole had done so before events that don't end it
-whole_before : (plan : Plan) (history events : List Event) (id : ℕ) (io : Started) → is_legal plan history ≡ true → first_given (end_of id) events ≡ None → IsWholeCheck (history ++ events) id io → IsWholeCheck history id io
+whole_before : (plan : Plan) (history events : List Event) (id : ℕ) (io : Started) → is_legal plan history ≡ true → first_given (end_of id) events ≡ None → IsJudgeable (history ++ events) id io → IsJudgeable history id io
 whole_before plan history events id io legal none check =
     let same : outcome_of (history ++ events) id ≡ outcome_of history id =
     first_given-append (end_of id) history events ∙ ap (option_or (outcome_of history id)) none ∙ option_or-none (outcome_of history id) in
@@ -106,17 +105,15 @@ outcome_now history worker id outcome unended =
 no_other_end : (worker id io : ℕ) (outcome : Outcome) → (id == io) ≡ false → first_given (end_of io) (End worker id outcome ∷ []) ≡ None
 no_other_end worker id io outcome other = ap (λ (b : Bool). option_or (cond b (Some outcome) None) None) other
 
-no_check : (kind : TicketKind) → is_probe kind ≡ true → kind ≡ ticket.Probe
-no_check ticket.Probe h = refl
-no_check ticket.Read h = cc
-no_check ticket.Write h = cc
-
-to_judge : (kind : TicketKind) (outcome : Outcome) → is_probe kind ≡ true → ended_whole (Some outcome) ≡ true → is_whole_check kind outcome ≡ true
-to_judge ticket.Probe Whole probe whole = refl
-to_judge ticket.Probe Failed probe whole = cc
-to_judge ticket.Probe (Short n) probe whole = cc
-to_judge ticket.Read outcome probe whole = cc
-to_judge ticket.Write outcome probe whole = cc
+to_judge : (kind : TicketKind) (outcome : Outcome) → is_judged_kind kind ≡ true → ended_whole (Some outcome) ≡ true → is_whole_check kind outcome ≡ true
+to_judge ticket.Probe Whole judged whole = refl
+to_judge ticket.Probe Failed judged whole = cc
+to_judge ticket.Probe (Short n) judged whole = cc
+to_judge ticket.ReadCheck Whole judged whole = refl
+to_judge ticket.ReadCheck Failed judged whole = cc
+to_judge ticket.ReadCheck (Short n) judged whole = cc
+to_judge ticket.Read outcome judged whole = cc
+to_judge ticket.Write outcome judged whole = cc
 
 -- an I/O ends with this answer
 module _ (plan : Plan) (history : List Event) (reads : List AnswerParts) (worker id : ℕ) (io : Started) (answer : AnswerParts) (legal : is_legal plan history ≡ true) (at : slice_get (started history) id ≡ Some io) (unended : outcome_of history id ≡ None) (is : answer.ticket ≡ ticket_of plan (id, io)) (keeps : KeepsReads plan history reads) where
@@ -141,16 +138,16 @@ module _ (plan : Plan) (history : List Event) (reads : List AnswerParts) (worker
   )
 
   -- a check of another number was there before
-  old_check : (i : ℕ) (s : Started) → (id == i) ≡ false → IsWholeCheck after i s → (a : AnswerParts) × (last_read reads i ≡ Some a) × (is_to_judge a ≡ true)
+  old_check : (i : ℕ) (s : Started) → (id == i) ≡ false → IsJudgeable after i s → (a : AnswerParts) × (last_read reads i ≡ Some a) × (is_to_judge a ≡ true)
   old_check i s other check =
       keeps.checks i s (whole_before plan history (End worker id answer.outcome ∷ []) i s legal (no_other_end worker id i answer.outcome other) check)
 
   -- the check that ended is this one
-  same_check : (s : Started) → IsWholeCheck after id s → (is_probe answer.ticket.kind ≡ true) × (ended_whole (Some answer.outcome) ≡ true)
+  same_check : (s : Started) → IsJudgeable after id s → (is_judged_kind answer.ticket.kind ≡ true) × (ended_whole (Some answer.outcome) ≡ true)
   same_check s check =
       let there : Some s ≡ Some io =
       sym check.0 ∙ ap (λ (ios : List Started). slice_get ios id) (started-other history (End worker id answer.outcome) refl) ∙ at in (
-        ap (λ (t : Ticket). is_probe t.kind) is ∙ ap (λ (x : Started). is_probe x.kind) (sym (same_some s io there)) ∙ check.1,
+        ap (λ (t : Ticket). is_judged_kind t.kind) is ∙ ap (λ (x : Started). is_judged_kind x.kind) (sym (same_some s io there)) ∙ check.1,
         ap ended_whole (sym (outcome_now history worker id answer.outcome unended)) ∙ check.2,
       )
 
@@ -165,7 +162,7 @@ module _ (plan : Plan) (history : List Event) (reads : List AnswerParts) (worker
     checks = λ i s check.
         elim (cases_Bool (id == i)) [
           | inl here ↦
-              let same = same_check s (subst (λ (n : ℕ). IsWholeCheck after n s) (sym (eqb-true id i here)) check) in (
+              let same = same_check s (subst (λ (n : ℕ). IsJudgeable after n s) (sym (eqb-true id i here)) check) in (
                 answer,
                 last_read-more reads answer i ∙ ap (λ (b : Bool). cond b (Some answer) (last_read reads i)) (ap (λ (n : ℕ). n == i) same_id ∙ here),
                 to_judge answer.ticket.kind answer.outcome same.0 same.1,
@@ -185,8 +182,8 @@ module _ (plan : Plan) (history : List Event) (reads : List AnswerParts) (worker
     checks = λ i s check.
         elim (cases_Bool (id == i)) [
           | inl here ↦
-              let same = same_check s (subst (λ (n : ℕ). IsWholeCheck after n s) (sym (eqb-true id i here)) check) in
-              absurd (false≢true (sym (ap is_probe write) ∙ same.0))
+              let same = same_check s (subst (λ (n : ℕ). IsJudgeable after n s) (sym (eqb-true id i here)) check) in
+              absurd (false≢true (sym (ap is_judged_kind write) ∙ same.0))
           | inr other ↦ old_check i s other check
         ];
   }
@@ -195,6 +192,7 @@ module _ (plan : Plan) (history : List Event) (reads : List AnswerParts) (worker
   by_kind ticket.Write write = kept_write write
   by_kind ticket.Read read = kept_more
   by_kind ticket.Probe probe = kept_more
+  by_kind ticket.ReadCheck read = kept_more
 
   -- what is kept then is right
   pub keeps_ended : KeepsReads plan after (kept_by answer.ticket.kind reads answer)

@@ -1,14 +1,13 @@
 -- When a desk refuses an end or a verdict, and when it takes one in.
-use Rattle.std.proofs.Common.{◌≡◌, Bool, true, false, not, cond, refl, sym, subst, arith}
+use Rattle.std.proofs.Common.{◌≡◌, Bool, true, false, cond, refl, sym, subst}
 use Rattle.std.specs.Prelude.{Option, Some, None, is_none, is_some, IfSome}
-use Rattle.jr_model.specs.declared.events.Event.TheVariants.{Probe}
 use Rattle.jr_model.specs.declared.events.Outcome.{Outcome}
 use Rattle.jr_model.specs.declared.steps.DeskFault.{DeskFault}
 use Rattle.jr_model.specs.declared.steps.DeskFault.TheVariants.{Stranger, Twice, WrongKind, Stopped}
 use Rattle.jr_model.specs.declared.tickets.Ticket.{Ticket}
 use Rattle.jr_model.specs.declared.tickets.TicketKind.{TicketKind}
 use Rattle.jr_model.specs.declared.tickets.TicketKind.TheVariants as ticket
-use Rattle.jr_model.specs.History.{outcome_of, is_judged, is_probe, ended_whole}
+use Rattle.jr_model.specs.History.{outcome_of, is_judged, is_judged_kind, ended_whole}
 use Rattle.jr_header.specs.Served.{is_whole_check}
 use Rattle.jr_tickets.specs.Kept.{IsOwn}
 use Rattle.jr_desk.specs.DeskState.{DeskState}
@@ -34,8 +33,9 @@ judge_refused_kind false true false w h = cc
 judge_refused_kind false false false w h = cc
 judge_refused_kind stopped judged true w h = cc
 
-pub judged_probe : (kind : TicketKind) (how : Outcome) → is_whole_check kind how ≡ true → is_probe kind ≡ true
+pub judged_probe : (kind : TicketKind) (how : Outcome) → is_whole_check kind how ≡ true → is_judged_kind kind ≡ true
 judged_probe ticket.Probe how h = refl
+judged_probe ticket.ReadCheck how h = refl
 judged_probe ticket.Read how h = cc
 judged_probe ticket.Write how h = cc
 

@@ -1,5 +1,5 @@
 -- Internal: how a desk, an engine and what was read are the machine's state (of this project).
-use Rattle.std.specs.Prelude.{◌≡◌, ◌≤◌, ◌+◌, ◌==◌, ℕ, Bool, true, List, ◌∷◌, ◌++◌, [], map, reverse, find, Option, Some, None}
+use Rattle.std.specs.Prelude.{◌≡◌, ◌≤◌, ◌+◌, ◌==◌, ℕ, Bool, true, List, ◌∷◌, ◌++◌, [], map, reverse, find, slice_get, IsTrue, Option, Some, None}
 use Rattle.jr_model.specs.declared.events.Event.{Event}
 use Rattle.jr_model.specs.declared.events.Event.TheVariants.{Verdict}
 use Rattle.jr_model.specs.declared.events.Started.{Started}
@@ -8,8 +8,7 @@ use Rattle.jr_model.specs.declared.steps.StepReply.{StepReply}
 use Rattle.jr_model.specs.declared.steps.StepReply.TheVariants as answer
 use Rattle.jr_model.specs.declared.tickets.TicketKind.{TicketKind}
 use Rattle.jr_model.specs.declared.tickets.TicketKind.TheVariants as ticket
-use Rattle.jr_model.specs.History.{outcome_of}
-use Rattle.jr_model.specs.Honest.{IsWholeCheck}
+use Rattle.jr_model.specs.History.{started, outcome_of, ended_whole, is_judged_kind}
 use Rattle.jr_model.specs.Legal.{is_legal}
 use Rattle.jr_model.specs.Machine.{State, Stepped}
 use Rattle.jr_model.specs.Plan.{Plan}
@@ -46,6 +45,7 @@ abbrev pub kept_by : TicketKind → List AnswerParts → AnswerParts → List An
 kept_by ticket.Write reads answer = reads
 kept_by ticket.Read reads answer = reads ++ answer ∷ []
 kept_by ticket.Probe reads answer = reads ++ answer ∷ []
+kept_by ticket.ReadCheck reads answer = reads ++ answer ∷ []
 
 abbrev pub is_for : ℕ → AnswerParts → Bool
 is_for io answer = answer.ticket.id == io
@@ -67,13 +67,18 @@ state_of player = record {
   read_back = read_back_of player.reads.items;
 }
 
+-- io is a check or a checked read, and ended whole
+abbrev pub IsJudgeable : List Event → ℕ → Started → Type 0
+IsJudgeable history io s =
+    (slice_get (started history) io ≡ Some s) × IsTrue (is_judged_kind s.kind) × IsTrue (ended_whole (outcome_of history io))
+
 -- what is kept are answers to the desk's own tickets, which ended so, and all that is to be judged is there
 pub record KeepsReads (plan : Plan) (history : List Event) (reads : List AnswerParts) : Type 0 where
   pub ended :
       (io : ℕ) (answer : AnswerParts) → last_read reads io ≡ Some answer
       → IsOwn plan history answer.ticket × (outcome_of history answer.ticket.id ≡ Some answer.outcome)
   pub checks :
-      (io : ℕ) (s : Started) → IsWholeCheck history io s
+      (io : ℕ) (s : Started) → IsJudgeable history io s
       → (answer : AnswerParts) × (last_read reads io ≡ Some answer) × (is_to_judge answer ≡ true)
 
 -- a player between two steps

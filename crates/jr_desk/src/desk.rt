@@ -7,7 +7,7 @@ ghost use Rattle.jr_header.specs.Served.{answer_verdict};
 ghost use Rattle.jr_tickets.specs.Handing.{IsHanded};
 ghost use Rattle.jr_tickets.specs.Kept.{tickets_of, IsOwn};
 ghost use Rattle.jr_desk.specs.Refusals.{Owns, end_fault, judge_fault};
-ghost use Rattle.jr_board.specs.Takes.{IsTaken, is_finished, is_fitting, WaitsRightly};
+ghost use Rattle.jr_board.specs.Takes.{HandsOutOwn, IsTaken, is_finished, is_fitting, WaitsRightly};
 ghost use Rattle.jr_tallies.specs.Tallying.{miscompare_of};
 
 use jr_board::{Board, Take, answer_to, end, is_complete, judge, new_board, prepare, start_next};
@@ -72,6 +72,7 @@ impl Desk {
         // What is appended are the machine's choices, one after another, and the answer is what they start.
         ensures taken { IsFalse self.old.is_stopped → IfOk result (IsTaken self.old.plan worker self.old.history self.new.history) }
         ensures fits { IfOk result (λ answer. is_fitting answer ≡ true) }
+        ensures own { IfOk result HandsOutOwn }
         ensures waits { IfOk result (WaitsRightly self.old.plan worker self.new.history) }
         ensures finished { IfOk result (λ answer. is_finished answer
             ≡ (self.old.is_stopped || is_complete self.old.plan self.new.history)) }

@@ -1,13 +1,12 @@
 ghost use Rattle.std.specs.Prelude.{◌≡◌, ◌-◌, ◌^◌, ◌<◌, true, [], Some, None, IfOk, IfErr, OnOk, slice_get};
 ghost use Rattle.std.specs.Option.{option_copied};
 ghost use Rattle.jr_model.specs.declared.events.Started.{Started};
-ghost use Rattle.jr_model.specs.Honest.{IsWholeCheck};
 ghost use Rattle.jr_model.specs.Machine.{end_refusal, first_state, judge_refusal, machine_end, machine_judge, machine_run};
 ghost use Rattle.jr_model.specs.Machine.{machine_step, machine_take};
 ghost use Rattle.jr_header.specs.Served.{is_to_judge};
 ghost use Rattle.jr_tickets.specs.Kept.{IsOwn, tickets_of};
 ghost use Rattle.jr_desk.specs.DeskOf.{desk_in};
-ghost use Rattle.jr_desk.specs.Plays.{GoesOn, IsReady, judge_reply, judged_desk, kept_by, last_read, reply_for, state_of};
+ghost use Rattle.jr_desk.specs.Plays.{GoesOn, IsJudgeable, IsReady, judge_reply, judged_desk, kept_by, last_read, reply_for, state_of};
 ghost use Rattle.jr_desk.specs.Refusals.{judge_fault};
 
 use crate::desk::Desk;
@@ -168,7 +167,7 @@ impl Player {
     // Why there is no verdict on an I/O that is no check to judge.
     fn unjudgeable(&self, io: IoId) -> DeskFault
         requires ready { IsReady self.now }
-        requires nothing { (s : Started) → ¬ IsWholeCheck self.now.desk.history io s }
+        requires nothing { (s : Started) → ¬ IsJudgeable self.now.desk.history io s }
         ensures { judge_refusal (state_of self.now) io ≡ Some result }
     {
         if self.desk.is_stopped() {
@@ -199,7 +198,7 @@ fn keep(reads: &mut Vec<Served>, served: Served) -> Result<(), Memory>
 {
     match served.ticket().kind {
         TicketKind::Write => Ok(()),
-        TicketKind::Read | TicketKind::Probe => {
+        TicketKind::Read | TicketKind::Probe | TicketKind::ReadCheck => {
             reads.push(served)?;
             Ok(())
         }

@@ -57,5 +57,6 @@ length_stored (Bytes new) «data» = omega arith
 pub covers_after_asked : (reply : Reply) (memory : List FileBytes) (kind : TicketKind) (piece : Piece) (buffer : List ℕ) → length buffer ≡ piece.len → IsTrue (covers memory piece.file piece.offset piece.len) → (f o n : ℕ) → covers (asked reply memory kind piece buffer).memory f o n ≡ covers memory f o n
 covers_after_asked reply memory ticket.Read piece buffer room h f o n = refl
 covers_after_asked reply memory ticket.Probe piece buffer room h f o n = refl
+covers_after_asked reply memory ticket.ReadCheck piece buffer room h f o n = refl
 covers_after_asked reply memory ticket.Write piece buffer room h f o n =
     covers_after_write memory piece.file piece.offset (reply_to_write reply buffer).stored piece.len (omega (arith, length_stored reply buffer)) h f o n

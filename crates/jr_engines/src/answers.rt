@@ -67,7 +67,9 @@ pub fn ask(engine: &mut dyn Engine, ticket: Ticket, buffer: Vec<u8>) -> Answer
     ensures { Answers (state engine.old) ticket buffer.items result (state engine.new) }
 {
     match ticket.kind {
-        TicketKind::Read | TicketKind::Probe => ask_read(engine, ticket, buffer),
+        TicketKind::Read | TicketKind::Probe | TicketKind::ReadCheck => {
+            ask_read(engine, ticket, buffer)
+        }
         TicketKind::Write => ask_write(engine, ticket, buffer),
     }
 }

@@ -1,6 +1,6 @@
 -- The faults of a history, of the tickets that were handed out, event by event; and the first of them, when there is one more.
-use Rattle.std.proofs.Common.{◌≡◌, ℕ, ◌+◌, ◌-◌, ◌<◌, ◌≤◌, List, [], ◌∷◌, ◌++◌, length, take, map, min, get_or, Option, Some, None, Result, Ok, Err, refl, sym, ap, ◌∙◌, subst, arith, append-nil}
-use Rattle.std.specs.Prelude.{filter_map, slice_get, string_bytes, OnOk}
+use Rattle.std.proofs.Common.{◌≡◌, ℕ, ◌+◌, ◌-◌, ◌<◌, ◌≤◌, List, [], ◌∷◌, ◌++◌, length, take, map, min, get_or, Option, Some, None, refl, sym, ap, ◌∙◌, subst, arith, append-nil}
+use Rattle.std.specs.Prelude.{filter_map, slice_get, string_bytes}
 use Rattle.std.specs.List.{cons_option}
 use Rattle.std.specs.Option.{option_to_list}
 use Rattle.std.proofs.lemmas.List.{length-append, length-map, length-take, map-append, take-append-le, take_all, take_more}
@@ -12,8 +12,6 @@ use Rattle.jr_model.specs.declared.events.Started.{Started}
 use Rattle.jr_model.specs.History.{started}
 use Rattle.jr_model.specs.Plan.{Plan}
 use Rattle.jr_model.specs.Report.{file_name}
-use Rattle.jr_tickets.specs.declared.table.TicketTable.{TicketTable}
-use Rattle.jr_tickets.specs.Handing.{IsHanded}
 use Rattle.jr_tickets.specs.Kept.{tickets_of}
 use Rattle.jr_tickets.specs.Tickets.{ticket_of}
 use Rattle.jr_tickets.proofs.HandingLists.{got_numbered}
@@ -21,7 +19,7 @@ use Rattle.jr_tickets.proofs.HandingMoves.{ticket_started}
 use Rattle.jr_faults.specs.declared.faults.Fault.{Fault}
 use Rattle.jr_faults.specs.declared.faults.Faults.{Faults}
 use Rattle.jr_faults.specs.declared.notes.FaultNote.{FaultNote}
-use Rattle.jr_faults.specs.Faults.{AreFirst, NamedFault, fault_by, fault_with, named, named_by}
+use Rattle.jr_faults.specs.Faults.{AreFirst, NamedFault, fault_with, named, named_by}
 use Rattle.jr_faults.specs.Tickets.{ticket_fault}
 
 -- the fault of a ticket is that of what was started under its number
@@ -107,12 +105,7 @@ pub named_is : (plan : Plan) (fault : Fault) (note : FaultNote) → note.fault �
 named_is plan fault note same name = ap {B = NamedFault} (λ (f : Fault). record { fault = f; name = string_bytes note.name }) same
     ∙ ap {B = NamedFault} (λ (n : List ℕ). record { fault = fault; name = n }) name
 
--- an event that is a fault was added
-pub some_more : {A E : Type 0} (plan : Plan) (tickets : TicketTable) (event : Event) (fault : Fault) (old new : Faults) (r : Result A E)
-    → ((history : List Event) → IsHanded plan history tickets → Some fault ≡ fault_by (started history) event)
-    → OnOk r ((faults : List Fault) → AreFirst plan faults old → AreFirst plan (faults ++ fault ∷ []) new)
-    → OnOk r ((history : List Event) (before : List Fault) → IsHanded plan history tickets → AreFirst plan before old
-    → AreFirst plan (before ++ option_to_list (fault_by (started history) event)) new)
-some_more plan tickets event fault old new (Ok x) is added = λ history before handed are.
-    subst (λ (o : Option Fault). AreFirst plan (before ++ option_to_list o) new) (is history handed) (added before are)
-some_more plan tickets event fault old new (Err e) is added = tt
+-- what was added is the fault that the event is
+pub event_added : (plan : Plan) (faults : List Fault) (told was : Option Fault) (kept : Faults) → told ≡ was
+    → AreFirst plan (faults ++ option_to_list told) kept → AreFirst plan (faults ++ option_to_list was) kept
+event_added plan faults told was kept is are = subst (λ (fault : Option Fault). AreFirst plan (faults ++ option_to_list fault) kept) is are

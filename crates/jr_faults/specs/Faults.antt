@@ -30,7 +30,7 @@ fault_with outcome (Some io) =
 -- the fault that an event is, where these are started
 abbrev pub fault_by : List Started → Event → Option Fault
 fault_by ios (End worker io outcome) = fault_with outcome (slice_get ios io)
-fault_by ios (Issue worker dir write piece) = None
+fault_by ios (Issue worker kind write piece) = None
 fault_by ios (Probe worker write piece) = None
 fault_by ios (Skip worker write) = None
 fault_by ios (Verdict worker io verdict) = None
@@ -65,6 +65,7 @@ abbrev pub kind_word : TicketKind → List ℕ
 kind_word ticket.Read = codes "read"
 kind_word ticket.Write = codes "write"
 kind_word ticket.Probe = codes "check"
+kind_word ticket.ReadCheck = codes "read"
 
 abbrev pub end_words : Outcome → List ℕ
 end_words Whole = codes " ended"

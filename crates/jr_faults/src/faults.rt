@@ -5,12 +5,12 @@ ghost use Rattle.jr_model.specs.declared.events.Event.{Event as Happened};
 ghost use Rattle.jr_model.specs.History.{started};
 ghost use Rattle.jr_model.specs.Report.{file_name};
 ghost use Rattle.jr_faults.specs.declared.faults.Fault.{Fault as OneFault};
-ghost use Rattle.jr_faults.specs.Faults.{AreFaultsOf, AreFirst, fault_by};
+ghost use Rattle.jr_faults.specs.Faults.{AreFaultsOf, AreFirst, fault_by, fault_with};
 ghost use Rattle.jr_faults.specs.Tickets.{ticket_fault};
 ghost use Rattle.jr_tickets.specs.Handing.{IsHanded};
 
 use crate::notes::FaultNote;
-use jr_model::{Event, Memory, Outcome, Piece, Ticket, TicketKind, WriteId};
+use jr_model::{Event, Memory, Outcome, Piece, Started, Ticket, TicketKind, WriteId};
 use jr_plan::Plan;
 use jr_tickets::TicketTable;
 use std::alloc::Global;
@@ -52,21 +52,14 @@ impl Faults {
         Ok(())
     }
 
-    // Adds the fault that the event is, if it is one.
-    fn add_event(
-        &mut self,
-        alloc: Global,
-        plan: &Plan,
-        tickets: &TicketTable,
-        event: &Event,
-    ) -> Result<(), Memory>
+    // Adds the fault, if there is one.
+    fn add_if(&mut self, alloc: Global, plan: &Plan, fault: Option<Fault>) -> Result<(), Memory>
         requires { self.old.more < 2 ^ 64 - 1 }
         ensures more { self.new.more ≤ self.old.more + 1 }
-        ensures added { OnOk result ((history : List Happened) (before : List OneFault) → IsHanded plan.now history tickets.now
-            → AreFirst plan.now before self.old
-            → AreFirst plan.now (before ++ option_to_list (fault_by (started history) event.now)) self.new) }
+        ensures added { OnOk result ((faults : List OneFault) → AreFirst plan.now faults self.old
+            → AreFirst plan.now (faults ++ option_to_list fault) self.new) }
     {
-        match fault_by(plan, tickets, event) {
+        match fault {
             None => Ok(()),
             Some(fault) => self.add(alloc, plan, fault),
         }
@@ -88,9 +81,53 @@ pub fn faults_of(
         more: 0,
     };
     for event in history {
-        faults.add_event(alloc, plan, tickets, event)?;
+        faults.add_if(alloc, plan, fault_by(plan, tickets, event))?;
     }
     Ok(faults)
+}
+
+/// The same where these I/Os and checks were started, in this order.
+pub fn faults_among(
+    alloc: Global,
+    plan: &Plan,
+    history: &[Event],
+    ios: &[Started],
+) -> Result<Faults, Memory>
+    requires { ios.now ≡ started history.now }
+    ensures { IfOk result (AreFaultsOf plan.now history.now) }
+{
+    let mut faults = Faults {
+        first: Vec::new(alloc),
+        more: 0,
+    };
+    for event in history {
+        faults.add_if(alloc, plan, fault_among(ios, event))?;
+    }
+    Ok(faults)
+}
+
+// The fault that the event is, if it is one, where these are started.
+fn fault_among(ios: &[Started], event: &Event) -> Option<Fault>
+    ensures { result ≡ fault_by ios.now event.now }
+{
+    match *event {
+        Event::End { io, outcome, .. } => fault_of(ios.get(io as usize).copied(), outcome),
+        _ => None,
+    }
+}
+
+fn fault_of(io: Option<Started>, outcome: Outcome) -> Option<Fault>
+    ensures { result ≡ fault_with outcome io }
+{
+    match io {
+        Some(io) if outcome != Outcome::Whole => Some(Fault {
+            kind: io.kind,
+            write: io.write,
+            piece: io.piece,
+            outcome,
+        }),
+        _ => None,
+    }
 }
 
 // The fault that the event is, if it is one.

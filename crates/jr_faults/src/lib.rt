@@ -4,5 +4,5 @@
 mod faults;
 mod notes;
 
-pub use faults::{Fault, Faults, MOST_NAMED, faults_of};
-pub use notes::FaultNote;
+pub use faults::{Fault, Faults, MOST_NAMED, faults_among, faults_of};
+pub use notes::{FaultNote, kind_word};

@@ -21,7 +21,7 @@ impl fmt::Display for FaultNote {
     ghost output = { λ note. Some (fault_text (named note)) };
 
     fn fmt<W: fmt::Write>(&self, f: &mut fmt::Formatter<W>) -> fmt::Result {
-        let word = word_of(self.fault.kind);
+        let word = kind_word(self.fault.kind);
         let end = Ended(self.fault.outcome);
         let place = Place {
             write: self.fault.write,
@@ -32,12 +32,12 @@ impl fmt::Display for FaultNote {
     }
 }
 
-// What a note calls it.
-fn word_of(kind: TicketKind) -> &'static str
+/// What a note calls it.
+pub fn kind_word(kind: TicketKind) -> &'static str
     ensures { result.now ≡ kind_word kind }
 {
     match kind {
-        TicketKind::Read => "read",
+        TicketKind::Read | TicketKind::ReadCheck => "read",
         TicketKind::Write => "write",
         TicketKind::Probe => "check",
     }

@@ -7,7 +7,7 @@ use crate::file_engine::FileEngine;
 use crate::making::opened_file;
 use crate::refusals::{Act, Refusal, Why};
 use crate::shares::{Reads, SharedFile};
-use crate::uses::is_written;
+use crate::uses::{is_checked, is_written};
 use jr_devices::{DeviceNumbers, first_twins, use_of};
 use jr_plan::Plan;
 use std::alloc::{AllocError, Global};
@@ -153,7 +153,7 @@ fn locked(alloc: Global, plan: &Plan, files: &[SharedFile]) -> Result<(), Refusa
     Ok(())
 }
 
-// Extends each file that is too short.
+// Extends each file that is too short. One that is only read and checked is read as it stands.
 fn extended<R: Files<File = File>>(
     rt: &R,
     alloc: Global,
@@ -165,6 +165,9 @@ fn extended<R: Files<File = File>>(
 {
     for (index, file) in files.iter().enumerate() {
         let spec = &plan.files()[index];
+        if !is_written(plan, index) && is_checked(plan, index) {
+            continue;
+        }
         // (a byte is no sector: a direct file is opened anew for it)
         let end = if is_written(plan, index) && !file.goes_direct() {
             file.lengthen(spec.high())

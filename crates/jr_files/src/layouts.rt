@@ -3,7 +3,7 @@ ghost use Rattle.std.specs.Io.KnownBytes.{Keeps};
 ghost use Rattle.jr_files.specs.Engines.{NamesFile};
 
 use crate::faults::FileFault;
-use crate::uses::is_written;
+use crate::uses::{is_checked, is_written};
 use jr_plan::Plan;
 use std::fs::{File, OpenOptions};
 use std::io;
@@ -13,13 +13,15 @@ use std::rt::Files;
 /// Makes each file of the plan that is missing, and extends each that is shorter than its end by one zero byte.
 ///
 /// A file's length is where a seek to its end stands, so that a device of the right size isn't written to. One that no clone
-/// writes, and that is long enough, needs no right to write it.
+/// writes, and that is long enough, needs no right to write it. One that is only read and checked is left as it is.
 /// At an error the files before the one that it names are laid out, and those behind it aren't touched.
 pub fn lay_out<R: Files>(rt: &R, plan: &Plan) -> Result<(), FileFault>
     ensures { IfErr result (λ fault. NamesFile fault (length plan.now.files)) }
 {
     for (index, spec) in plan.files().iter().enumerate() {
-        if !is_written(plan, index) && has_length(rt, spec.name(), spec.high()) {
+        if !is_written(plan, index)
+            && (is_checked(plan, index) || has_length(rt, spec.name(), spec.high()))
+        {
             continue;
         }
         if extend(rt, spec.name(), spec.high()).is_err() {

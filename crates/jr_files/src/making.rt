@@ -21,7 +21,7 @@ use std::rt::Files;
 use std::{fs, io};
 
 /// Opens this file of the plan, for reading alone where no clone writes it, and past the system's cache where that is wanted; and adds
-/// its path to `made` where it had to be made.
+/// its path to `made` where it had to be made. One that is only read and checked has to be there.
 pub(crate) fn opened_file<R: Files<File = File>>(
     rt: &R,
     alloc: Global,
@@ -40,14 +40,18 @@ pub(crate) fn opened_file<R: Files<File = File>>(
     let failures = Failures::new(alloc)?;
     let name = String::from_str(alloc, spec.name())?;
     let mut act = Act::Open;
-    let opened = open_or_make(
-        rt,
-        alloc,
-        spec.name(),
-        is_written(plan, index),
-        &mut act,
-        made,
-    );
+    let opened = if is_written(plan, index) || !is_checked(plan, index) {
+        open_or_make(
+            rt,
+            alloc,
+            spec.name(),
+            is_written(plan, index),
+            &mut act,
+            made,
+        )
+    } else {
+        open_there(rt, spec.name(), false)
+    };
     match opened.and_then(|file| OpenedFile::new(file, marks, failures, syncs)) {
         Ok(file) => {
             let file = as_wanted(rt, alloc, plan, index, file, directs)?;

@@ -16,7 +16,7 @@ pub(crate) fn is_written(plan: &Plan, file: usize) -> bool
     false
 }
 
-/// Whether a clone of the plan reads back what it writes to this file.
+/// Whether a clone of the plan checks what it reads of this file.
 pub(crate) fn is_checked(plan: &Plan, file: usize) -> bool
     ensures { result ≡ list_any (checks_file file) plan.now.clones }
 {
@@ -37,5 +37,5 @@ fn writes_file(job: &SubJob, file: usize) -> bool
 fn checks_file(job: &SubJob, file: usize) -> bool
     ensures { result ≡ checks_file file job.now }
 {
-    writes_file(job, file) && job.method().kind.is_verified() && job.checks_writes()
+    job.file() as usize == file && job.method().kind.is_verified() && job.checks_writes()
 }

@@ -1,11 +1,11 @@
 -- Blocks that are cut into chunks: their lengths, what stands in each, and what is said of the first that isn't good.
-use Rattle.std.proofs.Common.{◌≡◌, ℕ, zero, suc, ◌+◌, ◌-◌, ◌*◌, ◌/◌, ◌%◌, ◌<◌, ◌≤◌, List, [], ◌∷◌, ◌++◌, length, map, take, drop, flat_map, Bool, true, false, cond, ◌&&◌, inl, inr, refl, sym, ap, ◌∙◌, subst, arith, zero-add, append_assoc, append-nil, length-append, length-take, length-drop}
+use Rattle.std.proofs.Common.{◌≡◌, ℕ, zero, suc, ◌+◌, ◌-◌, ◌*◌, ◌%◌, ◌<◌, ◌≤◌, List, [], ◌∷◌, ◌++◌, length, map, take, drop, flat_map, true, false, ◌&&◌, inl, inr, refl, sym, ap, ◌∙◌, arith, zero-add, append_assoc, append-nil, length-append, length-take, length-drop}
 use Rattle.std.proofs.lemmas.Grind.{flat_map-append}
 use borrow.Rule.Slice.PartMut.{put_mid, post_of, mid_len, same_len_mid}
 use Rattle.std.specs.Prelude.{nat_lt, nat_le, ◌==◌}
 use Rattle.std.specs.List.{range_with_len}
 use Rattle.std.proofs.lemmas.Nat.{div-add-mod'}
-use Rattle.std.proofs.lemmas.Bool.{and_parts, cases_lt, cond-false, eqb-true, ltb-true, leb-true}
+use Rattle.std.proofs.lemmas.Bool.{and_parts, and_from, cases_lt, cond-false, eqb-true, ltb-true, leb-true, false_from_ne_true}
 use Rattle.std.proofs.lemmas.List.{take_at, drop_at, take-append-drop, drop-drop, nil_from_length}
 use Rattle.jr_model.specs.declared.limits.TheConstants.{SECTOR, LARGEST_BLOCK, LARGEST_END}
 use Rattle.jr_model.specs.declared.blocks.Piece.{Piece}
@@ -14,7 +14,7 @@ use Rattle.jr_model.specs.declared.events.Verdict.TheVariants.{Good, Bad}
 use Rattle.jr_model.specs.declared.events.What.{What}
 use Rattle.jr_model.specs.declared.events.What.TheVariants.{Header, Digest, DataArea, Byte, Chunk}
 use Rattle.jr_model.specs.Content.{chunks_in}
-use Rattle.jr_model.specs.Judgement.{first_bad, in_chunk}
+use Rattle.jr_model.specs.Judgement.{cuts_whole, first_bad, in_chunk}
 use Rattle.jr_model.specs.Tickets.{piece_fits, has_whole_chunks}
 use Rattle.jr_header.specs.Chunks.{IsInChunks}
 
@@ -49,6 +49,20 @@ in_chunks interval piece fits whole some =
     positive : (n : ℕ) → (n == 0) ≡ false → 0 < n
     positive zero h = absurd (cc)
     positive (suc n) h = omega arith
+
+-- so is one that the interval in a header cuts
+pub cut_in_chunks : (interval : ℕ) (piece : Piece) → piece_fits piece ≡ true → cuts_whole interval piece.len ≡ true → IsInChunks interval piece
+cut_in_chunks interval piece fits cuts =
+    let both = and_parts (nat_lt 0 interval && (interval % SECTOR == 0)) (piece.len % interval == 0) cuts in
+    let first = and_parts (nat_lt 0 interval) (interval % SECTOR == 0) both.0 in
+    let some = not_none interval first.0 in
+    in_chunks interval piece fits
+    (cond-false (interval == 0) true ((interval % SECTOR == 0) && (piece.len % interval == 0)) some
+    ∙ and_from (interval % SECTOR == 0) (piece.len % interval == 0) first.1 both.1)
+    some
+  where
+    not_none : (n : ℕ) → nat_lt 0 n ≡ true → (n == 0) ≡ false
+    not_none n h = false_from_ne_true (n == 0) (λ none. let some : 0 < n = ltb-true 0 n h in let is : n ≡ 0 = eqb-true n 0 none in omega (arith, some, is))
 
 -- chunk i lies within the block
 pub chunk_inside : (interval : ℕ) (piece : Piece) (i : ℕ) → IsInChunks interval piece → i < chunks_in interval piece → i * interval + interval ≤ piece.len

@@ -14,7 +14,7 @@ use Rattle.jr_model.specs.declared.contents.VerifyKind.TheVariants as verify
 use Rattle.jr_model.specs.declared.contents.Expected.TheVariants as expected
 use Rattle.jr_model.specs.declared.contents.Method.{Method}
 use Rattle.jr_model.specs.Content.{pattern_bytes, digest_of, digest_length, block_version, chunk_version, header_front, header_back, header_of, headed_block, data_area, chunk_at, chunk_seed, chunks_in, chunk_header, chunk_bytes, digested_block, content_of, expected_headers, expected_of, expected_pattern, filler_of}
-use Rattle.jr_model.specs.Judgement.{digest_in, is_checked, same_bytes, header_verdict, first_difference, byte_verdict, in_chunk, bytes_of_chunk, chunk_verdict, chunks_verdict, verdict_of, TellsApart, AreasToldApart}
+use Rattle.jr_model.specs.Judgement.{digest_in, is_checked, same_bytes, header_verdict, first_difference, byte_verdict, in_chunk, bytes_of_chunk, chunk_verdict, chunks_verdict, own_verdict_of, pattern_verdict, verdict_of, TellsApart, AreasToldApart}
 use Rattle.jr_model.specs.Tickets.{piece_fits, has_whole_chunks, interval_fits}
 use Rattle.jr_header.specs.Chunks.{IsInChunks}
 use Rattle.jr_header.proofs.ChunkLemmas.{in_chunks, part_of_flat, flat_by_parts, all_good, good_each, good_in_chunk}
@@ -53,9 +53,13 @@ good_headed version method write piece seed =
     good_block method.kind (header_front version method.kind write piece) (header_back method.kind area) area
     (length-header_front version method.kind write piece) (length-header_back method.kind area) refl
 
-good_pattern : (pattern : Option (List ℕ)) (method : Method) (write : WriteId) (piece : Piece) (seed n : ℕ) → verdict_of method write piece (expected_pattern pattern) (filler_of pattern seed n) ≡ Good
-good_pattern None method write piece seed n = refl
-good_pattern (Some p) method write piece seed n =
+good_pattern : (pattern : Option (List ℕ)) (method : Method) (write : WriteId) (piece : Piece) (seed n : ℕ) → verify.Pattern ≡ method.kind → pattern ≡ method.pattern
+    → verdict_of method write piece (expected_pattern pattern) (filler_of pattern seed n) ≡ Good
+good_pattern None method write piece seed n same here =
+    let bytes : List ℕ = filler_of None seed n in
+    ap (λ (kind : VerifyKind). own_verdict_of kind method.pattern piece bytes) (sym same)
+    ∙ ap (λ (pattern : Option (List ℕ)). pattern_verdict pattern bytes) (sym here)
+good_pattern (Some p) method write piece seed n same here =
     ap byte_verdict (none_differs p (pattern_bytes p n) (ap (pattern_bytes p) (sym (length-pattern_bytes p n))))
 
 -- in each place of a block of chunks its chunk stands
@@ -93,13 +97,14 @@ good_digested method write piece seed fits whole = by (method.interval == 0) ref
     by false many = good_chunks method write piece seed (in_chunks method.interval piece fits whole many)
 
 -- the bytes of a write are good
-pub good_on_content : (method : Method) (write : WriteId) (piece : Piece) (seed : ℕ) (kind : VerifyKind) → piece_fits piece ≡ true → interval_fits kind method.interval piece.len ≡ true
+pub good_on_content : (method : Method) (write : WriteId) (piece : Piece) (seed : ℕ) (kind : VerifyKind) → kind ≡ method.kind → piece_fits piece ≡ true → interval_fits kind method.interval piece.len ≡ true
     → verdict_of method write piece (expected_of kind method write piece seed) (content_of kind method write piece seed) ≡ Good
-good_on_content method write piece seed verify.Plain fits whole = refl
-good_on_content method write piece seed verify.Pattern fits whole = good_pattern method.pattern method write piece seed piece.len
-good_on_content method write piece seed verify.Md5 fits whole = good_digested method write piece seed fits whole
-good_on_content method write piece seed verify.Sha1 fits whole = good_digested method write piece seed fits whole
-good_on_content method write piece seed verify.Sha256 fits whole = good_digested method write piece seed fits whole
+good_on_content method write piece seed verify.Plain same fits whole =
+    ap (λ (kind : VerifyKind). own_verdict_of kind method.pattern piece (filler_of method.pattern seed piece.len)) (sym same)
+good_on_content method write piece seed verify.Pattern same fits whole = good_pattern method.pattern method write piece seed piece.len same refl
+good_on_content method write piece seed verify.Md5 same fits whole = good_digested method write piece seed fits whole
+good_on_content method write piece seed verify.Sha1 same fits whole = good_digested method write piece seed fits whole
+good_on_content method write piece seed verify.Sha256 same fits whole = good_digested method write piece seed fits whole
 
 -- what a good verdict by a header says
 pub record IsGood (kind : VerifyKind) (header bytes : List ℕ) : Type 0 where

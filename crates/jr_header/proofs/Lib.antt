@@ -1,6 +1,7 @@
 pub mod ChunkLemmas
 pub mod Differences
 pub mod Lengths
+mod OwnHeaders
 mod Generated
 pub mod Halves
 pub mod Headers

@@ -1,3 +1,4 @@
 pub mod Chunks
 pub mod Hashers
+pub mod Own
 pub mod Served

@@ -1,6 +1,7 @@
 -- Believed: what a worker asks an engine for a ticket, and the verdict on what came back (of this project).
-use Rattle.std.specs.Prelude.{◌≡◌, ℕ, List, length, Bool, true, false}
+use Rattle.std.specs.Prelude.{◌≡◌, ◌⊎◌, ℕ, List, length, Bool, true, false}
 use Rattle.jr_model.specs.declared.contents.Expected.{Expected}
+use Rattle.jr_model.specs.declared.contents.Expected.TheVariants as expected
 use Rattle.jr_model.specs.declared.events.Outcome.{Outcome}
 use Rattle.jr_model.specs.declared.events.Outcome.TheVariants as outcome
 use Rattle.jr_model.specs.declared.events.Verdict.{Verdict}
@@ -21,25 +22,34 @@ ticket_content t = content_of t.method.kind t.method t.write t.piece t.seed
 abbrev pub ticket_expected : Ticket → Expected
 ticket_expected t = expected_of t.method.kind t.method t.write t.piece t.seed
 
+-- nothing is expected of the ticket's bytes, or what its own write put there
+abbrev pub ExpectsOwn : Ticket → Type 0
+ExpectsOwn t = (t.expected ≡ expected.Nothing) ⊎ (t.expected ≡ ticket_expected t)
+
 -- the buffer that the engine is asked with: filled for a write, else as it was handed in
 abbrev pub asked_with : TicketKind → Ticket → List ℕ → List ℕ
 asked_with kind.Read t buffer = buffer
 asked_with kind.Write t buffer = ticket_content t
 asked_with kind.Probe t buffer = buffer
+asked_with kind.ReadCheck t buffer = buffer
 
 -- what is known of a served ticket's bytes: for a write what its check is judged by, else what the ticket says
 abbrev pub served_expected : TicketKind → Ticket → Expected
 served_expected kind.Read t = t.expected
 served_expected kind.Write t = ticket_expected t
 served_expected kind.Probe t = t.expected
+served_expected kind.ReadCheck t = t.expected
 
--- a check that ended whole
+-- a check, or a checked read, that ended whole
 abbrev pub is_whole_check : TicketKind → Outcome → Bool
 is_whole_check kind.Read how = false
 is_whole_check kind.Write how = false
 is_whole_check kind.Probe outcome.Whole = true
 is_whole_check kind.Probe outcome.Failed = false
 is_whole_check kind.Probe (outcome.Short n) = false
+is_whole_check kind.ReadCheck outcome.Whole = true
+is_whole_check kind.ReadCheck outcome.Failed = false
+is_whole_check kind.ReadCheck (outcome.Short n) = false
 
 -- the answer is to be judged
 abbrev pub is_to_judge : AnswerParts → Bool
@@ -50,12 +60,14 @@ abbrev pub answer_verdict : AnswerParts → Verdict
 answer_verdict answer =
     verdict_of answer.ticket.method answer.ticket.write answer.ticket.piece answer.ticket.expected answer.bytes
 
--- an answer to a ticket that fits, with a buffer of its piece's length, and what is known of its bytes
-pub record IsServed (answer : AnswerParts) (known : Expected) : Type 0 where
+-- an answer to a ticket that fits, with a buffer of its piece's length, what is known of its bytes, and whether the ticket is known
+-- to expect nothing but what its own write put there
+pub record IsServed (answer : AnswerParts) (known : Expected) (is_own : Bool) : Type 0 where
   pub fits : ticket_fits answer.ticket ≡ true
   pub room : length answer.bytes ≡ answer.ticket.piece.len
   pub outcome : outcome_fits answer.outcome answer.ticket.piece.len ≡ true
   pub expected : known ≡ served_expected answer.ticket.kind answer.ticket
+  pub own : is_own ≡ true → ExpectsOwn answer.ticket
 
 -- an answer that is to be judged, and its verdict
 pub record IsRuled (answer : AnswerParts) (said : Verdict) : Type 0 where

@@ -11,7 +11,7 @@ use crate::parts::{filler_back, is_filler};
 use jr_model::{Method, Part, Piece, Ticket, Verdict, What};
 
 // Chunk i of a piece: as many bytes as the interval between headers.
-fn chunk_at(interval: u32, piece: &Piece, i: u32) -> Piece
+pub(crate) fn chunk_at(interval: u32, piece: &Piece, i: u32) -> Piece
     requires { piece.now.offset + i * interval < 2 ^ 64 }
     ensures { result ≡ chunk_at interval piece.now i }
 {
@@ -110,7 +110,7 @@ fn filled_verdict(method: &Method, front: &[u8; 32], seed: u64, bytes: &[u8]) ->
 }
 
 // A verdict by a header, said of chunk i.
-fn in_chunk(i: u32, verdict: Verdict) -> Verdict
+pub(crate) fn in_chunk(i: u32, verdict: Verdict) -> Verdict
     ensures { result ≡ in_chunk i verdict }
 {
     match verdict {

@@ -1,5 +1,5 @@
 ghost use Rattle.std.specs.Prelude.{◌≡◌, ◌≤◌, ◌<◌, ◌^◌, ◌-◌, ◌%◌, ◌++◌, true, length, drop};
-ghost use Rattle.jr_model.specs.Content.{kind_code, digest_length, header_front, header_over, headed_block, header_of};
+ghost use Rattle.jr_model.specs.Content.{magic, kind_code, digest_length, header_front, header_over, headed_block, header_of};
 ghost use Rattle.jr_model.specs.Content.{block_version};
 ghost use Rattle.jr_model.specs.Tickets.{ticket_fits, interval_fits};
 ghost use Rattle.jr_header.specs.Served.{ticket_content, ticket_expected};
@@ -94,7 +94,7 @@ pub(crate) fn header_front(
     ensures { result ≡ header_front version kind write.now piece.now }
 {
     let mut front = [0; 32];
-    front[..4].copy_from_slice(&[b'J', b'R', b'V', version]);
+    front[..4].copy_from_slice(&magic(version));
     front[4] = kind_code(kind);
     front[5] = digest_length(kind);
     front[6..8].copy_from_slice(&(write.pass as u16).to_le_bytes());
@@ -105,8 +105,15 @@ pub(crate) fn header_front(
     front
 }
 
+// What a header begins with.
+pub(crate) fn magic(version: u8) -> [u8; 4]
+    ensures { result ≡ magic version }
+{
+    [b'J', b'R', b'V', version]
+}
+
 // The kind's number in a header.
-fn kind_code(kind: VerifyKind) -> u8
+pub(crate) fn kind_code(kind: VerifyKind) -> u8
     ensures { result ≡ kind_code kind }
 {
     match kind {

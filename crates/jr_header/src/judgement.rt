@@ -1,30 +1,53 @@
 ghost use Rattle.std.specs.Prelude.{◌≡◌, ◌≤◌, ◌<◌, ◌^◌, IsTrue, true, length, slice_index, take, drop, ◌%◌};
 ghost use Rattle.jr_model.specs.declared.contents.VerifyKind.{VerifyKind as Kind};
-ghost use Rattle.jr_model.specs.Content.{digest_length, digest_of, pattern_bytes};
-ghost use Rattle.jr_model.specs.declared.tickets.TicketKind.TheVariants.{Probe};
+ghost use Rattle.jr_model.specs.Content.{block_version, digest_length, digest_of, header_of, pattern_bytes};
+ghost use Rattle.jr_model.specs.History.{is_judged_kind};
 ghost use Rattle.jr_model.specs.Tickets.{ticket_fits};
+ghost use Rattle.jr_header.specs.Served.{ExpectsOwn};
 ghost use Rattle.jr_model.specs.Judgement.{digest_in, same_bytes, header_verdict, first_difference, byte_verdict, verdict_of};
 
 use crate::chunks::chunks_verdict;
 use crate::digests::{digest_length, header_back};
+use crate::own::own_verdict;
+use crate::parts::is_filler;
 use jr_model::{Expected, Ticket, Verdict, VerifyKind, What};
 
-// The verdict on the bytes of a check, by what its ticket expects.
-pub(crate) fn verdict(ticket: &Ticket, bytes: &[u8]) -> Verdict
+// The verdict on the bytes of a check, by what its ticket expects; where it expects nothing, by what they say of themselves.
+pub(crate) fn verdict(ticket: &Ticket, bytes: &[u8], is_own: bool) -> Verdict
     requires fits { ticket_fits ticket.now ≡ true }
-    requires probe { ticket.now.kind ≡ Probe }
+    requires judged { is_judged_kind ticket.now.kind ≡ true }
+    requires own { is_own ≡ true → ExpectsOwn ticket.now }
     requires length { length bytes.now ≡ ticket.now.piece.len }
     ensures { result ≡ verdict_of ticket.now.method ticket.now.write ticket.now.piece ticket.now.expected bytes.now }
 {
+    let method = &ticket.method;
     match &ticket.expected {
-        Expected::Nothing => Verdict::Good,
+        Expected::Nothing => own_verdict(method.kind, &method.pattern, &ticket.piece, bytes),
         Expected::Pattern(pattern) => byte_verdict(first_difference(pattern.as_slice(), bytes)),
-        Expected::Header(header) => header_verdict(ticket.method.kind, header, bytes),
+        Expected::Header(header) if is_own => own_write_verdict(ticket, header, bytes),
+        Expected::Header(header) => header_verdict(method.kind, header, bytes),
         Expected::Seed(seed) => chunks_verdict(ticket, *seed, bytes),
     }
 }
 
-fn byte_verdict(place: Option<u32>) -> Verdict
+// The verdict by the header of the ticket's own write. Where that write's filler stands behind it, the header has its digest, so none is
+// worked out.
+fn own_write_verdict(ticket: &Ticket, header: &[u8; 64], bytes: &[u8]) -> Verdict
+    requires header { header.now ≡ header_of block_version ticket.now.method ticket.now.write ticket.now.piece ticket.now.seed }
+    requires room { 64 ≤ length bytes.now }
+    requires whole { length bytes.now % 8 ≡ 0 }
+    requires length { length bytes.now ≡ ticket.now.piece.len }
+    ensures { result ≡ header_verdict ticket.now.method.kind header.now bytes.now }
+{
+    let method = &ticket.method;
+    if is_filler(&method.pattern, ticket.seed, &bytes[64..]) {
+        told_verdict(header, bytes)
+    } else {
+        header_verdict(method.kind, header, bytes)
+    }
+}
+
+pub(crate) fn byte_verdict(place: Option<u32>) -> Verdict
     ensures { result ≡ byte_verdict place }
 {
     match place {
@@ -33,7 +56,7 @@ fn byte_verdict(place: Option<u32>) -> Verdict
     }
 }
 
-// The verdict by the header that was written.
+// The verdict by the header that the bytes should begin with.
 pub(crate) fn header_verdict(kind: VerifyKind, header: &[u8; 64], bytes: &[u8]) -> Verdict
     requires { 64 ≤ length bytes.now }
     ensures { result ≡ header_verdict kind header.now bytes.now }
@@ -81,7 +104,7 @@ pub(crate) fn same_bytes(a: &[u8], b: &[u8]) -> bool
 }
 
 // The first place at which the bytes don't follow the pattern, if there is one.
-fn first_difference(pattern: &[u8], bytes: &[u8]) -> Option<u32>
+pub(crate) fn first_difference(pattern: &[u8], bytes: &[u8]) -> Option<u32>
     requires pattern { 1 ≤ length pattern.now }
     requires bytes { length bytes.now < 2 ^ 32 }
     ensures { result ≡ first_difference bytes.now (pattern_bytes pattern.now (length bytes.now)) }

@@ -1,4 +1,4 @@
-//! What a write puts into its blocks, and what is wrong with the bytes that a check read.
+//! What a write puts into its blocks, and what is wrong with the bytes that a check, or a checked read, read.
 #![tactic(auto)]
 
 mod buffers;
@@ -8,6 +8,7 @@ mod digests;
 mod filler;
 mod hashers;
 mod judgement;
+mod own;
 mod parts;
 mod ruling;
 mod served;
@@ -15,4 +16,4 @@ mod served;
 pub use buffers::room_for;
 pub use content::fill;
 pub use ruling::{Ruling, rule};
-pub use served::{Served, serve};
+pub use served::{Served, serve, serve_own};

@@ -8,7 +8,7 @@ use crate::served::Served;
 use jr_model::Verdict;
 use std::marker::Model;
 
-/// The verdict on a check that ended whole. Only `rule` makes it. Contracts see the answer that was judged.
+/// The verdict on a check, or a checked read, that ended whole. Only `rule` makes it. Contracts see the answer that was judged.
 #[derive(Debug, Drop)]
 pub struct Ruling<'a> {
     served: &'a Served,
@@ -27,7 +27,7 @@ impl<'a> Model for Ruling<'a> {
 }
 
 impl<'a> Ruling<'a> {
-    /// The check that was judged.
+    /// What was judged.
     pub fn served(&self) -> &'a Served
         ensures value { result.now ≡ self.now }
         ensures to_judge { is_to_judge self.now ≡ true }
@@ -52,11 +52,12 @@ impl<'a> Ruling<'a> {
     }
 }
 
-/// Judges a check that ended whole: its bytes against what its ticket expects.
+/// Judges a check, or a checked read, that ended whole: its bytes against what its ticket expects, or else against what they say of
+/// themselves.
 pub fn rule(served: &Served) -> Ruling<'_>
     requires { is_to_judge served.now ≡ true }
     ensures { result ≡ served.now }
 {
-    let verdict = verdict(served.ticket(), served.bytes());
+    let verdict = verdict(served.ticket(), served.bytes(), served.is_own());
     Ruling { served, verdict }
 }

@@ -2,7 +2,7 @@ ghost use Rattle.std.specs.Prelude.{◌≡◌, ◌-◌, ◌^◌, ◌<◌, true, 
 ghost use Rattle.jr_model.specs.Legal.{outcome_fits};
 ghost use Rattle.jr_model.specs.Tickets.{ticket_fits};
 ghost use Rattle.jr_engines.specs.Answers.{Answers};
-ghost use Rattle.jr_header.specs.Served.{asked_with, served_expected, is_whole_check, is_to_judge};
+ghost use Rattle.jr_header.specs.Served.{ExpectsOwn, asked_with, served_expected, is_whole_check, is_to_judge};
 
 use crate::content::fill;
 use jr_engines::{Answer, Engine, ask};
@@ -14,6 +14,7 @@ use std::marker::Model;
 pub struct Served {
     answer: Answer,
     expected: Expected,
+    is_own: bool,
 }
 
 impl Model for Served {
@@ -24,7 +25,7 @@ impl Model for Served {
 
     ghost view = { λ s. s.answer };
 
-    ghost invariant = { λ s. IsServed s.answer s.expected };
+    ghost invariant = { λ s. IsServed s.answer s.expected s.is_own };
 }
 
 impl Served {
@@ -62,7 +63,14 @@ impl Served {
         &self.expected
     }
 
-    /// Whether this is a check that ended whole.
+    // Whether the ticket is known to expect nothing but what its own write put there.
+    pub(crate) fn is_own(&self) -> bool
+        ensures { result ≡ true → ExpectsOwn self.now.ticket }
+    {
+        self.is_own
+    }
+
+    /// Whether this is a check, or a checked read, that ended whole.
     pub fn to_judge(&self) -> bool
         ensures { result ≡ is_to_judge self.now }
     {
@@ -81,7 +89,7 @@ fn is_whole_check(kind: TicketKind, outcome: Outcome) -> bool
     ensures { result ≡ is_whole_check kind outcome }
 {
     match (kind, outcome) {
-        (TicketKind::Probe, Outcome::Whole) => true,
+        (TicketKind::Probe | TicketKind::ReadCheck, Outcome::Whole) => true,
         _ => false,
     }
 }
@@ -93,10 +101,36 @@ pub fn serve(engine: &mut dyn Engine, ticket: Ticket, buffer: Vec<u8>) -> Served
     requires calls { (state engine.old).calls < 2 ^ 64 - 1 }
     ensures { Answers (state engine.old) ticket (asked_with ticket.kind ticket buffer.items) result (state engine.new) }
 {
+    carry_out(engine, ticket, buffer, false)
+}
+
+/// The same for a ticket whose check expects what its own write put there, as those of a desk do. To judge a good check then takes no
+/// digest.
+pub fn serve_own(engine: &mut dyn Engine, ticket: Ticket, buffer: Vec<u8>) -> Served
+    requires fits { ticket_fits ticket ≡ true }
+    requires own { ExpectsOwn ticket }
+    requires room { vec_len buffer ≡ ticket.piece.len }
+    requires calls { (state engine.old).calls < 2 ^ 64 - 1 }
+    ensures { Answers (state engine.old) ticket (asked_with ticket.kind ticket buffer.items) result (state engine.new) }
+{
+    carry_out(engine, ticket, buffer, true)
+}
+
+fn carry_out(engine: &mut dyn Engine, ticket: Ticket, buffer: Vec<u8>, is_own: bool) -> Served
+    requires fits { ticket_fits ticket ≡ true }
+    requires own { is_own ≡ true → ExpectsOwn ticket }
+    requires room { vec_len buffer ≡ ticket.piece.len }
+    requires calls { (state engine.old).calls < 2 ^ 64 - 1 }
+    ensures { Answers (state engine.old) ticket (asked_with ticket.kind ticket buffer.items) result (state engine.new) }
+{
     let mut buffer = buffer;
     let expected = prepared(&ticket, buffer.as_mut_slice());
     let answer = ask(engine, ticket, buffer);
-    Served { answer, expected }
+    Served {
+        answer,
+        expected,
+        is_own,
+    }
 }
 
 // Fills the buffer for a write, and says what is known of the bytes.
@@ -108,6 +142,6 @@ fn prepared(ticket: &Ticket, buffer: &mut [u8]) -> Expected
 {
     match ticket.kind {
         TicketKind::Write => fill(ticket, buffer),
-        TicketKind::Read | TicketKind::Probe => ticket.expected,
+        TicketKind::Read | TicketKind::Probe | TicketKind::ReadCheck => ticket.expected,
     }
 }

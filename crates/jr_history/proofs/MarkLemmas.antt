@@ -72,7 +72,7 @@ pub few_issued : (ios : List Started) (events : List Event) (marks : Marks) (key
 few_issued ios events marks key marked = let most = count_by-le-length (is_issue_in key) events in let is = marked.issued key in omega (arith, most, is)
 
 same_issue : (pass : Pass) (e : Event) → is_issue_in (pass.job.clone, pass.number) e ≡ issues_of pass e
-same_issue pass (Issue worker dir write piece) = refl
+same_issue pass (Issue worker kind write piece) = refl
 same_issue pass (Probe worker write piece) = refl
 same_issue pass (Skip worker write) = refl
 same_issue pass (End worker io outcome) = refl
@@ -132,14 +132,14 @@ ended_apart : (ios : List Started) (s : Started) (id worker : ℕ) (outcome : Ou
 ended_apart ios s id worker outcome h = others_by_test ios s id (some_cond (eqb id (length ios)) outcome h)
 
 same_settles : (ios : List Started) (s : Started) (write : WriteId) (e : Event) → is_some (end_of (length ios) e) ≡ false → is_verdict_on (length ios) e ≡ false → settles (ios ++ s ∷ []) write e ≡ settles ios write e
-same_settles ios s write (Issue worker dir issued piece) ended judged = refl
+same_settles ios s write (Issue worker kind issued piece) ended judged = refl
 same_settles ios s write (Probe worker probed piece) ended judged = refl
 same_settles ios s write (Skip worker skipped) ended judged = refl
 same_settles ios s write (Verdict worker io verdict) ended judged = refl
 same_settles ios s write (End worker io outcome) ended judged = ap (is_probe_of write) (ended_apart ios s io worker outcome ended)
 
 same_fault : (ios : List Started) (s : Started) (clone : ℕ) (e : Event) → is_some (end_of (length ios) e) ≡ false → is_verdict_on (length ios) e ≡ false → is_fault_of (ios ++ s ∷ []) clone e ≡ is_fault_of ios clone e
-same_fault ios s clone (Issue worker dir issued piece) ended judged = refl
+same_fault ios s clone (Issue worker kind issued piece) ended judged = refl
 same_fault ios s clone (Probe worker probed piece) ended judged = refl
 same_fault ios s clone (Skip worker skipped) ended judged = refl
 same_fault ios s clone (Verdict worker io verdict) ended judged = refl
@@ -147,7 +147,7 @@ same_fault ios s clone (End worker io outcome) ended judged =
     ap (λ (o : Option Started). is_io_of clone o && is_fault outcome) (ended_apart ios s io worker outcome ended)
 
 same_verdict : (ios : List Started) (s : Started) (clone : ℕ) (e : Event) → is_some (end_of (length ios) e) ≡ false → is_verdict_on (length ios) e ≡ false → is_verdict_of (ios ++ s ∷ []) is_bad clone e ≡ is_verdict_of ios is_bad clone e
-same_verdict ios s clone (Issue worker dir issued piece) ended judged = refl
+same_verdict ios s clone (Issue worker kind issued piece) ended judged = refl
 same_verdict ios s clone (Probe worker probed piece) ended judged = refl
 same_verdict ios s clone (Skip worker skipped) ended judged = refl
 same_verdict ios s clone (End worker io outcome) ended judged = refl
@@ -155,7 +155,7 @@ same_verdict ios s clone (Verdict worker io verdict) ended judged =
     ap (λ (o : Option Started). is_io_of clone o && is_bad verdict) (others_by_test ios s io judged)
 
 same_write_end : (ios : List Started) (s : Started) (e : Event) → is_some (end_of (length ios) e) ≡ false → is_verdict_on (length ios) e ≡ false → write_end (ios ++ s ∷ []) e ≡ write_end ios e
-same_write_end ios s (Issue worker dir issued piece) ended judged = refl
+same_write_end ios s (Issue worker kind issued piece) ended judged = refl
 same_write_end ios s (Probe worker probed piece) ended judged = refl
 same_write_end ios s (Skip worker skipped) ended judged = refl
 same_write_end ios s (Verdict worker io verdict) ended judged = refl

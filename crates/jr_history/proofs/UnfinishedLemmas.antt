@@ -7,7 +7,7 @@ use Rattle.std.proofs.lemmas.List.Elements.{filter-append, filter_map-append}
 use Rattle.jr_model.specs.declared.events.Event.{Event}
 use Rattle.jr_model.specs.declared.events.Outcome.{Outcome}
 use Rattle.jr_model.specs.declared.events.Started.{Started}
-use Rattle.jr_model.specs.History.{started, started_by, outcome_of, end_of, is_judged, is_verdict_on, is_probe, ended_whole, if_flying, in_flight, if_awaiting, awaiting}
+use Rattle.jr_model.specs.History.{started, started_by, outcome_of, end_of, is_judged, is_verdict_on, is_judged_kind, ended_whole, if_flying, in_flight, if_awaiting, awaiting}
 use Rattle.jr_history.specs.Unfinished.{is_unfinished, unfinished}
 use Rattle.jr_history.proofs.MarkLemmas.{outcome_more, judged_more}
 
@@ -49,21 +49,22 @@ none_right a None h = refl
 none_right None (Some y) h = cc
 none_right (Some x) (Some y) h = cc
 
-still_awaits : (io : Started) (probe whole judged more : Bool) → is_some (cond (probe && whole && not (judged || more)) (Some io) None) ≡ true → is_some (cond (probe && whole && not judged) (Some io) None) ≡ true
+still_awaits : (io : Started) (checked whole judged more : Bool) → is_some (cond (checked && whole && not (judged || more)) (Some io) None) ≡ true → is_some (cond (checked && whole && not judged) (Some io) None) ≡ true
 still_awaits io true true false more h = refl
 still_awaits io true true true more h = h
 still_awaits io true false judged more h = h
 still_awaits io false whole judged more h = h
 
-was_open : (io : Started) (o next : Option Outcome) (judged more : Bool) → (is_some (cond (is_none (option_or o next)) (Some io) None) || is_some (cond (is_probe io.kind && ended_whole (option_or o next) && not (judged || more)) (Some io) None)) ≡ true → (is_some (cond (is_none o) (Some io) None) || is_some (cond (is_probe io.kind && ended_whole o && not judged) (Some io) None)) ≡ true
+was_open : (io : Started) (o next : Option Outcome) (judged more : Bool) → (is_some (cond (is_none (option_or o next)) (Some io) None) || is_some (cond (is_judged_kind io.kind && ended_whole (option_or o next) && not (judged || more)) (Some io) None)) ≡ true → (is_some (cond (is_none o) (Some io) None) || is_some (cond (is_judged_kind io.kind && ended_whole o && not judged) (Some io) None)) ≡ true
 was_open io None next judged more h = refl
-was_open io (Some outcome) next judged more h = still_awaits io (is_probe io.kind) (ended_whole (Some outcome)) judged more h
+was_open io (Some outcome) next judged more h = still_awaits io (is_judged_kind io.kind) (ended_whole (Some outcome)) judged more h
 
 -- what is unfinished after an event was so before
 was_unfinished : (history : List Event) (e : Event) (numbered : ℕ × Started) → is_unfinished (history ++ e ∷ []) numbered ≡ true → is_unfinished history numbered ≡ true
+unfolding is_unfinished
 was_unfinished history e numbered h =
     let test : Option Outcome → Bool → Bool =
-    λ o judged. is_some (cond (is_none o) (Some numbered.1) None) || is_some (cond (is_probe numbered.1.kind && ended_whole o && not judged) (Some numbered.1) None) in
+    λ o judged. is_some (cond (is_none o) (Some numbered.1) None) || is_some (cond (is_judged_kind numbered.1.kind && ended_whole o && not judged) (Some numbered.1) None) in
     was_open numbered.1 (outcome_of history numbered.0) (end_of numbered.0 e) (is_judged history numbered.0) (is_verdict_on numbered.0 e)
     (ap (λ (o : Option Outcome). test o (is_judged history numbered.0 || is_verdict_on numbered.0 e)) (sym (outcome_more history e numbered.0))
     ∙ ap (λ (b : Bool). test (outcome_of (history ++ e ∷ []) numbered.0) b) (sym (judged_more history e numbered.0))
@@ -71,10 +72,12 @@ was_unfinished history e numbered h =
 
 -- ---- histories
 pub flying_is : (history : List Event) → filter_map (if_flying history) (unfinished history) ≡ in_flight history
+unfolding is_unfinished
 flying_is history =
     given_of_kept (if_flying history) (is_unfinished history) (λ x h. none_left (if_flying history x) (if_awaiting history x) h) (enumerate_from 0 (started history))
 
 pub waiting_is : (history : List Event) → filter_map (if_awaiting history) (unfinished history) ≡ awaiting history
+unfolding is_unfinished
 waiting_is history =
     given_of_kept (if_awaiting history) (is_unfinished history) (λ x h. none_right (if_flying history x) (if_awaiting history x) h) (enumerate_from 0 (started history))
 

@@ -27,7 +27,7 @@ one_end file block last (Some io) outcome rest = one_write file block last io (e
 
 by_ends : (ios : List Started) (file block : ℕ) (last : Option WriteId) (events : List Event) → fold (last_after ios file block) last events ≡ last_of file block last (filter_map (write_end ios) events)
 by_ends ios file block last [] = refl
-by_ends ios file block last (Issue worker dir write piece ∷ events) = by_ends ios file block last events
+by_ends ios file block last (Issue worker kind write piece ∷ events) = by_ends ios file block last events
 by_ends ios file block last (Probe worker write piece ∷ events) = by_ends ios file block last events
 by_ends ios file block last (Skip worker write ∷ events) = by_ends ios file block last events
 by_ends ios file block last (Verdict worker io verdict ∷ events) = by_ends ios file block last events

@@ -31,7 +31,7 @@ is_given eq (Some k) q = eq k q
 
 -- the event issues a draw of this clone's pass
 abbrev pub is_issue_in : ℕ × ℕ → Event → Bool
-is_issue_in key (Issue worker dir write piece) = same_pass (write.clone, write.pass) key
+is_issue_in key (Issue worker kind write piece) = same_pass (write.clone, write.pass) key
 is_issue_in key (Probe worker write piece) = false
 is_issue_in key (Skip worker write) = false
 is_issue_in key (End worker io outcome) = false

@@ -5,15 +5,15 @@ use Rattle.jr_model.specs.declared.events.Event.{Event}
 use Rattle.jr_model.specs.declared.events.Started.{Started}
 use Rattle.jr_model.specs.History.{started, if_flying, if_awaiting, in_flight, awaiting}
 
--- the I/O with its number is in flight, or a check whose verdict is to come
-abbrev pub is_unfinished : List Event → ℕ × Started → Bool
+-- the I/O with its number is in flight, or its verdict is to come
+unfoldable pub is_unfinished : List Event → ℕ × Started → Bool
 is_unfinished history numbered = is_some (if_flying history numbered) || is_some (if_awaiting history numbered)
 
 -- all such, with their numbers
 abbrev pub unfinished : List Event → List (ℕ × Started)
 unfinished history = filter (is_unfinished history) (enumerate_from 0 (started history))
 
--- these are the unfinished ones, those in flight, and the checks that await their verdicts
+-- these are the unfinished ones, those in flight, and those that await their verdicts
 pub record IsWorkedOut (history : List Event) (pending : List (ℕ × Started)) (flying waiting : List Started) : Type 0 where
   pub all_pending : pending ≡ unfinished history
   pub all_flying : flying ≡ in_flight history

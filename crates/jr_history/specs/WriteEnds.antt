@@ -17,7 +17,7 @@ if_write (Some io) whole =
 -- the end of a write that an event is, where these I/Os are started
 abbrev pub write_end : List Started → Event → Option WriteEnd
 write_end ios (End worker io outcome) = if_write (slice_get ios io) (ended_whole (Some outcome))
-write_end ios (Issue worker dir write piece) = None
+write_end ios (Issue worker kind write piece) = None
 write_end ios (Probe worker write piece) = None
 write_end ios (Skip worker write) = None
 write_end ios (Verdict worker io verdict) = None

@@ -1,19 +1,20 @@
 ghost use Rattle.std.specs.Prelude.{◌≡◌, IfOk};
 ghost use Rattle.std.specs.List.{list_any};
 ghost use Rattle.jr_model.specs.History.{started_by, started, end_of, outcome_of, kind_for, is_verdict_on, is_judged, is_probe};
-ghost use Rattle.jr_model.specs.History.{is_write, is_of_clone, ended_whole};
+ghost use Rattle.jr_model.specs.History.{is_judged_kind, is_write, is_of_clone, ended_whole};
 ghost use Rattle.jr_model.specs.Legal.{is_io_of, is_fault, is_bad};
 
-use jr_model::{Dir, Event, Memory, Outcome, Started, TicketKind, Verdict};
+use jr_model::{Event, IssueKind, Memory, Outcome, Started, TicketKind, Verdict};
 use std::alloc::Global;
 
-// The kind of ticket for a draw of this direction.
-fn kind_for(dir: Dir) -> TicketKind
-    ensures { result ≡ kind_for dir }
+// The kind of ticket for a draw that is issued so.
+fn kind_for(kind: IssueKind) -> TicketKind
+    ensures { result ≡ kind_for kind }
 {
-    match dir {
-        Dir::Read => TicketKind::Read,
-        Dir::Write => TicketKind::Write,
+    match kind {
+        IssueKind::Read => TicketKind::Read,
+        IssueKind::Write => TicketKind::Write,
+        IssueKind::ReadCheck => TicketKind::ReadCheck,
     }
 }
 
@@ -24,12 +25,12 @@ pub fn started_by(event: &Event) -> Option<Started>
     match *event {
         Event::Issue {
             worker,
-            dir,
+            kind,
             write,
             piece,
         } => Some(Started {
             worker,
-            kind: kind_for(dir),
+            kind: kind_for(kind),
             write,
             piece,
         }),
@@ -85,7 +86,7 @@ pub fn outcome_of(history: &[Event], io: usize) -> Option<Outcome>
     None
 }
 
-/// Whether the event is the verdict on this check.
+/// Whether the event is the verdict on this I/O.
 pub fn is_verdict_on(io: usize, event: &Event) -> bool
     ensures { result ≡ is_verdict_on io event.now }
 {
@@ -95,7 +96,7 @@ pub fn is_verdict_on(io: usize, event: &Event) -> bool
     }
 }
 
-/// Whether a check has its verdict.
+/// Whether an I/O has its verdict.
 pub fn is_judged(history: &[Event], io: usize) -> bool
     ensures { result ≡ is_judged history.now io }
 {
@@ -107,6 +108,13 @@ pub fn is_probe(kind: TicketKind) -> bool
     ensures { result ≡ is_probe kind }
 {
     kind == TicketKind::Probe
+}
+
+/// Whether an I/O of this kind gets a verdict where it ends whole: the check of a write, or a checked read.
+pub fn is_judged_kind(kind: TicketKind) -> bool
+    ensures { result ≡ is_judged_kind kind }
+{
+    matches!(kind, TicketKind::Probe | TicketKind::ReadCheck)
 }
 
 /// Whether a ticket of this kind is a write of a job.

@@ -3,7 +3,7 @@ ghost use Rattle.std.specs.List.{enumerate_from};
 ghost use Rattle.jr_model.specs.History.{started, flies, in_flight, awaiting, if_flying, if_awaiting};
 ghost use Rattle.jr_history.specs.Unfinished.{is_unfinished, unfinished};
 
-use crate::events::{ended_whole, is_probe, started_by};
+use crate::events::{ended_whole, is_judged_kind, started_by};
 use crate::ledgers::Ledger;
 use jr_model::{Event, Memory, Started};
 use std::alloc::Global;
@@ -87,7 +87,7 @@ impl Past {
         self.flying.as_slice()
     }
 
-    /// The checks whose verdicts are still to come.
+    /// The checks and checked reads whose verdicts are still to come.
     pub fn awaiting(&self) -> &[Started]
         ensures { result.now ≡ awaiting self.now }
     {
@@ -153,6 +153,7 @@ fn unfinished_among(
     Ok(pending)
 }
 
+#[tactic(auto, unfolding(crate::specs::Unfinished::is_unfinished))]
 fn is_unfinished(ledger: &Ledger, io: &(usize, Started)) -> bool
     ensures { result ≡ is_unfinished ledger.now io.now }
 {
@@ -185,7 +186,7 @@ fn if_flying(ledger: &Ledger, io: &(usize, Started)) -> Option<Started>
     }
 }
 
-// Those of these checks that ended whole and have no verdict.
+// Those of these I/Os that get a verdict, ended whole and have none.
 fn waiting_among(
     alloc: Global,
     ledger: &Ledger,
@@ -200,11 +201,14 @@ fn waiting_among(
     Ok(waiting)
 }
 
-// This I/O, where it is a check that ended whole and has no verdict.
+// This I/O, where it gets a verdict, ended whole and has none.
 fn if_awaiting(ledger: &Ledger, io: &(usize, Started)) -> Option<Started>
     ensures { result ≡ if_awaiting ledger.now io.now }
 {
-    if is_probe(io.1.kind) && ended_whole(ledger.outcome_of(io.0)) && !ledger.is_judged(io.0) {
+    if is_judged_kind(io.1.kind)
+        && ended_whole(ledger.outcome_of(io.0))
+        && !ledger.is_judged(io.0)
+    {
         Some(io.1)
     } else {
         None

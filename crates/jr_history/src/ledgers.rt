@@ -97,7 +97,7 @@ impl Ledger {
         self.marks.outcomes.get(&io).copied()
     }
 
-    /// Whether a check has its verdict.
+    /// Whether an I/O has its verdict.
     pub fn is_judged(&self, io: usize) -> bool
         ensures { result ≡ is_judged self.now io }
     {
@@ -137,7 +137,7 @@ impl Ledger {
         self.marks.faulty.contains(&clone)
     }
 
-    /// Whether a check of the clone has a bad verdict.
+    /// Whether a check or checked read of the clone has a bad verdict.
     pub fn is_condemned(&self, clone: u32) -> bool
         ensures { result ≡ list_any (is_verdict_of (started self.now) is_bad clone) self.now }
     {

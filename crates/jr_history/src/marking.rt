@@ -157,7 +157,7 @@ fn mark_faulty(faulty: &mut HashSet<u32>, ios: &[Started], event: &Event) -> Res
     Ok(())
 }
 
-// The clone of whose check an event is a bad verdict.
+// The clone of whose check or checked read an event is a bad verdict.
 fn condemned_by(ios: &[Started], event: &Event) -> Option<u32>
     ensures { (clone : ℕ) → is_verdict_of ios.now is_bad clone event.now ≡ is_given nat_eq result clone }
 {

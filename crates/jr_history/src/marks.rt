@@ -20,7 +20,7 @@ pub struct WriteEnd {
 pub struct Marks {
     // How each I/O ended, by its number.
     pub outcomes: HashMap<usize, Outcome>,
-    // The checks that have a verdict, by their numbers.
+    // The I/Os that have a verdict, by their numbers.
     pub judged: HashSet<usize>,
     // How many draws of a clone's pass were issued, by clone and pass.
     pub issued: HashMap<(u32, u32), usize>,

@@ -5,8 +5,6 @@ use Rattle.std.specs.Option.{option_or}
 use Rattle.std.specs.List.{list_all, cons_option, range_with_len}
 use Rattle.std.proofs.lemmas.Bool.{and_parts, and_from, false≢true, eq-eqb, lt-ltb, cases_eq}
 use Rattle.std.proofs.lemmas.List.Elements.{filter_map-append}
-use Rattle.jr_model.specs.declared.blocks.Dir.{Dir}
-use Rattle.jr_model.specs.declared.blocks.Dir.TheVariants.{Read, Write}
 use Rattle.jr_model.specs.declared.blocks.Piece.{Piece}
 use Rattle.jr_model.specs.declared.events.Event.{Event}
 use Rattle.jr_model.specs.declared.events.Event.TheVariants.{Issue, Probe, Skip, End, Verdict}
@@ -15,11 +13,14 @@ use Rattle.jr_model.specs.declared.events.Started.{Started}
 use Rattle.jr_model.specs.declared.events.WriteId.{WriteId}
 use Rattle.jr_model.specs.declared.tickets.TicketKind.TheVariants as ticket
 use Rattle.jr_model.specs.declared.workloads.Draw.{Draw}
-use Rattle.jr_model.specs.History.{started, started_by, end_of, first_given, outcome_of, flies, is_probe, is_write, ended_whole}
+use Rattle.jr_model.specs.History.{started, started_by, end_of, first_given, outcome_of, flies, is_probe, is_write, ended_whole, kind_for}
 use Rattle.jr_model.specs.LastWrite.{covers_block, last_after_end, last_after, last_write, is_this_write, is_intact}
 use Rattle.jr_model.specs.Legal.{may_happen, legal_after, is_legal, end_fits, conflicts}
 use Rattle.jr_model.specs.Pieces.{piece_end, pieces_overlap}
-use Rattle.jr_model.specs.Plan.{Plan}
+use Rattle.jr_model.specs.declared.events.IssueKind.{IssueKind}
+use Rattle.jr_model.specs.declared.events.IssueKind.TheVariants.{Read, Write, ReadCheck}
+use Rattle.jr_model.specs.Plan.{Plan, SubJob, issued_as}
+use Rattle.jr_laws_quiet.proofs.Steps.{write_kind}
 use Rattle.jr_model.specs.Rounds.{is_write_draw}
 use Rattle.jr_model.proofs.LegalLaws.{is_legal-more, same_write_refl}
 use Rattle.jr_model.proofs.SerialLaws.{EndsWereStarted, first_given-append, ends-more}
@@ -170,8 +171,9 @@ no_conflict writes piece io file block one none in_io in_piece =
     (sym none
     ∙ and_from (writes || is_write io.kind) (pieces_overlap io.piece piece) one (shared_block io.piece piece file block in_io in_piece))
 
-write_draw : (draw : Draw) → draw.dir ≡ Write → is_write_draw draw ≡ true
-write_draw draw way = ap (λ (d : Dir). is_write_draw (record draw { dir = d })) way
+-- a draw that is issued as a write is one
+write_draw : (job : SubJob) (draw : Draw) → issued_as job draw.dir ≡ Write → is_write_draw draw ≡ true
+write_draw job draw way = sym (write_kind job draw) ∙ ap (λ (k : IssueKind). is_write (kind_for k)) way
 
 -- a check is started clear of the writes in flight
 clear_check : (plan : Plan) (history : List Event) (e : Event) (i : ℕ) (a b : Started) (file block : ℕ) → may_happen plan history e ≡ true → started_by e ≡ Some b → is_probe b.kind ≡ true → slice_get (started history) i ≡ Some a → outcome_of history i ≡ None → is_write a.kind ≡ true → covers_block a.piece file block ≡ true → covers_block b.piece file block ≡ true → ⊥
@@ -184,10 +186,12 @@ clear_write : (plan : Plan) (history : List Event) (e : Event) (j : ℕ) (a b : 
 clear_write plan history (Issue worker Write write piece) j a b file block may starts writes at unended in_a in_b =
     let issue = issuable plan history worker Write write piece may in
     let same : piece ≡ a.piece = ap (λ (x : Started). x.piece) (some_same (record { worker = worker; kind = ticket.Write; write = write; piece = piece }) a starts) in
-    let clear = subst (λ (w : Bool). conflicts w piece b ≡ false) (write_draw issue.draw issue.way) (clear_of history (is_write_draw issue.draw) piece j b issue.clear at unended) in
+    let clear = subst (λ (w : Bool). conflicts w piece b ≡ false) (write_draw issue.job issue.draw issue.way) (clear_of history (is_write_draw issue.draw) piece j b issue.clear at unended) in
     no_conflict true piece b file block refl clear in_b (subst (λ (p : Piece). covers_block p file block ≡ true) (sym same) in_a)
 clear_write plan history (Issue worker Read write piece) j a b file block may starts writes at unended in_a in_b =
     false≢true (ap (λ (x : Started). is_write x.kind) (some_same (record { worker = worker; kind = ticket.Read; write = write; piece = piece }) a starts) ∙ writes)
+clear_write plan history (Issue worker ReadCheck write piece) j a b file block may starts writes at unended in_a in_b =
+    false≢true (ap (λ (x : Started). is_write x.kind) (some_same (record { worker = worker; kind = ticket.ReadCheck; write = write; piece = piece }) a starts) ∙ writes)
 clear_write plan history (Probe worker write piece) j a b file block may starts writes at unended in_a in_b =
     false≢true (ap (λ (x : Started). is_write x.kind) (some_same (record { worker = worker; kind = ticket.Probe; write = write; piece = piece }) a starts) ∙ writes)
 clear_write plan history (Skip worker write) j a b file block may starts writes at unended in_a in_b = cc
@@ -217,6 +221,7 @@ checks_clear-more plan history e may clear i j a b file block at_i at_j open_i o
     not_both ticket.Read w p = cc
     not_both ticket.Write w p = cc
     not_both ticket.Probe w p = cc
+    not_both ticket.ReadCheck w p = cc
 
 pub checks_are_clear : (plan : Plan) (history : List Event) → is_legal plan history ≡ true → ChecksAreClear history
 checks_are_clear plan history legal =

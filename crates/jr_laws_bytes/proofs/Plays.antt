@@ -17,7 +17,7 @@ use Rattle.jr_model.specs.declared.steps.StepReply.TheVariants as answer
 use Rattle.jr_model.specs.declared.tickets.TicketKind.{TicketKind}
 use Rattle.jr_model.specs.declared.tickets.TicketKind.TheVariants as ticket
 use Rattle.jr_model.specs.Choice.{choice}
-use Rattle.jr_model.specs.History.{started, outcome_of, is_judged, is_probe, is_write, ended_whole}
+use Rattle.jr_model.specs.History.{started, outcome_of, is_judged, is_judged_kind, is_probe, is_write, ended_whole}
 use Rattle.jr_model.specs.Machine.{State, Stepped, taken, take_answer, work_of, content_of_io, read_of, bytes_read, first_state, end_refusal, judge_refusal, is_judgeable, verdict_on, ends_by, machine_end_by, machine_judge_by, machine_take, machine_step, machine_run}
 use Rattle.jr_model.specs.Plan.{Plan}
 use Rattle.jr_model.specs.Replies.{outcome_for, stored, reply_to_write}
@@ -49,6 +49,10 @@ unended_from s id free =
 
 quiet_ends_by : (plan : Plan) (s : State) (id : ℕ) (given : Reply) (kind : TicketKind) (io : Started) → IsPlanned plan → keeps_bytes given ≡ true → IsQuietState plan s → IsSound plan (ends_by plan s id given kind io) → end_refusal s id ≡ None → slice_get (started s.history) id ≡ Some io → io.kind ≡ kind → IsQuiet plan (ends_by plan s id given kind io).history (ends_by plan s id given kind io).memory (bytes_read (ends_by plan s id given kind io).read_back)
 quiet_ends_by plan s id given ticket.Read io planned keeps state sound free at is =
+    let read = read_of s.memory given io in
+    quiet_read plan s.history s.memory s.read_back id (outcome_for read.count io.piece.len) io read.buffer sound.legal at (ap is_write is)
+    (unended_from s id free) (λ probe whole. absurd (false≢true (sym (ap is_probe is) ∙ probe))) state.quiet
+quiet_ends_by plan s id given ticket.ReadCheck io planned keeps state sound free at is =
     let read = read_of s.memory given io in
     quiet_read plan s.history s.memory s.read_back id (outcome_for read.count io.piece.len) io read.buffer sound.legal at (ap is_write is)
     (unended_from s id free) (λ probe whole. absurd (false≢true (sym (ap is_probe is) ∙ probe))) state.quiet
@@ -85,11 +89,11 @@ quiet_judge_by plan s by id None None planned state sound free at = state
 quiet_judge_by plan s by id None (Some io) planned state sound free at =
     let verdict = verdict_on plan io (bytes_read s.read_back id) in
     let open_to = four_conds s.is_stopped (nat_lt id (length (started s.history))) (is_judged s.history id) (is_judgeable s.history id (slice_get (started s.history) id)) Stopped Twice WrongKind Stranger free in
-    let check = and_parts (is_probe io.kind) (ended_whole (outcome_of s.history id))
+    let check = and_parts (is_judged_kind io.kind) (ended_whole (outcome_of s.history id))
     (subst (λ (o : Option Started). is_judgeable s.history id o ≡ true) at open_to.1) in record {
       sound = sound;
       quiet = quiet-more plan s.history (Verdict by id verdict) s.memory (bytes_read s.read_back) sound.legal
-          (harmless_verdict plan s.history s.memory (bytes_read s.read_back) by id io planned state.quiet (at, check.0, check.1)) state.quiet;
+          (harmless_verdict plan s.history s.memory (bytes_read s.read_back) by id io planned state.quiet at check.1) state.quiet;
     }
 
 quiet_take : (plan : Plan) (s : State) (worker : ℕ) → IsPlanned plan → IsQuietState plan s → IsSound plan (machine_take plan s worker).state → IsQuietState plan (machine_take plan s worker).state

@@ -1,11 +1,11 @@
 -- A run so far whose memory holds the last writes and whose checks gave what their writes put there stays so.
-use Rattle.std.proofs.Common.{◌≡◌, ℕ, zero, suc, ◌<◌, ◌≤◌, List, [], ◌∷◌, ◌++◌, length, Bool, true, false, cond, ◌||◌, refl, sym, ◌∙◌, ap, subst, arith, inl, inr, append_assoc, append-nil}
+use Rattle.std.proofs.Common.{◌≡◌, ℕ, zero, suc, ◌<◌, ◌≤◌, List, [], ◌∷◌, ◌++◌, length, Bool, true, false, cond, ◌&&◌, refl, sym, ◌∙◌, ap, subst, arith, inl, inr, append_assoc, append-nil}
 use Rattle.std.specs.Prelude.{Option, Some, None, slice_get, ◌==◌}
 use Rattle.std.specs.Option.{option_or}
 use Rattle.std.specs.List.{list_any}
-use Rattle.std.proofs.lemmas.Bool.{or_from, false≢true, cond_both, cases_eq, eq-eqb, ne_eqb}
+use Rattle.std.proofs.lemmas.Bool.{and_left, and_right, cases_Bool, ltb-true, or_from, false≢true, cond_both, cases_eq, eq-eqb, ne_eqb}
 use Rattle.jr_model.specs.declared.events.Event.{Event}
-use Rattle.jr_model.specs.declared.events.Event.TheVariants.{End, Verdict}
+use Rattle.jr_model.specs.declared.events.Event.TheVariants.{Issue, Probe, Skip, End, Verdict}
 use Rattle.jr_model.specs.declared.events.Outcome.{Outcome}
 use Rattle.jr_model.specs.declared.events.Started.{Started}
 use Rattle.jr_model.specs.declared.events.WriteId.{WriteId}
@@ -19,12 +19,13 @@ use Rattle.jr_model.specs.Machine.{is_skip, choices_after, content_of_io, bytes_
 use Rattle.jr_model.specs.Plan.{Plan, IsNumbered}
 use Rattle.jr_model.specs.Replies.{FileBytes, memory_with}
 use Rattle.jr_model.specs.Rounds.{pass_of}
-use Rattle.jr_model.proofs.LegalLaws.{is_legal-more, choice_may_happen, choice_is_step, cases_step_of}
-use Rattle.jr_model.proofs.SerialLaws.{first_given-append, any-append, whole_some}
+use Rattle.jr_model.proofs.LegalLaws.{legal_front, is_legal-more, choice_may_happen, choice_is_step, cases_step_of}
+use Rattle.jr_model.proofs.SerialLaws.{first_given-append, whole_some}
 use Rattle.jr_model.specs.PlanFacts.{IsPlanned}
-use Rattle.jr_laws_bytes.specs.Checks.{is_miscompare, has_miscompare}
+use Rattle.jr_laws_bytes.specs.Checks.{is_check, is_miscompare, has_miscompare}
 use Rattle.jr_laws_bytes.specs.Memory.{CoversFiles, HoldsLastWrites}
-use Rattle.jr_laws_bytes.proofs.Starts.{some_same, draw_started}
+use Rattle.jr_laws_steps.proofs.Grown.{is_known, got_longer, found-more}
+use Rattle.jr_laws_bytes.proofs.Starts.{legal_at, some_same, draw_started}
 use Rattle.jr_laws_bytes.proofs.Contents.{lies_in_file}
 use Rattle.jr_laws_bytes.proofs.LastWrites.{ends_were_started, started_cases}
 use Rattle.jr_laws_bytes.proofs.Memories.{covers_piece, covers_part, covers_files-memory_with, holds_write, holds_on, holds_read, holds_none}
@@ -68,36 +69,45 @@ whole_before plan history e io s legal other check =
       | inr new ↦ absurd (omega (arith, below, new.0))
     ]
 
-no_worse : (history : List Event) (e : Event) → has_miscompare history ≡ false → is_miscompare e ≡ false → has_miscompare (history ++ e ∷ []) ≡ false
-no_worse history e good fine =
-    any-append is_miscompare history (e ∷ [])
-    ∙ or_from (list_any is_miscompare history) (is_miscompare e || false) good (ap (λ (b : Bool). b || false) fine)
+-- more that was started makes no difference to what was judged before
+miscompare_agrees : (ios more : List Started) (e : Event) → is_known (length ios) e ≡ true → is_miscompare (ios ++ more) e ≡ is_miscompare ios e
+miscompare_agrees ios more (Verdict worker io verdict) known =
+    ap (λ (o : Option Started). is_bad verdict && is_check o) (got_longer ios more io (ltb-true io (length ios) known))
+miscompare_agrees ios more (Issue worker kind write piece) known = refl
+miscompare_agrees ios more (Probe worker write piece) known = refl
+miscompare_agrees ios more (Skip worker write) known = refl
+miscompare_agrees ios more (End worker io outcome) known = refl
 
--- an event that ends nothing and finds nothing bad
-pub record IsHarmless (e : Event) : Type 0 where
+pub no_worse : (plan : Plan) (history : List Event) (e : Event) → is_legal plan (history ++ e ∷ []) ≡ true → has_miscompare history ≡ false → is_miscompare (started history) e ≡ false → has_miscompare (history ++ e ∷ []) ≡ false
+no_worse plan history e legal good fine =
+    found-more plan history e (legal_front plan [] history (e ∷ []) legal) (legal_at plan [] history e [] legal) is_miscompare miscompare_agrees
+    ∙ or_from (list_any (is_miscompare (started history)) history) (is_miscompare (started history) e) good fine
+
+-- an event that ends nothing and finds no check bad, where these I/Os are started
+pub record IsHarmless (ios : List Started) (e : Event) : Type 0 where
   pub ends : (io : ℕ) → end_of io e ≡ None
-  pub keeps : (ios : List Started) (file block : ℕ) (last : Option WriteId) → last_after ios file block last e ≡ last
-  pub fine : is_miscompare e ≡ false
+  pub keeps : (all : List Started) (file block : ℕ) (last : Option WriteId) → last_after all file block last e ≡ last
+  pub fine : is_miscompare ios e ≡ false
 
-pub quiet-more : (plan : Plan) (history : List Event) (e : Event) (memory : List FileBytes) (read : ℕ → List ℕ) → is_legal plan (history ++ e ∷ []) ≡ true → IsHarmless e → IsQuiet plan history memory read → IsQuiet plan (history ++ e ∷ []) memory read
+pub quiet-more : (plan : Plan) (history : List Event) (e : Event) (memory : List FileBytes) (read : ℕ → List ℕ) → is_legal plan (history ++ e ∷ []) ≡ true → IsHarmless (started history) e → IsQuiet plan history memory read → IsQuiet plan (history ++ e ∷ []) memory read
 quiet-more plan history e memory read legal harmless quiet = record {
   legal = legal;
   covered = quiet.covered;
   holds = holds_on plan history memory e quiet.legal (λ file block last. harmless.keeps (started history) file block last) quiet.holds;
   own = λ io s check. quiet.own io s (whole_before plan history e io s quiet.legal (harmless.ends io) check);
-  good = no_worse history e quiet.good harmless.fine;
+  good = no_worse plan history e legal quiet.good harmless.fine;
 }
 
 -- what is chosen to be started or skipped is harmless
-pub harmless_choice : (plan : Plan) (history : List Event) (worker : ℕ) (e : Event) → IsNumbered plan → choice plan history worker ≡ Some e → IsHarmless e
+pub harmless_choice : (plan : Plan) (history : List Event) (worker : ℕ) (e : Event) → IsNumbered plan → choice plan history worker ≡ Some e → IsHarmless (started history) e
 harmless_choice plan history worker e numbered chosen =
     let found = choice_is_step plan history worker e numbered chosen in
     elim (cases_step_of plan history worker (pass_of found.0 found.1) found.2 e found.3) [
-      | inl probe ↦ subst (λ (x : Event). IsHarmless x) (sym probe) (record { ends = λ io. refl; keeps = λ ios file block last. refl; fine = refl })
+      | inl probe ↦ subst (λ (x : Event). IsHarmless (started history) x) (sym probe) (record { ends = λ io. refl; keeps = λ ios file block last. refl; fine = refl })
       | inr other ↦
           elim other [
-            | inl skip ↦ subst (λ (x : Event). IsHarmless x) (sym skip) (record { ends = λ io. refl; keeps = λ ios file block last. refl; fine = refl })
-            | inr issue ↦ subst (λ (x : Event). IsHarmless x) (sym issue) (record { ends = λ io. refl; keeps = λ ios file block last. refl; fine = refl })
+            | inl skip ↦ subst (λ (x : Event). IsHarmless (started history) x) (sym skip) (record { ends = λ io. refl; keeps = λ ios file block last. refl; fine = refl })
+            | inr issue ↦ subst (λ (x : Event). IsHarmless (started history) x) (sym issue) (record { ends = λ io. refl; keeps = λ ios file block last. refl; fine = refl })
           ]
     ]
 
@@ -118,12 +128,18 @@ quiet_choices (suc limit) plan worker history memory read (Some e) numbered same
     (quiet_choices limit plan worker next memory read (choice plan next worker) numbered refl longer))
     (λ begun. longer)
 
--- the verdict on the bytes of a check that ended whole is harmless
-pub harmless_verdict : (plan : Plan) (history : List Event) (memory : List FileBytes) (read : ℕ → List ℕ) (by io : ℕ) (s : Started) → IsPlanned plan → IsQuiet plan history memory read → IsWholeCheck history io s → IsHarmless (Verdict by io (verdict_on plan s (read io)))
-harmless_verdict plan history memory read by io s planned quiet check = record {
+-- the verdict on the bytes of a check or checked read that ended whole is harmless
+pub harmless_verdict : (plan : Plan) (history : List Event) (memory : List FileBytes) (read : ℕ → List ℕ) (by io : ℕ) (s : Started) → IsPlanned plan → IsQuiet plan history memory read → slice_get (started history) io ≡ Some s → ended_whole (outcome_of history io) ≡ true → IsHarmless (started history) (Verdict by io (verdict_on plan s (read io)))
+harmless_verdict plan history memory read by io s planned quiet at whole = record {
   ends = λ n. refl;
   keeps = λ ios file block last. refl;
-  fine = ap is_bad (ap (verdict_on plan s) (quiet.own io s check) ∙ good_on_own plan history io s planned quiet.legal check.0);
+  fine = ap (λ (o : Option Started). is_bad (verdict_on plan s (read io)) && is_check o) at
+      ∙ elim (cases_Bool (is_probe s.kind)) [
+        | inl probe ↦
+            and_left (is_bad (verdict_on plan s (read io))) (is_probe s.kind)
+            (ap is_bad (ap (verdict_on plan s) (quiet.own io s (at, probe, whole)) ∙ good_on_own plan history io s planned quiet.legal at probe))
+        | inr other ↦ and_right (is_bad (verdict_on plan s (read io))) (is_probe s.kind) other
+      ];
 }
 
 -- at first nothing happened, and a memory that covers the plan's files holds all that was written
@@ -183,7 +199,7 @@ quiet_read plan history memory kept id outcome io bytes legal at reads unended g
                 ap (λ (b : Bool). cond b bytes (bytes_read kept n)) (ne_eqb id n other)
                 ∙ quiet.own n s (whole_before plan history e n s quiet.legal (not_ended io.worker id n outcome other) check)
           ];
-      good = no_worse history e quiet.good refl;
+      good = no_worse plan history e legal quiet.good refl;
     }
 
 -- a write ends; it stored its content where it ends whole
@@ -204,5 +220,5 @@ quiet_write plan history memory read id outcome io new planned legal at writes s
                 absurd (false≢true (ap is_probe (sym writes) ∙ ap (λ (x : Started). is_probe x.kind) is ∙ here.1))
             | inr other ↦ quiet.own n s (whole_before plan history e n s quiet.legal (not_ended io.worker id n outcome other) check)
           ];
-      good = no_worse history e quiet.good refl;
+      good = no_worse plan history e legal quiet.good refl;
     }

@@ -12,8 +12,7 @@ use Rattle.jr_plan.specs.Files.{are_apart}
 use Rattle.jr_model.specs.PlanFacts.{IsPlanned}
 use Rattle.jr_laws_quiet.specs.Quiet.{is_calm, is_quiet}
 use Rattle.jr_laws_quiet.proofs.Reports.{quiet_run}
-use Rattle.jr_laws_bytes.specs.Checks.{is_miscompare, has_miscompare}
-use Rattle.jr_laws_bytes.specs.Clean.{is_faulty_end, has_fault}
+use Rattle.jr_laws_bytes.specs.Clean.{is_faulty_end, has_fault, is_bad_verdict, has_bad}
 use Rattle.jr_laws_bytes.proofs.CleanLaws.{serial_clean}
 use Rattle.jr_laws_steps.proofs.CountLaws.{serial_stops_all}
 use Rattle.jr_laws_steps.proofs.DoneLaws.{serial_complete}
@@ -33,25 +32,25 @@ turned true e = absurd (cc)
 turned false e = refl
 
 -- an event that is no fault and no bad verdict is calm
-calm : (event : Event) → is_faulty_end event ≡ false → is_miscompare event ≡ false → is_calm event ≡ true
-calm (End worker io outcome) fault miscompare = turned (is_fault outcome) fault
-calm (Verdict worker io verdict) fault miscompare = turned (is_bad verdict) miscompare
-calm (Issue worker dir write piece) fault miscompare = refl
-calm (Probe worker write piece) fault miscompare = refl
-calm (Skip worker write) fault miscompare = refl
+calm : (event : Event) → is_faulty_end event ≡ false → is_bad_verdict event ≡ false → is_calm event ≡ true
+calm (End worker io outcome) fault bad = turned (is_fault outcome) fault
+calm (Verdict worker io verdict) fault bad = turned (is_bad verdict) bad
+calm (Issue worker dir write piece) fault bad = refl
+calm (Probe worker write piece) fault bad = refl
+calm (Skip worker write) fault bad = refl
 
 -- a history without a fault and without a bad verdict is quiet
-pub quiet_of : (history : List Event) → has_fault history ≡ false → has_miscompare history ≡ false → is_quiet history ≡ true
-quiet_of [] fault miscompare = refl
-quiet_of (event ∷ events) fault miscompare =
+pub quiet_of : (history : List Event) → has_fault history ≡ false → has_bad history ≡ false → is_quiet history ≡ true
+quiet_of [] fault bad = refl
+quiet_of (event ∷ events) fault bad =
     let faults = neither (is_faulty_end event) (has_fault events) fault in
-    let miscompares = neither (is_miscompare event) (has_miscompare events) miscompare in
-    both (is_calm event) (is_quiet events) (calm event faults.0 miscompares.0) (quiet_of events faults.1 miscompares.1)
+    let bads = neither (is_bad_verdict event) (has_bad events) bad in
+    both (is_calm event) (is_quiet events) (calm event faults.0 bads.0) (quiet_of events faults.1 bads.1)
 
-pub serial_quiet : (plan : Plan) → IsPlanned plan → are_apart plan.clones ≡ true → (is_quiet (serial_history plan) ≡ true) × (report_of plan (serial_history plan) ≡ quiet_report plan)
-serial_quiet plan planned apart =
+pub serial_quiet : (plan : Plan) → IsPlanned plan → are_apart plan.clones ≡ true → has_bad (serial_history plan) ≡ false → (is_quiet (serial_history plan) ≡ true) × (report_of plan (serial_history plan) ≡ quiet_report plan)
+serial_quiet plan planned apart good =
     let clean = serial_clean plan in
-    let quiet = quiet_of (serial_history plan) clean.0 clean.1 in
+    let quiet = quiet_of (serial_history plan) clean.0 good in
     let legal = legal_serial plan (numbered_of plan planned) in
     let complete = serial_complete plan planned (serial_stops_all plan planned) in
     (quiet, quiet_run plan (serial_history plan) planned apart legal complete quiet)

@@ -2,12 +2,12 @@
 use Rattle.std.proofs.Common.{◌≡◌, ℕ, zero, suc, ◌+◌, List, [], ◌∷◌, ◌++◌, Bool, true, false, cond, ◌&&◌, not, refl, sym, ◌∙◌, ap, subst, arith, append_assoc, append-nil, add-zero}
 use Rattle.std.specs.Prelude.{Option, Some, None, slice_get, filter_map, is_none, ◌==◌}
 use Rattle.std.specs.List.{list_any, enumerate_from, cons_option}
-use Rattle.std.proofs.lemmas.Bool.{and_parts, or_parts, not-true, eqb-true, false≢true}
-use Rattle.jr_model.specs.declared.blocks.Dir.{Dir}
-use Rattle.jr_model.specs.declared.blocks.Dir.TheVariants.{Read, Write}
+use Rattle.std.proofs.lemmas.Bool.{and_parts, or_parts, not-true, false≢true}
+use Rattle.jr_model.specs.declared.events.IssueKind.TheVariants.{Read, Write, ReadCheck}
 use Rattle.jr_model.specs.declared.blocks.Piece.{Piece}
 use Rattle.jr_model.specs.declared.events.Event.{Event}
 use Rattle.jr_model.specs.declared.events.Event.TheVariants.{Issue, Probe, Skip, End, Verdict}
+use Rattle.jr_model.specs.declared.events.IssueKind.{IssueKind}
 use Rattle.jr_model.specs.declared.events.Outcome.{Outcome}
 use Rattle.jr_model.specs.declared.events.Started.{Started}
 use Rattle.jr_model.specs.declared.events.WriteId.{WriteId}
@@ -17,10 +17,10 @@ use Rattle.jr_model.specs.Draws.{draws_of_job}
 use Rattle.jr_model.specs.History.{started, started_by, outcome_of, in_flight, if_flying, is_probe, kind_for, same_write, same_piece}
 use Rattle.jr_model.specs.Honest.{before_start}
 use Rattle.jr_model.specs.LastWrite.{is_intact}
-use Rattle.jr_model.specs.Legal.{may_happen, may_take_up, may_issue, legal_after, is_legal, is_clear, conflicts, step_of, step_of_draw, step_of_clone, same_dir, is_this_issue, is_this_probe, takes_up, is_halted, has_room, phase_is_open}
-use Rattle.jr_model.specs.Plan.{Plan, SubJob, clone_of}
+use Rattle.jr_model.specs.Legal.{may_happen, may_take_up, may_issue, legal_after, is_legal, is_clear, conflicts, step_of, step_of_draw, step_of_clone, same_issue, is_this_issue, is_this_probe, takes_up, is_halted, has_room, phase_is_open}
+use Rattle.jr_model.specs.Plan.{Plan, SubJob, clone_of, issued_as}
 use Rattle.jr_model.specs.Rounds.{Pass, pass_of, write_id, is_write_draw, issued_count, has_rounds, group_index, is_open, waits_for_round, is_current}
-use Rattle.jr_model.proofs.Equality.{eq_piece, eq_write, eq_dir}
+use Rattle.jr_model.proofs.Equality.{eq_piece, eq_write, eq_issue}
 
 -- induction over legal histories
 
@@ -133,11 +133,11 @@ pub record IsCheckable (plan : Plan) (before : List Event) (write : WriteId) (pi
   pub clear : is_clear before false piece ≡ true
 
 -- an I/O was issued: a draw, with nothing in flight over it that it conflicts with
-pub record IsIssuable (plan : Plan) (before : List Event) (dir : Dir) (write : WriteId) (piece : Piece) : Type 0 where
+pub record IsIssuable (plan : Plan) (before : List Event) (dir : IssueKind) (write : WriteId) (piece : Piece) : Type 0 where
   pub job : SubJob
   pub draw : Draw
   pub names : IsDrawOf plan write piece job draw
-  pub way : draw.dir ≡ dir
+  pub way : issued_as job draw.dir ≡ dir
   pub clear : is_clear before (is_write_draw draw) piece ≡ true
 
 found_draw : (plan : Plan) (before : List Event) (worker : ℕ) (pass : Pass) (test : Option Event → Bool) → test None ≡ false → (o : Option Draw) → test (step_of_draw plan before worker pass o) ≡ true → (draw : Draw) × (o ≡ Some draw) × (test (step_of plan before worker pass draw) ≡ true)
@@ -151,7 +151,7 @@ found_step plan before worker write test none (Some job) h =
     (job, found.0, refl, found.1, found.2)
 
 -- a step that is this check
-checked : (write : WriteId) (piece : Piece) (a b c : Bool) (w : WriteId) (p : Piece) (worker : ℕ) (dir : Dir) → is_this_probe write piece (cond a (Some (cond b (Probe worker w p) (Skip worker w))) (cond c (Some (Issue worker dir w p)) None)) ≡ true → (a ≡ true) × (b ≡ true) × (w ≡ write) × (p ≡ piece)
+checked : (write : WriteId) (piece : Piece) (a b c : Bool) (w : WriteId) (p : Piece) (worker : ℕ) (dir : IssueKind) → is_this_probe write piece (cond a (Some (cond b (Probe worker w p) (Skip worker w))) (cond c (Some (Issue worker dir w p)) None)) ≡ true → (a ≡ true) × (b ≡ true) × (w ≡ write) × (p ≡ piece)
 checked write piece true true c w p worker dir h =
     let parts = and_parts (same_write w write) (same_piece p piece) h in
     (refl, refl, eq_write w write parts.0, eq_piece p piece parts.1)
@@ -160,13 +160,13 @@ checked write piece false b true w p worker dir h = cc
 checked write piece false b false w p worker dir h = cc
 
 -- a step that is this issue
-issued : (dir : Dir) (write : WriteId) (piece : Piece) (a b c : Bool) (w : WriteId) (p : Piece) (worker : ℕ) (d : Dir) → is_this_issue dir write piece (cond a (Some (cond b (Probe worker w p) (Skip worker w))) (cond c (Some (Issue worker d w p)) None)) ≡ true → (c ≡ true) × (d ≡ dir) × (w ≡ write) × (p ≡ piece)
+issued : (dir : IssueKind) (write : WriteId) (piece : Piece) (a b c : Bool) (w : WriteId) (p : Piece) (worker : ℕ) (d : IssueKind) → is_this_issue dir write piece (cond a (Some (cond b (Probe worker w p) (Skip worker w))) (cond c (Some (Issue worker d w p)) None)) ≡ true → (c ≡ true) × (d ≡ dir) × (w ≡ write) × (p ≡ piece)
 issued dir write piece true true c w p worker d h = cc
 issued dir write piece true false c w p worker d h = cc
 issued dir write piece false b true w p worker d h =
-    let parts = and_parts (same_dir d dir && same_write w write) (same_piece p piece) h in
-    let more = and_parts (same_dir d dir) (same_write w write) parts.0 in
-    (refl, eq_dir d dir more.0, eq_write w write more.1, eq_piece p piece parts.1)
+    let parts = and_parts (same_issue d dir && same_write w write) (same_piece p piece) h in
+    let more = and_parts (same_issue d dir) (same_write w write) parts.0 in
+    (refl, eq_issue d dir more.0, eq_write w write more.1, eq_piece p piece parts.1)
 issued dir write piece false b false w p worker d h = cc
 
 pub checkable : (plan : Plan) (before : List Event) (worker : ℕ) (write : WriteId) (piece : Piece) → may_happen plan before (Probe worker write piece) ≡ true → IsCheckable plan before write piece
@@ -175,7 +175,7 @@ checkable plan before worker write piece may =
     let job = found.0 in
     let draw = found.1 in
     let pass = pass_of job write.pass in
-    let here = checked write piece (may_take_up before pass draw) (is_intact before (write_id pass draw) draw.piece) (may_issue plan before pass draw) (write_id pass draw) draw.piece worker draw.dir found.4 in
+    let here = checked write piece (may_take_up before pass draw) (is_intact before (write_id pass draw) draw.piece) (may_issue plan before pass draw) (write_id pass draw) draw.piece worker (issued_as job draw.dir) found.4 in
     let rounds = has_rounds job in
     let fresh = not (list_any (takes_up (write_id pass draw)) before) in
     let going = not (is_halted before job) in
@@ -196,13 +196,13 @@ checkable plan before worker write piece may =
       clear = subst (λ (p : Piece). is_clear before false p ≡ true) here.3 five.1;
     }
 
-pub issuable : (plan : Plan) (before : List Event) (worker : ℕ) (dir : Dir) (write : WriteId) (piece : Piece) → may_happen plan before (Issue worker dir write piece) ≡ true → IsIssuable plan before dir write piece
+pub issuable : (plan : Plan) (before : List Event) (worker : ℕ) (dir : IssueKind) (write : WriteId) (piece : Piece) → may_happen plan before (Issue worker dir write piece) ≡ true → IsIssuable plan before dir write piece
 issuable plan before worker dir write piece may =
     let found = found_step plan before worker write (is_this_issue dir write piece) refl (clone_of plan write.clone) may in
     let job = found.0 in
     let draw = found.1 in
     let pass = pass_of job write.pass in
-    let here = issued dir write piece (may_take_up before pass draw) (is_intact before (write_id pass draw) draw.piece) (may_issue plan before pass draw) (write_id pass draw) draw.piece worker draw.dir found.4 in
+    let here = issued dir write piece (may_take_up before pass draw) (is_intact before (write_id pass draw) draw.piece) (may_issue plan before pass draw) (write_id pass draw) draw.piece worker (issued_as job draw.dir) found.4 in
     let next = draw.number == issued_count before pass in
     let going = not (is_halted before job) in
     let room = has_room before job in
@@ -225,6 +225,7 @@ issuable plan before worker dir write piece may =
 pub probe_event : (e : Event) (s : Started) → started_by e ≡ Some s → is_probe s.kind ≡ true → e ≡ Probe s.worker s.write s.piece
 probe_event (Issue worker Read write piece) s starts probe = absurd (false≢true (ap (λ (x : Started). is_probe x.kind) (some_same (record { worker = worker; kind = ticket.Read; write = write; piece = piece }) s starts) ∙ probe))
 probe_event (Issue worker Write write piece) s starts probe = absurd (false≢true (ap (λ (x : Started). is_probe x.kind) (some_same (record { worker = worker; kind = ticket.Write; write = write; piece = piece }) s starts) ∙ probe))
+probe_event (Issue worker ReadCheck write piece) s starts probe = absurd (false≢true (ap (λ (x : Started). is_probe x.kind) (some_same (record { worker = worker; kind = ticket.ReadCheck; write = write; piece = piece }) s starts) ∙ probe))
 probe_event (Probe worker write piece) s starts probe = ap (λ (x : Started). Probe x.worker x.write x.piece) (some_same (record { worker = worker; kind = ticket.Probe; write = write; piece = piece }) s starts)
 probe_event (Skip worker write) s starts probe = cc
 probe_event (End worker io outcome) s starts probe = cc

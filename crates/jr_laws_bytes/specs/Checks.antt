@@ -1,5 +1,5 @@
 -- Believed: when a check is found bad: exactly where the bytes that it read aren't its write's.
-use Rattle.std.specs.Prelude.{◌≡◌, ◌≢◌, ◌↔◌, ℕ, Bool, true, false, List, length, Option, Some, None, slice_get}
+use Rattle.std.specs.Prelude.{◌≡◌, ◌≢◌, ◌↔◌, ℕ, Bool, true, false, ◌&&◌, List, length, Option, Some, None, slice_get}
 use Rattle.std.specs.List.{list_any, list_all}
 use Rattle.jr_model.specs.declared.events.Event.{Event}
 use Rattle.jr_model.specs.declared.events.Event.TheVariants.{Issue, Probe, Skip, End, Verdict}
@@ -20,23 +20,30 @@ use Rattle.jr_model.specs.Plan.{Plan, SubJob, clone_of}
 use Rattle.jr_model.specs.PlanFacts.{IsPlanned}
 use Rattle.jr_laws_bytes.specs.Memory.{HoldsLastWrites}
 
--- the event is a Bad verdict
-abbrev pub is_miscompare : Event → Bool
-is_miscompare (Verdict worker io verdict) = is_bad verdict
-is_miscompare (Issue worker dir write piece) = false
-is_miscompare (Probe worker write piece) = false
-is_miscompare (Skip worker write) = false
-is_miscompare (End worker io outcome) = false
+-- it is the check of a write
+abbrev pub is_check : Option Started → Bool
+is_check None = false
+is_check (Some io) = is_probe io.kind
 
--- some verdict of the history is Bad
+-- the event is a Bad verdict on the check of a write, where these I/Os are started
+abbrev pub is_miscompare : List Started → Event → Bool
+is_miscompare ios (Verdict worker io verdict) = is_bad verdict && is_check (slice_get ios io)
+is_miscompare ios (Issue worker kind write piece) = false
+is_miscompare ios (Probe worker write piece) = false
+is_miscompare ios (Skip worker write) = false
+is_miscompare ios (End worker io outcome) = false
+
+-- some verdict of the history on the check of a write is Bad
 abbrev pub has_miscompare : List Event → Bool
-has_miscompare history = list_any is_miscompare history
+has_miscompare history =
+    let ios = started history in
+    list_any (is_miscompare ios) history
 
 -- each check that ended whole gave as many bytes as its piece has
 abbrev pub GivesWholePieces : List Event → (ℕ → List ℕ) → Type 0
 GivesWholePieces history read = (io : ℕ) (s : Started) → IsWholeCheck history io s → length (read io) ≡ s.piece.len
 
--- where reads are honest, and verdicts are those of the bytes read, no verdict is Bad
+-- where reads are honest, and verdicts are those of the bytes read, no verdict on the check of a write is Bad
 abbrev pub HonestIsGood : Type 0
 HonestIsGood =
     (plan : Plan) (history : List Event) (read : ℕ → List ℕ)
@@ -57,8 +64,8 @@ abbrev pub IsToldApart : Plan → Started → List ℕ → Type 0
 IsToldApart plan s bytes =
     AreToldApart (clone_of plan s.write.clone) s (seed_of_draw (slice_get (draws_of plan s.write.clone s.write.pass) s.write.number)) bytes
 
--- where verdicts are those of the bytes read, a verdict is Bad exactly where these bytes aren't what the write of the
--- check put there
+-- where verdicts are those of the bytes read, a verdict on a check is Bad exactly where these bytes aren't what the write of
+-- the check put there
 abbrev pub MiscomparesExactly : Type 0
 MiscomparesExactly =
     (plan : Plan) (history : List Event) (read : ℕ → List ℕ) (place by io : ℕ) (verdict : GivenVerdict) (s : Started)
@@ -68,6 +75,7 @@ MiscomparesExactly =
     → IsJudgedBy plan history read
     → slice_get history place ≡ Some (Verdict by io verdict)
     → slice_get (started history) io ≡ Some s
+    → is_probe s.kind ≡ true
     → IsToldApart plan s (read io)
     → (is_bad verdict ≡ true) ↔ (read io ≢ content_of_io plan s)
 
@@ -99,7 +107,7 @@ is_quiet_step (step.Take worker) = true
 is_quiet_step (step.Judge by io) = true
 is_quiet_step step.Stop = true
 
--- whatever steps are made, where no reply changes or drops bytes no verdict is Bad
+-- whatever steps are made, where no reply changes or drops bytes no verdict on the check of a write is Bad
 abbrev pub QuietPlay : Type 0
 QuietPlay =
     (plan : Plan) (steps : List Step)

@@ -8,4 +8,4 @@ mod clean;
 pub use checks::{
     checks_stay_intact, honest_is_good, keeps_last_writes, miscompares_exactly, quiet_play,
 };
-pub use clean::{serial_is_clean, serial_is_quiet};
+pub use clean::{serial_is_clean, serial_is_good, serial_is_quiet};

@@ -3,8 +3,6 @@ use Rattle.std.proofs.Common.{◌≡◌, ℕ, ◌+◌, ◌/◌, ◌<◌, List, [
 use Rattle.std.specs.Prelude.{Option, Some, None, slice_get, filter_map}
 use Rattle.std.specs.List.{cons_option}
 use Rattle.std.proofs.lemmas.Bool.{cases_Bool}
-use Rattle.jr_model.specs.declared.blocks.Dir.{Dir}
-use Rattle.jr_model.specs.declared.blocks.Dir.TheVariants as direction
 use Rattle.jr_model.specs.declared.blocks.Piece.{Piece}
 use Rattle.jr_model.specs.declared.limits.TheConstants.{SECTOR}
 use Rattle.jr_model.specs.declared.contents.Expected.{Expected}
@@ -18,13 +16,13 @@ use Rattle.jr_model.specs.Draws.{draws_of_job}
 use Rattle.jr_model.specs.History.{started, ended_whole, is_write, kind_for}
 use Rattle.jr_model.specs.LastWrite.{last_write, is_intact}
 use Rattle.jr_model.specs.Legal.{is_legal}
-use Rattle.jr_model.specs.Plan.{Plan, SubJob, clone_of}
+use Rattle.jr_model.specs.Plan.{Plan, SubJob, clone_of, issued_as}
 use Rattle.jr_model.specs.PlanFacts.{IsPlanned}
 use Rattle.jr_writes.specs.declared.logs.Logged.{Logged}
 use Rattle.jr_writes.specs.LoggedWrites.{logged}
 use Rattle.jr_writes.specs.LogSteps.{LogStep, settle, unsettle, log_of, step_of, step_at_end}
-use Rattle.jr_laws_steps.specs.Drawn.{is_kind_of, IsDrawn}
-use Rattle.jr_laws_steps.proofs.DrawnLaws.{started_are_drawn-law, drawn_fits}
+use Rattle.jr_laws_steps.specs.Drawn.{IsDrawn}
+use Rattle.jr_laws_steps.proofs.DrawnLaws.{started_are_drawn-law, drawn_fits, kind_for_draw}
 use Rattle.jr_laws_steps.proofs.StartedLemmas.{same_some}
 use Rattle.jr_laws_log.specs.Intact.{log_after, WasStarted}
 use Rattle.jr_laws_log.proofs.LastBlocks.{HasBlocks, blocks_from_fits, intact_at, last_law}
@@ -71,10 +69,6 @@ pub log_is_by_started : (history : List Event) (one other : WriteId → Piece �
     → log_after one history ≡ log_after other history
 log_is_by_started history one other same = ap log_of (same_steps one other (started history) same history)
 
-kind_fits : (d : Dir) (job : SubJob) → is_kind_of (kind_for d) d job ≡ true
-kind_fits direction.Read job = refl
-kind_fits direction.Write job = refl
-
 -- a draw of a pass of a planned clone has blocks
 blocks_of_draw : (plan : Plan) (write : WriteId) (job : SubJob) (draw : Draw)
     → IsPlanned plan
@@ -83,9 +77,9 @@ blocks_of_draw : (plan : Plan) (write : WriteId) (job : SubJob) (draw : Draw)
     → slice_get (draws_of_job job write.pass) write.number ≡ Some draw
     → HasBlocks draw.piece
 blocks_of_draw plan write job draw planned at pass drawn =
-    let io : Started = record { worker = 0; kind = kind_for draw.dir; write = write; piece = draw.piece } in
+    let io : Started = record { worker = 0; kind = kind_for (issued_as job draw.dir); write = write; piece = draw.piece } in
     let made : IsDrawn plan io job draw =
-    record { planned = at; pass = pass; drawn = drawn; piece = refl; kind = kind_fits draw.dir job } in
+    record { planned = at; pass = pass; drawn = drawn; piece = refl; kind = kind_for_draw draw.dir job } in
     blocks_from_fits draw.piece (drawn_fits plan io job draw planned made).fits
 
 module _ (plan : Plan) (history : List Event) (checked_by : WriteId → Piece → Expected) (write : WriteId) (job : SubJob) (draw : Draw)

@@ -223,10 +223,12 @@ next_is_free h =
     ∙ both_none (unended h n) (option_map (io_of n) (slice_get (started h) n))
     (ap (option_map (io_of n)) (slice_get_past (started h) n (omega arith)))
 
-writes_as : (kind : TicketKind) → writes (dir_of kind) ≡ is_write kind
+-- which way the bytes of an I/O go
+pub writes_as : (kind : TicketKind) → writes (dir_of kind) ≡ is_write kind
 writes_as ticket.Write = refl
 writes_as ticket.Read = refl
 writes_as ticket.Probe = refl
+writes_as ticket.ReadCheck = refl
 
 module _ (h : List Event) (dir : Dir) (piece : Piece) where
   abbrev any_entry : List (ℕ × Io) → Bool

@@ -258,6 +258,7 @@ write_is_no_probe : (kind : TicketKind) → is_write kind ≡ true → is_probe 
 write_is_no_probe ticket.Write h = refl
 write_is_no_probe ticket.Read h = cc
 write_is_no_probe ticket.Probe h = cc
+write_is_no_probe ticket.ReadCheck h = cc
 
 module _ (plan : Plan) (h : List Event) (planned : IsPlanned plan) (legal : is_legal plan h ≡ true) where
   -- a write is started once

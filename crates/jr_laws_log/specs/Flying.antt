@@ -22,11 +22,12 @@ use Rattle.jr_model.specs.Plan.{Plan}
 use Rattle.jr_flight.specs.declared.ios.Io.{Io}
 use Rattle.jr_flight.specs.Flights.{flying_io, is_clear, writes}
 
--- a check is a read
+-- a check and a checked read are reads
 abbrev pub dir_of : TicketKind → Dir
 dir_of ticket.Write = direction.Write
 dir_of ticket.Read = direction.Read
 dir_of ticket.Probe = direction.Read
+dir_of ticket.ReadCheck = direction.Read
 
 -- an I/O that was started under this number
 abbrev pub io_of : ℕ → Started → Io

@@ -2,10 +2,8 @@
 use Rattle.std.proofs.Common.{◌≡◌, ℕ, zero, suc, ◌<◌, List, [], ◌∷◌, ◌++◌, Bool, true, false, cond, ◌&&◌, ◌||◌, not, refl, sym, ◌∙◌, ap, subst, arith, inl, inr, zero-add}
 use Rattle.std.specs.Prelude.{Option, Some, None, slice_get, ◌==◌}
 use Rattle.std.specs.List.{list_any, list_all, range_with_len}
-use Rattle.std.proofs.lemmas.Bool.{and_parts, and_from, and_left, eqb-true, eq-eqb, ne_eqb, cases_Bool, cases_eq, or_left, or_right, false_from_ne_true}
+use Rattle.std.proofs.lemmas.Bool.{and_parts, and_from, and_left, eqb-true, eq-eqb, ne_eqb, cases_Bool, cases_eq, or_left, or_right, both_ways, false_from_ne_true}
 use Rattle.std.proofs.lemmas.List.Folds.{list_any-append}
-use Rattle.jr_model.specs.declared.blocks.Dir.{Dir}
-use Rattle.jr_model.specs.declared.blocks.Dir.TheVariants as direction
 use Rattle.jr_model.specs.declared.blocks.Piece.{Piece}
 use Rattle.jr_model.specs.declared.events.Event.{Event}
 use Rattle.jr_model.specs.declared.events.Event.TheVariants.{Issue, Probe, Skip, End, Verdict}
@@ -23,7 +21,7 @@ use Rattle.jr_plan.specs.Files.{are_apart}
 use Rattle.jr_model.specs.PlanFacts.{IsPlanned}
 use Rattle.jr_laws_quiet.specs.Quiet.{is_quiet, stays_last}
 use Rattle.jr_laws_quiet.proofs.Tallies.{total, marked, upto, total_push}
-use Rattle.jr_laws_quiet.proofs.Steps.{IsStep, along, IsNamed, IsTakeUp, probe_of, skip_of}
+use Rattle.jr_laws_quiet.proofs.Steps.{IsStep, along, IsNamed, IsTakeUp, probe_of, skip_of, no_probe}
 use Rattle.jr_laws_quiet.proofs.Ends.{or_false}
 use Rattle.jr_laws_quiet.proofs.Issues.{spread, spread_same, spread_grows, spread_all, MayTakeUp, may_take_up_parts, clone_is, all_at, got_range, finishes, finished_parts}
 use Rattle.jr_laws_quiet.proofs.Groups.{number_is}
@@ -58,7 +56,7 @@ is_overwritten job p d = not (is_kept job p d)
 -- the event checks a write of clone c, or skips one
 abbrev pub probe_worth : ℕ → Event → ℕ
 probe_worth c (Probe worker write piece) = cond (write.clone == c) 1 0
-probe_worth c (Issue worker dir write piece) = 0
+probe_worth c (Issue worker kind write piece) = 0
 probe_worth c (Skip worker write) = 0
 probe_worth c (End worker io outcome) = 0
 probe_worth c (Verdict worker io verdict) = 0
@@ -113,17 +111,13 @@ not_taken c h e none q i = taken_push c h e q i ∙ ap (λ (b : Bool). is_taken 
 -- a check that was started was taken up
 started_taken : (history : List Event) (io : ℕ) (s : Started) (w : WriteId) → slice_get (started history) io ≡ Some s → is_probe s.kind ≡ true → same_write s.write w ≡ true → list_any (takes_up w) history ≡ true
 started_taken [] io s w at probe same = cc
-started_taken (Issue worker dir write piece ∷ events) zero s w at probe same =
-    let one : record { worker = worker; kind = kind_for dir; write = write; piece = piece } ≡ s = some_same _ s at in
-    absurd (no_probe dir (ap (λ (x : Started). is_probe x.kind) one ∙ probe))
+started_taken (Issue worker kind write piece ∷ events) zero s w at probe same =
+    let one : record { worker = worker; kind = kind_for kind; write = write; piece = piece } ≡ s = some_same _ s at in
+    absurd (both_ways (is_probe (kind_for kind)) (no_probe kind) (ap (λ (x : Started). is_probe x.kind) one ∙ probe))
   where
     some_same : (u v : Started) → Some u ≡ Some v → u ≡ v
     some_same u v g = cc
-
-    no_probe : (x : Dir) → is_probe (kind_for x) ≡ true → ⊥
-    no_probe direction.Read g = cc
-    no_probe direction.Write g = cc
-started_taken (Issue worker dir write piece ∷ events) (suc io) s w at probe same = started_taken events io s w at probe same
+started_taken (Issue worker kind write piece ∷ events) (suc io) s w at probe same = started_taken events io s w at probe same
 started_taken (Probe worker write piece ∷ events) zero s w at probe same =
     let one : write ≡ s.write = some_write _ s at in
     or_left (same_write write w) (list_any (takes_up w) events) (ap (λ (x : WriteId). same_write x w) one ∙ same)
@@ -152,7 +146,7 @@ settled_taken history w settled =
     one_event : (k : ℕ) (e : Event) → slice_get history k ≡ Some e → settles (started history) w e ≡ true → list_any (takes_up w) history ≡ true
     one_event k (Skip worker skipped) at hit = any_from (takes_up w) history k (Skip worker skipped) at hit
     one_event k (End worker io outcome) at hit = by_io (slice_get (started history) io) io refl hit
-    one_event k (Issue worker dir write piece) at hit = cc
+    one_event k (Issue worker kind write piece) at hit = cc
     one_event k (Probe worker write piece) at hit = cc
     one_event k (Verdict worker io verdict) at hit = cc
 
@@ -234,7 +228,7 @@ module _ (plan : Plan) (planned_all : IsPlanned plan) (apart : are_apart plan.cl
 
   -- checks
   probes_step : (h : List Event) (e : Event) → IsStep plan h e → TakenTally (probe_worth c) (is_kept job) h → TakenTally (probe_worth c) (is_kept job) (h ++ e ∷ [])
-  probes_step h (Issue worker dir write piece) step so_far = tally_keeps (probe_worth c) (is_kept job) h (Issue worker dir write piece) refl (λ q i. refl) so_far
+  probes_step h (Issue worker kind write piece) step so_far = tally_keeps (probe_worth c) (is_kept job) h (Issue worker kind write piece) refl (λ q i. refl) so_far
   probes_step h (End worker io outcome) step so_far = tally_keeps (probe_worth c) (is_kept job) h (End worker io outcome) refl (λ q i. refl) so_far
   probes_step h (Verdict worker io verdict) step so_far = tally_keeps (probe_worth c) (is_kept job) h (Verdict worker io verdict) refl (λ q i. refl) so_far
   probes_step h (Probe worker write piece) step so_far =
@@ -259,7 +253,7 @@ module _ (plan : Plan) (planned_all : IsPlanned plan) (apart : are_apart plan.cl
 
   -- skips
   skips_step : (h : List Event) (e : Event) → IsStep plan h e → TakenTally (skip_worth c) (is_overwritten job) h → TakenTally (skip_worth c) (is_overwritten job) (h ++ e ∷ [])
-  skips_step h (Issue worker dir write piece) step so_far = tally_keeps (skip_worth c) (is_overwritten job) h (Issue worker dir write piece) refl (λ q i. refl) so_far
+  skips_step h (Issue worker kind write piece) step so_far = tally_keeps (skip_worth c) (is_overwritten job) h (Issue worker kind write piece) refl (λ q i. refl) so_far
   skips_step h (End worker io outcome) step so_far = tally_keeps (skip_worth c) (is_overwritten job) h (End worker io outcome) refl (λ q i. refl) so_far
   skips_step h (Verdict worker io verdict) step so_far = tally_keeps (skip_worth c) (is_overwritten job) h (Verdict worker io verdict) refl (λ q i. refl) so_far
   skips_step h (Probe worker write piece) step so_far =

@@ -1,4 +1,4 @@
--- Each I/O ends once and each check is judged once, so a sum over ends, or over verdicts, is one over what was started.
+-- Each I/O ends once, and each check and checked read is judged once, so a sum over ends, or over verdicts, is one over what was started.
 use Rattle.std.proofs.Common.{◌≡◌, ℕ, zero, suc, ◌+◌, ◌<◌, ◌≤◌, List, [], ◌∷◌, ◌++◌, length, Bool, true, false, cond, ◌&&◌, ◌||◌, not, refl, sym, ◌∙◌, ap, subst, arith, inl, inr, append-nil, zero-add}
 use Rattle.std.specs.Prelude.{◌⊎◌, Option, Some, None, slice_get, nat_lt, ◌==◌, is_none, is_some, filter_map}
 use Rattle.std.specs.Option.{option_or}
@@ -11,7 +11,7 @@ use Rattle.jr_model.specs.declared.events.Outcome.{Outcome}
 use Rattle.jr_model.specs.declared.events.Outcome.TheVariants.{Whole, Failed, Short}
 use Rattle.jr_model.specs.declared.events.Started.{Started}
 use Rattle.jr_model.specs.declared.events.Verdict.{Verdict as GivenVerdict}
-use Rattle.jr_model.specs.History.{started, started_by, end_of, outcome_of, flies, is_verdict_on, is_judged, ended_whole, is_probe, in_flight, if_flying, awaiting, if_awaiting}
+use Rattle.jr_model.specs.History.{started, started_by, end_of, outcome_of, flies, is_verdict_on, is_judged, ended_whole, is_judged_kind, in_flight, if_flying, awaiting, if_awaiting}
 use Rattle.jr_model.specs.Legal.{is_legal, end_fits, verdict_fits, is_complete, is_over, is_fault}
 use Rattle.jr_model.specs.Plan.{Plan}
 use Rattle.jr_model.proofs.SerialLaws.{first_given-append, none_from, false_from}
@@ -22,29 +22,29 @@ use Rattle.jr_laws_quiet.proofs.Steps.{IsStep, along, well_of, refers, refers_no
 -- what f gives of the I/O that the event ends
 abbrev pub end_worth : (Started → ℕ) → List Started → Event → ℕ
 end_worth f ios (End worker io outcome) = got f (slice_get ios io)
-end_worth f ios (Issue worker dir write piece) = 0
+end_worth f ios (Issue worker kind write piece) = 0
 end_worth f ios (Probe worker write piece) = 0
 end_worth f ios (Skip worker write) = 0
 end_worth f ios (Verdict worker io verdict) = 0
 
--- what f gives of the check that the event is the verdict on
+-- what f gives of the check or checked read that the event is the verdict on
 abbrev pub verdict_worth : (Started → ℕ) → List Started → Event → ℕ
 verdict_worth f ios (Verdict worker io verdict) = got f (slice_get ios io)
 verdict_worth f ios (End worker io outcome) = 0
-verdict_worth f ios (Issue worker dir write piece) = 0
+verdict_worth f ios (Issue worker kind write piece) = 0
 verdict_worth f ios (Probe worker write piece) = 0
 verdict_worth f ios (Skip worker write) = 0
 
 pub end_worth_agrees : (f : Started → ℕ) → Agrees (end_worth f)
 end_worth_agrees f ios more (End worker io outcome) h = ap (got f) (got_within ios more io (ltb-true io (length ios) h))
-end_worth_agrees f ios more (Issue worker dir write piece) h = refl
+end_worth_agrees f ios more (Issue worker kind write piece) h = refl
 end_worth_agrees f ios more (Probe worker write piece) h = refl
 end_worth_agrees f ios more (Skip worker write) h = refl
 end_worth_agrees f ios more (Verdict worker io verdict) h = refl
 
 pub verdict_worth_agrees : (f : Started → ℕ) → Agrees (verdict_worth f)
 verdict_worth_agrees f ios more (Verdict worker io verdict) h = ap (got f) (got_within ios more io (ltb-true io (length ios) h))
-verdict_worth_agrees f ios more (Issue worker dir write piece) h = refl
+verdict_worth_agrees f ios more (Issue worker kind write piece) h = refl
 verdict_worth_agrees f ios more (Probe worker write piece) h = refl
 verdict_worth_agrees f ios more (Skip worker write) h = refl
 verdict_worth_agrees f ios more (End worker io outcome) h = refl
@@ -170,7 +170,7 @@ module _ (plan : Plan) (f : Started → ℕ) where
 
   ends_step : (h : List Event) (e : Event) → IsStep plan h e → EndsTally f h → EndsTally f (h ++ e ∷ [])
   ends_step h (End worker io outcome) step so_far = end_tallies h worker io outcome step so_far
-  ends_step h (Issue worker dir write piece) step so_far = ends_keep plan f h (Issue worker dir write piece) step refl (λ io. refl) so_far
+  ends_step h (Issue worker kind write piece) step so_far = ends_keep plan f h (Issue worker kind write piece) step refl (λ io. refl) so_far
   ends_step h (Probe worker write piece) step so_far = ends_keep plan f h (Probe worker write piece) step refl (λ io. refl) so_far
   ends_step h (Skip worker write) step so_far = ends_keep plan f h (Skip worker write) step refl (λ io. refl) so_far
   ends_step h (Verdict worker io verdict) step so_far = ends_keep plan f h (Verdict worker io verdict) step refl (λ i. refl) so_far
@@ -205,7 +205,7 @@ module _ (plan : Plan) (f : Started → ℕ) where
 
   verdicts_step : (h : List Event) (e : Event) → IsStep plan h e → VerdictsTally f h → VerdictsTally f (h ++ e ∷ [])
   verdicts_step h (Verdict worker io verdict) step so_far = verdict_tallies h worker io verdict step so_far
-  verdicts_step h (Issue worker dir write piece) step so_far = verdicts_keep plan f h (Issue worker dir write piece) step refl (λ io. refl) so_far
+  verdicts_step h (Issue worker kind write piece) step so_far = verdicts_keep plan f h (Issue worker kind write piece) step refl (λ io. refl) so_far
   verdicts_step h (Probe worker write piece) step so_far = verdicts_keep plan f h (Probe worker write piece) step refl (λ io. refl) so_far
   verdicts_step h (Skip worker write) step so_far = verdicts_keep plan f h (Skip worker write) step refl (λ io. refl) so_far
   verdicts_step h (End worker io outcome) step so_far = verdicts_keep plan f h (End worker io outcome) step refl (λ i. refl) so_far
@@ -261,17 +261,17 @@ whole_ends (End worker id outcome ∷ events) io quiet ended =
     by_case true Failed calm rest g = cc
     by_case true (Short n) calm rest g = cc
     by_case false o calm rest g = rest g
-whole_ends (Issue worker dir write piece ∷ events) io quiet ended = whole_ends events io quiet ended
+whole_ends (Issue worker kind write piece ∷ events) io quiet ended = whole_ends events io quiet ended
 whole_ends (Probe worker write piece ∷ events) io quiet ended = whole_ends events io quiet ended
 whole_ends (Skip worker write ∷ events) io quiet ended = whole_ends events io quiet ended
 whole_ends (Verdict worker id verdict ∷ events) io quiet ended =
     whole_ends events io (and_parts (is_calm (Verdict worker id verdict)) (is_quiet events) quiet).1 ended
 
-pub all_judged : (history : List Event) → is_quiet history ≡ true → length (in_flight history) ≡ 0 → length (awaiting history) ≡ 0 → (k : ℕ) (s : Started) → slice_get (started history) k ≡ Some s → is_probe s.kind ≡ true → is_judged history k ≡ true
+pub all_judged : (history : List Event) → is_quiet history ≡ true → length (in_flight history) ≡ 0 → length (awaiting history) ≡ 0 → (k : ℕ) (s : Started) → slice_get (started history) k ≡ Some s → is_judged_kind s.kind ≡ true → is_judged history k ≡ true
 all_judged history quiet landed none k s at probe =
     let whole = whole_ends history k quiet (all_ended history landed k s at) in
     let not_awaiting = none_given (if_awaiting history) 0 k (started history) s none at in
-    by_case (is_probe s.kind) (ended_whole (outcome_of history k)) (is_judged history k) probe whole (subst (λ (i : ℕ). if_awaiting history (i, s) ≡ None) (zero-add k) not_awaiting)
+    by_case (is_judged_kind s.kind) (ended_whole (outcome_of history k)) (is_judged history k) probe whole (subst (λ (i : ℕ). if_awaiting history (i, s) ≡ None) (zero-add k) not_awaiting)
   where
     by_case : (a b d : Bool) → a ≡ true → b ≡ true → cond (a && b && not d) (Some s) None ≡ None → d ≡ true
     by_case true true true p q h = refl
@@ -287,14 +287,14 @@ ends_in_all plan history f legal quiet complete =
     ∙ marked_all (has_ended history) f 0 (started history)
     (λ (k : ℕ) (s : Started) (at : slice_get (started history) k ≡ Some s). inl (subst (λ (i : ℕ). has_ended history i ≡ true) (sym (zero-add k)) (all_ended history landed k s at)))
 
--- and sums over verdicts those over checks
-pub verdicts_in_all : (plan : Plan) (history : List Event) (f : Started → ℕ) → ((s : Started) → (is_probe s.kind ≡ true) ⊎ (f s ≡ 0)) → is_legal plan history ≡ true → is_quiet history ≡ true → is_complete plan history ≡ true → total (verdict_worth f (started history)) history ≡ total f (started history)
+-- and sums over verdicts those over checks and checked reads
+pub verdicts_in_all : (plan : Plan) (history : List Event) (f : Started → ℕ) → ((s : Started) → (is_judged_kind s.kind ≡ true) ⊎ (f s ≡ 0)) → is_legal plan history ≡ true → is_quiet history ≡ true → is_complete plan history ≡ true → total (verdict_worth f (started history)) history ≡ total f (started history)
 verdicts_in_all plan history f checks legal quiet complete =
     let done = completes plan history complete in
     verdicts_tally plan f history legal quiet
     ∙ marked_all (is_judged history) f 0 (started history)
     (λ (k : ℕ) (s : Started) (at : slice_get (started history) k ≡ Some s). either k s at (checks s))
   where
-    either : (k : ℕ) (s : Started) → slice_get (started history) k ≡ Some s → (is_probe s.kind ≡ true) ⊎ (f s ≡ 0) → (is_judged history (0 + k) ≡ true) ⊎ (f s ≡ 0)
+    either : (k : ℕ) (s : Started) → slice_get (started history) k ≡ Some s → (is_judged_kind s.kind ≡ true) ⊎ (f s ≡ 0) → (is_judged history (0 + k) ≡ true) ⊎ (f s ≡ 0)
     either k s at (inl probe) = inl (subst (λ (i : ℕ). is_judged history i ≡ true) (sym (zero-add k)) (all_judged history quiet (completes plan history complete).0 (completes plan history complete).1 k s at probe))
     either k s at (inr nothing) = inr nothing

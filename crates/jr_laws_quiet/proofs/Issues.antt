@@ -5,10 +5,10 @@ use Rattle.std.specs.List.{list_any, list_all, range_with_len}
 use Rattle.std.proofs.lemmas.Bool.{and_parts, and_from, eqb-true, eq-eqb, ne_eqb, lt-ltb, le-ltb, ltb-true, cases_eq, cases_lt, not-true, and_left, and_right, or_from}
 use Rattle.std.proofs.lemmas.List.Sums.{sum_by_push}
 use Rattle.std.proofs.lemmas.Option.{slice_get_within}
-use Rattle.jr_model.specs.declared.blocks.Dir.{Dir}
 use Rattle.jr_model.specs.declared.blocks.Piece.{Piece}
 use Rattle.jr_model.specs.declared.events.Event.{Event}
 use Rattle.jr_model.specs.declared.events.Event.TheVariants.{Issue, Probe, Skip, End, Verdict}
+use Rattle.jr_model.specs.declared.events.IssueKind.{IssueKind}
 use Rattle.jr_model.specs.declared.events.Outcome.{Outcome}
 use Rattle.jr_model.specs.declared.events.Outcome.TheVariants.{Whole, Failed, Short}
 use Rattle.jr_model.specs.declared.events.Started.{Started}
@@ -19,7 +19,7 @@ use Rattle.jr_model.specs.declared.workloads.Draw.{Draw}
 use Rattle.jr_model.specs.Draws.{draws_of_job}
 use Rattle.jr_model.specs.History.{started, started_by, kind_for, is_of_clone}
 use Rattle.jr_model.specs.Legal.{is_legal, is_complete, is_over, is_halted, halts, is_fault, is_bad, is_io_of, may_issue, may_take_up, is_clear, has_room, phase_is_open, takes_up}
-use Rattle.jr_model.specs.Plan.{Plan, SubJob, IsNumbered, clone_of}
+use Rattle.jr_model.specs.Plan.{Plan, SubJob, IsNumbered, clone_of, issued_as}
 use Rattle.jr_model.specs.Rounds.{Pass, pass_of, passes_of, write_id, is_write_draw, issues_of, issued_count, all_issued, is_current, waits_for_round, pass_finished, clone_finished, nothing_flies_in, rounds_closed, has_rounds, is_open, group_index}
 use Rattle.jr_model.specs.Totals.{moved, moved_by, if_wanted}
 use Rattle.jr_laws_quiet.specs.Quiet.{is_calm, is_quiet}
@@ -134,9 +134,9 @@ pub record MarksIssue (job : SubJob) (h : List Event) (e : Event) (p k : ℕ) : 
   pub others : (q i : ℕ) → (q ≡ p → i ≡ k → ⊥) → is_issued job (h ++ e ∷ []) q i ≡ is_issued job h q i
   pub more : issued_count (h ++ e ∷ []) (pass_of job p) ≡ suc k
 
-pub marks_issue : (job : SubJob) (h : List Event) (worker : ℕ) (dir : Dir) (write : WriteId) (piece : Piece) → write.clone ≡ job.clone → issued_count h (pass_of job write.pass) ≡ write.number → MarksIssue job h (Issue worker dir write piece) write.pass write.number
-marks_issue job h worker dir write piece clone count =
-    let e = Issue worker dir write piece in
+pub marks_issue : (job : SubJob) (h : List Event) (worker : ℕ) (kind : IssueKind) (write : WriteId) (piece : Piece) → write.clone ≡ job.clone → issued_count h (pass_of job write.pass) ≡ write.number → MarksIssue job h (Issue worker kind write piece) write.pass write.number
+marks_issue job h worker kind write piece clone count =
+    let e = Issue worker kind write piece in
     let p = write.pass in
     let k = write.number in
     let here : issues_of (pass_of job p) e ≡ true = and_from (write.clone == job.clone) (p == p) (eq-eqb write.clone job.clone clone) (eq-eqb p p refl) in
@@ -166,36 +166,37 @@ marks_issue job h worker dir write piece clone count =
               | inr under ↦ absurd (differs (omega (arith, above, under)))
             ]
 
-    by_pass : (q i : ℕ) → (q ≡ write.pass → i ≡ write.number → ⊥) → issued_count (h ++ Issue worker dir write piece ∷ []) (pass_of job write.pass) ≡ suc write.number → (q ≡ write.pass) ⊎ (q ≡ write.pass → ⊥) → is_issued job (h ++ Issue worker dir write piece ∷ []) q i ≡ is_issued job h q i
+    by_pass : (q i : ℕ) → (q ≡ write.pass → i ≡ write.number → ⊥) → issued_count (h ++ Issue worker kind write piece ∷ []) (pass_of job write.pass) ≡ suc write.number → (q ≡ write.pass) ⊎ (q ≡ write.pass → ⊥) → is_issued job (h ++ Issue worker kind write piece ∷ []) q i ≡ is_issued job h q i
     by_pass q i apart more (inl same) =
-        let counts : issued_count (h ++ Issue worker dir write piece ∷ []) (pass_of job q) ≡ suc (issued_count h (pass_of job q)) =
-        subst (λ (r : ℕ). issued_count (h ++ Issue worker dir write piece ∷ []) (pass_of job r) ≡ suc (issued_count h (pass_of job r))) (sym same) (omega (arith, more, count)) in
+        let counts : issued_count (h ++ Issue worker kind write piece ∷ []) (pass_of job q) ≡ suc (issued_count h (pass_of job q)) =
+        subst (λ (r : ℕ). issued_count (h ++ Issue worker kind write piece ∷ []) (pass_of job r) ≡ suc (issued_count h (pass_of job r))) (sym same) (omega (arith, more, count)) in
         let at : issued_count h (pass_of job q) ≡ write.number = subst (λ (r : ℕ). issued_count h (pass_of job r) ≡ write.number) (sym same) count in
-        same_test i (issued_count (h ++ Issue worker dir write piece ∷ []) (pass_of job q)) (issued_count h (pass_of job q)) counts (λ equal. apart same (omega (arith, equal, at)))
+        same_test i (issued_count (h ++ Issue worker kind write piece ∷ []) (pass_of job q)) (issued_count h (pass_of job q)) counts (λ equal. apart same (omega (arith, equal, at)))
     by_pass q i apart more (inr differs) =
-        ap (nat_lt i) (issued_same h (Issue worker dir write piece) (pass_of job q)
+        ap (nat_lt i) (issued_same h (Issue worker kind write piece) (pass_of job q)
         (and_right (write.clone == job.clone) (write.pass == q) (ne_eqb write.pass q (λ same. differs (sym same)))))
 
 -- what the event issues of clone c is worth
-abbrev pub issue_worth : (Dir → Piece → ℕ) → ℕ → Event → ℕ
-issue_worth f c (Issue worker dir write piece) = cond (write.clone == c) (f dir piece) 0
+abbrev pub issue_worth : (IssueKind → Piece → ℕ) → ℕ → Event → ℕ
+issue_worth f c (Issue worker kind write piece) = cond (write.clone == c) (f kind piece) 0
 issue_worth f c (Probe worker write piece) = 0
 issue_worth f c (Skip worker write) = 0
 issue_worth f c (End worker io outcome) = 0
 issue_worth f c (Verdict worker io verdict) = 0
 
-abbrev pub draw_worth : (Dir → Piece → ℕ) → ℕ → Draw → ℕ
-draw_worth f p d = f d.dir d.piece
+-- and what a draw of the clone is
+abbrev pub draw_worth : SubJob → (IssueKind → Piece → ℕ) → ℕ → Draw → ℕ
+draw_worth job f p d = f (issued_as job d.dir) d.piece
 
 module _ (plan : Plan) (numbered : IsNumbered plan) (c : ℕ) (job : SubJob) (planned : clone_of plan c ≡ Some job) where
   -- an issue of the clone is of this job, with its next draw
-  pub its_issue : (h : List Event) (worker : ℕ) (dir : Dir) (write : WriteId) (piece : Piece) → IsStep plan h (Issue worker dir write piece) → write.clone ≡ c → (draw : Draw) × IsNamed plan write job draw × (draw.dir ≡ dir) × (draw.piece ≡ piece) × MayIssue plan h (pass_of job write.pass) draw
-  its_issue h worker dir write piece step same =
-      let issue = issue_of plan h worker dir write piece numbered step.may in
+  pub its_issue : (h : List Event) (worker : ℕ) (kind : IssueKind) (write : WriteId) (piece : Piece) → IsStep plan h (Issue worker kind write piece) → write.clone ≡ c → (draw : Draw) × IsNamed plan write job draw × (issued_as job draw.dir ≡ kind) × (draw.piece ≡ piece) × MayIssue plan h (pass_of job write.pass) draw
+  its_issue h worker kind write piece step same =
+      let issue = issue_of plan h worker kind write piece numbered step.may in
       let one : issue.job ≡ job = some_same issue.job job (sym issue.names.planned ∙ ap (clone_of plan) same ∙ planned) in (
         issue.draw,
         subst (λ (j : SubJob). IsNamed plan write j issue.draw) one issue.names,
-        issue.dir_is,
+        subst (λ (j : SubJob). issued_as j issue.draw.dir ≡ kind) one issue.kind_is,
         issue.piece_is,
         subst (λ (j : SubJob). MayIssue plan h (pass_of j write.pass) issue.draw) one (may_issue_parts plan h (pass_of issue.job write.pass) issue.draw issue.may),
       )
@@ -206,65 +207,65 @@ module _ (plan : Plan) (numbered : IsNumbered plan) (c : ℕ) (job : SubJob) (pl
   pub clone_is : job.clone ≡ c
   clone_is = numbered c job planned
 
-  pub its_marks : (h : List Event) (worker : ℕ) (dir : Dir) (write : WriteId) (piece : Piece) → IsStep plan h (Issue worker dir write piece) → write.clone ≡ c → MarksIssue job h (Issue worker dir write piece) write.pass write.number
-  its_marks h worker dir write piece step same =
-      let issue = its_issue h worker dir write piece step same in
-      marks_issue job h worker dir write piece (omega (arith, same, clone_is)) (omega (arith, issue.1.number, issue.4.next))
+  pub its_marks : (h : List Event) (worker : ℕ) (kind : IssueKind) (write : WriteId) (piece : Piece) → IsStep plan h (Issue worker kind write piece) → write.clone ≡ c → MarksIssue job h (Issue worker kind write piece) write.pass write.number
+  its_marks h worker kind write piece step same =
+      let issue = its_issue h worker kind write piece step same in
+      marks_issue job h worker kind write piece (omega (arith, same, clone_is)) (omega (arith, issue.1.number, issue.4.next))
 
   -- other events mark nothing
-  pub other_clone : (h : List Event) (worker : ℕ) (dir : Dir) (write : WriteId) (piece : Piece) → (write.clone ≡ c → ⊥) → (q : ℕ) → issued_count (h ++ Issue worker dir write piece ∷ []) (pass_of job q) ≡ issued_count h (pass_of job q)
-  other_clone h worker dir write piece apart q =
-      issued_same h (Issue worker dir write piece) (pass_of job q)
+  pub other_clone : (h : List Event) (worker : ℕ) (kind : IssueKind) (write : WriteId) (piece : Piece) → (write.clone ≡ c → ⊥) → (q : ℕ) → issued_count (h ++ Issue worker kind write piece ∷ []) (pass_of job q) ≡ issued_count h (pass_of job q)
+  other_clone h worker kind write piece apart q =
+      issued_same h (Issue worker kind write piece) (pass_of job q)
       (and_left (write.clone == job.clone) (write.pass == q) (ne_eqb write.clone job.clone (λ same. apart (omega (arith, same, clone_is)))))
 
   pub no_issue : (h : List Event) (e : Event) → ((q : ℕ) → issues_of (pass_of job q) e ≡ false) → (q i : ℕ) → is_issued job (h ++ e ∷ []) q i ≡ is_issued job h q i
   no_issue h e none q i = ap (nat_lt i) (issued_same h e (pass_of job q) (none q))
 
-  module _ (f : Dir → Piece → ℕ) where
+  module _ (f : IssueKind → Piece → ℕ) where
     abbrev IssueTally : List Event → Type 0
-    IssueTally h = total (issue_worth f c) h ≡ spread job (is_issued job h) (draw_worth f) job.passes
+    IssueTally h = total (issue_worth f c) h ≡ spread job (is_issued job h) (draw_worth job f) job.passes
 
     issues_keep : (h : List Event) (e : Event) → issue_worth f c e ≡ 0 → ((q i : ℕ) → is_issued job (h ++ e ∷ []) q i ≡ is_issued job h q i) → IssueTally h → IssueTally (h ++ e ∷ [])
     issues_keep h e nothing same so_far =
-        omega (arith, total_push (issue_worth f c) h e, nothing, so_far, spread_same job (is_issued job h) (is_issued job (h ++ e ∷ [])) (draw_worth f) job.passes same)
+        omega (arith, total_push (issue_worth f c) h e, nothing, so_far, spread_same job (is_issued job h) (is_issued job (h ++ e ∷ [])) (draw_worth job f) job.passes same)
 
-    issues_grow : (h : List Event) (worker : ℕ) (dir : Dir) (write : WriteId) (piece : Piece) → IsStep plan h (Issue worker dir write piece) → (write.clone ≡ c) ⊎ (write.clone ≡ c → ⊥) → IssueTally h → IssueTally (h ++ Issue worker dir write piece ∷ [])
-    issues_grow h worker dir write piece step (inl same) so_far =
-        let e = Issue worker dir write piece in
-        let issue = its_issue h worker dir write piece step same in
-        let marks = its_marks h worker dir write piece step same in
-        let worth : issue_worth f c e ≡ draw_worth f write.pass issue.0 =
-        ap (λ (b : Bool). cond b (f dir piece) 0) (eq-eqb write.clone c same) ∙ ap (λ (x : Dir). f x piece) (sym issue.2) ∙ ap (f issue.0.dir) (sym issue.3) in
+    issues_grow : (h : List Event) (worker : ℕ) (kind : IssueKind) (write : WriteId) (piece : Piece) → IsStep plan h (Issue worker kind write piece) → (write.clone ≡ c) ⊎ (write.clone ≡ c → ⊥) → IssueTally h → IssueTally (h ++ Issue worker kind write piece ∷ [])
+    issues_grow h worker kind write piece step (inl same) so_far =
+        let e = Issue worker kind write piece in
+        let issue = its_issue h worker kind write piece step same in
+        let marks = its_marks h worker kind write piece step same in
+        let worth : issue_worth f c e ≡ draw_worth job f write.pass issue.0 =
+        ap (λ (b : Bool). cond b (f kind piece) 0) (eq-eqb write.clone c same) ∙ ap (λ (x : IssueKind). f x piece) (sym issue.2) ∙ ap (f (issued_as job issue.0.dir)) (sym issue.3) in
         omega (
           arith,
           total_push (issue_worth f c) h e,
           worth,
           so_far,
-          spread_grows job (is_issued job h) (is_issued job (h ++ e ∷ [])) (draw_worth f) job.passes write.pass write.number issue.0 issue.4.below issue.1.drawn marks.off marks.on marks.others,
+          spread_grows job (is_issued job h) (is_issued job (h ++ e ∷ [])) (draw_worth job f) job.passes write.pass write.number issue.0 issue.4.below issue.1.drawn marks.off marks.on marks.others,
         )
-    issues_grow h worker dir write piece step (inr apart) so_far =
-        issues_keep h (Issue worker dir write piece) (ap (λ (b : Bool). cond b (f dir piece) 0) (ne_eqb write.clone c apart))
-        (λ q i. ap (nat_lt i) (other_clone h worker dir write piece apart q)) so_far
+    issues_grow h worker kind write piece step (inr apart) so_far =
+        issues_keep h (Issue worker kind write piece) (ap (λ (b : Bool). cond b (f kind piece) 0) (ne_eqb write.clone c apart))
+        (λ q i. ap (nat_lt i) (other_clone h worker kind write piece apart q)) so_far
 
     issues_step : (h : List Event) (e : Event) → IsStep plan h e → IssueTally h → IssueTally (h ++ e ∷ [])
-    issues_step h (Issue worker dir write piece) step so_far = issues_grow h worker dir write piece step (cases_eq write.clone c) so_far
+    issues_step h (Issue worker kind write piece) step so_far = issues_grow h worker kind write piece step (cases_eq write.clone c) so_far
     issues_step h (Probe worker write piece) step so_far = issues_keep h (Probe worker write piece) refl (no_issue h (Probe worker write piece) (λ q. refl)) so_far
     issues_step h (Skip worker write) step so_far = issues_keep h (Skip worker write) refl (no_issue h (Skip worker write) (λ q. refl)) so_far
     issues_step h (End worker io outcome) step so_far = issues_keep h (End worker io outcome) refl (no_issue h (End worker io outcome) (λ q. refl)) so_far
     issues_step h (Verdict worker io verdict) step so_far = issues_keep h (Verdict worker io verdict) refl (no_issue h (Verdict worker io verdict) (λ q. refl)) so_far
 
-    none_marked : spread job (is_issued job []) (draw_worth f) job.passes ≡ 0
+    none_marked : spread job (is_issued job []) (draw_worth job f) job.passes ≡ 0
     none_marked = zeros job.passes
       where
-        no_marks : (p n : ℕ) (xs : List Draw) → marked (is_issued job [] p) (draw_worth f p) n xs ≡ 0
+        no_marks : (p n : ℕ) (xs : List Draw) → marked (is_issued job [] p) (draw_worth job f p) n xs ≡ 0
         no_marks p n [] = refl
-        no_marks p n (x ∷ xs) = omega (arith, ap (λ (b : Bool). cond b (draw_worth f p x) 0) (le-ltb n 0 (omega arith)), no_marks p (suc n) xs)
+        no_marks p n (x ∷ xs) = omega (arith, ap (λ (b : Bool). cond b (draw_worth job f p x) 0) (le-ltb n 0 (omega arith)), no_marks p (suc n) xs)
 
-        zeros : (n : ℕ) → spread job (is_issued job []) (draw_worth f) n ≡ 0
+        zeros : (n : ℕ) → spread job (is_issued job []) (draw_worth job f) n ≡ 0
         zeros zero = refl
         zeros (suc n) = omega (arith, zeros n, no_marks n 0 (draws_of_job job n))
 
-    pub issue_tally : (history : List Event) → is_legal plan history ≡ true → is_quiet history ≡ true → total (issue_worth f c) history ≡ spread job (is_issued job history) (draw_worth f) job.passes
+    pub issue_tally : (history : List Event) → is_legal plan history ≡ true → is_quiet history ≡ true → total (issue_worth f c) history ≡ spread job (is_issued job history) (draw_worth job f) job.passes
     issue_tally history legal quiet = along plan IssueTally (sym none_marked) issues_step history legal quiet
 
 -- nothing halts a clone where nothing goes wrong
@@ -284,7 +285,7 @@ never_halted history job quiet = none (started history) history quiet
         both a b p q = or_from a b p q
 
         one : (ios : List Started) (x : Event) → is_calm x ≡ true → halts ios job x ≡ false
-        one ios (Issue worker dir write piece) g = refl
+        one ios (Issue worker kind write piece) g = refl
         one ios (Probe worker write piece) g = refl
         one ios (Skip worker write) g = refl
         one ios (End worker io outcome) g = and_right (is_io_of job.clone (slice_get ios io)) (is_fault outcome) (not-true (is_fault outcome) g)
@@ -341,16 +342,25 @@ total_calm f g (e ∷ events) same calm =
     let parts = and_parts (is_calm e) (is_quiet events) calm in
     omega (arith, same e parts.0, total_calm f g events same parts.1)
 
+-- in a complete history each draw was issued
+pub issues_in_all : (plan : Plan) (history : List Event) (numbered : IsNumbered plan) (c : ℕ) (job : SubJob) → clone_of plan c ≡ Some job → (f : IssueKind → Piece → ℕ) → is_legal plan history ≡ true → is_quiet history ≡ true → is_complete plan history ≡ true → total (issue_worth f c) history ≡ upto (λ (p : ℕ). total (draw_worth job f p) (draws_of_job job p)) job.passes
+issues_in_all plan history numbered c job planned f legal quiet complete =
+    issue_tally plan numbered c job planned f history legal quiet
+    ∙ spread_all job (is_issued job history) (draw_worth job f) job.passes
+    (λ (p k : ℕ) (d : Draw) (below : p < job.passes) (at : slice_get (draws_of_job job p) k ≡ Some d).
+    let done = finished_parts history (pass_of job p) (finishes plan history c job planned quiet complete p below) in
+    inl (lt-ltb k (issued_count history (pass_of job p)) (omega (arith, done.issued, slice_get_within (draws_of_job job p) k d at))))
+
 -- what was moved is what was drawn
 module _ (plan : Plan) (numbered : IsNumbered plan) (c : ℕ) (job : SubJob) (planned : clone_of plan c ≡ Some job) (test : TicketKind → Bool) (no_check : test ticket.Probe ≡ false) (g : Piece → ℕ) where
   abbrev wanted_of : Started → ℕ
   wanted_of s = cond (test s.kind && is_of_clone c s) (g s.piece) 0
 
-  abbrev drawn_worth : Dir → Piece → ℕ
-  drawn_worth dir piece = cond (test (kind_for dir)) (g piece) 0
+  abbrev drawn_worth : IssueKind → Piece → ℕ
+  drawn_worth kind piece = cond (test (kind_for kind)) (g piece) 0
 
   moved_worth : (ios : List Started) (e : Event) → is_calm e ≡ true → got (λ (s : Started). g s.piece) (moved_by ios test c e) ≡ end_worth wanted_of ios e
-  moved_worth ios (Issue worker dir write piece) calm = refl
+  moved_worth ios (Issue worker kind write piece) calm = refl
   moved_worth ios (Probe worker write piece) calm = refl
   moved_worth ios (Skip worker write) calm = refl
   moved_worth ios (Verdict worker io verdict) calm = refl
@@ -367,7 +377,7 @@ module _ (plan : Plan) (numbered : IsNumbered plan) (c : ℕ) (job : SubJob) (pl
           by_test false = refl
 
   started_worth : (e : Event) → got wanted_of (started_by e) ≡ issue_worth drawn_worth c e
-  started_worth (Issue worker dir write piece) = by_test (test (kind_for dir)) (write.clone == c)
+  started_worth (Issue worker kind write piece) = by_test (test (kind_for kind)) (write.clone == c)
     where
       by_test : (a b : Bool) → cond (a && b) (g piece) 0 ≡ cond b (cond a (g piece) 0) 0
       by_test true true = refl
@@ -379,18 +389,14 @@ module _ (plan : Plan) (numbered : IsNumbered plan) (c : ℕ) (job : SubJob) (pl
   started_worth (End worker io outcome) = refl
   started_worth (Verdict worker io verdict) = refl
 
-  pub moved_is_drawn : (history : List Event) → is_legal plan history ≡ true → is_quiet history ≡ true → is_complete plan history ≡ true → total (λ (s : Started). g s.piece) (moved history test c) ≡ upto (λ (p : ℕ). total (λ (d : Draw). cond (test (kind_for d.dir)) (g d.piece) 0) (draws_of_job job p)) job.passes
+  pub moved_is_drawn : (history : List Event) → is_legal plan history ≡ true → is_quiet history ≡ true → is_complete plan history ≡ true → total (λ (s : Started). g s.piece) (moved history test c) ≡ upto (λ (p : ℕ). total (λ (d : Draw). cond (test (kind_for (issued_as job d.dir))) (g d.piece) 0) (draws_of_job job p)) job.passes
   moved_is_drawn history legal quiet complete =
       total-filter_map (λ (s : Started). g s.piece) (moved_by (started history) test c) history
       ∙ total_calm (λ (e : Event). got (λ (s : Started). g s.piece) (moved_by (started history) test c e)) (end_worth wanted_of (started history)) history (moved_worth (started history)) quiet
       ∙ ends_in_all plan history wanted_of legal quiet complete
       ∙ total-filter_map wanted_of started_by history
       ∙ total_same (λ (e : Event). got wanted_of (started_by e)) (issue_worth drawn_worth c) history started_worth
-      ∙ issue_tally plan numbered c job planned drawn_worth history legal quiet
-      ∙ spread_all job (is_issued job history) (draw_worth drawn_worth) job.passes
-      (λ (p k : ℕ) (d : Draw) (below : p < job.passes) (at : slice_get (draws_of_job job p) k ≡ Some d).
-      let done = finished_parts history (pass_of job p) (finishes plan history c job planned quiet complete p below) in
-      inl (lt-ltb k (issued_count history (pass_of job p)) (omega (arith, done.issued, slice_get_within (draws_of_job job p) k d at))))
+      ∙ issues_in_all plan history numbered c job planned drawn_worth legal quiet complete
 
 -- the same sum, over the draws of all passes
 pub drawn_in_all : (job : SubJob) (f : Draw → ℕ) → total f (flat_map (λ (pass : Pass). pass.draws) (passes_of job)) ≡ upto (λ (p : ℕ). total f (draws_of_job job p)) job.passes

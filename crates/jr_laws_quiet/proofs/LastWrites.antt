@@ -7,17 +7,16 @@ use Rattle.std.proofs.lemmas.Bool.{and_parts, and_from, eqb-true, eq-eqb, ne_eqb
 use Rattle.std.proofs.lemmas.List.Sums.{fold_push}
 use Rattle.std.proofs.lemmas.Option.{slice_get_within}
 use Rattle.jr_model.specs.declared.limits.TheConstants.{SECTOR}
-use Rattle.jr_model.specs.declared.blocks.Dir.{Dir}
-use Rattle.jr_model.specs.declared.blocks.Dir.TheVariants as direction
 use Rattle.jr_model.specs.declared.blocks.Piece.{Piece}
 use Rattle.jr_model.specs.declared.events.Event.{Event}
 use Rattle.jr_model.specs.declared.events.Event.TheVariants.{Issue, Probe, Skip, End, Verdict}
+use Rattle.jr_model.specs.declared.events.IssueKind.{IssueKind}
+use Rattle.jr_model.specs.declared.events.IssueKind.TheVariants as issue
 use Rattle.jr_model.specs.declared.events.Outcome.{Outcome}
 use Rattle.jr_model.specs.declared.events.Outcome.TheVariants.{Whole, Failed, Short}
 use Rattle.jr_model.specs.declared.events.Started.{Started}
 use Rattle.jr_model.specs.declared.events.WriteId.{WriteId}
 use Rattle.jr_model.specs.declared.tickets.TicketKind.TheVariants as ticket
-use Rattle.jr_model.specs.declared.workloads.Draw.{Draw}
 use Rattle.jr_model.specs.History.{started, started_by, kind_for, end_of, outcome_of, flies, is_write, in_flight, if_flying}
 use Rattle.jr_model.specs.LastWrite.{covers_block, last_after, last_after_end, last_write}
 use Rattle.jr_model.specs.Legal.{is_legal, end_fits, conflicts, is_clear, may_happen}
@@ -26,7 +25,7 @@ use Rattle.jr_model.specs.Plan.{Plan, IsNumbered}
 use Rattle.jr_model.specs.Rounds.{is_write_draw, pass_of}
 use Rattle.jr_model.specs.PlanFacts.{IsPlanned}
 use Rattle.jr_laws_quiet.specs.Quiet.{is_quiet, issued_over, last_issued, writes_block}
-use Rattle.jr_laws_quiet.proofs.Steps.{IsStep, along, refers, all_refer, started_push, got_within, got_at_end, got_push, Agrees, issue_of}
+use Rattle.jr_laws_quiet.proofs.Steps.{IsStep, along, refers, all_refer, started_push, got_within, got_at_end, got_push, Agrees, issue_of, write_kind}
 use Rattle.jr_laws_quiet.proofs.Ends.{has_ended, has_ended_push, not_ended_yet, or_false, none_is_none, some_if, some_within}
 use Rattle.jr_laws_quiet.proofs.Issues.{may_issue_parts}
 
@@ -104,27 +103,25 @@ barred h writes piece id s f b clear at flying kind covered covers =
     (found_flying h (conflicts writes piece) id s at flying hit)
 
 -- a write is issued once all that it overlaps has ended
-pub waits_for_overlapped : (plan : Plan) (history : List Event) (worker : ℕ) (write : WriteId) (piece : Piece) (id : ℕ) (io : Started) → IsPlanned plan → may_happen plan history (Issue worker direction.Write write piece) ≡ true → slice_get (started history) id ≡ Some io → pieces_overlap io.piece piece ≡ true → has_ended history id ≡ true
+pub waits_for_overlapped : (plan : Plan) (history : List Event) (worker : ℕ) (write : WriteId) (piece : Piece) (id : ℕ) (io : Started) → IsPlanned plan → may_happen plan history (Issue worker issue.Write write piece) ≡ true → slice_get (started history) id ≡ Some io → pieces_overlap io.piece piece ≡ true → has_ended history id ≡ true
 waits_for_overlapped plan history worker write piece id io planned_all may at overlap =
-    let issue = issue_of plan history worker direction.Write write piece (λ i job there. (planned_all.drafted.placed i job there).number) may in
-    let clear = (may_issue_parts plan history (pass_of issue.job write.pass) issue.draw issue.may).clear in
-    let writes : is_write_draw issue.draw ≡ true = is_write_by issue.draw issue.dir_is in
-    let hit : conflicts (is_write_draw issue.draw) issue.draw.piece io ≡ true =
-    and_from (is_write_draw issue.draw || is_write io.kind) (pieces_overlap io.piece issue.draw.piece)
-    (or_left (is_write_draw issue.draw) (is_write io.kind) writes)
-    (ap (pieces_overlap io.piece) issue.piece_is ∙ overlap) in
+    let issued = issue_of plan history worker issue.Write write piece (λ i job there. (planned_all.drafted.placed i job there).number) may in
+    let draw = issued.draw in
+    let clear = (may_issue_parts plan history (pass_of issued.job write.pass) draw issued.may).clear in
+    let writes : is_write_draw draw ≡ true = sym (write_kind issued.job draw) ∙ ap (λ (kind : IssueKind). is_write (kind_for kind)) issued.kind_is in
+    let hit : conflicts (is_write_draw draw) draw.piece io ≡ true =
+    and_from (is_write_draw draw || is_write io.kind) (pieces_overlap io.piece draw.piece)
+    (or_left (is_write_draw draw) (is_write io.kind) writes)
+    (ap (pieces_overlap io.piece) issued.piece_is ∙ overlap) in
     true_from_ne_false (has_ended history id)
     (λ (flying : has_ended history id ≡ false).
-    both_ways (list_any (conflicts (is_write_draw issue.draw) issue.draw.piece) (in_flight history))
-    (not-true (list_any (conflicts (is_write_draw issue.draw) issue.draw.piece) (in_flight history)) clear)
-    (found_flying history (conflicts (is_write_draw issue.draw) issue.draw.piece) id io at flying hit))
-  where
-    is_write_by : (d : Draw) → d.dir ≡ direction.Write → is_write_draw d ≡ true
-    is_write_by d same = ap (λ (dir : Dir). is_write_draw (record { number = d.number; dir = dir; piece = d.piece; seed = d.seed })) same
+    both_ways (list_any (conflicts (is_write_draw draw) draw.piece) (in_flight history))
+    (not-true (list_any (conflicts (is_write_draw draw) draw.piece) (in_flight history)) clear)
+    (found_flying history (conflicts (is_write_draw draw) draw.piece) id io at flying hit))
 
 pub last_after_agrees : (f b : ℕ) (o : Option WriteId) → Agrees (λ (ios : List Started). λ (e : Event). last_after ios f b o e)
 last_after_agrees f b o ios more (End worker io outcome) h = ap (λ (s : Option Started). last_after_end s outcome f b o) (got_within ios more io (ltb-true io (length ios) h))
-last_after_agrees f b o ios more (Issue worker dir write piece) h = refl
+last_after_agrees f b o ios more (Issue worker kind write piece) h = refl
 last_after_agrees f b o ios more (Probe worker write piece) h = refl
 last_after_agrees f b o ios more (Skip worker write) h = refl
 last_after_agrees f b o ios more (Verdict worker io verdict) h = refl
@@ -190,15 +187,15 @@ module _ (plan : Plan) (f b : ℕ) (h : List Event) (e : Event) (step : IsStep p
 
 module _ (plan : Plan) (numbered : IsNumbered plan) (f b : ℕ) where
   -- a write of the block
-  law_issued : (h : List Event) (worker : ℕ) (dir : Dir) (write : WriteId) (piece : Piece) → IsStep plan h (Issue worker dir write piece) → is_write (kind_for dir) ≡ true → covers_block piece f b ≡ true → LastLaw h f b → LastLaw (h ++ Issue worker dir write piece ∷ []) f b
-  law_issued h worker dir write piece step writes covers law =
-      let e = Issue worker dir write piece in
-      let s0 : Started = record { worker = worker; kind = kind_for dir; write = write; piece = piece } in
-      let issue = issue_of plan h worker dir write piece numbered step.may in
+  law_issued : (h : List Event) (worker : ℕ) (kind : IssueKind) (write : WriteId) (piece : Piece) → IsStep plan h (Issue worker kind write piece) → is_write (kind_for kind) ≡ true → covers_block piece f b ≡ true → LastLaw h f b → LastLaw (h ++ Issue worker kind write piece ∷ []) f b
+  law_issued h worker kind write piece step writes covers law =
+      let e = Issue worker kind write piece in
+      let s0 : Started = record { worker = worker; kind = kind_for kind; write = write; piece = piece } in
+      let issue = issue_of plan h worker kind write piece numbered step.may in
       let may = may_issue_parts plan h (pass_of issue.job write.pass) issue.draw issue.may in
       let clear : is_clear h (is_write_draw issue.draw) piece ≡ true = subst (λ (p : Piece). is_clear h (is_write_draw issue.draw) p ≡ true) issue.piece_is may.clear in
       let now : last_issued (h ++ e ∷ []) f b ≡ Some write =
-      last_issued_push h e f b ∙ ap (λ (x : Bool). cond x (Some write) (last_issued h f b)) (and_from (is_write (kind_for dir)) (covers_block piece f b) writes covers) in
+      last_issued_push h e f b ∙ ap (λ (x : Bool). cond x (Some write) (last_issued h f b)) (and_from (is_write (kind_for kind)) (covers_block piece f b) writes covers) in
       let not_yet : has_ended (h ++ e ∷ []) (length (started h)) ≡ false =
       has_ended_push h e (length (started h)) ∙ or_false (has_ended h (length (started h))) ∙ not_ended_yet plan h step.legal step.quiet (length (started h)) (omega arith) in
       let flies_now : FliesOver (h ++ e ∷ []) f b (length (started h)) s0 = record {
@@ -259,17 +256,17 @@ module _ (plan : Plan) (numbered : IsNumbered plan) (f b : ℕ) where
           some_same u v g = cc
 
   law_step : (h : List Event) (e : Event) → IsStep plan h e → LastLaw h f b → LastLaw (h ++ e ∷ []) f b
-  law_step h (Issue worker dir write piece) step law =
-      elim (cases_Bool (is_write (kind_for dir) && covers_block piece f b)) [
+  law_step h (Issue worker kind write piece) step law =
+      elim (cases_Bool (is_write (kind_for kind) && covers_block piece f b)) [
         | inl hit ↦
-            let parts = and_parts (is_write (kind_for dir)) (covers_block piece f b) hit in
-            law_issued h worker dir write piece step parts.0 parts.1 law
+            let parts = and_parts (is_write (kind_for kind)) (covers_block piece f b) hit in
+            law_issued h worker kind write piece step parts.0 parts.1 law
         | inr miss ↦
-            law_keeps plan f b h (Issue worker dir write piece) step (λ io. refl) (λ ios o. refl)
+            law_keeps plan f b h (Issue worker kind write piece) step (λ io. refl) (λ ios o. refl)
             (λ (o : Option WriteId). ap (λ (x : Bool). cond x (Some write) o) miss)
-            (λ (s : Started) (starts : started_by (Issue worker dir write piece) ≡ Some s) (writes : is_write s.kind ≡ true) (covers : covers_block s.piece f b ≡ true).
-            let one : record { worker = worker; kind = kind_for dir; write = write; piece = piece } ≡ s = some_same _ s starts in
-            both_ways (is_write (kind_for dir) && covers_block piece f b) miss
+            (λ (s : Started) (starts : started_by (Issue worker kind write piece) ≡ Some s) (writes : is_write s.kind ≡ true) (covers : covers_block s.piece f b ≡ true).
+            let one : record { worker = worker; kind = kind_for kind; write = write; piece = piece } ≡ s = some_same _ s starts in
+            both_ways (is_write (kind_for kind) && covers_block piece f b) miss
             (subst (λ (x : Started). (is_write x.kind && covers_block x.piece f b) ≡ true) (sym one) (and_from (is_write s.kind) (covers_block s.piece f b) writes covers)))
             law
       ]

@@ -6,11 +6,10 @@ use Rattle.std.proofs.lemmas.Bool.{and_parts, and_from, and_left, and_right, eqb
 use Rattle.std.proofs.lemmas.List.Elements.{All-get_or}
 use Rattle.std.proofs.lemmas.Option.{slice_get_within, get_or_from_slice_get}
 use Rattle.jr_model.specs.declared.limits.TheConstants.{SECTOR, LARGEST_BLOCK, LARGEST_END}
-use Rattle.jr_model.specs.declared.blocks.Dir.{Dir}
-use Rattle.jr_model.specs.declared.blocks.Dir.TheVariants as direction
 use Rattle.jr_model.specs.declared.blocks.Piece.{Piece}
 use Rattle.jr_model.specs.declared.events.Event.{Event}
 use Rattle.jr_model.specs.declared.events.Event.TheVariants.{Issue, Probe, Skip, End, Verdict}
+use Rattle.jr_model.specs.declared.events.IssueKind.{IssueKind}
 use Rattle.jr_model.specs.declared.events.Started.{Started}
 use Rattle.jr_model.specs.declared.events.WriteId.{WriteId}
 use Rattle.jr_model.specs.declared.workloads.Draw.{Draw}
@@ -19,7 +18,7 @@ use Rattle.jr_model.specs.History.{kind_for, is_write}
 use Rattle.jr_model.specs.LastWrite.{covers_block, last_write, is_this_write, blocks_of, is_intact}
 use Rattle.jr_model.specs.Legal.{is_legal}
 use Rattle.jr_model.specs.Pieces.{pieces_overlap, piece_end}
-use Rattle.jr_model.specs.Plan.{Plan, SubJob, IsNumbered, clone_of}
+use Rattle.jr_model.specs.Plan.{Plan, SubJob, IsNumbered, clone_of, issued_as}
 use Rattle.jr_model.specs.Rounds.{pass_of, write_id, is_write_draw, issued_count, is_closed, group_of, group_count, group_index}
 use Rattle.jr_model.specs.Tickets.{piece_fits}
 use Rattle.jr_model.specs.Words.{pass_words}
@@ -28,7 +27,7 @@ use Rattle.jr_model.specs.PlanFacts.{IsPlanned}
 use Rattle.jr_laws_draws.specs.PassLaw.{PassLaw, IsInRegion}
 use Rattle.jr_laws_draws.proofs.TheLaw.{pass_law, drawable_of}
 use Rattle.jr_laws_quiet.specs.Quiet.{is_quiet, last_issued, later_over, stays_last}
-use Rattle.jr_laws_quiet.proofs.Steps.{IsStep, along, issue_of}
+use Rattle.jr_laws_quiet.proofs.Steps.{IsStep, along, issue_of, write_kind}
 use Rattle.jr_laws_quiet.proofs.Issues.{MayIssue, MayTakeUp, its_issue, its_marks, issued_same, got_range}
 use Rattle.jr_laws_quiet.proofs.LastWrites.{last_issued_push, covers_parts, overlap_from, barred, FliesOver, last_law}
 use Rattle.jr_laws_quiet.proofs.Groups.{number_is}
@@ -197,13 +196,6 @@ pub record OwnLatest (job : SubJob) (h : List Event) (f b p k : ℕ) : Type 0 wh
   pub writes : is_write_draw draw ≡ true
   pub covers : covers_block draw.piece f b ≡ true
 
-write_kind : (d : Draw) → is_write (kind_for d.dir) ≡ is_write_draw d
-write_kind d = by_dir d.dir
-  where
-    by_dir : (dir : Dir) → is_write (kind_for dir) ≡ is_write_draw (record { number = d.number; dir = dir; piece = d.piece; seed = d.seed })
-    by_dir direction.Read = refl
-    by_dir direction.Write = refl
-
 module _ (plan : Plan) (planned_all : IsPlanned plan) (apart : are_apart plan.clones ≡ true) (c : ℕ) (job : SubJob) (planned : clone_of plan c ≡ Some job) where
   -- an event that issues no write of the block
   latest_keeps : (h : List Event) (e : Event) → IsStep plan h e → (f b p k : ℕ) → last_issued (h ++ e ∷ []) f b ≡ last_issued h f b → LatestIs job h f b p k → LatestIs job (h ++ e ∷ []) f b p k
@@ -220,7 +212,7 @@ module _ (plan : Plan) (planned_all : IsPlanned plan) (apart : are_apart plan.cl
   }
 
   -- a draw that is issued by now was so before, or this event issues it
-  issued_before : (h : List Event) (e : Event) → IsStep plan h e → (p k : ℕ) (d : Draw) → slice_get (draws_of_job job p) k ≡ Some d → k < issued_count (h ++ e ∷ []) (pass_of job p) → (k < issued_count h (pass_of job p)) ⊎ ((worker : ℕ) × (write : WriteId) × (e ≡ Issue worker d.dir write d.piece))
+  issued_before : (h : List Event) (e : Event) → IsStep plan h e → (p k : ℕ) (d : Draw) → slice_get (draws_of_job job p) k ≡ Some d → k < issued_count (h ++ e ∷ []) (pass_of job p) → (k < issued_count h (pass_of job p)) ⊎ ((worker : ℕ) × (write : WriteId) × (e ≡ Issue worker (issued_as job d.dir) write d.piece))
   issued_before h e step p k d at now =
       elim (issue_cases plan (numbers_of plan planned_all) c job planned h e step p) [
         | inl same ↦ inl (omega (arith, same, now))
@@ -230,42 +222,42 @@ module _ (plan : Plan) (planned_all : IsPlanned plan) (apart : are_apart plan.cl
       some_same : (u v : Draw) → Some u ≡ Some v → u ≡ v
       some_same u v g = cc
 
-      by_number : (next : NextIssue plan job h e p) → (k < next.write.number) ⊎ (next.write.number ≤ k) → (k < issued_count h (pass_of job p)) ⊎ ((worker : ℕ) × (write : WriteId) × (e ≡ Issue worker d.dir write d.piece))
+      by_number : (next : NextIssue plan job h e p) → (k < next.write.number) ⊎ (next.write.number ≤ k) → (k < issued_count h (pass_of job p)) ⊎ ((worker : ℕ) × (write : WriteId) × (e ≡ Issue worker (issued_as job d.dir) write d.piece))
       by_number next (inl earlier) = inl (omega (arith, earlier, next.before))
       by_number next (inr last) =
           let place : next.write.number ≡ k = omega (arith, now, next.after, last) in
           let one : next.draw ≡ d = some_same next.draw d (sym next.drawn ∙ ap (slice_get (draws_of_job job p)) place ∙ at) in
-          inr (next.worker, next.write, next.is ∙ ap (λ (x : Draw). Issue next.worker x.dir next.write x.piece) one)
+          inr (next.worker, next.write, next.is ∙ ap (λ (x : Draw). Issue next.worker (issued_as job x.dir) next.write x.piece) one)
 
   -- an event that is no issue of a write of the block keeps the law
-  latest_other : (h : List Event) (e : Event) → IsStep plan h e → LatestLaw job h → (f b p k : ℕ) (d : Draw) → slice_get (draws_of_job job p) k ≡ Some d → k < issued_count (h ++ e ∷ []) (pass_of job p) → is_write_draw d ≡ true → covers_block d.piece f b ≡ true → last_issued (h ++ e ∷ []) f b ≡ last_issued h f b → ((worker : ℕ) (write : WriteId) → e ≡ Issue worker d.dir write d.piece → ⊥) → LatestIs job (h ++ e ∷ []) f b p k
+  latest_other : (h : List Event) (e : Event) → IsStep plan h e → LatestLaw job h → (f b p k : ℕ) (d : Draw) → slice_get (draws_of_job job p) k ≡ Some d → k < issued_count (h ++ e ∷ []) (pass_of job p) → is_write_draw d ≡ true → covers_block d.piece f b ≡ true → last_issued (h ++ e ∷ []) f b ≡ last_issued h f b → ((worker : ℕ) (write : WriteId) → e ≡ Issue worker (issued_as job d.dir) write d.piece → ⊥) → LatestIs job (h ++ e ∷ []) f b p k
   latest_other h e step law f b p k d at now writes covers same no_such =
       elim (issued_before h e step p k d at now) [
         | inl before ↦ latest_keeps h e step f b p k same (law f b p k d at before writes covers)
         | inr this ↦ absurd (no_such this.0 this.1 this.2)
       ]
 
-  latest_issue : (h : List Event) (worker : ℕ) (dir : Dir) (write : WriteId) (piece : Piece) → IsStep plan h (Issue worker dir write piece) → LatestLaw job h → (f b p k : ℕ) (d : Draw) → slice_get (draws_of_job job p) k ≡ Some d → k < issued_count (h ++ Issue worker dir write piece ∷ []) (pass_of job p) → is_write_draw d ≡ true → covers_block d.piece f b ≡ true → (cov : Bool) → (is_write (kind_for dir) && covers_block piece f b) ≡ cov → LatestIs job (h ++ Issue worker dir write piece ∷ []) f b p k
-  latest_issue h worker dir write piece step law f b p k d at now writes covers false miss =
-      latest_other h (Issue worker dir write piece) step law f b p k d at now writes covers
-      (last_issued_push h (Issue worker dir write piece) f b ∙ ap (λ (x : Bool). cond x (Some write) (last_issued h f b)) miss)
-      (λ (w : ℕ) (other : WriteId) (same : Issue worker dir write piece ≡ Issue w d.dir other d.piece).
-      let dirs : dir ≡ d.dir = cc in
+  latest_issue : (h : List Event) (worker : ℕ) (kind : IssueKind) (write : WriteId) (piece : Piece) → IsStep plan h (Issue worker kind write piece) → LatestLaw job h → (f b p k : ℕ) (d : Draw) → slice_get (draws_of_job job p) k ≡ Some d → k < issued_count (h ++ Issue worker kind write piece ∷ []) (pass_of job p) → is_write_draw d ≡ true → covers_block d.piece f b ≡ true → (cov : Bool) → (is_write (kind_for kind) && covers_block piece f b) ≡ cov → LatestIs job (h ++ Issue worker kind write piece ∷ []) f b p k
+  latest_issue h worker kind write piece step law f b p k d at now writes covers false miss =
+      latest_other h (Issue worker kind write piece) step law f b p k d at now writes covers
+      (last_issued_push h (Issue worker kind write piece) f b ∙ ap (λ (x : Bool). cond x (Some write) (last_issued h f b)) miss)
+      (λ (w : ℕ) (other : WriteId) (same : Issue worker kind write piece ≡ Issue w (issued_as job d.dir) other d.piece).
+      let kinds : kind ≡ issued_as job d.dir = cc in
       let pieces : piece ≡ d.piece = cc in
-      both_ways (is_write (kind_for dir) && covers_block piece f b) miss
-      (and_from (is_write (kind_for dir)) (covers_block piece f b) (ap (λ (x : Dir). is_write (kind_for x)) dirs ∙ write_kind d ∙ writes) (ap (λ (x : Piece). covers_block x f b) pieces ∙ covers)))
-  latest_issue h worker dir write piece step law f b p k d at now writes covers true hit =
+      both_ways (is_write (kind_for kind) && covers_block piece f b) miss
+      (and_from (is_write (kind_for kind)) (covers_block piece f b) (ap (λ (x : IssueKind). is_write (kind_for x)) kinds ∙ write_kind job d ∙ writes) (ap (λ (x : Piece). covers_block x f b) pieces ∙ covers)))
+  latest_issue h worker kind write piece step law f b p k d at now writes covers true hit =
       let numbered = numbers_of plan planned_all in
-      let e = Issue worker dir write piece in
-      let hits = and_parts (is_write (kind_for dir)) (covers_block piece f b) hit in
-      let any = issue_of plan h worker dir write piece numbered step.may in
+      let e = Issue worker kind write piece in
+      let hits = and_parts (is_write (kind_for kind)) (covers_block piece f b) hit in
+      let any = issue_of plan h worker kind write piece numbered step.may in
       let its_file : any.draw.piece.file ≡ any.job.file = file_of plan planned_all write.clone any.job any.names.planned write.pass write.number any.draw any.names.drawn in
       let own_file : d.piece.file ≡ job.file = file_of plan planned_all c job planned p k d at in
       let files : any.job.file ≡ job.file =
       sym its_file ∙ ap (λ (x : Piece). x.file) any.piece_is ∙ (covers_parts piece f b hits.1).file ∙ sym (covers_parts d.piece f b covers).file ∙ own_file in
       let same : write.clone ≡ c = one_file plan.clones write.clone c any.job job apart any.names.planned planned files in
-      let issue = its_issue plan numbered c job planned h worker dir write piece step same in
-      let marks = its_marks plan numbered c job planned h worker dir write piece step same in
+      let issue = its_issue plan numbered c job planned h worker kind write piece step same in
+      let marks = its_marks plan numbered c job planned h worker kind write piece step same in
       record {
         write = write;
         draw = issue.0;
@@ -274,33 +266,33 @@ module _ (plan : Plan) (planned_all : IsPlanned plan) (apart : are_apart plan.cl
         after = in_order issue.4 issue.1.drawn issue.1.number marks.more (cases_order p write.pass);
         issued = omega (arith, marks.more);
         drawn = issue.1.drawn;
-        writes = sym (write_kind issue.0) ∙ ap (λ (x : Dir). is_write (kind_for x)) issue.2 ∙ hits.0;
+        writes = sym (write_kind job issue.0) ∙ ap (λ (x : IssueKind). is_write (kind_for x)) issue.2 ∙ hits.0;
         covers = ap (λ (x : Piece). covers_block x f b) issue.3 ∙ hits.1;
       }
     where
-      in_order : {draw : Draw} → MayIssue plan h (pass_of job write.pass) draw → slice_get (draws_of_job job write.pass) write.number ≡ Some draw → draw.number ≡ write.number → issued_count (h ++ Issue worker dir write piece ∷ []) (pass_of job write.pass) ≡ suc write.number → (p ≡ write.pass) ⊎ ((p < write.pass) ⊎ (write.pass < p)) → (p < write.pass) ⊎ ((p ≡ write.pass) × (k ≤ write.number))
+      in_order : {draw : Draw} → MayIssue plan h (pass_of job write.pass) draw → slice_get (draws_of_job job write.pass) write.number ≡ Some draw → draw.number ≡ write.number → issued_count (h ++ Issue worker kind write piece ∷ []) (pass_of job write.pass) ≡ suc write.number → (p ≡ write.pass) ⊎ ((p < write.pass) ⊎ (write.pass < p)) → (p < write.pass) ⊎ ((p ≡ write.pass) × (k ≤ write.number))
       in_order may drawn number more (inl same) =
-          let here : k < issued_count (h ++ Issue worker dir write piece ∷ []) (pass_of job write.pass) =
-          subst (λ (q : ℕ). k < issued_count (h ++ Issue worker dir write piece ∷ []) (pass_of job q)) same now in
+          let here : k < issued_count (h ++ Issue worker kind write piece ∷ []) (pass_of job write.pass) =
+          subst (λ (q : ℕ). k < issued_count (h ++ Issue worker kind write piece ∷ []) (pass_of job q)) same now in
           inr (same, omega (arith, here, more))
       in_order may drawn number more (inr (inl before)) = inl before
       in_order {draw = draw} may drawn number more (inr (inr beyond)) =
-          let kept : issued_count (h ++ Issue worker dir write piece ∷ []) (pass_of job p) ≡ issued_count h (pass_of job p) =
-          issued_same h (Issue worker dir write piece) (pass_of job p) (and_right (write.clone == job.clone) (write.pass == p) (ne_eqb write.pass p (λ equal. absurd (omega (arith, equal, beyond))))) in
+          let kept : issued_count (h ++ Issue worker kind write piece ∷ []) (pass_of job p) ≡ issued_count h (pass_of job p) =
+          issued_same h (Issue worker kind write piece) (pass_of job p) (and_right (write.clone == job.clone) (write.pass == p) (ne_eqb write.pass p (λ equal. absurd (omega (arith, equal, beyond))))) in
           let past = passes_in_turn plan (numbers_of plan planned_all) c job planned h step.legal step.quiet write.pass p beyond (omega (arith, kept, now)) in
           absurd (omega (arith, past.issued, may.next, number, slice_get_within (draws_of_job job write.pass) write.number draw drawn))
 
   latest_step : (h : List Event) (e : Event) → IsStep plan h e → LatestLaw job h → LatestLaw job (h ++ e ∷ [])
-  latest_step h (Issue worker dir write piece) step law f b p k d at now writes covers =
-      latest_issue h worker dir write piece step law f b p k d at now writes covers (is_write (kind_for dir) && covers_block piece f b) refl
+  latest_step h (Issue worker kind write piece) step law f b p k d at now writes covers =
+      latest_issue h worker kind write piece step law f b p k d at now writes covers (is_write (kind_for kind) && covers_block piece f b) refl
   latest_step h (Probe worker write piece) step law f b p k d at now writes covers =
-      latest_other h (Probe worker write piece) step law f b p k d at now writes covers (last_issued_push h (Probe worker write piece) f b) (λ (w : ℕ) (other : WriteId) (same : Probe worker write piece ≡ Issue w d.dir other d.piece). cc)
+      latest_other h (Probe worker write piece) step law f b p k d at now writes covers (last_issued_push h (Probe worker write piece) f b) (λ (w : ℕ) (other : WriteId) (same : Probe worker write piece ≡ Issue w (issued_as job d.dir) other d.piece). cc)
   latest_step h (Skip worker write) step law f b p k d at now writes covers =
-      latest_other h (Skip worker write) step law f b p k d at now writes covers (last_issued_push h (Skip worker write) f b) (λ (w : ℕ) (other : WriteId) (same : Skip worker write ≡ Issue w d.dir other d.piece). cc)
+      latest_other h (Skip worker write) step law f b p k d at now writes covers (last_issued_push h (Skip worker write) f b) (λ (w : ℕ) (other : WriteId) (same : Skip worker write ≡ Issue w (issued_as job d.dir) other d.piece). cc)
   latest_step h (End worker io outcome) step law f b p k d at now writes covers =
-      latest_other h (End worker io outcome) step law f b p k d at now writes covers (last_issued_push h (End worker io outcome) f b) (λ (w : ℕ) (other : WriteId) (same : End worker io outcome ≡ Issue w d.dir other d.piece). cc)
+      latest_other h (End worker io outcome) step law f b p k d at now writes covers (last_issued_push h (End worker io outcome) f b) (λ (w : ℕ) (other : WriteId) (same : End worker io outcome ≡ Issue w (issued_as job d.dir) other d.piece). cc)
   latest_step h (Verdict worker io verdict) step law f b p k d at now writes covers =
-      latest_other h (Verdict worker io verdict) step law f b p k d at now writes covers (last_issued_push h (Verdict worker io verdict) f b) (λ (w : ℕ) (other : WriteId) (same : Verdict worker io verdict ≡ Issue w d.dir other d.piece). cc)
+      latest_other h (Verdict worker io verdict) step law f b p k d at now writes covers (last_issued_push h (Verdict worker io verdict) f b) (λ (w : ℕ) (other : WriteId) (same : Verdict worker io verdict ≡ Issue w (issued_as job d.dir) other d.piece). cc)
 
   pub latest_law : (history : List Event) → is_legal plan history ≡ true → is_quiet history ≡ true → LatestLaw job history
   latest_law history legal quiet =

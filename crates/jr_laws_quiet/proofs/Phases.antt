@@ -6,17 +6,17 @@ use Rattle.std.specs.List.{list_any, list_all, cons_option, range_with_len}
 use Rattle.std.proofs.lemmas.Bool.{and_parts, and_from, and_right, eqb-true, eq-eqb, ne_eqb, ltb-true, cases_eq, cases_lt, not-true, not-false, or_left, or_right, or_cases, or_parts, both_ways}
 use Rattle.std.proofs.lemmas.List.Folds.{list_any-append}
 use Rattle.std.proofs.lemmas.Option.{slice_get_within}
-use Rattle.jr_model.specs.declared.blocks.Dir.{Dir}
 use Rattle.jr_model.specs.declared.blocks.Piece.{Piece}
 use Rattle.jr_model.specs.declared.events.Event.{Event}
 use Rattle.jr_model.specs.declared.events.Event.TheVariants.{Issue, Probe, Skip, End, Verdict}
+use Rattle.jr_model.specs.declared.events.IssueKind.{IssueKind}
 use Rattle.jr_model.specs.declared.events.Started.{Started}
 use Rattle.jr_model.specs.declared.events.WriteId.{WriteId}
 use Rattle.jr_model.specs.declared.workloads.Draw.{Draw}
 use Rattle.jr_model.specs.Draws.{draws_of_job}
 use Rattle.jr_model.specs.History.{started, started_by}
 use Rattle.jr_model.specs.Legal.{is_legal}
-use Rattle.jr_model.specs.Plan.{Plan, SubJob, IsNumbered, clone_of}
+use Rattle.jr_model.specs.Plan.{Plan, SubJob, IsNumbered, clone_of, issued_as}
 use Rattle.jr_model.specs.Rounds.{Pass, pass_of, passes_of, write_id, issued_count, all_issued, issued_among, is_probe_of, settles, is_settled, is_full, is_closed, is_open, no_issue_flies, rounds_closed, pass_finished, has_rounds, group_of, group_count, group_index, writes_of}
 use Rattle.jr_laws_quiet.specs.Quiet.{is_quiet}
 use Rattle.jr_laws_quiet.proofs.Tallies.{count_by-total}
@@ -27,7 +27,7 @@ use Rattle.jr_laws_quiet.proofs.Members.{before_full, rank_mono}
 
 pub settles_agrees : (w : WriteId) → Agrees (λ (ios : List Started). λ (e : Event). settles ios w e)
 settles_agrees w ios more (End worker io outcome) h = ap (is_probe_of w) (got_within ios more io (ltb-true io (length ios) h))
-settles_agrees w ios more (Issue worker dir write piece) h = refl
+settles_agrees w ios more (Issue worker kind write piece) h = refl
 settles_agrees w ios more (Probe worker write piece) h = refl
 settles_agrees w ios more (Skip worker write) h = refl
 settles_agrees w ios more (Verdict worker io verdict) h = refl
@@ -54,7 +54,7 @@ pub record NextIssue (plan : Plan) (job : SubJob) (h : List Event) (e : Event) (
   pub worker : ℕ
   pub write : WriteId
   pub draw : Draw
-  pub is : e ≡ Issue worker draw.dir write draw.piece
+  pub is : e ≡ Issue worker (issued_as job draw.dir) write draw.piece
   pub clone : write.clone ≡ job.clone
   pub pass : write.pass ≡ q
   pub before : issued_count h (pass_of job q) ≡ write.number
@@ -89,21 +89,21 @@ module _ (plan : Plan) (numbered : IsNumbered plan) (c : ℕ) (job : SubJob) (pl
   issue_cases h (Skip worker write) step q = inl (issued_same h (Skip worker write) (pass_of job q) refl)
   issue_cases h (End worker io outcome) step q = inl (issued_same h (End worker io outcome) (pass_of job q) refl)
   issue_cases h (Verdict worker io verdict) step q = inl (issued_same h (Verdict worker io verdict) (pass_of job q) refl)
-  issue_cases h (Issue worker dir write piece) step q = by_clone (cases_eq write.clone c) (cases_eq write.pass q)
+  issue_cases h (Issue worker kind write piece) step q = by_clone (cases_eq write.clone c) (cases_eq write.pass q)
     where
-      by_clone : (write.clone ≡ c) ⊎ (write.clone ≡ c → ⊥) → (write.pass ≡ q) ⊎ (write.pass ≡ q → ⊥) → (issued_count (h ++ Issue worker dir write piece ∷ []) (pass_of job q) ≡ issued_count h (pass_of job q)) ⊎ NextIssue plan job h (Issue worker dir write piece) q
-      by_clone (inr apart) same_pass = inl (other_clone plan numbered c job planned h worker dir write piece apart q)
+      by_clone : (write.clone ≡ c) ⊎ (write.clone ≡ c → ⊥) → (write.pass ≡ q) ⊎ (write.pass ≡ q → ⊥) → (issued_count (h ++ Issue worker kind write piece ∷ []) (pass_of job q) ≡ issued_count h (pass_of job q)) ⊎ NextIssue plan job h (Issue worker kind write piece) q
+      by_clone (inr apart) same_pass = inl (other_clone plan numbered c job planned h worker kind write piece apart q)
       by_clone (inl same) (inr apart) =
-          inl (issued_same h (Issue worker dir write piece) (pass_of job q) (and_right (write.clone == job.clone) (write.pass == q) (ne_eqb write.pass q apart)))
+          inl (issued_same h (Issue worker kind write piece) (pass_of job q) (and_right (write.clone == job.clone) (write.pass == q) (ne_eqb write.pass q apart)))
       by_clone (inl same) (inl same_pass) =
-          let issue = its_issue plan numbered c job planned h worker dir write piece step same in
-          let marks = its_marks plan numbered c job planned h worker dir write piece step same in
-          let e = Issue worker dir write piece in
+          let issue = its_issue plan numbered c job planned h worker kind write piece step same in
+          let marks = its_marks plan numbered c job planned h worker kind write piece step same in
+          let e = Issue worker kind write piece in
           inr (record {
             worker = worker;
             write = write;
             draw = issue.0;
-            is = ap (λ (d : Dir). Issue worker d write piece) (sym issue.2) ∙ ap (λ (p : Piece). Issue worker issue.0.dir write p) (sym issue.3);
+            is = ap (λ (k : IssueKind). Issue worker k write piece) (sym issue.2) ∙ ap (λ (p : Piece). Issue worker (issued_as job issue.0.dir) write p) (sym issue.3);
             clone = sym issue.1.clone;
             pass = same_pass;
             before = subst (λ (p : ℕ). issued_count h (pass_of job p) ≡ write.number) same_pass (sym issue.4.next ∙ issue.1.number);

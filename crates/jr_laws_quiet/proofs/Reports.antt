@@ -1,5 +1,5 @@
 -- The report of a complete run in which nothing goes wrong is that of its draws.
-use Rattle.std.proofs.Common.{◌≡◌, ℕ, zero, suc, ◌+◌, ◌-◌, ◌<◌, List, [], ◌∷◌, ◌++◌, length, map, Bool, true, false, cond, ◌&&◌, not, refl, sym, ◌∙◌, ap, subst, arith, inl, inr, append-nil}
+use Rattle.std.proofs.Common.{◌≡◌, ℕ, zero, suc, ◌+◌, ◌-◌, ◌<◌, List, [], ◌∷◌, ◌++◌, length, map, Bool, true, false, cond, ◌&&◌, not, refl, sym, ◌∙◌, ap, subst, arith, inl, inr, append-nil, add-zero}
 use Rattle.std.specs.Prelude.{◌⊎◌, Option, Some, None, slice_get, ◌==◌, filter, filter_map, flat_map, sum, count_by}
 use Rattle.std.specs.List.{range_with_len, cons_option}
 use Rattle.std.proofs.lemmas.Bool.{and_parts, and_right, cases_Bool, not-true}
@@ -8,6 +8,8 @@ use Rattle.jr_model.specs.declared.blocks.Dir.TheVariants as direction
 use Rattle.jr_model.specs.declared.blocks.Piece.{Piece}
 use Rattle.jr_model.specs.declared.events.Event.{Event}
 use Rattle.jr_model.specs.declared.events.Event.TheVariants.{Issue, Probe, Skip, End, Verdict}
+use Rattle.jr_model.specs.declared.events.IssueKind.{IssueKind}
+use Rattle.jr_model.specs.declared.events.IssueKind.TheVariants as issue
 use Rattle.jr_model.specs.declared.events.Started.{Started}
 use Rattle.jr_model.specs.declared.events.Verdict.{Verdict as GivenVerdict}
 use Rattle.jr_model.specs.declared.events.Verdict.TheVariants.{Good, Bad}
@@ -16,9 +18,9 @@ use Rattle.jr_model.specs.declared.tickets.TicketKind.TheVariants as ticket
 use Rattle.jr_model.specs.declared.totals.Totals.{Totals}
 use Rattle.jr_model.specs.declared.workloads.Draw.{Draw}
 use Rattle.jr_model.specs.Draws.{draws_of_job}
-use Rattle.jr_model.specs.History.{started, started_by, kind_for, is_of_clone, is_probe, is_write, is_judged, ended_whole, outcome_of}
+use Rattle.jr_model.specs.History.{started, started_by, kind_for, is_of_clone, is_judged_kind, is_write, is_judged, ended_whole, outcome_of}
 use Rattle.jr_model.specs.Legal.{is_legal, is_complete, is_io_of, is_fault, is_bad, verdict_fits, job_says}
-use Rattle.jr_model.specs.Plan.{Plan, SubJob, clone_of}
+use Rattle.jr_model.specs.Plan.{Plan, SubJob, clone_of, checks_reads, issued_as}
 use Rattle.jr_model.specs.Quiet.{checks_of_pass, bytes_drawn, quiet_totals, quiet_report}
 use Rattle.jr_model.specs.Report.{Miscompare, miscompare_on, miscompare_by, miscompares, miscompare_line, on_write, of_pass, of_clone, in_order, totals_lines, all_totals, report_of}
 use Rattle.jr_model.specs.Rounds.{Pass, pass_of, passes_of, write_id, is_write_draw, has_rounds}
@@ -27,27 +29,31 @@ use Rattle.jr_plan.specs.Files.{are_apart}
 use Rattle.jr_model.specs.PlanFacts.{IsPlanned}
 use Rattle.jr_laws_quiet.specs.Quiet.{is_calm, is_quiet}
 use Rattle.jr_laws_quiet.proofs.Tallies.{total, got, upto, total-filter, total-filter_map, total_same, total_zero, total-sum, total-map, total_upto, sum_map-total, count_by-total, length-total, upto_same_below, upto-sum}
-use Rattle.jr_laws_quiet.proofs.Steps.{IsStep, along, started_push}
+use Rattle.jr_laws_quiet.proofs.Steps.{IsStep, along, started_push, write_kind}
 use Rattle.jr_laws_quiet.proofs.Ends.{verdict_worth, verdict_worth_agrees, one_more, verdicts_in_all}
-use Rattle.jr_laws_quiet.proofs.Issues.{total_calm, moved_is_drawn, drawn_in_all, clone_is}
+use Rattle.jr_laws_quiet.proofs.Issues.{issue_worth, draw_worth, issues_in_all, total_calm, moved_is_drawn, drawn_in_all, clone_is}
 use Rattle.jr_laws_quiet.proofs.Members.{checks_are}
 use Rattle.jr_laws_quiet.proofs.Latest.{numbers_of}
 use Rattle.jr_laws_quiet.proofs.Checks.{worth_where, is_kept, probe_worth, is_overwritten, probes_counted, skips_counted}
 
--- one for an I/O of the clone, and for a check of it
+-- one for an I/O of the clone, and for a check or checked read of it
 abbrev pub clone_worth : ℕ → Started → ℕ
 clone_worth c s = cond (is_of_clone c s) 1 0
 
 abbrev pub check_worth : ℕ → Started → ℕ
-check_worth c s = cond (is_probe s.kind && is_of_clone c s) 1 0
+check_worth c s = cond (is_judged_kind s.kind && is_of_clone c s) 1 0
 
--- a verdict is on a check, so only what checks are worth counts
+-- and for an issue of a checked read
+abbrev pub checked_worth : IssueKind → Piece → ℕ
+checked_worth kind piece = cond (is_judged_kind (kind_for kind)) 1 0
+
+-- a verdict is on a check or checked read, so only what those are worth counts
 abbrev pub CountsChecks : (Started → ℕ) → (Started → ℕ) → List Event → Type 0
 CountsChecks f g h = total (verdict_worth f (started h)) h ≡ total (verdict_worth g (started h)) h
 
-module _ (plan : Plan) (f g : Started → ℕ) (agree : (s : Started) → is_probe s.kind ≡ true → f s ≡ g s) where
+module _ (plan : Plan) (f g : Started → ℕ) (agree : (s : Started) → is_judged_kind s.kind ≡ true → f s ≡ g s) where
   verdict_agrees : (h : List Event) (e : Event) → IsStep plan h e → verdict_worth f (started (h ++ e ∷ [])) e ≡ verdict_worth g (started (h ++ e ∷ [])) e
-  verdict_agrees h (Issue worker dir write piece) step = refl
+  verdict_agrees h (Issue worker kind write piece) step = refl
   verdict_agrees h (Probe worker write piece) step = refl
   verdict_agrees h (Skip worker write) step = refl
   verdict_agrees h (End worker io outcome) step = refl
@@ -57,7 +63,7 @@ module _ (plan : Plan) (f g : Started → ℕ) (agree : (s : Started) → is_pro
     where
       by_io : (o : Option Started) → verdict_fits plan verdict o ≡ true → got f o ≡ got g o
       by_io None fits = refl
-      by_io (Some s) fits = agree s (and_parts (is_probe s.kind) (job_says (clone_of plan s.write.clone) s.piece.len verdict) fits).0
+      by_io (Some s) fits = agree s (and_parts (is_judged_kind s.kind) (job_says (clone_of plan s.write.clone) s.kind s.piece.len verdict) fits).0
 
   counts_step : (h : List Event) (e : Event) → IsStep plan h e → CountsChecks f g h → CountsChecks f g (h ++ e ∷ [])
   counts_step h e step so_far =
@@ -89,7 +95,7 @@ no_miscompares ios (e ∷ events) quiet =
     none_on (Some s) = refl
 
     none_by : (x : Event) → is_calm x ≡ true → miscompare_by ios x ≡ None
-    none_by (Issue worker dir write piece) calm = refl
+    none_by (Issue worker kind write piece) calm = refl
     none_by (Probe worker write piece) calm = refl
     none_by (Skip worker write) calm = refl
     none_by (End worker io outcome) calm = refl
@@ -134,19 +140,42 @@ same_totals a b e1 e2 e3 e4 e5 e6 e7 e8 e9 e10 =
 abbrev pub all_draws : SubJob → List Draw
 all_draws job = flat_map (λ (pass : Pass). pass.draws) (passes_of job)
 
-read_draw : (d : Draw) → is_read (kind_for d.dir) ≡ not (is_write_draw d)
-read_draw d = by_dir d.dir
+read_draw : (job : SubJob) (d : Draw) → is_read (kind_for (issued_as job d.dir)) ≡ not (is_write_draw d)
+read_draw job d = by_dir d.dir
   where
-    by_dir : (dir : Dir) → is_read (kind_for dir) ≡ not (is_write_draw (record { number = d.number; dir = dir; piece = d.piece; seed = d.seed }))
-    by_dir direction.Read = refl
+    by_check : (b : Bool) → is_read (kind_for (cond b issue.ReadCheck issue.Read)) ≡ true
+    by_check true = refl
+    by_check false = refl
+
+    by_dir : (dir : Dir) → is_read (kind_for (issued_as job dir)) ≡ not (is_write_draw (record { number = d.number; dir = dir; piece = d.piece; seed = d.seed }))
+    by_dir direction.Read = by_check (checks_reads job)
     by_dir direction.Write = refl
 
-write_draw : (d : Draw) → is_write (kind_for d.dir) ≡ is_write_draw d
-write_draw d = by_dir d.dir
+-- the reads of a clone that checks them
+checked_draw : (job : SubJob) (d : Draw) → is_judged_kind (kind_for (issued_as job d.dir)) ≡ (checks_reads job && not (is_write_draw d))
+checked_draw job d = by_dir d.dir
   where
-    by_dir : (dir : Dir) → is_write (kind_for dir) ≡ is_write_draw (record { number = d.number; dir = dir; piece = d.piece; seed = d.seed })
-    by_dir direction.Read = refl
-    by_dir direction.Write = refl
+    by_check : (b : Bool) → is_judged_kind (kind_for (cond b issue.ReadCheck issue.Read)) ≡ (b && true)
+    by_check true = refl
+    by_check false = refl
+
+    by_dir : (dir : Dir) → is_judged_kind (kind_for (issued_as job dir)) ≡ (checks_reads job && not (is_write_draw (record { number = d.number; dir = dir; piece = d.piece; seed = d.seed })))
+    by_dir direction.Read = by_check (checks_reads job)
+    by_dir direction.Write = sym (and_right (checks_reads job) false refl)
+
+-- how many they are
+pub reads_drawn : (job : SubJob) → upto (λ (p : ℕ). total (draw_worth job checked_worth p) (draws_of_job job p)) job.passes ≡ cond (checks_reads job) (length (filter (λ (d : Draw). not (is_write_draw d)) (all_draws job))) 0
+reads_drawn job =
+    sym (drawn_in_all job (λ (d : Draw). checked_worth (issued_as job d.dir) d.piece))
+    ∙ total_same (λ (d : Draw). checked_worth (issued_as job d.dir) d.piece) (λ (d : Draw). cond (checks_reads job && not (is_write_draw d)) 1 0) (all_draws job)
+    (λ (d : Draw). ap {B = ℕ} (λ (b : Bool). cond b 1 0) (checked_draw job d))
+    ∙ by_check (checks_reads job)
+  where
+    by_check : (b : Bool) → total (λ (d : Draw). cond (b && not (is_write_draw d)) 1 0) (all_draws job) ≡ cond b (length (filter (λ (d : Draw). not (is_write_draw d)) (all_draws job))) 0
+    by_check true =
+        sym (length-total (filter (λ (d : Draw). not (is_write_draw d)) (all_draws job))
+        ∙ total-filter (λ (d : Draw). 1) (λ (d : Draw). not (is_write_draw d)) (all_draws job))
+    by_check false = total_zero (λ (d : Draw). 0) (all_draws job) (λ (d : Draw). refl)
 
 -- where the clone has rounds, the writes that stay last are those that are checked
 pub checks_drawn : (job : SubJob) → upto (λ (p : ℕ). total (worth_where job (is_kept job) p) (draws_of_job job p)) job.passes ≡ cond (has_rounds job) (sum (map checks_of_pass (passes_of job))) 0
@@ -212,29 +241,29 @@ skips_drawn job = by_rounds (has_rounds job) refl
             )
 
 module _ (plan : Plan) (planned_all : IsPlanned plan) (apart : are_apart plan.clones ≡ true) (history : List Event) (legal : is_legal plan history ≡ true) (complete : is_complete plan history ≡ true) (quiet : is_quiet history ≡ true) (c : ℕ) (job : SubJob) (planned : clone_of plan c ≡ Some job) where
-  moved_total : (test : TicketKind → Bool) (no_check : test ticket.Probe ≡ false) (p : Draw → Bool) (same : (d : Draw) → test (kind_for d.dir) ≡ p d) (g : Piece → ℕ) → total (λ (s : Started). g s.piece) (moved history test c) ≡ total (λ (d : Draw). g d.piece) (filter p (all_draws job))
+  moved_total : (test : TicketKind → Bool) (no_check : test ticket.Probe ≡ false) (p : Draw → Bool) (same : (d : Draw) → test (kind_for (issued_as job d.dir)) ≡ p d) (g : Piece → ℕ) → total (λ (s : Started). g s.piece) (moved history test c) ≡ total (λ (d : Draw). g d.piece) (filter p (all_draws job))
   moved_total test no_check p same g =
       moved_is_drawn plan (numbers_of plan planned_all) c job planned test no_check g history legal quiet complete
-      ∙ upto_same_below (λ (q : ℕ). total (λ (d : Draw). cond (test (kind_for d.dir)) (g d.piece) 0) (draws_of_job job q)) (λ (q : ℕ). total (λ (d : Draw). cond (p d) (g d.piece) 0) (draws_of_job job q)) job.passes
+      ∙ upto_same_below (λ (q : ℕ). total (λ (d : Draw). cond (test (kind_for (issued_as job d.dir))) (g d.piece) 0) (draws_of_job job q)) (λ (q : ℕ). total (λ (d : Draw). cond (p d) (g d.piece) 0) (draws_of_job job q)) job.passes
       (λ (q : ℕ) (below : q < job.passes).
-      total_same (λ (d : Draw). cond (test (kind_for d.dir)) (g d.piece) 0) (λ (d : Draw). cond (p d) (g d.piece) 0) (draws_of_job job q)
+      total_same (λ (d : Draw). cond (test (kind_for (issued_as job d.dir))) (g d.piece) 0) (λ (d : Draw). cond (p d) (g d.piece) 0) (draws_of_job job q)
       (λ (d : Draw). ap (λ (b : Bool). cond b (g d.piece) 0) (same d)))
       ∙ sym (drawn_in_all job (λ (d : Draw). cond (p d) (g d.piece) 0))
       ∙ sym (total-filter (λ (d : Draw). g d.piece) p (all_draws job))
 
   -- how many were moved, and how many bytes
-  moved_count : (test : TicketKind → Bool) (no_check : test ticket.Probe ≡ false) (p : Draw → Bool) (same : (d : Draw) → test (kind_for d.dir) ≡ p d) → length (moved history test c) ≡ length (filter p (all_draws job))
+  moved_count : (test : TicketKind → Bool) (no_check : test ticket.Probe ≡ false) (p : Draw → Bool) (same : (d : Draw) → test (kind_for (issued_as job d.dir)) ≡ p d) → length (moved history test c) ≡ length (filter p (all_draws job))
   moved_count test no_check p same =
       length-total (moved history test c) ∙ moved_total test no_check p same (λ (x : Piece). 1) ∙ sym (length-total (filter p (all_draws job)))
 
-  moved_bytes : (test : TicketKind → Bool) (no_check : test ticket.Probe ≡ false) (p : Draw → Bool) (same : (d : Draw) → test (kind_for d.dir) ≡ p d) → bytes_of (moved history test c) ≡ bytes_drawn (filter p (all_draws job))
+  moved_bytes : (test : TicketKind → Bool) (no_check : test ticket.Probe ≡ false) (p : Draw → Bool) (same : (d : Draw) → test (kind_for (issued_as job d.dir)) ≡ p d) → bytes_of (moved history test c) ≡ bytes_drawn (filter p (all_draws job))
   moved_bytes test no_check p same =
       sum_map-total (λ (s : Started). s.piece.len) (moved history test c)
       ∙ moved_total test no_check p same (λ (x : Piece). x.len)
       ∙ sym (sum_map-total (λ (d : Draw). d.piece.len) (filter p (all_draws job)))
 
-  -- how many verdicts there are of a test that good ones pass
-  verdicts_counted : (test : GivenVerdict → Bool) → test Good ≡ true → count_by (is_verdict_of (started history) test c) history ≡ upto (λ (p : ℕ). total (worth_where job (is_kept job) p) (draws_of_job job p)) job.passes
+  -- how many verdicts there are of a test that good ones pass: one for each check, and for each checked read
+  verdicts_counted : (test : GivenVerdict → Bool) → test Good ≡ true → count_by (is_verdict_of (started history) test c) history ≡ upto (λ (p : ℕ). total (worth_where job (is_kept job) p) (draws_of_job job p)) job.passes + upto (λ (p : ℕ). total (draw_worth job checked_worth p) (draws_of_job job p)) job.passes
   verdicts_counted test passes =
       let ios = started history in
       count_by-total (is_verdict_of ios test c) history
@@ -242,8 +271,11 @@ module _ (plan : Plan) (planned_all : IsPlanned plan) (apart : are_apart plan.cl
       ∙ counts_checks plan (clone_worth c) (check_worth c) on_checks history legal quiet
       ∙ verdicts_in_all plan history (check_worth c) only_checks legal quiet complete
       ∙ total-filter_map (check_worth c) started_by history
-      ∙ total_same (λ (e : Event). got (check_worth c) (started_by e)) (probe_worth c) history one_start
-      ∙ probes_counted plan planned_all apart c job planned history legal quiet complete
+      ∙ total_same (λ (e : Event). got (check_worth c) (started_by e)) (λ (e : Event). probe_worth c e + issue_worth checked_worth c e) history one_start
+      ∙ total-sum (probe_worth c) (issue_worth checked_worth c) history
+      ∙ ap (λ (n : ℕ). n + total (issue_worth checked_worth c) history) (probes_counted plan planned_all apart c job planned history legal quiet complete)
+      ∙ ap (λ (n : ℕ). upto (λ (p : ℕ). total (worth_where job (is_kept job) p) (draws_of_job job p)) job.passes + n)
+      (issues_in_all plan history (numbers_of plan planned_all) c job planned checked_worth legal quiet complete)
     where
       both_true : (a b : Bool) → b ≡ true → ◌≡◌ {A = ℕ} (cond (a && b) 1 0) (cond a 1 0)
       both_true true true e = refl
@@ -255,30 +287,32 @@ module _ (plan : Plan) (planned_all : IsPlanned plan) (apart : are_apart plan.cl
       by_io (Some s) = both_true (is_of_clone c s) (test Good) passes
 
       one_verdict : (e : Event) → is_calm e ≡ true → ◌≡◌ {A = ℕ} (cond (is_verdict_of (started history) test c e) 1 0) (verdict_worth (clone_worth c) (started history) e)
-      one_verdict (Issue worker dir write piece) calm = refl
+      one_verdict (Issue worker kind write piece) calm = refl
       one_verdict (Probe worker write piece) calm = refl
       one_verdict (Skip worker write) calm = refl
       one_verdict (End worker io outcome) calm = refl
       one_verdict (Verdict worker io Good) calm = by_io (slice_get (started history) io)
       one_verdict (Verdict worker io (Bad what)) calm = cc
 
-      on_checks : (s : Started) → is_probe s.kind ≡ true → clone_worth c s ≡ check_worth c s
-      on_checks s probe = ap {B = ℕ} (λ (b : Bool). cond (b && is_of_clone c s) 1 0) (sym probe)
+      on_checks : (s : Started) → is_judged_kind s.kind ≡ true → clone_worth c s ≡ check_worth c s
+      on_checks s judged = ap {B = ℕ} (λ (b : Bool). cond (b && is_of_clone c s) 1 0) (sym judged)
 
-      only_checks : (s : Started) → (is_probe s.kind ≡ true) ⊎ (check_worth c s ≡ 0)
+      only_checks : (s : Started) → (is_judged_kind s.kind ≡ true) ⊎ (check_worth c s ≡ 0)
       only_checks s =
-          elim (cases_Bool (is_probe s.kind)) [
-            | inl probe ↦ inl probe
+          elim (cases_Bool (is_judged_kind s.kind)) [
+            | inl judged ↦ inl judged
             | inr other ↦ inr (ap {B = ℕ} (λ (b : Bool). cond (b && is_of_clone c s) 1 0) other)
           ]
 
-      no_probe : (dir : Dir) → is_probe (kind_for dir) ≡ false
-      no_probe direction.Read = refl
-      no_probe direction.Write = refl
-
-      one_start : (e : Event) → got (check_worth c) (started_by e) ≡ probe_worth c e
-      one_start (Issue worker dir write piece) = ap {B = ℕ} (λ (b : Bool). cond (b && (write.clone == c)) 1 0) (no_probe dir)
-      one_start (Probe worker write piece) = refl
+      one_start : (e : Event) → got (check_worth c) (started_by e) ≡ probe_worth c e + issue_worth checked_worth c e
+      one_start (Issue worker kind write piece) = by_tests (is_judged_kind (kind_for kind)) (write.clone == c)
+        where
+          by_tests : (a b : Bool) → ◌≡◌ {A = ℕ} (cond (a && b) 1 0) (0 + cond b (cond a 1 0) 0)
+          by_tests true true = refl
+          by_tests true false = refl
+          by_tests false true = refl
+          by_tests false false = refl
+      one_start (Probe worker write piece) = sym (add-zero (cond (write.clone == c) 1 0))
       one_start (Skip worker write) = refl
       one_start (End worker io outcome) = refl
       one_start (Verdict worker io verdict) = refl
@@ -291,7 +325,7 @@ module _ (plan : Plan) (planned_all : IsPlanned plan) (apart : are_apart plan.cl
       ∙ total_zero (λ (e : Event). 0) history (λ e. refl)
     where
       nothing : (e : Event) → is_calm e ≡ true → ◌≡◌ {A = ℕ} (cond (is_verdict_of (started history) is_bad c e) 1 0) 0
-      nothing (Issue worker dir write piece) calm = refl
+      nothing (Issue worker kind write piece) calm = refl
       nothing (Probe worker write piece) calm = refl
       nothing (Skip worker write) calm = refl
       nothing (End worker io outcome) calm = refl
@@ -305,7 +339,7 @@ module _ (plan : Plan) (planned_all : IsPlanned plan) (apart : are_apart plan.cl
       ∙ total_zero (λ (e : Event). 0) history (λ e. refl)
     where
       nothing : (e : Event) → is_calm e ≡ true → ◌≡◌ {A = ℕ} (cond (is_fault_of (started history) c e) 1 0) 0
-      nothing (Issue worker dir write piece) calm = refl
+      nothing (Issue worker kind write piece) calm = refl
       nothing (Probe worker write piece) calm = refl
       nothing (Skip worker write) calm = refl
       nothing (Verdict worker io verdict) calm = refl
@@ -313,7 +347,10 @@ module _ (plan : Plan) (planned_all : IsPlanned plan) (apart : are_apart plan.cl
           ap {B = ℕ} (λ (b : Bool). cond b 1 0) (and_right (is_io_of c (slice_get (started history) io)) (is_fault outcome) (not-true (is_fault outcome) calm))
 
   checks_are_drawn : (test : GivenVerdict → Bool) → test Good ≡ true → count_by (is_verdict_of (started history) test c) history ≡ (quiet_totals job).checks
-  checks_are_drawn test passes = verdicts_counted test passes ∙ checks_drawn job
+  checks_are_drawn test passes =
+      verdicts_counted test passes
+      ∙ ap (λ (n : ℕ). n + upto (λ (p : ℕ). total (draw_worth job checked_worth p) (draws_of_job job p)) job.passes) (checks_drawn job)
+      ∙ ap (λ (n : ℕ). cond (has_rounds job) (sum (map checks_of_pass (passes_of job))) 0 + n) (reads_drawn job)
 
   skips_are_drawn : count_by (is_skip_of c) history ≡ (quiet_totals job).skipped
   skips_are_drawn =
@@ -326,10 +363,10 @@ module _ (plan : Plan) (planned_all : IsPlanned plan) (apart : are_apart plan.cl
   pub clone_totals : totals_of history c ≡ quiet_totals job
   clone_totals =
       same_totals (totals_of history c) (quiet_totals job)
-      (moved_count is_read refl (λ (d : Draw). not (is_write_draw d)) read_draw)
-      (moved_bytes is_read refl (λ (d : Draw). not (is_write_draw d)) read_draw)
-      (moved_count is_write refl is_write_draw write_draw)
-      (moved_bytes is_write refl is_write_draw write_draw)
+      (moved_count is_read refl (λ (d : Draw). not (is_write_draw d)) (read_draw job))
+      (moved_bytes is_read refl (λ (d : Draw). not (is_write_draw d)) (read_draw job))
+      (moved_count is_write refl is_write_draw (write_kind job))
+      (moved_bytes is_write refl is_write_draw (write_kind job))
       (checks_are_drawn (λ (verdict : GivenVerdict). true) refl)
       (checks_are_drawn (λ (verdict : GivenVerdict). not (is_bad verdict)) refl)
       none_bad

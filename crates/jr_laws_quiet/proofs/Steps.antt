@@ -1,8 +1,8 @@
 -- Induction along a legal history in which nothing goes wrong, and what its steps are.
 use Rattle.std.proofs.Common.{◌≡◌, ℕ, zero, suc, ◌<◌, ◌≤◌, List, [], ◌∷◌, ◌++◌, length, Bool, true, false, cond, ◌&&◌, not, refl, sym, ◌∙◌, ap, subst, arith, inl, inr, append_assoc, append-nil, length-append, ◌*◌}
-use Rattle.std.specs.Prelude.{◌⊎◌, Option, Some, None, slice_get, nat_lt, ◌==◌, is_none}
+use Rattle.std.specs.Prelude.{◌⊎◌, Option, Some, None, slice_get, nat_lt, is_none}
 use Rattle.std.specs.List.{list_all, cons_option}
-use Rattle.std.proofs.lemmas.Bool.{and_parts, and_from, eqb-true, lt-ltb, ltb-true}
+use Rattle.std.proofs.lemmas.Bool.{and_parts, and_from, lt-ltb, ltb-true}
 use Rattle.std.proofs.lemmas.List.Elements.{filter_map-append}
 use Rattle.std.proofs.lemmas.List.Folds.{list_all-append}
 use Rattle.jr_model.specs.declared.blocks.Dir.{Dir}
@@ -10,21 +10,23 @@ use Rattle.jr_model.specs.declared.blocks.Dir.TheVariants as direction
 use Rattle.jr_model.specs.declared.blocks.Piece.{Piece}
 use Rattle.jr_model.specs.declared.events.Event.{Event}
 use Rattle.jr_model.specs.declared.events.Event.TheVariants.{Issue, Probe, Skip, End, Verdict}
+use Rattle.jr_model.specs.declared.events.IssueKind.{IssueKind}
+use Rattle.jr_model.specs.declared.events.IssueKind.TheVariants as issue
 use Rattle.jr_model.specs.declared.events.Outcome.{Outcome}
 use Rattle.jr_model.specs.declared.events.Started.{Started}
 use Rattle.jr_model.specs.declared.events.Outcome.TheVariants.{Whole}
 use Rattle.jr_model.specs.declared.events.WriteId.{WriteId}
 use Rattle.jr_model.specs.declared.workloads.Draw.{Draw}
 use Rattle.jr_model.specs.Draws.{draws_of_job, fresh_progress}
-use Rattle.jr_model.specs.History.{started, started_by, outcome_of, flies, is_judged, ended_whole, same_write, same_piece}
+use Rattle.jr_model.specs.History.{started, started_by, kind_for, outcome_of, flies, is_judged, is_probe, is_write, ended_whole, same_write, same_piece}
 use Rattle.jr_model.specs.LastWrite.{is_intact}
-use Rattle.jr_model.specs.Legal.{is_legal, legal_after, may_happen, end_fits, verdict_fits, may_issue, may_take_up, step_of_draw, step_of_clone, same_dir, is_this_issue, is_this_probe, is_this_skip}
-use Rattle.jr_model.specs.Plan.{Plan, SubJob, IsNumbered, clone_of}
-use Rattle.jr_model.specs.Rounds.{Pass, pass_of, write_id}
+use Rattle.jr_model.specs.Legal.{is_legal, legal_after, may_happen, end_fits, verdict_fits, may_issue, may_take_up, step_of_draw, step_of_clone, same_issue, is_this_issue, is_this_probe, is_this_skip}
+use Rattle.jr_model.specs.Plan.{Plan, SubJob, IsNumbered, clone_of, checks_reads, issued_as}
+use Rattle.jr_model.specs.Rounds.{Pass, pass_of, write_id, is_write_draw}
 use Rattle.jr_model.specs.Words.{pass_words}
 use Rattle.jr_model.proofs.LegalLaws.{is_legal-more, number-draws_from}
 use Rattle.jr_model.proofs.SerialLaws.{IsWell, well-more, whole_some}
-use Rattle.jr_model.proofs.Equality.{eq_dir, eq_piece}
+use Rattle.jr_model.proofs.Equality.{eq_issue, eq_piece}
 use Rattle.jr_laws_quiet.specs.Quiet.{is_calm, is_quiet}
 
 -- an event that may happen after a legal history, with nothing wrong so far
@@ -64,7 +66,7 @@ well_of plan history legal quiet =
 abbrev pub refers : ℕ → Event → Bool
 refers n (End worker io outcome) = nat_lt io n
 refers n (Verdict worker io verdict) = nat_lt io n
-refers n (Issue worker dir write piece) = true
+refers n (Issue worker kind write piece) = true
 refers n (Probe worker write piece) = true
 refers n (Skip worker write) = true
 
@@ -78,7 +80,7 @@ refers_more n m (End worker io outcome) le h =
 refers_more n m (Verdict worker io verdict) le h =
     let below : io < n = ltb-true io n h in
     lt-ltb io m (omega (arith, below, le))
-refers_more n m (Issue worker dir write piece) le h = refl
+refers_more n m (Issue worker kind write piece) le h = refl
 refers_more n m (Probe worker write piece) le h = refl
 refers_more n m (Skip worker write) le h = refl
 
@@ -96,7 +98,7 @@ refers_now plan h (Verdict worker io verdict) step =
     let parts = and_parts (ended_whole (outcome_of h io) && not (is_judged h io)) (verdict_fits plan verdict (slice_get (started h) io)) step.may in
     let ended = and_parts (ended_whole (outcome_of h io)) (not (is_judged h io)) parts.0 in
     lt-ltb io (length (started h)) ((well_of plan h step.legal step.quiet).ends io Whole (whole_some (outcome_of h io) ended.0))
-refers_now plan h (Issue worker dir write piece) step = refl
+refers_now plan h (Issue worker kind write piece) step = refl
 refers_now plan h (Probe worker write piece) step = refl
 refers_now plan h (Skip worker write) step = refl
 
@@ -161,12 +163,30 @@ named plan write job draw numbered planned drawn =
       name = ap (λ (c : ℕ). make c draw.number) clone ∙ ap (λ (k : ℕ). make write.clone k) number;
     }
 
+-- what a draw is issued as writes where the draw does
+pub write_kind : (job : SubJob) (d : Draw) → is_write (kind_for (issued_as job d.dir)) ≡ is_write_draw d
+write_kind job d = by_dir d.dir
+  where
+    by_check : (b : Bool) → is_write (kind_for (cond b issue.ReadCheck issue.Read)) ≡ false
+    by_check true = refl
+    by_check false = refl
+
+    by_dir : (dir : Dir) → is_write (kind_for (issued_as job dir)) ≡ is_write_draw (record { number = d.number; dir = dir; piece = d.piece; seed = d.seed })
+    by_dir direction.Read = by_check (checks_reads job)
+    by_dir direction.Write = refl
+
+-- and it is no check of a write
+pub no_probe : (kind : IssueKind) → is_probe (kind_for kind) ≡ false
+no_probe issue.Read = refl
+no_probe issue.Write = refl
+no_probe issue.ReadCheck = refl
+
 -- a draw's issue
-pub record IsIssue (plan : Plan) (h : List Event) (dir : Dir) (write : WriteId) (piece : Piece) : Type 0 where
+pub record IsIssue (plan : Plan) (h : List Event) (kind : IssueKind) (write : WriteId) (piece : Piece) : Type 0 where
   pub job : SubJob
   pub draw : Draw
   pub names : IsNamed plan write job draw
-  pub dir_is : draw.dir ≡ dir
+  pub kind_is : issued_as job draw.dir ≡ kind
   pub piece_is : draw.piece ≡ piece
   pub may : may_issue plan h (pass_of job write.pass) draw ≡ true
 
@@ -178,33 +198,33 @@ pub record IsTakeUp (plan : Plan) (h : List Event) (intact : Bool) (write : Writ
   pub may : may_take_up h (pass_of job write.pass) draw ≡ true
   pub intact_is : is_intact h (write_id (pass_of job write.pass) draw) draw.piece ≡ intact
 
-pub issue_of : (plan : Plan) (h : List Event) (worker : ℕ) (dir : Dir) (write : WriteId) (piece : Piece) → IsNumbered plan → may_happen plan h (Issue worker dir write piece) ≡ true → IsIssue plan h dir write piece
-issue_of plan h worker dir write piece numbered may = by_clone (clone_of plan write.clone) refl may
+pub issue_of : (plan : Plan) (h : List Event) (worker : ℕ) (kind : IssueKind) (write : WriteId) (piece : Piece) → IsNumbered plan → may_happen plan h (Issue worker kind write piece) ≡ true → IsIssue plan h kind write piece
+issue_of plan h worker kind write piece numbered may = by_clone (clone_of plan write.clone) refl may
   where
-    by_cases : (pass : Pass) (draw : Draw) (taken intact may_be : Bool) → is_this_issue dir write piece (cond taken (Some (cond intact (Probe worker (write_id pass draw) draw.piece) (Skip worker (write_id pass draw)))) (cond may_be (Some (Issue worker draw.dir (write_id pass draw) draw.piece)) None)) ≡ true → (may_be ≡ true) × (draw.dir ≡ dir) × (draw.piece ≡ piece)
+    by_cases : (pass : Pass) (draw : Draw) (taken intact may_be : Bool) → is_this_issue kind write piece (cond taken (Some (cond intact (Probe worker (write_id pass draw) draw.piece) (Skip worker (write_id pass draw)))) (cond may_be (Some (Issue worker (issued_as pass.job draw.dir) (write_id pass draw) draw.piece)) None)) ≡ true → (may_be ≡ true) × (issued_as pass.job draw.dir ≡ kind) × (draw.piece ≡ piece)
     by_cases pass draw true true may_be g = cc
     by_cases pass draw true false may_be g = cc
     by_cases pass draw false intact false g = cc
     by_cases pass draw false intact true g =
-        let parts = and_parts (same_dir draw.dir dir && same_write (write_id pass draw) write) (same_piece draw.piece piece) g in
-        let front = and_parts (same_dir draw.dir dir) (same_write (write_id pass draw) write) parts.0 in
-        (refl, eq_dir draw.dir dir front.0, eq_piece draw.piece piece parts.1)
+        let parts = and_parts (same_issue (issued_as pass.job draw.dir) kind && same_write (write_id pass draw) write) (same_piece draw.piece piece) g in
+        let front = and_parts (same_issue (issued_as pass.job draw.dir) kind) (same_write (write_id pass draw) write) parts.0 in
+        (refl, eq_issue (issued_as pass.job draw.dir) kind front.0, eq_piece draw.piece piece parts.1)
 
-    by_draw : (job : SubJob) → clone_of plan write.clone ≡ Some job → (o : Option Draw) → slice_get (draws_of_job job write.pass) write.number ≡ o → is_this_issue dir write piece (step_of_draw plan h worker (pass_of job write.pass) o) ≡ true → IsIssue plan h dir write piece
+    by_draw : (job : SubJob) → clone_of plan write.clone ≡ Some job → (o : Option Draw) → slice_get (draws_of_job job write.pass) write.number ≡ o → is_this_issue kind write piece (step_of_draw plan h worker (pass_of job write.pass) o) ≡ true → IsIssue plan h kind write piece
     by_draw job planned None drawn g = cc
     by_draw job planned (Some draw) drawn g =
         let pass = pass_of job write.pass in
         let found = by_cases pass draw (may_take_up h pass draw) (is_intact h (write_id pass draw) draw.piece) (may_issue plan h pass draw) g in
-        record { job = job; draw = draw; names = named plan write job draw numbered planned drawn; dir_is = found.1; piece_is = found.2; may = found.0 }
+        record { job = job; draw = draw; names = named plan write job draw numbered planned drawn; kind_is = found.1; piece_is = found.2; may = found.0 }
 
-    by_clone : (o : Option SubJob) → clone_of plan write.clone ≡ o → is_this_issue dir write piece (step_of_clone plan h worker write o) ≡ true → IsIssue plan h dir write piece
+    by_clone : (o : Option SubJob) → clone_of plan write.clone ≡ o → is_this_issue kind write piece (step_of_clone plan h worker write o) ≡ true → IsIssue plan h kind write piece
     by_clone None planned g = cc
     by_clone (Some job) planned g = by_draw job planned (slice_get (draws_of_job job write.pass) write.number) refl g
 
 pub probe_of : (plan : Plan) (h : List Event) (worker : ℕ) (write : WriteId) (piece : Piece) → IsNumbered plan → may_happen plan h (Probe worker write piece) ≡ true → IsTakeUp plan h true write
 probe_of plan h worker write piece numbered may = by_clone (clone_of plan write.clone) refl may
   where
-    by_cases : (pass : Pass) (draw : Draw) (taken intact may_be : Bool) → is_this_probe write piece (cond taken (Some (cond intact (Probe worker (write_id pass draw) draw.piece) (Skip worker (write_id pass draw)))) (cond may_be (Some (Issue worker draw.dir (write_id pass draw) draw.piece)) None)) ≡ true → (taken ≡ true) × (intact ≡ true)
+    by_cases : (pass : Pass) (draw : Draw) (taken intact may_be : Bool) → is_this_probe write piece (cond taken (Some (cond intact (Probe worker (write_id pass draw) draw.piece) (Skip worker (write_id pass draw)))) (cond may_be (Some (Issue worker (issued_as pass.job draw.dir) (write_id pass draw) draw.piece)) None)) ≡ true → (taken ≡ true) × (intact ≡ true)
     by_cases pass draw true true may_be g = (refl, refl)
     by_cases pass draw true false may_be g = cc
     by_cases pass draw false intact false g = cc
@@ -224,7 +244,7 @@ probe_of plan h worker write piece numbered may = by_clone (clone_of plan write.
 pub skip_of : (plan : Plan) (h : List Event) (worker : ℕ) (write : WriteId) → IsNumbered plan → may_happen plan h (Skip worker write) ≡ true → IsTakeUp plan h false write
 skip_of plan h worker write numbered may = by_clone (clone_of plan write.clone) refl may
   where
-    by_cases : (pass : Pass) (draw : Draw) (taken intact may_be : Bool) → is_this_skip write (cond taken (Some (cond intact (Probe worker (write_id pass draw) draw.piece) (Skip worker (write_id pass draw)))) (cond may_be (Some (Issue worker draw.dir (write_id pass draw) draw.piece)) None)) ≡ true → (taken ≡ true) × (intact ≡ false)
+    by_cases : (pass : Pass) (draw : Draw) (taken intact may_be : Bool) → is_this_skip write (cond taken (Some (cond intact (Probe worker (write_id pass draw) draw.piece) (Skip worker (write_id pass draw)))) (cond may_be (Some (Issue worker (issued_as pass.job draw.dir) (write_id pass draw) draw.piece)) None)) ≡ true → (taken ≡ true) × (intact ≡ false)
     by_cases pass draw true true may_be g = cc
     by_cases pass draw true false may_be g = (refl, refl)
     by_cases pass draw false intact false g = cc

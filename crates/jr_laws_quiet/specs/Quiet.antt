@@ -1,10 +1,10 @@
 -- Believed: the report of a run in which nothing goes wrong.
 use Rattle.std.specs.Prelude.{◌≡◌, ℕ, nat_lt, Bool, true, false, not, ◌&&◌, List, Option, Some, None, slice_get, is_some, fold, if◌then◌else◌}
 use Rattle.std.specs.List.{list_any, list_all}
-use Rattle.jr_model.specs.declared.blocks.Dir.TheVariants as direction
 use Rattle.jr_model.specs.declared.blocks.Piece.{Piece}
 use Rattle.jr_model.specs.declared.events.Event.{Event}
 use Rattle.jr_model.specs.declared.events.Event.TheVariants.{Issue, Probe, Skip, End, Verdict}
+use Rattle.jr_model.specs.declared.events.IssueKind.TheVariants as issue
 use Rattle.jr_model.specs.declared.events.Started.{Started}
 use Rattle.jr_model.specs.declared.events.WriteId.{WriteId}
 use Rattle.jr_model.specs.declared.workloads.Draw.{Draw}
@@ -24,7 +24,7 @@ use Rattle.jr_model.specs.PlanFacts.{IsPlanned}
 abbrev pub is_calm : Event → Bool
 is_calm (End worker io outcome) = not (is_fault outcome)
 is_calm (Verdict worker io verdict) = not (is_bad verdict)
-is_calm (Issue worker dir write piece) = true
+is_calm (Issue worker kind write piece) = true
 is_calm (Probe worker write piece) = true
 is_calm (Skip worker write) = true
 
@@ -34,8 +34,8 @@ is_quiet history = list_all is_calm history
 
 -- what an event makes of the write of the block that was issued last
 abbrev pub issued_over : ℕ → ℕ → Option WriteId → Event → Option WriteId
-issued_over file block last (Issue worker dir write piece) =
-    if is_write (kind_for dir) && covers_block piece file block then Some write else last
+issued_over file block last (Issue worker kind write piece) =
+    if is_write (kind_for kind) && covers_block piece file block then Some write else last
 issued_over file block last (Probe worker write piece) = last
 issued_over file block last (Skip worker write) = last
 issued_over file block last (End worker io outcome) = last
@@ -66,7 +66,7 @@ abbrev pub WriteWaits : Type 0
 WriteWaits =
     (plan : Plan) (history : List Event) (worker : ℕ) (write : WriteId) (piece : Piece) (id : ℕ) (io : Started)
     → IsPlanned plan
-    → may_happen plan history (Issue worker direction.Write write piece) ≡ true
+    → may_happen plan history (Issue worker issue.Write write piece) ≡ true
     → slice_get (started history) id ≡ Some io
     → pieces_overlap io.piece piece ≡ true
     → is_some (outcome_of history id) ≡ true

@@ -3,7 +3,6 @@ use Rattle.std.specs.Prelude.{◌≡◌, true, List}
 use Rattle.std.specs.declared.cmp.Ordering.{Ordering}
 use Rattle.std.specs.List.Sorted.{IsPermutation, IsStrictlySortedBy}
 use Rattle.jr_model.specs.declared.events.Event.{Event}
-use Rattle.jr_model.specs.declared.events.WriteId.{WriteId}
 use Rattle.jr_model.specs.History.{write_order}
 use Rattle.jr_model.specs.Legal.{is_legal}
 use Rattle.jr_model.specs.Plan.{Plan}

@@ -12,7 +12,7 @@ use Rattle.jr_model.specs.Choice.{choice_of_pass}
 use Rattle.jr_model.specs.Draws.{draws_of_job}
 use Rattle.jr_model.specs.History.{first_given, same_write}
 use Rattle.jr_model.specs.Legal.{is_halted, has_room, is_clear, takes_up, may_take_up, may_issue, check_or_skip, step_of}
-use Rattle.jr_model.specs.Plan.{Plan, SubJob}
+use Rattle.jr_model.specs.Plan.{Plan, SubJob, issued_as}
 use Rattle.jr_model.specs.Rounds.{pass_of, write_id, is_write_draw, writes_of, has_rounds, group_of, group_index, is_full, is_settled, is_closed, no_issue_flies, waits_for_round}
 use Rattle.jr_model.proofs.LegalLaws.{same_write_refl}
 use Rattle.jr_model.proofs.Equality.{eq_write}
@@ -115,7 +115,7 @@ module _ (plan : Plan) (h : List Event) (worker : ℕ) (job : SubJob) (p : ℕ) 
   left_step now draw write left =
       let pass = pass_of job p in
       let event = check_or_skip h worker pass draw in
-      let issue = Issue worker draw.dir (write_id pass draw) draw.piece in
+      let issue = Issue worker (issued_as job draw.dir) (write_id pass draw) draw.piece in
       let taken = list_any (takes_up (write_id pass draw)) h in
       let clear = is_clear h false draw.piece in
       let unissued = waits_no_issue now.waits draw in

@@ -9,7 +9,7 @@ use Rattle.jr_model.specs.declared.workloads.Draw.{Draw}
 use Rattle.jr_model.specs.Choice.{choice_of_clone, choice_of_pass}
 use Rattle.jr_model.specs.Draws.{draws_of_job}
 use Rattle.jr_model.specs.Legal.{is_halted, has_room, is_clear, phase_is_open, takes_up, may_take_up, may_issue, check_or_skip, step_of}
-use Rattle.jr_model.specs.Plan.{Plan, SubJob}
+use Rattle.jr_model.specs.Plan.{Plan, SubJob, issued_as}
 use Rattle.jr_model.specs.Rounds.{Pass, pass_of, passes_of, write_id, is_write_draw, issued_count, has_rounds, group_count, group_index, is_full, is_closed, is_open, waits_for_round, pass_finished, is_current}
 use Rattle.jr_laws_steps.proofs.DrawnLaws.{takeable, full_needs_issue}
 use Rattle.jr_laws_steps.proofs.PlaceLemmas.{any_found, any_at, got_made, got_ranged}
@@ -97,7 +97,7 @@ neither a b x y not_a not_b = cond-false a (Some x) (cond b (Some y) None) not_a
 
 pub no_step_of : (plan : Plan) (h : List Event) (worker : ℕ) (pass : Pass) (draw : Draw) → may_take_up h pass draw ≡ false → may_issue plan h pass draw ≡ false → step_of plan h worker pass draw ≡ None
 no_step_of plan h worker pass draw untaken unissued =
-    neither (may_take_up h pass draw) (may_issue plan h pass draw) (check_or_skip h worker pass draw) (Issue worker draw.dir (write_id pass draw) draw.piece) untaken unissued
+    neither (may_take_up h pass draw) (may_issue plan h pass draw) (check_or_skip h worker pass draw) (Issue worker (issued_as pass.job draw.dir) (write_id pass draw) draw.piece) untaken unissued
 
 -- a clone that is halted, or has no room, has no step
 pub blocked_step : (plan : Plan) (h : List Event) (worker : ℕ) (pass : Pass) (draw : Draw) → (is_halted h pass.job || not (has_room h pass.job)) ≡ true → step_of plan h worker pass draw ≡ None
@@ -231,7 +231,7 @@ next_draw plan h worker job q n count can = by_draw (slice_get (draws_of_job job
     this_one : (draw : Draw) → slice_get (draws_of_job job q) n ≡ Some draw → step_of plan h worker (pass_of job q) draw ≡ issue_of plan h worker (pass_of job q) (Some draw)
     this_one draw at =
         let pass = pass_of job q in
-        let issue = Issue worker draw.dir (write_id pass draw) draw.piece in
+        let issue = Issue worker (issued_as job draw.dir) (write_id pass draw) draw.piece in
         let clear = is_clear h (is_write_draw draw) draw.piece in
         let opened = phase_is_open plan h job in
         let number = number_is job q n draw at in

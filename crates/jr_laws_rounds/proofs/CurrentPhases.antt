@@ -7,17 +7,17 @@ use Rattle.std.specs.List.{list_any, list_all, cons_option, range_with_len}
 use Rattle.std.proofs.lemmas.Bool.{and_parts, and_from, eqb-true, eq-eqb, ne_eqb, ltb-true, cases_lt, cases_Bool, not-false, or_left, or_right, or_cases, false≢true}
 use Rattle.std.proofs.lemmas.List.Elements.{filter_map-append}
 use Rattle.std.proofs.lemmas.List.Folds.{list_any-append}
-use Rattle.jr_model.specs.declared.blocks.Dir.{Dir}
 use Rattle.jr_model.specs.declared.blocks.Piece.{Piece}
 use Rattle.jr_model.specs.declared.events.Event.{Event}
 use Rattle.jr_model.specs.declared.events.Event.TheVariants.{Issue, Probe, Skip, End, Verdict}
+use Rattle.jr_model.specs.declared.events.IssueKind.{IssueKind}
 use Rattle.jr_model.specs.declared.events.Started.{Started}
 use Rattle.jr_model.specs.declared.events.WriteId.{WriteId}
 use Rattle.jr_model.specs.declared.workloads.Draw.{Draw}
 use Rattle.jr_model.specs.Draws.{draws_of_job}
 use Rattle.jr_model.specs.History.{started}
 use Rattle.jr_model.specs.Legal.{is_legal, may_happen}
-use Rattle.jr_model.specs.Plan.{Plan, SubJob, IsNumbered, clone_of}
+use Rattle.jr_model.specs.Plan.{Plan, SubJob, IsNumbered, clone_of, issued_as}
 use Rattle.jr_model.specs.Rounds.{Pass, pass_of, passes_of, write_id, is_write_draw, issues_of, issued_count, all_issued, issued_among, is_probe_of, settles, is_settled, is_full, is_closed, pass_finished, has_rounds, group_of, group_count, writes_of}
 use Rattle.jr_model.proofs.LegalLaws.{is_legal-more}
 use Rattle.jr_model.proofs.MachineLaws.{got_front}
@@ -34,7 +34,7 @@ use Rattle.jr_backlog.specs.CurrentRound.{write_issued, writes_issued, last_issu
 -- what is settled stays so
 settles_longer : (w : WriteId) (ios more : List Started) (e : Event) → settles ios w e ≡ true → settles (ios ++ more) w e ≡ true
 settles_longer w ios more (Skip worker skipped) h = h
-settles_longer w ios more (Issue worker dir issued piece) h = h
+settles_longer w ios more (Issue worker kind issued piece) h = h
 settles_longer w ios more (Probe worker probed piece) h = h
 settles_longer w ios more (Verdict worker io verdict) h = h
 settles_longer w ios more (End worker io outcome) h = by_io (slice_get ios io) refl h
@@ -61,10 +61,10 @@ settled_longer h e w settled =
     ∙ any_weaker (settles (started h) w) (settles (started h ++ more) w) h (settles_longer w (started h) more) settled)
 
 -- the draw that an issue issues
-pub record IsIssued (plan : Plan) (job : SubJob) (h : List Event) (dir : Dir) (write : WriteId) : Type 0 where
+pub record IsIssued (plan : Plan) (job : SubJob) (h : List Event) (kind : IssueKind) (write : WriteId) : Type 0 where
   pub draw : Draw
   pub drawn : slice_get (draws_of_job job write.pass) write.number ≡ Some draw
-  pub way : draw.dir ≡ dir
+  pub way : issued_as job draw.dir ≡ kind
   pub number : draw.number ≡ write.number
   pub name : write_id (pass_of job write.pass) draw ≡ write
   pub count : issued_count h (pass_of job write.pass) ≡ write.number
@@ -130,9 +130,9 @@ all_finished h job p q before within all =
 
 module _ (plan : Plan) (numbered : IsNumbered plan) (job : SubJob) (planned : clone_of plan job.clone ≡ Some job) where
   -- an issue of the clone is of its next draw
-  pub its_draw : (h : List Event) (worker : ℕ) (dir : Dir) (write : WriteId) (piece : Piece) → may_happen plan h (Issue worker dir write piece) ≡ true → write.clone ≡ job.clone → IsIssued plan job h dir write
-  its_draw h worker dir write piece happens same =
-      let issue = issue_of plan h worker dir write piece numbered happens in
+  pub its_draw : (h : List Event) (worker : ℕ) (kind : IssueKind) (write : WriteId) (piece : Piece) → may_happen plan h (Issue worker kind write piece) ≡ true → write.clone ≡ job.clone → IsIssued plan job h kind write
+  its_draw h worker kind write piece happens same =
+      let issue = issue_of plan h worker kind write piece numbered happens in
       let one : issue.job ≡ job = same_some issue.job job (sym issue.names.planned ∙ ap (clone_of plan) same ∙ planned) in
       let names : IsNamed plan write job issue.draw = subst (λ (j : SubJob). IsNamed plan write j issue.draw) one issue.names in
       let may : MayIssue plan h (pass_of job write.pass) issue.draw =
@@ -140,7 +140,7 @@ module _ (plan : Plan) (numbered : IsNumbered plan) (job : SubJob) (planned : cl
       record {
         draw = issue.draw;
         drawn = names.drawn;
-        way = issue.dir_is;
+        way = subst (λ (j : SubJob). issued_as j issue.draw.dir ≡ kind) one issue.kind_is;
         number = names.number;
         name = names.name;
         count = sym may.next ∙ names.number;
@@ -152,9 +152,9 @@ module _ (plan : Plan) (numbered : IsNumbered plan) (job : SubJob) (planned : cl
   next_draw h p (Skip worker write) happens issues = absurd (false≢true issues)
   next_draw h p (End worker io outcome) happens issues = absurd (false≢true issues)
   next_draw h p (Verdict worker io verdict) happens issues = absurd (false≢true issues)
-  next_draw h p (Issue worker dir write piece) happens issues =
+  next_draw h p (Issue worker kind write piece) happens issues =
       let parts = and_parts (write.clone == job.clone) (write.pass == p) issues in
-      let its = its_draw h worker dir write piece happens (eqb-true write.clone job.clone parts.0) in
+      let its = its_draw h worker kind write piece happens (eqb-true write.clone job.clone parts.0) in
       let here : slice_get (draws_of_job job write.pass) (issued_count h (pass_of job write.pass)) ≡ Some its.draw =
       ap (slice_get (draws_of_job job write.pass)) its.count ∙ its.drawn in
       subst (IsNext plan job h) (eqb-true write.pass p parts.1)

@@ -3,23 +3,25 @@ use Rattle.std.proofs.Common.{◌≡◌, ℕ, ◌≤◌, List, [], ◌∷◌, �
 use Rattle.std.specs.Prelude.{◌⊎◌, Option, Some, None, slice_get, ◌==◌}
 use Rattle.std.specs.Option.{option_or}
 use Rattle.std.proofs.lemmas.Bool.{and_from, and_left, and_right, cases_eq, eq-eqb, ne_eqb, false≢true}
-use Rattle.jr_model.specs.declared.blocks.Dir.TheVariants as direction
+use Rattle.jr_model.specs.declared.blocks.Piece.{Piece}
 use Rattle.jr_model.specs.declared.events.Event.{Event}
 use Rattle.jr_model.specs.declared.events.Event.TheVariants.{Issue, Probe, Skip, End, Verdict}
+use Rattle.jr_model.specs.declared.events.IssueKind.{IssueKind}
+use Rattle.jr_model.specs.declared.events.IssueKind.TheVariants as issue
 use Rattle.jr_model.specs.declared.events.Outcome.{Outcome}
 use Rattle.jr_model.specs.declared.events.Outcome.TheVariants.{Whole, Failed, Short}
 use Rattle.jr_model.specs.declared.events.Started.{Started}
 use Rattle.jr_model.specs.declared.events.WriteId.{WriteId}
 use Rattle.jr_model.specs.Draws.{draws_of_job}
-use Rattle.jr_model.specs.History.{started, is_probe, ended_whole, same_write}
+use Rattle.jr_model.specs.History.{started, kind_for, is_probe, is_write, ended_whole, same_write}
 use Rattle.jr_model.specs.Legal.{is_legal, may_happen, is_fault, is_io_of, is_halted}
 use Rattle.jr_model.specs.Plan.{Plan, SubJob, IsNumbered, clone_of}
-use Rattle.jr_model.specs.Rounds.{pass_of, issued_count, has_rounds, is_probe_of, is_settled}
+use Rattle.jr_model.specs.Rounds.{pass_of, issued_count, all_issued, has_rounds, is_probe_of, is_settled}
 use Rattle.jr_model.specs.PlanFacts.{IsPlanned}
 use Rattle.jr_laws_steps.proofs.IdleLaws.{numbered_of}
 use Rattle.jr_laws_steps.proofs.StartedLemmas.{by_events}
 use Rattle.jr_laws_quiet.proofs.Issues.{issued_same}
-use Rattle.jr_backlog.specs.Rounds.{Round, new_round, with_passed}
+use Rattle.jr_backlog.specs.Rounds.{Round, new_round, with_passed, with_exhausted}
 use Rattle.jr_backlog.specs.CurrentRound.{write_issued, last_issued, round_up_to, current_round}
 use Rattle.jr_backlog.specs.Kept.{after_issue, after_end, round_after, rounds_of}
 use Rattle.jr_backlog.proofs.KeptFacts.{rounds_of-more}
@@ -110,6 +112,27 @@ module _ (plan : Plan) (numbered : IsNumbered plan) (job : SubJob) (planned : cl
       end_moves : Moves h (End worker io outcome)
       end_moves = by_io (slice_get (started h) io) refl
 
+  -- the issue of a read, checked or not
+  read_moves : (h : List Event) (worker : ℕ) (kind : IssueKind) (write : WriteId) (piece : Piece) → is_write (kind_for kind) ≡ false → is_legal plan h ≡ true → may_happen plan h (Issue worker kind write piece) ≡ true
+      → cond (write.clone == job.clone) (cond (all_issued (h ++ Issue worker kind write piece ∷ []) (pass_of job write.pass)) (with_exhausted (current_round job h)) (current_round job h)) (current_round job h)
+      ≡ round_up_to job (h ++ Issue worker kind write piece ∷ []) (last_issued job.clone h)
+  read_moves h worker kind write piece no_write legal happens =
+      elim (cases_eq write.clone job.clone) [
+        | inl same ↦
+            ap {B = Round} (λ (b : Bool). cond b (cond (all_issued (h ++ e ∷ []) (pass_of job write.pass)) (with_exhausted now) now) now) (eq-eqb write.clone job.clone same)
+            ∙ read_round plan numbered job planned h legal worker kind no_write write piece happens (its_draw plan numbered job planned h worker kind write piece happens same) same
+            (last_issued job.clone h) (last_is plan numbered job planned h legal)
+        | inr apart ↦
+            ap {B = Round} (λ (b : Bool). cond b (cond (all_issued (h ++ e ∷ []) (pass_of job write.pass)) (with_exhausted now) now) now) (ne_eqb write.clone job.clone apart)
+            ∙ stays h e legal happens (λ q. issued_by_other job h worker kind write piece q apart) (λ w own. settled_after plan h e w legal happens)
+      ]
+    where
+      e : Event
+      e = Issue worker kind write piece
+
+      now : Round
+      now = current_round job h
+
   moves : (h : List Event) (e : Event) → is_legal plan h ≡ true → may_happen plan h e ≡ true → is_halted (h ++ e ∷ []) job ≡ false → Moves h e
   moves h (Probe worker write piece) legal happens runs =
       let e = Probe worker write piece in
@@ -119,31 +142,21 @@ module _ (plan : Plan) (numbered : IsNumbered plan) (job : SubJob) (planned : cl
       stays h e legal happens (λ q. issued_same h e (pass_of job q) refl) (λ w own. settled_after plan h e w legal happens)
   moves h (Skip worker write) legal happens runs = skip_moves h legal worker write happens (cases_eq write.clone job.clone)
   moves h (End worker io outcome) legal happens runs = end_moves h legal worker io outcome happens runs
-  moves h (Issue worker direction.Read write piece) legal happens runs = by_clone (cases_eq write.clone job.clone)
+  moves h (Issue worker issue.Read write piece) legal happens runs = read_moves h worker issue.Read write piece refl legal happens
+  moves h (Issue worker issue.ReadCheck write piece) legal happens runs = read_moves h worker issue.ReadCheck write piece refl legal happens
+  moves h (Issue worker issue.Write write piece) legal happens runs = by_clone (cases_eq write.clone job.clone)
     where
-      by_clone : (write.clone ≡ job.clone) ⊎ (write.clone ≡ job.clone → ⊥) → Moves h (Issue worker direction.Read write piece)
+      by_clone : (write.clone ≡ job.clone) ⊎ (write.clone ≡ job.clone → ⊥) → Moves h (Issue worker issue.Write write piece)
       by_clone (inl same) =
-          let e = Issue worker direction.Read write piece in
-          ap {B = Round} (λ (b : Bool). cond b (after_issue job (h ++ e ∷ []) direction.Read write (current_round job h)) (current_round job h)) (eq-eqb write.clone job.clone same)
-          ∙ read_round plan numbered job planned h legal worker write piece happens (its_draw plan numbered job planned h worker direction.Read write piece happens same) same
-          (last_issued job.clone h) (last_is plan numbered job planned h legal)
-      by_clone (inr apart) =
-          let e = Issue worker direction.Read write piece in
-          ap {B = Round} (λ (b : Bool). cond b (after_issue job (h ++ e ∷ []) direction.Read write (current_round job h)) (current_round job h)) (ne_eqb write.clone job.clone apart)
-          ∙ stays h e legal happens (λ q. issued_by_other job h worker direction.Read write piece q apart) (λ w own. settled_after plan h e w legal happens)
-  moves h (Issue worker direction.Write write piece) legal happens runs = by_clone (cases_eq write.clone job.clone)
-    where
-      by_clone : (write.clone ≡ job.clone) ⊎ (write.clone ≡ job.clone → ⊥) → Moves h (Issue worker direction.Write write piece)
-      by_clone (inl same) =
-          let e = Issue worker direction.Write write piece in
-          ap {B = Round} (λ (b : Bool). cond b (after_issue job (h ++ e ∷ []) direction.Write write (current_round job h)) (current_round job h)) (eq-eqb write.clone job.clone same)
-          ∙ write_round plan numbered job planned rounds h legal worker write piece happens (its_draw plan numbered job planned h worker direction.Write write piece happens same) same
+          let e = Issue worker issue.Write write piece in
+          ap {B = Round} (λ (b : Bool). cond b (after_issue job (h ++ e ∷ []) issue.Write write (current_round job h)) (current_round job h)) (eq-eqb write.clone job.clone same)
+          ∙ write_round plan numbered job planned rounds h legal worker write piece happens (its_draw plan numbered job planned h worker issue.Write write piece happens same) same
           (last_issued job.clone h) (last_is plan numbered job planned h legal)
           ∙ ap {B = Round} (λ (b : Bool). round_up_to job (h ++ e ∷ []) (option_or (cond b (Some write) None) (last_issued job.clone h))) (sym (eq-eqb write.clone job.clone same))
       by_clone (inr apart) =
-          let e = Issue worker direction.Write write piece in
-          ap {B = Round} (λ (b : Bool). cond b (after_issue job (h ++ e ∷ []) direction.Write write (current_round job h)) (current_round job h)) (ne_eqb write.clone job.clone apart)
-          ∙ stays h e legal happens (λ q. issued_by_other job h worker direction.Write write piece q apart) (λ w own. settled_after plan h e w legal happens)
+          let e = Issue worker issue.Write write piece in
+          ap {B = Round} (λ (b : Bool). cond b (after_issue job (h ++ e ∷ []) issue.Write write (current_round job h)) (current_round job h)) (ne_eqb write.clone job.clone apart)
+          ∙ stays h e legal happens (λ q. issued_by_other job h worker issue.Write write piece q apart) (λ w own. settled_after plan h e w legal happens)
           ∙ ap {B = Round} (λ (b : Bool). round_up_to job (h ++ e ∷ []) (option_or (cond b (Some write) None) (last_issued job.clone h))) (sym (ne_eqb write.clone job.clone apart))
 
   kept_is : 1 ≤ job.cells → (history : List Event) → is_legal plan history ≡ true → is_halted history job ≡ false → rounds_of job history ≡ current_round job history

@@ -5,14 +5,15 @@ use Rattle.std.specs.List.{list_all, range_with_len}
 use Rattle.std.proofs.lemmas.Bool.{and_parts, and_left, eq-eqb, ne_eqb, lt-ltb, ltb-true, cases_lt, not_from_true, not_from_false, or_right, or_cases, both_ways, false_from_ne_true, true_from_ne_false}
 use Rattle.std.proofs.lemmas.List.{map-append}
 use Rattle.std.proofs.lemmas.Option.{slice_get_within}
-use Rattle.jr_model.specs.declared.blocks.Dir.{Dir}
-use Rattle.jr_model.specs.declared.blocks.Dir.TheVariants as direction
 use Rattle.jr_model.specs.declared.blocks.Piece.{Piece}
 use Rattle.jr_model.specs.declared.events.Event.{Event}
 use Rattle.jr_model.specs.declared.events.Event.TheVariants.{Issue}
+use Rattle.jr_model.specs.declared.events.IssueKind.{IssueKind}
+use Rattle.jr_model.specs.declared.events.IssueKind.TheVariants as issue
 use Rattle.jr_model.specs.declared.events.WriteId.{WriteId}
 use Rattle.jr_model.specs.declared.workloads.Draw.{Draw}
 use Rattle.jr_model.specs.Draws.{draws_of_job}
+use Rattle.jr_model.specs.History.{is_write, kind_for}
 use Rattle.jr_model.specs.Legal.{is_legal, may_happen}
 use Rattle.jr_model.specs.Plan.{Plan, SubJob, IsNumbered, clone_of}
 use Rattle.jr_model.specs.Rounds.{pass_of, write_id, issued_count, all_issued, is_settled, is_full, is_closed, waits_for_round, pass_finished, has_rounds, group_of, group_count, group_index}
@@ -116,9 +117,9 @@ abbrev adds : WriteId → Round → Round
 adds write now = record now { count = min now.limit (now.count + 1); to_check = now.to_check ++ write ∷ [] }
 
 -- an issue of the clone
-module _ (plan : Plan) (numbered : IsNumbered plan) (job : SubJob) (planned : clone_of plan job.clone ≡ Some job) (h : List Event) (legal : is_legal plan h ≡ true) (worker : ℕ) (dir : Dir) (write : WriteId) (piece : Piece) (happens : may_happen plan h (Issue worker dir write piece) ≡ true) (its : IsIssued plan job h dir write) (clone : write.clone ≡ job.clone) where
+module _ (plan : Plan) (numbered : IsNumbered plan) (job : SubJob) (planned : clone_of plan job.clone ≡ Some job) (h : List Event) (legal : is_legal plan h ≡ true) (worker : ℕ) (kind : IssueKind) (write : WriteId) (piece : Piece) (happens : may_happen plan h (Issue worker kind write piece) ≡ true) (its : IsIssued plan job h kind write) (clone : write.clone ≡ job.clone) where
   abbrev next : List Event
-  next = h ++ Issue worker dir write piece ∷ []
+  next = h ++ Issue worker kind write piece ∷ []
 
   abbrev all_now : Bool
   all_now = all_issued next (pass_of job write.pass)
@@ -138,7 +139,7 @@ module _ (plan : Plan) (numbered : IsNumbered plan) (job : SubJob) (planned : cl
       ne_eqb (issued_count h (pass_of job write.pass)) (length (draws_of_job job write.pass)) (λ same. absurd (omega (arith, within, count, same)))
 
   elsewhere : (q : ℕ) → (q ≡ write.pass → ⊥) → issued_count next (pass_of job q) ≡ issued_count h (pass_of job q)
-  elsewhere q apart = issued_elsewhere job h worker dir write piece q apart
+  elsewhere q apart = issued_elsewhere job h worker kind write piece q apart
 
   exhausted_is : (q : ℕ) → q ≤ write.pass → all_issued next (pass_of job q) ≡ (all_now || all_issued h (pass_of job q))
   exhausted_is q within =
@@ -154,7 +155,7 @@ module _ (plan : Plan) (numbered : IsNumbered plan) (job : SubJob) (planned : cl
       ]
 
   settled_same : (w : WriteId) → is_settled next w ≡ is_settled h w
-  settled_same w = settled_after plan h (Issue worker dir write piece) w legal happens ∙ or_false (is_settled h w)
+  settled_same w = settled_after plan h (Issue worker kind write piece) w legal happens ∙ or_false (is_settled h w)
 
   -- the last write is of this pass, or of one before
   last_pass : (w : WriteId) → IsLast job h w → w.pass ≤ write.pass
@@ -167,16 +168,16 @@ module _ (plan : Plan) (numbered : IsNumbered plan) (job : SubJob) (planned : cl
         | inr within ↦ within
       ]
 
--- the issue of a read
-module _ (plan : Plan) (numbered : IsNumbered plan) (job : SubJob) (planned : clone_of plan job.clone ≡ Some job) (h : List Event) (legal : is_legal plan h ≡ true) (worker : ℕ) (write : WriteId) (piece : Piece) (happens : may_happen plan h (Issue worker direction.Read write piece) ≡ true) (its : IsIssued plan job h direction.Read write) (clone : write.clone ≡ job.clone) where
+-- the issue of a read, checked or not
+module _ (plan : Plan) (numbered : IsNumbered plan) (job : SubJob) (planned : clone_of plan job.clone ≡ Some job) (h : List Event) (legal : is_legal plan h ≡ true) (worker : ℕ) (kind : IssueKind) (no_write : is_write (kind_for kind) ≡ false) (write : WriteId) (piece : Piece) (happens : may_happen plan h (Issue worker kind write piece) ≡ true) (its : IsIssued plan job h kind write) (clone : write.clone ≡ job.clone) where
   abbrev after_read : List Event
-  after_read = h ++ Issue worker direction.Read write piece ∷ []
+  after_read = h ++ Issue worker kind write piece ∷ []
 
   abbrev all_read : Bool
   all_read = all_issued after_read (pass_of job write.pass)
 
   read_all : (q : ℕ) → q ≤ write.pass → all_issued after_read (pass_of job q) ≡ (all_read || all_issued h (pass_of job q))
-  read_all q within = exhausted_is plan numbered job planned h legal worker direction.Read write piece happens its clone q within
+  read_all q within = exhausted_is plan numbered job planned h legal worker kind write piece happens its clone q within
 
   read_exhausts : (o : Option WriteId) → LastIs job h o → round_up_to job after_read o ≡ record (round_up_to job h o) { exhausted = all_read || (round_up_to job h o).exhausted }
   read_exhausts None last =
@@ -191,25 +192,25 @@ module _ (plan : Plan) (numbered : IsNumbered plan) (job : SubJob) (planned : cl
       let member : (k : ℕ) (d : Draw) → slice_get group k ≡ Some d → nat_lt d.number m ≡ nat_lt d.number n =
       λ k d at.
       let is = member_is job p (group_index pass w.number) d (record { place = k; at = at }) below in
-      let longer = count_longer h (Issue worker direction.Read write piece) pass in
+      let longer = count_longer h (Issue worker kind write piece) pass in
       iff_same (nat_lt d.number m) (nat_lt d.number n)
-      (λ now. lt-ltb d.number n (read_fewer plan numbered job planned h worker write piece its clone p d.number d is.drawn is.writes (ltb-true d.number m now)))
+      (λ now. lt-ltb d.number n (read_fewer plan numbered job planned h worker kind write piece no_write its clone p d.number d is.drawn is.writes (ltb-true d.number m now)))
       (λ was. let low = ltb-true d.number n was in lt-ltb d.number m (omega (arith, low, longer))) in
       let each : (k : ℕ) (d : Draw) → slice_get group k ≡ Some d → is_left after_read pass d ≡ is_left h pass d =
       λ k d at.
       ap (λ (b : Bool). b && not (is_settled after_read (write_id pass d))) (member k d at)
-      ∙ ap (λ (b : Bool). nat_lt d.number n && not b) (settled_same plan numbered job planned h legal worker direction.Read write piece happens its clone (write_id pass d)) in
+      ∙ ap (λ (b : Bool). nat_lt d.number n && not b) (settled_same plan numbered job planned h legal worker kind write piece happens its clone (write_id pass d)) in
       ap (λ (c : ℕ). made_round job p c (all_issued after_read pass) (filter (is_left after_read pass) group)) (count_same (λ (d : Draw). nat_lt d.number m) (λ (d : Draw). nat_lt d.number n) group member)
-      ∙ ap (λ (b : Bool). made_round job p (counted n group) b (filter (is_left after_read pass) group)) (read_all p (last_pass plan numbered job planned h legal worker direction.Read write piece happens its clone w last))
+      ∙ ap (λ (b : Bool). made_round job p (counted n group) b (filter (is_left after_read pass) group)) (read_all p (last_pass plan numbered job planned h legal worker kind write piece happens its clone w last))
       ∙ ap (made_round job p (counted n group) (all_read || all_issued h pass)) (filter_same (is_left after_read pass) (is_left h pass) group each)
 
   pub read_round : (o : Option WriteId) → LastIs job h o → cond all_read (with_exhausted (round_up_to job h o)) (round_up_to job h o) ≡ round_up_to job after_read o
   read_round o last = exhausts all_read (round_up_to job h o) ∙ sym (read_exhausts o last)
 
 -- the issue of a write
-module _ (plan : Plan) (numbered : IsNumbered plan) (job : SubJob) (planned : clone_of plan job.clone ≡ Some job) (rounds : has_rounds job ≡ true) (h : List Event) (legal : is_legal plan h ≡ true) (worker : ℕ) (write : WriteId) (piece : Piece) (happens : may_happen plan h (Issue worker direction.Write write piece) ≡ true) (its : IsIssued plan job h direction.Write write) (clone : write.clone ≡ job.clone) where
+module _ (plan : Plan) (numbered : IsNumbered plan) (job : SubJob) (planned : clone_of plan job.clone ≡ Some job) (rounds : has_rounds job ≡ true) (h : List Event) (legal : is_legal plan h ≡ true) (worker : ℕ) (write : WriteId) (piece : Piece) (happens : may_happen plan h (Issue worker issue.Write write piece) ≡ true) (its : IsIssued plan job h issue.Write write) (clone : write.clone ≡ job.clone) where
   abbrev after_write : List Event
-  after_write = h ++ Issue worker direction.Write write piece ∷ []
+  after_write = h ++ Issue worker issue.Write write piece ∷ []
 
   abbrev all_written : Bool
   all_written = all_issued after_write (pass_of job write.pass)
@@ -224,7 +225,7 @@ module _ (plan : Plan) (numbered : IsNumbered plan) (job : SubJob) (planned : cl
   issued = issued_count h (pass_of job write.pass)
 
   inside : InGroup job write.pass own its.draw × (own < group_count (pass_of job write.pass))
-  inside = in_own_group job write.pass write.number its.draw its.drawn (way_writes its.draw direction.Write its.way)
+  inside = in_own_group job write.pass write.number its.draw its.drawn (way_writes job its.draw issue.Write its.way)
 
   member_of : (k : ℕ) (d : Draw) → slice_get group k ≡ Some d → IsMember job write.pass own d
   member_of k d at = member_is job write.pass own d (record { place = k; at = at }) inside.1
@@ -239,7 +240,7 @@ module _ (plan : Plan) (numbered : IsNumbered plan) (job : SubJob) (planned : cl
       absurd (omega (arith, before, number, count)))
 
   unfinished : all_issued h (pass_of job write.pass) ≡ false
-  unfinished = not_all plan numbered job planned h legal worker direction.Write write piece happens its clone
+  unfinished = not_all plan numbered job planned h legal worker issue.Write write piece happens its clone
 
   -- where no write of the group was issued its round is new
   fresh_is : ((d : Draw) → IsMember job write.pass own d → d.number < issued → ⊥) → round_in job h write.pass own ≡ new_round job.backlog
@@ -257,7 +258,7 @@ module _ (plan : Plan) (numbered : IsNumbered plan) (job : SubJob) (planned : cl
   closed_before q g before below =
       let closed : ℕ → Bool = λ (i : ℕ). is_closed h (pass_of job q) i in
       let gs = range_with_len 0 (group_count (pass_of job q)) in
-      let finished = finished_parts h (pass_of job q) (done plan numbered job planned h legal worker direction.Write write piece happens its clone q before) in
+      let finished = finished_parts h (pass_of job q) (done plan numbered job planned h legal worker issue.Write write piece happens its clone q before) in
       elim (or_cases (not (has_rounds job)) (list_all closed gs) finished.closed) [
         | inl none ↦ absurd (both_ways (not (has_rounds job)) (not_from_true (has_rounds job) rounds) none)
         | inr all ↦ all_at closed gs g g all (got_range 0 (group_count (pass_of job q)) g below ∙ ap Some (omega arith))
@@ -324,7 +325,7 @@ module _ (plan : Plan) (numbered : IsNumbered plan) (job : SubJob) (planned : cl
             closed_fills w.pass (group_index (pass_of job w.pass) w.number) below (closed_before w.pass (group_index (pass_of job w.pass) w.number) before below)
             ∙ sym (fresh_is (λ d is was. beyond before (last.furthest write.pass d.number d is.drawn is.writes was)))
         | inr above ↦
-            let within = last_pass plan numbered job planned h legal worker direction.Write write piece happens its clone w last in
+            let within = last_pass plan numbered job planned h legal worker issue.Write write piece happens its clone w last in
             same_pass w last (omega (arith, above, within))
       ]
     where
@@ -338,7 +339,7 @@ module _ (plan : Plan) (numbered : IsNumbered plan) (job : SubJob) (planned : cl
       let pass = pass_of job write.pass in
       let d = its.draw in
       let number : d.number ≡ issued = its.number ∙ sym its.count in
-      let grown : issued_count after_write pass ≡ suc issued = issued_here job h worker direction.Write write piece clone in
+      let grown : issued_count after_write pass ≡ suc issued = issued_here job h worker issue.Write write piece clone in
       let still : Draw → Bool = λ (x : Draw). not (is_settled h (write_id pass x)) in
       let fresh : still d ≡ true =
       not_from_false (is_settled h (write_id pass d))
@@ -347,7 +348,7 @@ module _ (plan : Plan) (numbered : IsNumbered plan) (job : SubJob) (planned : cl
       let each : (k : ℕ) (x : Draw) → slice_get group k ≡ Some x → is_left after_write pass x ≡ (nat_lt x.number (suc issued) && still x) =
       λ k x at.
       ap (λ (m : ℕ). nat_lt x.number m && not (is_settled after_write (write_id pass x))) grown
-      ∙ ap (λ (b : Bool). nat_lt x.number (suc issued) && not b) (settled_same plan numbered job planned h legal worker direction.Write write piece happens its clone (write_id pass x)) in
+      ∙ ap (λ (b : Bool). nat_lt x.number (suc issued) && not b) (settled_same plan numbered job planned h legal worker issue.Write write piece happens its clone (write_id pass x)) in
       let left : filter (is_left after_write pass) group ≡ filter (is_left h pass) group ++ d ∷ [] =
       filter_same (is_left after_write pass) (λ (x : Draw). nat_lt x.number (suc issued) && still x) group each
       ∙ next_left still 0 issued group inside.0.place d rises inside.0.at number fresh in

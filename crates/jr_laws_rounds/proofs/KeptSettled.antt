@@ -30,7 +30,7 @@ or_false false = refl
 -- an end speaks of one of the first n that were started
 abbrev ends_within : ℕ → Event → Bool
 ends_within n (End worker io outcome) = nat_lt io n
-ends_within n (Issue worker dir write piece) = true
+ends_within n (Issue worker kind write piece) = true
 ends_within n (Probe worker write piece) = true
 ends_within n (Skip worker write) = true
 ends_within n (Verdict worker io verdict) = true
@@ -39,7 +39,7 @@ ends_weaker : (n m : ℕ) (e : Event) → n ≤ m → ends_within n e ≡ true �
 ends_weaker n m (End worker io outcome) le h =
     let below : io < n = ltb-true io n h in
     lt-ltb io m (omega (arith, below, le))
-ends_weaker n m (Issue worker dir write piece) le h = refl
+ends_weaker n m (Issue worker kind write piece) le h = refl
 ends_weaker n m (Probe worker write piece) le h = refl
 ends_weaker n m (Skip worker write) le h = refl
 ends_weaker n m (Verdict worker io verdict) le h = refl
@@ -47,7 +47,7 @@ ends_weaker n m (Verdict worker io verdict) le h = refl
 ends_now : (plan : Plan) (h : List Event) (e : Event) → may_happen plan h e ≡ true → ends_within (length (started h)) e ≡ true
 ends_now plan h (End worker io outcome) happens =
     (and_parts (nat_lt io (length (started h))) (is_none (outcome_of h io)) (and_parts (flies h io) (end_fits worker outcome (slice_get (started h) io)) happens).0).0
-ends_now plan h (Issue worker dir write piece) happens = refl
+ends_now plan h (Issue worker kind write piece) happens = refl
 ends_now plan h (Probe worker write piece) happens = refl
 ends_now plan h (Skip worker write) happens = refl
 ends_now plan h (Verdict worker io verdict) happens = refl
@@ -67,7 +67,7 @@ all_end_within plan history legal =
 
 settles_same : (w : WriteId) (ios more : List Started) (e : Event) → ends_within (length ios) e ≡ true → settles (ios ++ more) w e ≡ settles ios w e
 settles_same w ios more (End worker io outcome) h = ap (is_probe_of w) (got_within ios more io (ltb-true io (length ios) h))
-settles_same w ios more (Issue worker dir write piece) h = refl
+settles_same w ios more (Issue worker kind write piece) h = refl
 settles_same w ios more (Probe worker write piece) h = refl
 settles_same w ios more (Skip worker write) h = refl
 settles_same w ios more (Verdict worker io verdict) h = refl
@@ -91,7 +91,7 @@ settled_after plan h e w legal happens =
 
 -- what is halted stays so
 halts_longer : (job : SubJob) (ios more : List Started) (e : Event) → halts ios job e ≡ true → halts (ios ++ more) job e ≡ true
-halts_longer job ios more (Issue worker dir write piece) h = h
+halts_longer job ios more (Issue worker kind write piece) h = h
 halts_longer job ios more (Probe worker write piece) h = h
 halts_longer job ios more (Skip worker write) h = h
 halts_longer job ios more (End worker io outcome) h = by_io (slice_get ios io) refl h
@@ -160,7 +160,7 @@ module _ (plan : Plan) (numbered : IsNumbered plan) (job : SubJob) (planned : cl
       let same : skipped ≡ w = eq_write skipped w takes in
       subst (λ (x : WriteId). x.number < issued_count h (pass_of job x.pass)) same
       (takes_issued h false skipped (skip_of plan h worker skipped numbered happens) (ap (λ (x : WriteId). x.clone) same ∙ clone))
-  taken_now h (Issue worker dir write piece) w happens clone takes = absurd (false≢true takes)
+  taken_now h (Issue worker kind write piece) w happens clone takes = absurd (false≢true takes)
   taken_now h (End worker io outcome) w happens clone takes = absurd (false≢true takes)
   taken_now h (Verdict worker io verdict) w happens clone takes = absurd (false≢true takes)
 

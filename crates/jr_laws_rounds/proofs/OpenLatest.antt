@@ -34,6 +34,7 @@ no_probe : (kind : TicketKind) → is_write kind ≡ true → is_probe kind ≡ 
 no_probe ticket.Read writes probes = cc
 no_probe ticket.Write writes probes = cc
 no_probe ticket.Probe writes probes = cc
+no_probe ticket.ReadCheck writes probes = cc
 
 -- tests that agree on each element of a list agree on the list
 all_alike : (p q : ℕ → Bool) (xs : List ℕ) → ((k x : ℕ) → slice_get xs k ≡ Some x → p x ≡ q x) → list_all p xs ≡ list_all q xs

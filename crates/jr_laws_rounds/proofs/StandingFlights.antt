@@ -109,7 +109,7 @@ refers_next plan h (Verdict worker io verdict) legal may =
     let parts = and_parts (ended_whole (outcome_of h io) && not (is_judged h io)) (verdict_fits plan verdict (slice_get (started h) io)) may in
     let ended = and_parts (ended_whole (outcome_of h io)) (not (is_judged h io)) parts.0 in
     lt-ltb io (length (started h)) ((well_legal plan h legal).ends io Whole (whole_some (outcome_of h io) ended.0))
-refers_next plan h (Issue worker dir write piece) legal may = refl
+refers_next plan h (Issue worker kind write piece) legal may = refl
 refers_next plan h (Probe worker write piece) legal may = refl
 refers_next plan h (Skip worker write) legal may = refl
 

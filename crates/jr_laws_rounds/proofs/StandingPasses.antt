@@ -5,11 +5,10 @@ use Rattle.std.specs.List.{list_any, list_all, range_with_len}
 use Rattle.std.proofs.lemmas.Bool.{and_parts, and_from, or_cases, or_left, or_right, eqb-true, eq-eqb, ltb-true, cases_Bool, cases_lt, not-true, not_from_true, not_from_false, false_from_ne_true, both_ways}
 use Rattle.std.proofs.lemmas.List.Sums.{sum_by-append}
 use Rattle.std.proofs.lemmas.Option.{same_Some, slice_get_within}
-use Rattle.jr_model.specs.declared.blocks.Dir.{Dir}
-use Rattle.jr_model.specs.declared.blocks.Dir.TheVariants as direction
 use Rattle.jr_model.specs.declared.blocks.Piece.{Piece}
 use Rattle.jr_model.specs.declared.events.Event.{Event}
 use Rattle.jr_model.specs.declared.events.Event.TheVariants.{Issue, Probe, Skip, End, Verdict}
+use Rattle.jr_model.specs.declared.events.IssueKind.{IssueKind}
 use Rattle.jr_model.specs.declared.events.Started.{Started}
 use Rattle.jr_model.specs.declared.events.WriteId.{WriteId}
 use Rattle.jr_model.specs.declared.tickets.TicketKind.TheVariants as ticket
@@ -30,7 +29,7 @@ use Rattle.jr_laws_steps.proofs.StepLaws.{MayTakeUp, may_issue_of, may_probe_of}
 use Rattle.jr_laws_quiet.proofs.Groups.{number_is}
 use Rattle.jr_laws_quiet.proofs.Issues.{all_at, got_range, issued_push}
 use Rattle.jr_laws_quiet.proofs.Members.{in_own_group}
-use Rattle.jr_laws_quiet.proofs.Steps.{all_weaker}
+use Rattle.jr_laws_quiet.proofs.Steps.{all_weaker, no_probe}
 use Rattle.jr_laws_quiet.proofs.Phases.{open_parts}
 use Rattle.jr_laws_rounds.proofs.StandingDraws.{planned_draw}
 use Rattle.jr_laws_rounds.proofs.StandingFlights.{FliesOf, flies_found, flies_there, flew_or_starts, stays_settled}
@@ -99,10 +98,6 @@ count_of_front before rest pass =
     let both = sum_by-append (λ (x : Event). cond (issues_of pass x) 1 0) before rest in
     omega (arith, both)
 
-no_check : (d : Dir) → is_probe (kind_for d) ≡ true → ⊥
-no_check direction.Read h = cc
-no_check direction.Write h = cc
-
 -- a draw of the clone that an event issues
 pub record IssueIn (plan : Plan) (job : SubJob) (h : List Event) (write : WriteId) : Type 0 where
   pub draw : Draw
@@ -120,9 +115,9 @@ module _ (plan : Plan) (planned : IsPlanned plan) (job : SubJob) (there : clone_
   own_job : (other : SubJob) (c : ℕ) → clone_of plan c ≡ Some other → c ≡ job.clone → other ≡ job
   own_job other c at same = same_Some other job (sym at ∙ ap (clone_of plan) same ∙ there)
 
-  pub issue_in : (h : List Event) (worker : ℕ) (dir : Dir) (write : WriteId) (piece : Piece) → may_happen plan h (Issue worker dir write piece) ≡ true → write.clone ≡ job.clone → IssueIn plan job h write
-  issue_in h worker dir write piece may clone =
-      let m = may_issue_of plan h worker dir write piece may in
+  pub issue_in : (h : List Event) (worker : ℕ) (kind : IssueKind) (write : WriteId) (piece : Piece) → may_happen plan h (Issue worker kind write piece) ≡ true → write.clone ≡ job.clone → IssueIn plan job h write
+  issue_in h worker kind write piece may clone =
+      let m = may_issue_of plan h worker kind write piece may in
       let same = own_job m.job write.clone m.named.planned clone in
       record {
         draw = m.draw;
@@ -141,12 +136,12 @@ module _ (plan : Plan) (planned : IsPlanned plan) (job : SubJob) (there : clone_
 
   -- of a finished pass nothing is started
   none_starts : (h : List Event) (e : Event) (q : ℕ) (io : Started) → may_happen plan h e ≡ true → pass_finished h (pass_of job q) ≡ true → started_by e ≡ Some io → io.write.clone ≡ job.clone → io.write.pass ≡ q → ⊥
-  none_starts h (Issue worker dir write piece) q io may done starts clone pass =
-      let s : Started = record { worker = worker; kind = kind_for dir; write = write; piece = piece } in
+  none_starts h (Issue worker kind write piece) q io may done starts clone pass =
+      let s : Started = record { worker = worker; kind = kind_for kind; write = write; piece = piece } in
       let same : write ≡ io.write = ap (λ (x : Started). x.write) (same_Some s io starts) in
       let its_clone : write.clone ≡ job.clone = ap (λ (w : WriteId). w.clone) same ∙ clone in
       let its_pass : write.pass ≡ q = ap (λ (w : WriteId). w.pass) same ∙ pass in
-      let issue = issue_in h worker dir write piece may its_clone in
+      let issue = issue_in h worker kind write piece may its_clone in
       let now = current_parts h (pass_of job write.pass) (issuable plan h (pass_of job write.pass) issue.draw issue.may).current in
       both_ways (pass_finished h (pass_of job q)) (subst (λ (n : ℕ). pass_finished h (pass_of job n) ≡ false) its_pass now.unfinished) done
   none_starts h (Probe worker write piece) q io may done starts clone pass =
@@ -230,9 +225,9 @@ module _ (plan : Plan) (planned : IsPlanned plan) (job : SubJob) (there : clone_
 
   -- a write that is checked is of a pass of which something was issued
   check_counts : (h : List Event) (e : Event) (io : Started) → may_happen plan h e ≡ true → started_by e ≡ Some io → is_probe io.kind ≡ true → io.write.clone ≡ job.clone → 0 < issued_count h (pass_of job io.write.pass)
-  check_counts h (Issue worker dir write piece) io may starts check clone =
-      let s : Started = record { worker = worker; kind = kind_for dir; write = write; piece = piece } in
-      absurd (no_check dir (ap (λ (x : Started). is_probe x.kind) (same_Some s io starts) ∙ check))
+  check_counts h (Issue worker kind write piece) io may starts check clone =
+      let s : Started = record { worker = worker; kind = kind_for kind; write = write; piece = piece } in
+      absurd (both_ways (is_probe (kind_for kind)) (no_probe kind) (ap (λ (x : Started). is_probe x.kind) (same_Some s io starts) ∙ check))
   check_counts h (Probe worker write piece) io may starts check clone =
       let s : Started = record { worker = worker; kind = ticket.Probe; write = write; piece = piece } in
       let same : write ≡ io.write = ap (λ (x : Started). x.write) (same_Some s io starts) in

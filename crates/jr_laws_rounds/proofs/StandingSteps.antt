@@ -3,10 +3,10 @@ use Rattle.std.proofs.Common.{◌≡◌, ℕ, suc, ◌<◌, List, [], ◌∷◌,
 use Rattle.std.specs.Prelude.{◌⊎◌, Some, slice_get, ◌==◌}
 use Rattle.std.specs.List.{list_all, range_with_len}
 use Rattle.std.proofs.lemmas.Bool.{and_left, and_right, ne_eqb, cases_eq, cases_lt, cases_order, both_ways}
-use Rattle.jr_model.specs.declared.blocks.Dir.{Dir}
 use Rattle.jr_model.specs.declared.blocks.Piece.{Piece}
 use Rattle.jr_model.specs.declared.events.Event.{Event}
 use Rattle.jr_model.specs.declared.events.Event.TheVariants.{Issue, Probe, Skip, End, Verdict}
+use Rattle.jr_model.specs.declared.events.IssueKind.{IssueKind}
 use Rattle.jr_model.specs.declared.events.WriteId.{WriteId}
 use Rattle.jr_model.specs.Legal.{is_legal, may_happen}
 use Rattle.jr_model.specs.Plan.{Plan, SubJob, clone_of}
@@ -41,11 +41,11 @@ pub finished_before : (h : List Event) (job : SubJob) (p q : ℕ) → IsInPass h
 finished_before h job p q in_pass below = before_at h job p q in_pass.before below (omega (arith, below, in_pass.within))
 
 -- an issue of another clone, or of another pass, is none of the pass
-pub other_clone : (job : SubJob) (q worker : ℕ) (dir : Dir) (write : WriteId) (piece : Piece) → (write.clone ≡ job.clone → ⊥) → issues_of (pass_of job q) (Issue worker dir write piece) ≡ false
-other_clone job q worker dir write piece apart = and_left (write.clone == job.clone) (write.pass == q) (ne_eqb write.clone job.clone apart)
+pub other_clone : (job : SubJob) (q worker : ℕ) (kind : IssueKind) (write : WriteId) (piece : Piece) → (write.clone ≡ job.clone → ⊥) → issues_of (pass_of job q) (Issue worker kind write piece) ≡ false
+other_clone job q worker kind write piece apart = and_left (write.clone == job.clone) (write.pass == q) (ne_eqb write.clone job.clone apart)
 
-pub other_pass : (job : SubJob) (q worker : ℕ) (dir : Dir) (write : WriteId) (piece : Piece) → (write.pass ≡ q → ⊥) → issues_of (pass_of job q) (Issue worker dir write piece) ≡ false
-other_pass job q worker dir write piece apart = and_right (write.clone == job.clone) (write.pass == q) (ne_eqb write.pass q apart)
+pub other_pass : (job : SubJob) (q worker : ℕ) (kind : IssueKind) (write : WriteId) (piece : Piece) → (write.pass ≡ q → ⊥) → issues_of (pass_of job q) (Issue worker kind write piece) ≡ false
+other_pass job q worker kind write piece apart = and_right (write.clone == job.clone) (write.pass == q) (ne_eqb write.pass q apart)
 
 module _ (plan : Plan) (planned : IsPlanned plan) (job : SubJob) (there : clone_of plan job.clone ≡ Some job) where
   -- at the start a clone is in its first pass
@@ -67,15 +67,15 @@ module _ (plan : Plan) (planned : IsPlanned plan) (job : SubJob) (there : clone_
   other_keeps_pass h e p legal may in_pass none = keeps_pass h e p legal may in_pass (λ q above. none q)
 
   -- so does an issue of another clone
-  pub foreign_keeps_pass : (h : List Event) (worker : ℕ) (dir : Dir) (write : WriteId) (piece : Piece) (p : ℕ) → is_legal plan h ≡ true → may_happen plan h (Issue worker dir write piece) ≡ true → IsInPass h job p → (write.clone ≡ job.clone → ⊥) → IsInPass (h ++ Issue worker dir write piece ∷ []) job p
-  foreign_keeps_pass h worker dir write piece p legal may in_pass apart =
-      keeps_pass h (Issue worker dir write piece) p legal may in_pass (λ q above. other_clone job q worker dir write piece apart)
+  pub foreign_keeps_pass : (h : List Event) (worker : ℕ) (kind : IssueKind) (write : WriteId) (piece : Piece) (p : ℕ) → is_legal plan h ≡ true → may_happen plan h (Issue worker kind write piece) ≡ true → IsInPass h job p → (write.clone ≡ job.clone → ⊥) → IsInPass (h ++ Issue worker kind write piece ∷ []) job p
+  foreign_keeps_pass h worker kind write piece p legal may in_pass apart =
+      keeps_pass h (Issue worker kind write piece) p legal may in_pass (λ q above. other_clone job q worker kind write piece apart)
 
   -- and so does an issue of the pass
-  pub issue_keeps_pass : (h : List Event) (worker : ℕ) (dir : Dir) (write : WriteId) (piece : Piece) (p : ℕ) → is_legal plan h ≡ true → may_happen plan h (Issue worker dir write piece) ≡ true → IsInPass h job p → write.pass ≡ p → IsInPass (h ++ Issue worker dir write piece ∷ []) job p
-  issue_keeps_pass h worker dir write piece p legal may in_pass same =
-      keeps_pass h (Issue worker dir write piece) p legal may in_pass
-      (λ q above. other_pass job q worker dir write piece (λ later. omega (arith, above, later, same)))
+  pub issue_keeps_pass : (h : List Event) (worker : ℕ) (kind : IssueKind) (write : WriteId) (piece : Piece) (p : ℕ) → is_legal plan h ≡ true → may_happen plan h (Issue worker kind write piece) ≡ true → IsInPass h job p → write.pass ≡ p → IsInPass (h ++ Issue worker kind write piece ∷ []) job p
+  issue_keeps_pass h worker kind write piece p legal may in_pass same =
+      keeps_pass h (Issue worker kind write piece) p legal may in_pass
+      (λ q above. other_pass job q worker kind write piece (λ later. omega (arith, above, later, same)))
 
   -- where the pass is finished the clone is in the next one, if there is one
   pub next_in_pass : (h : List Event) (p : ℕ) → IsInPass h job p → pass_finished h (pass_of job p) ≡ true → suc p < job.passes → IsInPass h job (suc p)
@@ -97,9 +97,9 @@ module _ (plan : Plan) (planned : IsPlanned plan) (job : SubJob) (there : clone_
               ]
 
   -- an issue of the clone is of the pass that it is in, or of the next where this one is finished
-  pub issue_of_pass : (h : List Event) (worker : ℕ) (dir : Dir) (write : WriteId) (piece : Piece) (p : ℕ) → may_happen plan h (Issue worker dir write piece) ≡ true → IsInPass h job p → write.clone ≡ job.clone → (write.pass ≡ p) ⊎ ((write.pass ≡ suc p) × (pass_finished h (pass_of job p) ≡ true) × (suc p < job.passes))
-  issue_of_pass h worker dir write piece p may in_pass clone =
-      let issue = issue_in plan planned job there h worker dir write piece may clone in
+  pub issue_of_pass : (h : List Event) (worker : ℕ) (kind : IssueKind) (write : WriteId) (piece : Piece) (p : ℕ) → may_happen plan h (Issue worker kind write piece) ≡ true → IsInPass h job p → write.clone ≡ job.clone → (write.pass ≡ p) ⊎ ((write.pass ≡ suc p) × (pass_finished h (pass_of job p) ≡ true) × (suc p < job.passes))
+  issue_of_pass h worker kind write piece p may in_pass clone =
+      let issue = issue_in plan planned job there h worker kind write piece may clone in
       let now = current_parts h (pass_of job write.pass) (issuable plan h (pass_of job write.pass) issue.draw issue.may).current in
       elim (cases_order write.pass p) [
         | inl same ↦ inl same
@@ -130,12 +130,12 @@ module _ (plan : Plan) (planned : IsPlanned plan) (job : SubJob) (there : clone_
       one front (Skip worker write) front_legal may p now = (p, other_keeps_pass front (Skip worker write) p front_legal may now (λ q. refl))
       one front (End worker io outcome) front_legal may p now = (p, other_keeps_pass front (End worker io outcome) p front_legal may now (λ q. refl))
       one front (Verdict worker io verdict) front_legal may p now = (p, other_keeps_pass front (Verdict worker io verdict) p front_legal may now (λ q. refl))
-      one front (Issue worker dir write piece) front_legal may p now =
+      one front (Issue worker kind write piece) front_legal may p now =
           elim (cases_eq write.clone job.clone) [
             | inl own ↦
-                elim (issue_of_pass front worker dir write piece p may now own) [
-                  | inl here ↦ (p, issue_keeps_pass front worker dir write piece p front_legal may now here)
-                  | inr next ↦ (suc p, issue_keeps_pass front worker dir write piece (suc p) front_legal may (next_in_pass front p now next.1 next.2) next.0)
+                elim (issue_of_pass front worker kind write piece p may now own) [
+                  | inl here ↦ (p, issue_keeps_pass front worker kind write piece p front_legal may now here)
+                  | inr next ↦ (suc p, issue_keeps_pass front worker kind write piece (suc p) front_legal may (next_in_pass front p now next.1 next.2) next.0)
                 ]
-            | inr foreign ↦ (p, foreign_keeps_pass front worker dir write piece p front_legal may now foreign)
+            | inr foreign ↦ (p, foreign_keeps_pass front worker kind write piece p front_legal may now foreign)
           ]

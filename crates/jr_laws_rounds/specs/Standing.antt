@@ -9,7 +9,7 @@ use Rattle.jr_model.specs.declared.workloads.Draw.{Draw}
 use Rattle.jr_model.specs.Choice.{choice_of_clone}
 use Rattle.jr_model.specs.History.{first_given}
 use Rattle.jr_model.specs.Legal.{is_legal, is_halted, has_room, is_clear, phase_is_open, takes_up, check_or_skip}
-use Rattle.jr_model.specs.Plan.{Plan, SubJob, clone_of}
+use Rattle.jr_model.specs.Plan.{Plan, SubJob, clone_of, issued_as}
 use Rattle.jr_model.specs.Rounds.{Pass, pass_of, passes_of, write_id, is_write_draw, issued_count, all_issued, has_rounds, no_issue_flies, nothing_flies_of, pass_finished, clone_finished}
 use Rattle.jr_model.specs.PlanFacts.{IsPlanned}
 use Rattle.jr_backlog.specs.Rounds.{Round, is_due, is_closed}
@@ -43,7 +43,7 @@ abbrev pub issue_of : Plan → List Event → ℕ → Pass → Option Draw → O
 issue_of plan history worker pass None = None
 issue_of plan history worker pass (Some draw) =
     if is_clear history (is_write_draw draw) draw.piece && phase_is_open plan history pass.job
-    then Some (Issue worker draw.dir (write_id pass draw) draw.piece)
+    then Some (Issue worker (issued_as pass.job draw.dir) (write_id pass draw) draw.piece)
     else None
 
 -- the issue of the next draw: of this pass, or of the next one where this one is finished

@@ -5,17 +5,17 @@ use Rattle.std.specs.List.{range_with_len}
 use Rattle.std.specs.Option.{option_or}
 use Rattle.std.proofs.lemmas.Bool.{and_parts, or_cases, ltb-true, eqb-true, false_from_ne_true}
 use Rattle.std.proofs.lemmas.Option.{same_Some}
-use Rattle.jr_model.specs.declared.blocks.Dir.{Dir}
 use Rattle.jr_model.specs.declared.blocks.Piece.{Piece}
 use Rattle.jr_model.specs.declared.events.Event.{Event}
 use Rattle.jr_model.specs.declared.events.Event.TheVariants.{Issue, Probe, Skip, End, Verdict}
+use Rattle.jr_model.specs.declared.events.IssueKind.{IssueKind}
 use Rattle.jr_model.specs.declared.events.WriteId.{WriteId}
 use Rattle.jr_model.specs.declared.workloads.Draw.{Draw}
 use Rattle.jr_model.specs.Choice.{choice, choice_of_clone, choice_of_pass}
 use Rattle.jr_model.specs.Draws.{draws_of_job}
 use Rattle.jr_model.specs.History.{first_given}
 use Rattle.jr_model.specs.Legal.{may_happen, may_take_up, may_issue, check_or_skip, step_of, is_legal}
-use Rattle.jr_model.specs.Plan.{Plan, SubJob}
+use Rattle.jr_model.specs.Plan.{Plan, SubJob, issued_as}
 use Rattle.jr_model.specs.Rounds.{Pass, pass_of, passes_of, write_id}
 use Rattle.jr_model.proofs.LegalLaws.{cases_step_of}
 use Rattle.jr_model.specs.PlanFacts.{IsPlanned}
@@ -42,7 +42,7 @@ record HasStep (plan : Plan) (history : List Event) (c p k : ℕ) : Type 0 where
   drawn : slice_get (draws_of_job job p) k ≡ Some draw
   some : (worker : ℕ) → step_of plan history worker (pass_of job p) draw ≡ None → ⊥
 
-issue_has_step : (plan : Plan) (history : List Event) (write : WriteId) (dir : Dir) (piece : Piece) → MayIssue plan history dir write piece → HasStep plan history write.clone write.pass write.number
+issue_has_step : (plan : Plan) (history : List Event) (write : WriteId) (dir : IssueKind) (piece : Piece) → MayIssue plan history dir write piece → HasStep plan history write.clone write.pass write.number
 issue_has_step plan history write dir piece m =
     let pass = pass_of m.job write.pass in
     record {
@@ -52,7 +52,7 @@ issue_has_step plan history write dir piece m =
       within = current_pass history pass (issuable plan history pass m.draw m.may).current;
       drawn = m.named.drawn;
       some = λ w none.
-          let neither = neither_step (may_take_up history pass m.draw) (may_issue plan history pass m.draw) (check_or_skip history w pass m.draw) (Issue w m.draw.dir (write_id pass m.draw) m.draw.piece) none in
+          let neither = neither_step (may_take_up history pass m.draw) (may_issue plan history pass m.draw) (check_or_skip history w pass m.draw) (Issue w (issued_as pass.job m.draw.dir) (write_id pass m.draw) m.draw.piece) none in
           let e : true ≡ false = sym m.may ∙ neither.1 in
           cc;
     }
@@ -67,7 +67,7 @@ take_up_has_step plan history write legal m =
       within = taken_up_within plan history write m legal;
       drawn = m.named.drawn;
       some = λ w none.
-          let neither = neither_step (may_take_up history pass m.draw) (may_issue plan history pass m.draw) (check_or_skip history w pass m.draw) (Issue w m.draw.dir (write_id pass m.draw) m.draw.piece) none in
+          let neither = neither_step (may_take_up history pass m.draw) (may_issue plan history pass m.draw) (check_or_skip history w pass m.draw) (Issue w (issued_as pass.job m.draw.dir) (write_id pass m.draw) m.draw.piece) none in
           let e : true ≡ false = sym m.may ∙ neither.0 in
           cc;
     }

@@ -9,8 +9,6 @@ use Rattle.std.proofs.lemmas.Option.{same_Some}
 use Rattle.jr_model.specs.declared.events.Event.{Event}
 use Rattle.jr_model.specs.declared.events.Event.TheVariants.{Issue, Probe, Skip, End, Verdict}
 use Rattle.jr_model.specs.declared.events.Outcome.{Outcome}
-use Rattle.jr_model.specs.declared.events.Outcome.TheVariants.{Whole}
-use Rattle.jr_model.specs.declared.events.Verdict.TheVariants.{Good}
 use Rattle.jr_model.specs.Choice.{choice}
 use Rattle.jr_model.specs.Draws.{draws_of_job}
 use Rattle.jr_model.specs.History.{started, started_by}
@@ -18,7 +16,7 @@ use Rattle.jr_model.specs.Legal.{is_legal, legal_after, may_happen}
 use Rattle.jr_model.specs.Machine.{Appends, choices_after, is_skip, taken, work_of}
 use Rattle.jr_model.specs.Plan.{Plan, SubJob, IsNumbered, clone_of}
 use Rattle.jr_model.specs.Rounds.{pass_of}
-use Rattle.jr_model.specs.Serial.{carried_out, goes_on, serial_after, serial_history}
+use Rattle.jr_model.specs.Serial.{carried_out, goes_on, serial_after, serial_history, followed_by, memory_after}
 use Rattle.jr_model.specs.Words.{pass_words}
 use Rattle.jr_model.proofs.LegalLaws.{is_legal-more, choice_may_happen, choice_is_step, cases_step_of}
 use Rattle.jr_model.proofs.SerialLaws.{IsWell, well_choice}
@@ -214,27 +212,17 @@ choice_leaves plan history worker e numbered legal chosen =
     (choice_may_happen plan history worker e numbered chosen) (choice_steps plan history worker e numbered chosen)
 
 -- and no more is left once it is carried out
-carried_leaves : (plan : Plan) (history : List Event) (io : ℕ) (e : Event) → left plan (history ++ carried_out io e) ≤ left plan (history ++ e ∷ [])
-carried_leaves plan history io e = leaves e
-  where
-    then : (x : Event) (more : List Event) → left plan (history ++ x ∷ more) ≤ left plan (history ++ x ∷ [])
-    then x more =
-        subst (λ (all : List Event). left plan all ≤ left plan (history ++ x ∷ [])) (append_assoc history (x ∷ []) more)
-        (left_most plan (history ++ x ∷ []) more)
+carried_leaves : (plan : Plan) (history : List Event) (e : Event) → left plan (history ++ carried_out plan history e) ≤ left plan (history ++ e ∷ [])
+carried_leaves plan history e =
+    let more = followed_by plan (memory_after plan history) (length (started history)) (started_by e) in
+    subst (λ (all : List Event). left plan all ≤ left plan (history ++ e ∷ [])) (append_assoc history (e ∷ []) more)
+    (left_most plan (history ++ e ∷ []) more)
 
-    leaves : (x : Event) → left plan (history ++ carried_out io x) ≤ left plan (history ++ x ∷ [])
-    leaves (Issue worker dir write piece) = then (Issue worker dir write piece) (End 0 io Whole ∷ [])
-    leaves (Probe worker write piece) = then (Probe worker write piece) (End 0 io Whole ∷ Verdict 0 io Good ∷ [])
-    leaves (Skip worker write) = then (Skip worker write) []
-    leaves (End worker id outcome) = then (End worker id outcome) []
-    leaves (Verdict worker id verdict) = then (Verdict worker id verdict) []
-
-serial_goes_on : (limit : ℕ) (plan : Plan) (rest : List Event → List Event) (history : List Event) (o : Option Event) → ((longer : List Event) → IsWell plan longer → left plan longer ≤ limit → choice plan (rest longer) 0 ≡ None) → IsNumbered plan → IsWell plan history → left plan history ≤ suc limit → choice plan history 0 ≡ o → choice plan (goes_on rest history o) 0 ≡ None
+serial_goes_on : (limit : ℕ) (plan : Plan) (rest : List Event → List Event) (history : List Event) (o : Option Event) → ((longer : List Event) → IsWell plan longer → left plan longer ≤ limit → choice plan (rest longer) 0 ≡ None) → IsNumbered plan → IsWell plan history → left plan history ≤ suc limit → choice plan history 0 ≡ o → choice plan (goes_on plan rest history o) 0 ≡ None
 serial_goes_on limit plan rest history None ends numbered well few chosen = chosen
 serial_goes_on limit plan rest history (Some e) ends numbered well few chosen =
-    let io = length (started history) in
-    ends (history ++ carried_out io e) (well_choice plan history e numbered well chosen)
-    (omega (arith, few, carried_leaves plan history io e, choice_leaves plan history 0 e numbered well.legal chosen))
+    ends (history ++ carried_out plan history e) (well_choice plan history e numbered well chosen)
+    (omega (arith, few, carried_leaves plan history e, choice_leaves plan history 0 e numbered well.legal chosen))
 
 serial_stops : (limit : ℕ) (plan : Plan) (history : List Event) → IsNumbered plan → IsWell plan history → left plan history ≤ limit → choice plan (serial_after limit plan history) 0 ≡ None
 serial_stops zero plan history numbered well few = nothing (choice plan history 0) refl

@@ -7,17 +7,17 @@ use Rattle.std.proofs.lemmas.Bool.{and_parts, and_from, or_cases, or_parts, or_l
 use Rattle.std.proofs.lemmas.List.Folds.{list_any-append}
 use Rattle.std.proofs.lemmas.List.Sums.{sum_by-append, sum_by-cons, sum_by_push}
 use Rattle.std.proofs.lemmas.Option.{same_Some, slice_get_within}
-use Rattle.jr_model.specs.declared.blocks.Dir.{Dir}
 use Rattle.jr_model.specs.declared.blocks.Piece.{Piece}
 use Rattle.jr_model.specs.declared.events.Event.{Event}
 use Rattle.jr_model.specs.declared.events.Event.TheVariants.{Issue, Probe, Skip, End, Verdict}
+use Rattle.jr_model.specs.declared.events.IssueKind.{IssueKind}
 use Rattle.jr_model.specs.declared.events.WriteId.{WriteId}
 use Rattle.jr_model.specs.declared.workloads.Draw.{Draw}
 use Rattle.jr_model.specs.Draws.{draws_of_job, fresh_progress}
 use Rattle.jr_model.specs.History.{same_write, same_piece}
 use Rattle.jr_model.specs.LastWrite.{is_intact}
-use Rattle.jr_model.specs.Legal.{may_happen, may_take_up, may_issue, takes_up, is_halted, has_room, is_clear, phase_is_open, check_or_skip, step_of, step_of_draw, step_of_clone, step_at, same_dir, is_this_issue, is_this_probe, is_this_skip}
-use Rattle.jr_model.specs.Plan.{Plan, SubJob, IsNumbered, clone_of}
+use Rattle.jr_model.specs.Legal.{may_happen, may_take_up, may_issue, takes_up, is_halted, has_room, is_clear, phase_is_open, check_or_skip, step_of, step_of_draw, step_of_clone, step_at, same_issue, is_this_issue, is_this_probe, is_this_skip}
+use Rattle.jr_model.specs.Plan.{Plan, SubJob, IsNumbered, clone_of, issued_as}
 use Rattle.jr_model.specs.Rounds.{Pass, pass_of, write_id, is_write_draw, issues_of, issued_count, issued_among, all_issued, has_rounds, group_of, group_index, is_full, is_closed, no_issue_flies, is_open, is_current, pass_finished, waits_for_round}
 use Rattle.jr_model.specs.Words.{pass_words}
 use Rattle.jr_model.proofs.LegalLaws.{number-draws_from}
@@ -80,10 +80,10 @@ two_conds true b x y z h = inl (refl, sym (same_Some x z h))
 two_conds false true x y z h = inr (refl, sym (same_Some y z h))
 two_conds false false x y z h = cc
 
-pub cases_of_step : (plan : Plan) (history : List Event) (worker : ℕ) (pass : Pass) (draw : Draw) (e : Event) → step_of plan history worker pass draw ≡ Some e → ((may_take_up history pass draw ≡ true) × ((e ≡ Probe worker (write_id pass draw) draw.piece) ⊎ (e ≡ Skip worker (write_id pass draw)))) ⊎ ((may_issue plan history pass draw ≡ true) × (e ≡ Issue worker draw.dir (write_id pass draw) draw.piece))
+pub cases_of_step : (plan : Plan) (history : List Event) (worker : ℕ) (pass : Pass) (draw : Draw) (e : Event) → step_of plan history worker pass draw ≡ Some e → ((may_take_up history pass draw ≡ true) × ((e ≡ Probe worker (write_id pass draw) draw.piece) ⊎ (e ≡ Skip worker (write_id pass draw)))) ⊎ ((may_issue plan history pass draw ≡ true) × (e ≡ Issue worker (issued_as pass.job draw.dir) (write_id pass draw) draw.piece))
 cases_of_step plan history worker pass draw e h =
     let write = write_id pass draw in
-    elim (two_conds (may_take_up history pass draw) (may_issue plan history pass draw) (check_or_skip history worker pass draw) (Issue worker draw.dir write draw.piece) e h) [
+    elim (two_conds (may_take_up history pass draw) (may_issue plan history pass draw) (check_or_skip history worker pass draw) (Issue worker (issued_as pass.job draw.dir) write draw.piece) e h) [
       | inl taken ↦
           inl (taken.0, cases_cond (is_intact history write draw.piece) (Probe worker write draw.piece) (Skip worker write) e taken.1)
       | inr issued ↦ inr issued
@@ -109,12 +109,12 @@ pub record TakesUp (plan : Plan) (history : List Event) (write : WriteId) : Type
 
 -- a name of an issue, of a check, of a skip
 module _ (plan : Plan) (history : List Event) (worker : ℕ) (write : WriteId) where
-  issue_from : (by : ℕ) (dir d : Dir) (piece p : Piece) (w : WriteId) → step_at plan history worker write ≡ Some (Issue by d w p) → is_this_issue dir write piece (Some (Issue by d w p)) ≡ true → Issues plan history write
+  issue_from : (by : ℕ) (dir d : IssueKind) (piece p : Piece) (w : WriteId) → step_at plan history worker write ≡ Some (Issue by d w p) → is_this_issue dir write piece (Some (Issue by d w p)) ≡ true → Issues plan history write
   issue_from by dir d piece p w at this =
       let found = step_at_is plan history worker write (Issue by d w p) at in
       let pass = pass_of found.job write.pass in
       let same : same_write w write ≡ true =
-      (and_parts (same_dir d dir) (same_write w write) (and_parts (same_dir d dir && same_write w write) (same_piece p piece) this).0).1 in
+      (and_parts (same_issue d dir) (same_write w write) (and_parts (same_issue d dir && same_write w write) (same_piece p piece) this).0).1 in
       elim (cases_of_step plan history worker pass found.draw (Issue by d w p) found.step) [
         | inl taken ↦ elim taken.1 [ inl probe ↦ cc | inr skip ↦ cc ]
         | inr issued ↦
@@ -166,7 +166,7 @@ module _ (plan : Plan) (history : List Event) (worker : ℕ) (write : WriteId) w
         | inr issued ↦ cc (issued.1)
       ]
 
-  issues_at : (dir : Dir) (piece : Piece) (o : Option Event) → step_at plan history worker write ≡ o → is_this_issue dir write piece o ≡ true → Issues plan history write
+  issues_at : (dir : IssueKind) (piece : Piece) (o : Option Event) → step_at plan history worker write ≡ o → is_this_issue dir write piece o ≡ true → Issues plan history write
   issues_at dir piece (Some (Issue by d w p)) at this = issue_from by dir d piece p w at this
   issues_at dir piece (Some (Probe by w p)) at this = cc
   issues_at dir piece (Some (Skip by w)) at this = cc
@@ -192,7 +192,7 @@ module _ (plan : Plan) (history : List Event) (worker : ℕ) (write : WriteId) w
 
 -- an issue, a check and a skip that may happen
 
-pub may_issue_is : (plan : Plan) (history : List Event) (worker : ℕ) (dir : Dir) (write : WriteId) (piece : Piece) → may_happen plan history (Issue worker dir write piece) ≡ true → Issues plan history write
+pub may_issue_is : (plan : Plan) (history : List Event) (worker : ℕ) (dir : IssueKind) (write : WriteId) (piece : Piece) → may_happen plan history (Issue worker dir write piece) ≡ true → Issues plan history write
 may_issue_is plan history worker dir write piece may =
     issues_at plan history worker write dir piece (step_at plan history worker write) refl may
 
@@ -346,7 +346,7 @@ issued_within-more plan history e numbered within may c p job at some =
 
 -- what a step leaves
 
-pub issue_falls : (plan : Plan) (history : List Event) (worker : ℕ) (dir : Dir) (write : WriteId) (piece : Piece) → may_happen plan history (Issue worker dir write piece) ≡ true → all_unissued plan (history ++ Issue worker dir write piece ∷ []) < all_unissued plan history
+pub issue_falls : (plan : Plan) (history : List Event) (worker : ℕ) (dir : IssueKind) (write : WriteId) (piece : Piece) → may_happen plan history (Issue worker dir write piece) ≡ true → all_unissued plan (history ++ Issue worker dir write piece ∷ []) < all_unissued plan history
 issue_falls plan history worker dir write piece may =
     let e = Issue worker dir write piece in
     let issued = may_issue_is plan history worker dir write piece may in

@@ -10,16 +10,19 @@ use Rattle.jr_model.specs.declared.blocks.Dir.TheVariants as direction
 use Rattle.jr_model.specs.declared.blocks.Piece.{Piece}
 use Rattle.jr_model.specs.declared.events.Event.{Event}
 use Rattle.jr_model.specs.declared.events.Event.TheVariants.{Issue, Probe, Skip, End, Verdict}
+use Rattle.jr_model.specs.declared.events.IssueKind.{IssueKind}
+use Rattle.jr_model.specs.declared.events.IssueKind.TheVariants as issue
+use Rattle.jr_model.specs.Directions.{has_writes}
 use Rattle.jr_model.specs.declared.events.Started.{Started}
 use Rattle.jr_model.specs.declared.events.WriteId.{WriteId}
 use Rattle.jr_model.specs.declared.tickets.TicketKind.{TicketKind}
 use Rattle.jr_model.specs.declared.tickets.TicketKind.TheVariants as ticket
 use Rattle.jr_model.specs.declared.workloads.Draw.{Draw}
 use Rattle.jr_model.specs.Draws.{draws_over}
-use Rattle.jr_model.specs.History.{started, started_by, kind_for, is_probe}
+use Rattle.jr_model.specs.History.{started, started_by, kind_for, is_judged_kind}
 use Rattle.jr_model.specs.Legal.{may_happen, may_issue, may_take_up, takes_up, is_legal, is_halted, has_room, is_clear, phase_is_open}
 use Rattle.jr_model.specs.Pieces.{piece_end}
-use Rattle.jr_model.specs.Plan.{Plan, SubJob, FileSpec, clone_of, is_verified}
+use Rattle.jr_model.specs.Plan.{Plan, SubJob, FileSpec, clone_of, is_verified, checks_reads, issued_as}
 use Rattle.jr_model.specs.Rounds.{Pass, pass_of, passes_of, write_id, is_write_draw, issues_of, issued_count, all_issued, has_rounds, group_of, group_index, issued_among, is_full, is_closed, is_open, no_issue_flies, waits_for_round, pass_finished, is_current}
 use Rattle.jr_model.specs.Tickets.{piece_fits, has_whole_chunks, interval_fits}
 use Rattle.jr_model.specs.declared.limits.TheConstants.{SECTOR}
@@ -87,7 +90,7 @@ issued_count-more history pass e =
 
 -- an event that may happen issues no draw of a pass that the clone has not
 module _ (plan : Plan) (job : SubJob) (p : ℕ) (planned : clone_of plan job.clone ≡ Some job) (past : job.passes ≤ p) where
-  issue_is_within : (history : List Event) (dir : Dir) (write : WriteId) (piece : Piece) → MayIssue plan history dir write piece → ((write.clone == job.clone) && (write.pass == p)) ≡ true → ⊥
+  issue_is_within : (history : List Event) (dir : IssueKind) (write : WriteId) (piece : Piece) → MayIssue plan history dir write piece → ((write.clone == job.clone) && (write.pass == p)) ≡ true → ⊥
   issue_is_within history dir write piece step same =
       let parts = and_parts (write.clone == job.clone) (write.pass == p) same in
       let clone : write.clone ≡ job.clone = eqb-true write.clone job.clone parts.0 in
@@ -171,9 +174,14 @@ writes_dir draw direction.Read same h =
     let not_write : is_write_draw draw ≡ false = ap (λ (d : Dir). is_write_draw (record { number = draw.number; dir = d; piece = draw.piece; seed = draw.seed })) same in
     absurd (false≢true (sym not_write ∙ h))
 
-kind_for_draw : (d : Dir) (job : SubJob) → is_kind_of (kind_for d) d job ≡ true
-kind_for_draw direction.Read job = refl
+-- a draw is issued as an I/O that may be started for it
+pub kind_for_draw : (d : Dir) (job : SubJob) → is_kind_of (kind_for (issued_as job d)) d job ≡ true
 kind_for_draw direction.Write job = refl
+kind_for_draw direction.Read job = of_read (checks_reads job) refl
+  where
+    of_read : (b : Bool) → checks_reads job ≡ b → is_kind_of (kind_for (cond b issue.ReadCheck issue.Read)) direction.Read job ≡ true
+    of_read true checks = checks
+    of_read false checks = ap not checks
 
 -- what is started after a legal history is drawn
 pub starts_drawn : (plan : Plan) (history : List Event) (e : Event) (io : Started) → is_legal plan history ≡ true → may_happen plan history e ≡ true → started_by e ≡ Some io → (job : SubJob) × (draw : Draw) × IsDrawn plan io job draw
@@ -185,7 +193,7 @@ starts_drawn plan history (Issue worker dir write piece) io legal may starts =
       pass = current_pass history pass (issuable plan history pass step.draw step.may).current;
       drawn = step.named.drawn;
       piece = sym step.same_place;
-      kind = subst (λ (d : Dir). is_kind_of (kind_for d) step.draw.dir step.job ≡ true) step.same_way (kind_for_draw step.draw.dir step.job);
+      kind = subst (λ (k : IssueKind). is_kind_of (kind_for k) step.draw.dir step.job ≡ true) step.same_way (kind_for_draw step.draw.dir step.job);
     } in
     (step.job, step.draw, subst (λ (s : Started). IsDrawn plan s step.job step.draw) (same_some _ io starts) drawn)
 starts_drawn plan history (Probe worker write piece) io legal may starts =
@@ -221,10 +229,13 @@ rounds_verify job h =
     let parts = and_parts (is_verified job.method.kind) job.checks_writes h in
     parts.0
 
--- only writes of verified clones are checked
-check_is_verified : (kind : TicketKind) (d : Dir) (job : SubJob) → is_kind_of kind d job ≡ true → is_probe kind ≡ true → is_verified job.method.kind ≡ true
+-- only I/Os of verified clones get a verdict
+check_is_verified : (kind : TicketKind) (d : Dir) (job : SubJob) → is_kind_of kind d job ≡ true → is_judged_kind kind ≡ true → is_verified job.method.kind ≡ true
 check_is_verified ticket.Probe direction.Write job h probe = rounds_verify job h
 check_is_verified ticket.Probe direction.Read job h probe = absurd (false≢true h)
+check_is_verified ticket.ReadCheck direction.Write job h probe = absurd (false≢true h)
+check_is_verified ticket.ReadCheck direction.Read job h probe =
+    (and_parts (is_verified job.method.kind) job.checks_writes (and_parts (is_verified job.method.kind && job.checks_writes) (not (has_writes job.io_type)) h).0).0
 check_is_verified ticket.Read d job h probe = absurd (false≢true probe)
 check_is_verified ticket.Write d job h probe = absurd (false≢true probe)
 

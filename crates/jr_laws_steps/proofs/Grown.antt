@@ -13,7 +13,7 @@ use Rattle.jr_model.specs.declared.events.Outcome.{Outcome}
 use Rattle.jr_model.specs.declared.events.Outcome.TheVariants.{Whole}
 use Rattle.jr_model.specs.declared.events.Started.{Started}
 use Rattle.jr_model.specs.declared.events.Verdict.{Verdict as GivenVerdict}
-use Rattle.jr_model.specs.History.{started, started_by, end_of, outcome_of, flies, is_verdict_on, is_judged, is_probe, ended_whole}
+use Rattle.jr_model.specs.History.{started, started_by, end_of, outcome_of, flies, is_verdict_on, is_judged, is_judged_kind, ended_whole}
 use Rattle.jr_model.specs.Legal.{is_legal, may_happen, end_fits, verdict_fits, outcome_fits, job_says}
 use Rattle.jr_model.specs.Plan.{Plan, clone_of}
 use Rattle.jr_model.proofs.SerialLaws.{IsWell, well-more, whole_some, first_given-append, none_from, false_from}
@@ -121,12 +121,12 @@ end_names plan history worker io outcome may =
         let parts = and_parts (s.worker == worker) (outcome_fits outcome s.piece.len) fits in
         record { ended = s; there = at; worker_is = eqb-true s.worker worker parts.0; fits = parts.1; flies = flying }
 
--- a Verdict that may happen names a check that ended whole and has none
+-- a Verdict that may happen names a check or checked read that ended whole and has none
 pub record JudgesIo (plan : Plan) (history : List Event) (io : ℕ) (verdict : GivenVerdict) : Type 0 where
   pub judged : Started
   pub there : slice_get (started history) io ≡ Some judged
-  pub check : is_probe judged.kind ≡ true
-  pub says : job_says (clone_of plan judged.write.clone) judged.piece.len verdict ≡ true
+  pub check : is_judged_kind judged.kind ≡ true
+  pub says : job_says (clone_of plan judged.write.clone) judged.kind judged.piece.len verdict ≡ true
   pub ended : outcome_of history io ≡ Some Whole
   pub unjudged : is_judged history io ≡ false
 
@@ -139,7 +139,7 @@ verdict_names plan history worker io verdict may =
     by_io : (o : Option Started) → slice_get (started history) io ≡ o → verdict_fits plan verdict o ≡ true → outcome_of history io ≡ Some Whole → is_judged history io ≡ false → JudgesIo plan history io verdict
     by_io None at fits whole unjudged = cc
     by_io (Some s) at fits whole unjudged =
-        let parts = and_parts (is_probe s.kind) (job_says (clone_of plan s.write.clone) s.piece.len verdict) fits in
+        let parts = and_parts (is_judged_kind s.kind) (job_says (clone_of plan s.write.clone) s.kind s.piece.len verdict) fits in
         record { judged = s; there = at; check = parts.0; says = parts.1; ended = whole; unjudged = unjudged }
 
 -- the event names no I/O that isn't among the first n

@@ -9,7 +9,7 @@ use Rattle.jr_model.specs.declared.workloads.Draw.{Draw}
 use Rattle.jr_model.specs.Choice.{choice, choice_of_clone, choice_of_pass}
 use Rattle.jr_model.specs.History.{in_flight, awaiting, is_of_clone}
 use Rattle.jr_model.specs.Legal.{is_halted, is_over, is_at_rest, phase_is_open, has_room, is_clear, takes_up, may_take_up, may_issue, check_or_skip, step_of, is_legal, is_complete}
-use Rattle.jr_model.specs.Plan.{Plan, SubJob, IsNumbered}
+use Rattle.jr_model.specs.Plan.{Plan, SubJob, IsNumbered, issued_as}
 use Rattle.jr_model.specs.Rounds.{Pass, pass_of, passes_of, write_id, is_write_draw, issued_count, all_issued, issued_among, has_rounds, group_of, group_count, group_index, is_full, is_settled, is_closed, no_issue_flies, is_open, waits_for_round, rounds_closed, nothing_flies_of, nothing_flies_in, pass_finished, clone_finished, is_current}
 use Rattle.jr_model.specs.PlanFacts.{IsPlanned}
 use Rattle.jr_laws_steps.proofs.PlaceLemmas.{item_at, all_from, first_fails, any_found, any_at, none_given, got_ranged, ranged_at, got_made, made_at}
@@ -36,7 +36,7 @@ pub record IsStuck (plan : Plan) (history : List Event) (worker : ℕ) (pass : P
 module _ (plan : Plan) (history : List Event) (worker : ℕ) (pass : Pass) (stuck : IsStuck plan history worker pass) where
   no_step : (k : ℕ) (draw : Draw) → slice_get pass.draws k ≡ Some draw → (may_take_up history pass draw ≡ false) × (may_issue plan history pass draw ≡ false)
   no_step k draw at =
-      neither_step (may_take_up history pass draw) (may_issue plan history pass draw) (check_or_skip history worker pass draw) (Issue worker draw.dir (write_id pass draw) draw.piece) (stuck.none k draw at)
+      neither_step (may_take_up history pass draw) (may_issue plan history pass draw) (check_or_skip history worker pass draw) (Issue worker (issued_as pass.job draw.dir) (write_id pass draw) draw.piece) (stuck.none k draw at)
 
   -- a write of an open round may be taken up where it isn't settled
   may_take : (g : ℕ) (draw : Draw) → has_rounds pass.job ≡ true → is_full history pass g ≡ true → is_closed history pass g ≡ false → is_write_draw draw ≡ true → group_index pass draw.number ≡ g → is_settled history (write_id pass draw) ≡ false → may_take_up history pass draw ≡ true

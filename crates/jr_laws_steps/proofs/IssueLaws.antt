@@ -4,16 +4,16 @@ use Rattle.std.specs.Prelude.{Option, Some, None, slice_get, ◌==◌}
 use Rattle.std.proofs.lemmas.Bool.{and_parts, eqb-true, cases_Bool}
 use Rattle.std.proofs.lemmas.List.Sums.{sum_by_push}
 use Rattle.std.proofs.lemmas.Option.{slice_get_within}
-use Rattle.jr_model.specs.declared.blocks.Dir.{Dir}
 use Rattle.jr_model.specs.declared.blocks.Piece.{Piece}
 use Rattle.jr_model.specs.declared.events.Event.{Event}
 use Rattle.jr_model.specs.declared.events.Event.TheVariants.{Issue, Probe, Skip, End, Verdict}
+use Rattle.jr_model.specs.declared.events.IssueKind.{IssueKind}
 use Rattle.jr_model.specs.declared.events.WriteId.{WriteId}
 use Rattle.jr_model.specs.declared.workloads.Draw.{Draw}
 use Rattle.jr_model.specs.Draws.{fresh_progress, draws_of_job}
 use Rattle.jr_model.specs.LastWrite.{is_intact}
 use Rattle.jr_model.specs.Legal.{is_halted, phase_is_open, has_room, is_clear, may_issue, may_take_up, step_of_draw, step_of_clone, is_this_issue, may_happen, legal_after, is_legal}
-use Rattle.jr_model.specs.Plan.{Plan, SubJob, IsNumbered, clone_of}
+use Rattle.jr_model.specs.Plan.{Plan, SubJob, IsNumbered, clone_of, issued_as}
 use Rattle.jr_model.specs.Rounds.{Pass, pass_of, write_id, is_write_draw, issues_of, issued_count, is_current, waits_for_round}
 use Rattle.jr_model.specs.Words.{pass_words}
 use Rattle.jr_model.proofs.LegalLaws.{number-draws_from}
@@ -41,17 +41,17 @@ issued_in_order plan history pass draw h =
     eqb-true draw.number (issued_count history pass) (and_parts counted going two.0).0
 
 -- a step that is an issue is one that may be issued
-issue_may : (takes may intact : Bool) (worker : ℕ) (d dir : Dir) (w write : WriteId) (p piece : Piece) → is_this_issue dir write piece (cond takes (Some (cond intact (Probe worker w p) (Skip worker w))) (cond may (Some (Issue worker d w p)) None)) ≡ true → may ≡ true
+issue_may : (takes may intact : Bool) (worker : ℕ) (d dir : IssueKind) (w write : WriteId) (p piece : Piece) → is_this_issue dir write piece (cond takes (Some (cond intact (Probe worker w p) (Skip worker w))) (cond may (Some (Issue worker d w p)) None)) ≡ true → may ≡ true
 issue_may true may true worker d dir w write p piece h = cc
 issue_may true may false worker d dir w write p piece h = cc
 issue_may false true intact worker d dir w write p piece h = refl
 issue_may false false intact worker d dir w write p piece h = cc
 
 -- the draw that an event issues is one of the pass, so fewer were issued before
-issue_within : (plan : Plan) (history : List Event) (worker k : ℕ) (dir : Dir) (write : WriteId) (piece : Piece) (pass : Pass) (o : Option Draw) → AreNumbered 0 pass.draws → slice_get pass.draws k ≡ o → is_this_issue dir write piece (step_of_draw plan history worker pass o) ≡ true → issued_count history pass < length pass.draws
+issue_within : (plan : Plan) (history : List Event) (worker k : ℕ) (dir : IssueKind) (write : WriteId) (piece : Piece) (pass : Pass) (o : Option Draw) → AreNumbered 0 pass.draws → slice_get pass.draws k ≡ o → is_this_issue dir write piece (step_of_draw plan history worker pass o) ≡ true → issued_count history pass < length pass.draws
 issue_within plan history worker k dir write piece pass None numbered at h = cc
 issue_within plan history worker k dir write piece pass (Some draw) numbered at h =
-    let may = issue_may (may_take_up history pass draw) (may_issue plan history pass draw) (is_intact history (write_id pass draw) draw.piece) worker draw.dir dir (write_id pass draw) write draw.piece piece h in
+    let may = issue_may (may_take_up history pass draw) (may_issue plan history pass draw) (is_intact history (write_id pass draw) draw.piece) worker (issued_as pass.job draw.dir) dir (write_id pass draw) write draw.piece piece h in
     let next = issued_in_order plan history pass draw may in
     let number = numbered k draw at in
     let within = slice_get_within pass.draws k draw at in

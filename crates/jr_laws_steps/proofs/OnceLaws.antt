@@ -5,11 +5,11 @@ use Rattle.std.specs.List.{list_any, AllPairs}
 use Rattle.std.proofs.lemmas.Bool.{and_parts, and_from, or_left, or_right, eq-eqb, eqb-true, lt-ltb, ltb-true, cases_order, false_from_ne_true, false≢true, not-true, both_ways}
 use Rattle.std.proofs.lemmas.List.Sums.{sum_by-append, sum_by-cons}
 use Rattle.std.proofs.lemmas.Option.{slice_get_within, get_or_from_slice_get}
-use Rattle.jr_model.specs.declared.blocks.Dir.{Dir}
-use Rattle.jr_model.specs.declared.blocks.Dir.TheVariants as direction
 use Rattle.jr_model.specs.declared.blocks.Piece.{Piece}
 use Rattle.jr_model.specs.declared.events.Event.{Event}
 use Rattle.jr_model.specs.declared.events.Event.TheVariants.{Issue, Probe, Skip, End, Verdict}
+use Rattle.jr_model.specs.declared.events.IssueKind.{IssueKind}
+use Rattle.jr_model.specs.declared.events.IssueKind.TheVariants as issue
 use Rattle.jr_model.specs.declared.events.Started.{Started}
 use Rattle.jr_model.specs.declared.events.WriteId.{WriteId}
 use Rattle.jr_model.specs.declared.tickets.TicketKind.TheVariants as ticket
@@ -43,7 +43,7 @@ issued_count-from before after e pass issues =
     omega (arith, all, rest, one)
 
 -- a draw that is issued is below those issued so far
-issue_is_counted : (plan : Plan) (before after : List Event) (worker : ℕ) (dir : Dir) (write : WriteId) (piece : Piece) (job : SubJob)
+issue_is_counted : (plan : Plan) (before after : List Event) (worker : ℕ) (dir : IssueKind) (write : WriteId) (piece : Piece) (job : SubJob)
     → MayIssue plan before dir write piece
     → clone_of plan write.clone ≡ Some job
     → write.number < issued_count (before ++ Issue worker dir write piece ∷ after) (pass_of job write.pass)
@@ -94,9 +94,10 @@ is_counted plan history i a job legal at issued planned =
     (counted_by plan was.moment.before was.moment.after was.moment.event a job was.may was.moment.starts issued planned)
 
 -- an issue is no check
-issue_is_no_probe : (d : Dir) → is_probe (kind_for d) ≡ false
-issue_is_no_probe direction.Read = refl
-issue_is_no_probe direction.Write = refl
+issue_is_no_probe : (d : IssueKind) → is_probe (kind_for d) ≡ false
+issue_is_no_probe issue.Read = refl
+issue_is_no_probe issue.Write = refl
+issue_is_no_probe issue.ReadCheck = refl
 
 -- an event that starts a check of a write takes it up
 taken_by : (e : Event) (a : Started) → started_by e ≡ Some a → is_probe a.kind ≡ true → takes_up a.write e ≡ true

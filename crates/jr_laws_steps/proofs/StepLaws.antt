@@ -1,21 +1,20 @@
 -- What an event that may happen says of the draw that it names.
-use Rattle.std.proofs.Common.{◌≡◌, ℕ, List, Bool, true, false, cond, ◌&&◌, refl, ◌∙◌, ap}
-use Rattle.std.specs.Prelude.{Option, Some, None, slice_get, ◌==◌}
-use Rattle.std.proofs.lemmas.Bool.{and_parts, eqb-true, false≢true}
-use Rattle.jr_model.specs.declared.blocks.Dir.{Dir}
-use Rattle.jr_model.specs.declared.blocks.Dir.TheVariants as direction
+use Rattle.std.proofs.Common.{◌≡◌, ℕ, List, Bool, true, false, cond, ◌&&◌, refl}
+use Rattle.std.specs.Prelude.{Option, Some, None, slice_get}
+use Rattle.std.proofs.lemmas.Bool.{and_parts, false≢true}
 use Rattle.jr_model.specs.declared.blocks.Piece.{Piece}
 use Rattle.jr_model.specs.declared.events.Event.{Event}
 use Rattle.jr_model.specs.declared.events.Event.TheVariants.{Issue, Probe, Skip}
+use Rattle.jr_model.specs.declared.events.IssueKind.{IssueKind}
 use Rattle.jr_model.specs.declared.events.WriteId.{WriteId}
 use Rattle.jr_model.specs.declared.workloads.Draw.{Draw}
 use Rattle.jr_model.specs.Draws.{draws_of_job}
 use Rattle.jr_model.specs.History.{same_write, same_piece}
 use Rattle.jr_model.specs.LastWrite.{is_intact}
-use Rattle.jr_model.specs.Legal.{may_happen, may_take_up, may_issue, step_of_draw, step_of_clone, same_dir, is_this_issue, is_this_probe, is_this_skip}
-use Rattle.jr_model.specs.Plan.{Plan, SubJob, clone_of}
+use Rattle.jr_model.specs.Legal.{may_happen, may_take_up, may_issue, step_of_draw, step_of_clone, same_issue, is_this_issue, is_this_probe, is_this_skip}
+use Rattle.jr_model.specs.Plan.{Plan, SubJob, clone_of, issued_as}
 use Rattle.jr_model.specs.Rounds.{pass_of, write_id}
-use Rattle.jr_model.proofs.Equality.{eq_piece, eq_write, eq_dir}
+use Rattle.jr_model.proofs.Equality.{eq_piece, eq_write, eq_issue}
 
 -- equal by test
 -- the draw of a planned clone that has this name
@@ -25,12 +24,12 @@ pub record IsNamed (plan : Plan) (write : WriteId) (job : SubJob) (draw : Draw) 
   pub name : write_id (pass_of job write.pass) draw ≡ write
 
 -- the draw that is issued, and that it may be
-pub record MayIssue (plan : Plan) (history : List Event) (dir : Dir) (write : WriteId) (piece : Piece) : Type 0 where
+pub record MayIssue (plan : Plan) (history : List Event) (dir : IssueKind) (write : WriteId) (piece : Piece) : Type 0 where
   pub job : SubJob
   pub draw : Draw
   pub named : IsNamed plan write job draw
   pub may : may_issue plan history (pass_of job write.pass) draw ≡ true
-  pub same_way : draw.dir ≡ dir
+  pub same_way : issued_as job draw.dir ≡ dir
   pub same_place : draw.piece ≡ piece
 
 -- the draw that is checked or skipped, and that it may be
@@ -40,15 +39,15 @@ pub record MayTakeUp (plan : Plan) (history : List Event) (write : WriteId) : Ty
   pub named : IsNamed plan write job draw
   pub may : may_take_up history (pass_of job write.pass) draw ≡ true
 
-issue_conds : (checks intact issues : Bool) (worker : ℕ) (d dir : Dir) (w write : WriteId) (p piece : Piece)
+issue_conds : (checks intact issues : Bool) (worker : ℕ) (d dir : IssueKind) (w write : WriteId) (p piece : Piece)
     → is_this_issue dir write piece (cond checks (Some (cond intact (Probe worker w p) (Skip worker w))) (cond issues (Some (Issue worker d w p)) None)) ≡ true
-    → (issues ≡ true) × ((same_dir d dir && same_write w write && same_piece p piece) ≡ true)
+    → (issues ≡ true) × ((same_issue d dir && same_write w write && same_piece p piece) ≡ true)
 issue_conds true true issues worker d dir w write p piece h = absurd (false≢true h)
 issue_conds true false issues worker d dir w write p piece h = absurd (false≢true h)
 issue_conds false intact true worker d dir w write p piece h = (refl, h)
 issue_conds false intact false worker d dir w write p piece h = absurd (false≢true h)
 
-probe_conds : (checks intact issues : Bool) (worker : ℕ) (d : Dir) (w write : WriteId) (p piece : Piece)
+probe_conds : (checks intact issues : Bool) (worker : ℕ) (d : IssueKind) (w write : WriteId) (p piece : Piece)
     → is_this_probe write piece (cond checks (Some (cond intact (Probe worker w p) (Skip worker w))) (cond issues (Some (Issue worker d w p)) None)) ≡ true
     → (checks ≡ true) × ((same_write w write && same_piece p piece) ≡ true)
 probe_conds true true issues worker d w write p piece h = (refl, h)
@@ -56,7 +55,7 @@ probe_conds true false issues worker d w write p piece h = absurd (false≢true 
 probe_conds false intact true worker d w write p piece h = absurd (false≢true h)
 probe_conds false intact false worker d w write p piece h = absurd (false≢true h)
 
-skip_conds : (checks intact issues : Bool) (worker : ℕ) (d : Dir) (w write : WriteId) (p : Piece)
+skip_conds : (checks intact issues : Bool) (worker : ℕ) (d : IssueKind) (w write : WriteId) (p : Piece)
     → is_this_skip write (cond checks (Some (cond intact (Probe worker w p) (Skip worker w))) (cond issues (Some (Issue worker d w p)) None)) ≡ true
     → (checks ≡ true) × (same_write w write ≡ true)
 skip_conds true true issues worker d w write p h = absurd (false≢true h)
@@ -65,7 +64,7 @@ skip_conds false intact true worker d w write p h = absurd (false≢true h)
 skip_conds false intact false worker d w write p h = absurd (false≢true h)
 
 module _ (plan : Plan) (history : List Event) (worker : ℕ) (write : WriteId) where
-  issue_draw : (dir : Dir) (piece : Piece) (job : SubJob) (o : Option Draw)
+  issue_draw : (dir : IssueKind) (piece : Piece) (job : SubJob) (o : Option Draw)
       → clone_of plan write.clone ≡ Some job
       → slice_get (draws_of_job job write.pass) write.number ≡ o
       → is_this_issue dir write piece (step_of_draw plan history worker (pass_of job write.pass) o) ≡ true
@@ -74,15 +73,15 @@ module _ (plan : Plan) (history : List Event) (worker : ℕ) (write : WriteId) w
   issue_draw dir piece job (Some draw) planned drawn h =
       let pass = pass_of job write.pass in
       let w = write_id pass draw in
-      let found = issue_conds (may_take_up history pass draw) (is_intact history w draw.piece) (may_issue plan history pass draw) worker draw.dir dir w write draw.piece piece h in
-      let same = and_parts (same_dir draw.dir dir && same_write w write) (same_piece draw.piece piece) found.1 in
-      let front = and_parts (same_dir draw.dir dir) (same_write w write) same.0 in
+      let found = issue_conds (may_take_up history pass draw) (is_intact history w draw.piece) (may_issue plan history pass draw) worker (issued_as job draw.dir) dir w write draw.piece piece h in
+      let same = and_parts (same_issue (issued_as job draw.dir) dir && same_write w write) (same_piece draw.piece piece) found.1 in
+      let front = and_parts (same_issue (issued_as job draw.dir) dir) (same_write w write) same.0 in
       record {
         job = job;
         draw = draw;
         named = record { planned = planned; drawn = drawn; name = eq_write w write front.1 };
         may = found.0;
-        same_way = eq_dir draw.dir dir front.0;
+        same_way = eq_issue (issued_as job draw.dir) dir front.0;
         same_place = eq_piece draw.piece piece same.1;
       }
 
@@ -95,7 +94,7 @@ module _ (plan : Plan) (history : List Event) (worker : ℕ) (write : WriteId) w
   probe_draw piece job (Some draw) planned drawn h =
       let pass = pass_of job write.pass in
       let w = write_id pass draw in
-      let found = probe_conds (may_take_up history pass draw) (is_intact history w draw.piece) (may_issue plan history pass draw) worker draw.dir w write draw.piece piece h in
+      let found = probe_conds (may_take_up history pass draw) (is_intact history w draw.piece) (may_issue plan history pass draw) worker (issued_as job draw.dir) w write draw.piece piece h in
       let same = and_parts (same_write w write) (same_piece draw.piece piece) found.1 in (
         record {
           job = job;
@@ -115,7 +114,7 @@ module _ (plan : Plan) (history : List Event) (worker : ℕ) (write : WriteId) w
   skip_draw job (Some draw) planned drawn h =
       let pass = pass_of job write.pass in
       let w = write_id pass draw in
-      let found = skip_conds (may_take_up history pass draw) (is_intact history w draw.piece) (may_issue plan history pass draw) worker draw.dir w write draw.piece h in
+      let found = skip_conds (may_take_up history pass draw) (is_intact history w draw.piece) (may_issue plan history pass draw) worker (issued_as job draw.dir) w write draw.piece h in
       record {
         job = job;
         draw = draw;
@@ -123,7 +122,7 @@ module _ (plan : Plan) (history : List Event) (worker : ℕ) (write : WriteId) w
         may = found.0;
       }
 
-  issue_clone : (dir : Dir) (piece : Piece) (o : Option SubJob)
+  issue_clone : (dir : IssueKind) (piece : Piece) (o : Option SubJob)
       → clone_of plan write.clone ≡ o
       → is_this_issue dir write piece (step_of_clone plan history worker write o) ≡ true
       → MayIssue plan history dir write piece
@@ -148,7 +147,7 @@ module _ (plan : Plan) (history : List Event) (worker : ℕ) (write : WriteId) w
       skip_draw job (slice_get (draws_of_job job write.pass) write.number) planned refl h
 
 -- an issue that may happen is that of a draw that may be issued
-pub may_issue_of : (plan : Plan) (history : List Event) (worker : ℕ) (dir : Dir) (write : WriteId) (piece : Piece) → may_happen plan history (Issue worker dir write piece) ≡ true → MayIssue plan history dir write piece
+pub may_issue_of : (plan : Plan) (history : List Event) (worker : ℕ) (dir : IssueKind) (write : WriteId) (piece : Piece) → may_happen plan history (Issue worker dir write piece) ≡ true → MayIssue plan history dir write piece
 may_issue_of plan history worker dir write piece may =
     issue_clone plan history worker write dir piece (clone_of plan write.clone) refl may
 

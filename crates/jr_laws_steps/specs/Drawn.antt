@@ -1,5 +1,5 @@
 -- Believed: what was started is what was drawn.
-use Rattle.std.specs.Prelude.{◌≡◌, ◌<◌, ◌≤◌, ℕ, Bool, true, false, List, length, Some, slice_get}
+use Rattle.std.specs.Prelude.{◌≡◌, ◌<◌, ◌≤◌, ℕ, Bool, true, false, not, List, length, Some, slice_get}
 use Rattle.jr_model.specs.declared.blocks.Dir.{Dir}
 use Rattle.jr_model.specs.declared.blocks.Dir.TheVariants as direction
 use Rattle.jr_model.specs.declared.events.Event.{Event}
@@ -8,23 +8,26 @@ use Rattle.jr_model.specs.declared.tickets.TicketKind.{TicketKind}
 use Rattle.jr_model.specs.declared.tickets.TicketKind.TheVariants as ticket
 use Rattle.jr_model.specs.declared.workloads.Draw.{Draw}
 use Rattle.jr_model.specs.Draws.{draws_of_job}
-use Rattle.jr_model.specs.History.{started, is_probe, same_write}
+use Rattle.jr_model.specs.History.{started, is_judged_kind, is_probe, same_write}
 use Rattle.jr_model.specs.Legal.{is_legal}
 use Rattle.jr_model.specs.Pieces.{piece_end, pieces_overlap}
-use Rattle.jr_model.specs.Plan.{Plan, SubJob, FileSpec, clone_of, is_verified}
+use Rattle.jr_model.specs.Plan.{Plan, SubJob, FileSpec, clone_of, checks_reads, is_verified}
 use Rattle.jr_model.specs.Rounds.{has_rounds}
 use Rattle.jr_model.specs.Tickets.{piece_fits, has_pattern, interval_fits}
 use Rattle.jr_model.specs.PlanFacts.{IsPlanned}
 use Rattle.jr_laws_draws.specs.PassLaw.{is_mapped}
 
--- an I/O of this kind may be started for a draw of this direction; only writes of verified clones are checked
+-- an I/O of this kind may be started for a draw of this direction; only writes of verified clones are checked, and reads are
+-- where the clone checks its reads
 abbrev pub is_kind_of : TicketKind → Dir → SubJob → Bool
-is_kind_of ticket.Read direction.Read job = true
+is_kind_of ticket.Read direction.Read job = not (checks_reads job)
 is_kind_of ticket.Read direction.Write job = false
 is_kind_of ticket.Write direction.Write job = true
 is_kind_of ticket.Write direction.Read job = false
 is_kind_of ticket.Probe direction.Write job = has_rounds job
 is_kind_of ticket.Probe direction.Read job = false
+is_kind_of ticket.ReadCheck direction.Read job = checks_reads job
+is_kind_of ticket.ReadCheck direction.Write job = false
 
 -- it was started for this draw of a planned clone
 pub record IsDrawn (plan : Plan) (io : Started) (job : SubJob) (draw : Draw) : Type 0 where
@@ -51,7 +54,7 @@ pub record FitsPlan (plan : Plan) (io : Started) (job : SubJob) : Type 0 where
   pub pass : io.write.pass < 1000
   pub pattern : has_pattern job.method.kind job.method.pattern ≡ true
   pub interval : interval_fits job.method.kind job.method.interval io.piece.len ≡ true
-  pub verified : is_probe io.kind ≡ true → is_verified job.method.kind ≡ true
+  pub verified : is_judged_kind io.kind ≡ true → is_verified job.method.kind ≡ true
   pub file : io.piece.file < length plan.files
   pub bounds : (spec : FileSpec) → slice_get plan.files io.piece.file ≡ Some spec → (spec.low ≤ io.piece.offset) × (piece_end io.piece ≤ spec.high)
 

@@ -1,16 +1,16 @@
 -- Equal by test is equal, and the order of writes is a total one that tells them apart.
-use Rattle.std.proofs.Common.{◌≡◌, ℕ, ◌==◌, Bool, true, ◌&&◌, refl, ap, sym, ◌∙◌, arith}
+use Rattle.std.proofs.Common.{◌≡◌, ℕ, ◌==◌, true, ◌&&◌, refl, ap, ◌∙◌, arith}
 use Rattle.std.proofs.lemmas.Bool.{and_parts, eqb-true}
 use Rattle.std.proofs.lemmas.Bool.Decides.{nat_tests}
 use Rattle.std.proofs.lemmas.Cmp.{nat_cmp_total, on_total, then_total}
 use Rattle.std.specs.BTreeMap.{is_at}
 use Rattle.std.specs.Cmp.{IsTotalOrder}
-use Rattle.jr_model.specs.declared.blocks.Dir.{Dir}
-use Rattle.jr_model.specs.declared.blocks.Dir.TheVariants as direction
 use Rattle.jr_model.specs.declared.blocks.Piece.{Piece}
+use Rattle.jr_model.specs.declared.events.IssueKind.{IssueKind}
+use Rattle.jr_model.specs.declared.events.IssueKind.TheVariants as issue
 use Rattle.jr_model.specs.declared.events.WriteId.{WriteId}
 use Rattle.jr_model.specs.History.{same_piece, same_write, write_order}
-use Rattle.jr_model.specs.Legal.{same_dir}
+use Rattle.jr_model.specs.Legal.{same_issue}
 
 pub eq_write : (a b : WriteId) → same_write a b ≡ true → a ≡ b
 eq_write a b h =
@@ -30,11 +30,16 @@ eq_piece a b h =
     ∙ ap (λ (o : ℕ). made b.file o a.len) (eqb-true a.offset b.offset front.1)
     ∙ ap (made b.file b.offset) (eqb-true a.len b.len parts.1)
 
-pub eq_dir : (a b : Dir) → same_dir a b ≡ true → a ≡ b
-eq_dir direction.Read direction.Read h = refl
-eq_dir direction.Read direction.Write h = cc
-eq_dir direction.Write direction.Read h = cc
-eq_dir direction.Write direction.Write h = refl
+pub eq_issue : (a b : IssueKind) → same_issue a b ≡ true → a ≡ b
+eq_issue issue.Read issue.Read h = refl
+eq_issue issue.Write issue.Write h = refl
+eq_issue issue.ReadCheck issue.ReadCheck h = refl
+eq_issue issue.Read issue.Write h = cc
+eq_issue issue.Read issue.ReadCheck h = cc
+eq_issue issue.Write issue.Read h = cc
+eq_issue issue.Write issue.ReadCheck h = cc
+eq_issue issue.ReadCheck issue.Read h = cc
+eq_issue issue.ReadCheck issue.Write h = cc
 
 pub write_order_total : IsTotalOrder write_order
 write_order_total =

@@ -3,11 +3,11 @@ use Rattle.std.specs.Prelude.{◌≡◌, ℕ, ◌-◌, ◌*◌, ◌^◌, List, [
 use Rattle.std.specs.Fmt.{digits}
 use Rattle.rand_core.specs.Stream.{fill_bytes}
 use Rattle.rand_core.specs.Steps.{stream_of, word_bytes, u32_at}
-use Rattle.jr_model.specs.declared.blocks.Dir.TheVariants.{Write}
 use Rattle.jr_model.specs.declared.blocks.Piece.{Piece}
 use Rattle.jr_model.specs.declared.contents.VerifyKind.TheVariants as verify
 use Rattle.jr_model.specs.declared.events.Event.{Event}
 use Rattle.jr_model.specs.declared.events.Event.TheVariants.{Issue, Probe, Skip, End, Verdict}
+use Rattle.jr_model.specs.declared.events.IssueKind.TheVariants.{Write}
 use Rattle.jr_model.specs.declared.events.Outcome.TheVariants.{Whole}
 use Rattle.jr_model.specs.declared.events.Part.TheVariants as part
 use Rattle.jr_model.specs.declared.events.Verdict.TheVariants.{Good, Bad}
@@ -84,7 +84,7 @@ quiet_two_checked = refl
 
 -- what starts something, in one letter
 abbrev pub letter : Event → Option ℕ
-letter (Issue worker dir write piece) = Some 73
+letter (Issue worker kind write piece) = Some 73
 letter (Probe worker write piece) = Some 80
 letter (Skip worker write) = Some 83
 letter (End worker io outcome) = None

@@ -4,11 +4,11 @@ use Rattle.std.specs.Prelude.{◌⊎◌, Option, Some, None, slice_get, ◌==◌
 use Rattle.std.specs.Option.{option_or}
 use Rattle.std.specs.List.{range_with_len, cons_option}
 use Rattle.std.proofs.lemmas.Bool.{and_parts, and_from, cases_cond, eq-eqb}
-use Rattle.jr_model.specs.declared.blocks.Dir.{Dir}
-use Rattle.jr_model.specs.declared.blocks.Dir.TheVariants.{Read, Write}
 use Rattle.jr_model.specs.declared.blocks.Piece.{Piece}
 use Rattle.jr_model.specs.declared.events.Event.{Event}
 use Rattle.jr_model.specs.declared.events.Event.TheVariants.{Issue, Probe, Skip, End, Verdict}
+use Rattle.jr_model.specs.declared.events.IssueKind.{IssueKind}
+use Rattle.jr_model.specs.declared.events.IssueKind.TheVariants as issue
 use Rattle.jr_model.specs.declared.events.Started.{Started}
 use Rattle.jr_model.specs.declared.events.WriteId.{WriteId}
 use Rattle.jr_model.specs.declared.workloads.Draw.{Draw}
@@ -16,8 +16,8 @@ use Rattle.jr_model.specs.Choice.{choice, choice_of_clone, choice_of_pass}
 use Rattle.jr_model.specs.Draws.{PassProgress, draws_from, draws_of_job, fresh_progress, pass_over, chosen_cells, draw_at, progress_after}
 use Rattle.jr_model.specs.History.{first_given, started, started_by, same_write, same_piece}
 use Rattle.jr_model.specs.LastWrite.{is_intact}
-use Rattle.jr_model.specs.Legal.{may_happen, may_take_up, may_issue, legal_after, is_legal, step_of, step_of_draw, step_of_clone, step_at, same_dir, is_this_issue, is_this_probe, is_this_skip}
-use Rattle.jr_model.specs.Plan.{Plan, SubJob, IsNumbered, clone_of}
+use Rattle.jr_model.specs.Legal.{may_happen, may_take_up, may_issue, legal_after, is_legal, step_of, step_of_draw, step_of_clone, step_at, same_issue, is_this_issue, is_this_probe, is_this_skip}
+use Rattle.jr_model.specs.Plan.{Plan, SubJob, IsNumbered, clone_of, issued_as}
 use Rattle.jr_model.specs.Rounds.{Pass, pass_of, passes_of, write_id}
 use Rattle.jr_model.specs.Words.{pass_words}
 
@@ -97,12 +97,13 @@ same_piece_refl p =
     (and_from (p.file == p.file) (p.offset == p.offset) (eq-eqb p.file p.file refl) (eq-eqb p.offset p.offset refl))
     (eq-eqb p.len p.len refl)
 
-pub same_dir_refl : (d : Dir) → same_dir d d ≡ true
-same_dir_refl Read = refl
-same_dir_refl Write = refl
+pub same_issue_refl : (kind : IssueKind) → same_issue kind kind ≡ true
+same_issue_refl issue.Read = refl
+same_issue_refl issue.Write = refl
+same_issue_refl issue.ReadCheck = refl
 
 -- a step of a draw is its check, its skip or its issue
-pub cases_step_of : (plan : Plan) (history : List Event) (worker : ℕ) (pass : Pass) (draw : Draw) (e : Event) → step_of plan history worker pass draw ≡ Some e → (e ≡ Probe worker (write_id pass draw) draw.piece) ⊎ ((e ≡ Skip worker (write_id pass draw)) ⊎ (e ≡ Issue worker draw.dir (write_id pass draw) draw.piece))
+pub cases_step_of : (plan : Plan) (history : List Event) (worker : ℕ) (pass : Pass) (draw : Draw) (e : Event) → step_of plan history worker pass draw ≡ Some e → (e ≡ Probe worker (write_id pass draw) draw.piece) ⊎ ((e ≡ Skip worker (write_id pass draw)) ⊎ (e ≡ Issue worker (issued_as pass.job draw.dir) (write_id pass draw) draw.piece))
 cases_step_of plan history worker pass draw e h =
     elim (two_conds (may_take_up history pass draw) (may_issue plan history pass draw) _ _ e h) [
       | inl checked ↦
@@ -141,9 +142,9 @@ step_may_happen plan history worker pass draw e h here =
                 (subst (λ (o : Option Event). is_this_skip w o ≡ true) (sym (here ∙ ap Some skip)) (same_write_refl w))
             | inr issue ↦
                 subst (λ (x : Event). may_happen plan history x ≡ true) (sym issue)
-                (subst (λ (o : Option Event). is_this_issue draw.dir w p o ≡ true) (sym (here ∙ ap Some issue))
-                (and_from (same_dir draw.dir draw.dir && same_write w w) (same_piece p p)
-                (and_from (same_dir draw.dir draw.dir) (same_write w w) (same_dir_refl draw.dir) (same_write_refl w))
+                (subst (λ (o : Option Event). is_this_issue (issued_as pass.job draw.dir) w p o ≡ true) (sym (here ∙ ap Some issue))
+                (and_from (same_issue (issued_as pass.job draw.dir) (issued_as pass.job draw.dir) && same_write w w) (same_piece p p)
+                (and_from (same_issue (issued_as pass.job draw.dir) (issued_as pass.job draw.dir)) (same_write w w) (same_issue_refl (issued_as pass.job draw.dir)) (same_write_refl w))
                 (same_piece_refl p)))
           ]
     ]
@@ -182,9 +183,9 @@ choice_may_happen plan history worker e numbered h =
     step_may_happen plan history worker (pass_of step.0 step.1) step.2 e step.3 step.4
 
 -- a step is of a clone that the plan has
-pub issue_is_planned : (plan : Plan) (history : List Event) (worker : ℕ) (dir : Dir) (write : WriteId) (piece : Piece) (job : Option SubJob) → is_this_issue dir write piece (step_of_clone plan history worker write job) ≡ true → (found : SubJob) × (job ≡ Some found)
-issue_is_planned plan history worker dir write piece None h = cc
-issue_is_planned plan history worker dir write piece (Some job) h = (job, refl)
+pub issue_is_planned : (plan : Plan) (history : List Event) (worker : ℕ) (kind : IssueKind) (write : WriteId) (piece : Piece) (job : Option SubJob) → is_this_issue kind write piece (step_of_clone plan history worker write job) ≡ true → (found : SubJob) × (job ≡ Some found)
+issue_is_planned plan history worker kind write piece None h = cc
+issue_is_planned plan history worker kind write piece (Some job) h = (job, refl)
 
 pub probe_is_planned : (plan : Plan) (history : List Event) (worker : ℕ) (write : WriteId) (piece : Piece) (job : Option SubJob) → is_this_probe write piece (step_of_clone plan history worker write job) ≡ true → (found : SubJob) × (job ≡ Some found)
 probe_is_planned plan history worker write piece None h = cc
@@ -192,8 +193,8 @@ probe_is_planned plan history worker write piece (Some job) h = (job, refl)
 
 -- what may be started is of a clone that the plan has
 pub starts_planned : (plan : Plan) (history : List Event) (e : Event) (io : Started) → may_happen plan history e ≡ true → started_by e ≡ Some io → (job : SubJob) × (clone_of plan io.write.clone ≡ Some job)
-starts_planned plan history (Issue worker dir write piece) io may starts =
-    let found = issue_is_planned plan history worker dir write piece (clone_of plan write.clone) may in
+starts_planned plan history (Issue worker kind write piece) io may starts =
+    let found = issue_is_planned plan history worker kind write piece (clone_of plan write.clone) may in
     let same : write ≡ io.write = cc in
     (found.0, ap (λ (w : WriteId). clone_of plan w.clone) (sym same) ∙ found.1)
 starts_planned plan history (Probe worker write piece) io may starts =

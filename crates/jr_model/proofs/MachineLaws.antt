@@ -1,9 +1,11 @@
 -- Every step of the machine keeps a legal history legal.
-use Rattle.std.proofs.Common.{◌≡◌, ℕ, zero, suc, ◌-◌, ◌<◌, ◌≤◌, List, [], ◌∷◌, ◌++◌, length, map, take, drop, replicate, Bool, true, false, cond, ◌&&◌, not, refl, sym, ◌∙◌, subst, arith, append_assoc, append-nil, length-append, length-take, length-drop}
+use Rattle.std.proofs.Common.{◌≡◌, ℕ, zero, suc, ◌-◌, ◌<◌, ◌≤◌, List, [], ◌∷◌, ◌++◌, length, map, take, drop, replicate, Bool, true, false, cond, ◌&&◌, not, refl, sym, ◌∙◌, ap, subst, arith, append_assoc, append-nil, length-append, length-take, length-drop, lit<}
 use Rattle.std.specs.List.{range_with_len}
-use Rattle.std.specs.Prelude.{◌+◌, ◌/◌, Option, Some, None, slice_get, slice_index, slice_range, bit_xor, nat_lt, ◌==◌, is_none}
+use Rattle.std.specs.Prelude.{◌+◌, ◌*◌, ◌%◌, ◌/◌, max, Option, Some, None, slice_get, slice_index, slice_range, bit_xor, nat_lt, ◌==◌, is_none}
 use Rattle.std.specs.Option.{option_map}
-use Rattle.std.proofs.lemmas.Bool.{and_parts, and_from, not_from_false, cond_both, cond-true, cond-false, eq-eqb, eqb-true, lt-ltb}
+use Rattle.std.proofs.Math.Nat.{div-mul-le_self, mul-le-mul_left, le-max_left, le-max_right}
+use Rattle.std.proofs.lemmas.Nat.{le-div}
+use Rattle.std.proofs.lemmas.Bool.{ltb-true, and_parts, and_from, not_from_false, cond_both, cond-true, cond-false, eq-eqb, eqb-true, lt-ltb}
 use Rattle.std.proofs.lemmas.List.{length-set, length-replicate}
 use Rattle.std.proofs.lemmas.List.Elements.{filter_map-append}
 use Rattle.jr_model.specs.declared.contents.VerifyKind.{VerifyKind}
@@ -21,7 +23,7 @@ use Rattle.jr_model.specs.declared.events.Verdict.TheVariants.{Good, Bad}
 use Rattle.jr_model.specs.declared.events.Part.{Part}
 use Rattle.jr_model.specs.declared.events.Part.TheVariants as part
 use Rattle.jr_model.specs.declared.events.What.{What}
-use Rattle.jr_model.specs.declared.events.What.TheVariants.{Header, Digest, DataArea, Chunk}
+use Rattle.jr_model.specs.declared.events.What.TheVariants.{Header, Digest, DataArea, Byte, Chunk}
 use Rattle.jr_model.specs.declared.events.WriteId.{WriteId}
 use Rattle.jr_model.specs.declared.replies.Reply.{Reply}
 use Rattle.jr_model.specs.declared.replies.Reply.TheVariants as reply
@@ -33,12 +35,12 @@ use Rattle.jr_model.specs.declared.steps.Step.TheVariants as step
 use Rattle.jr_model.specs.declared.tickets.TicketKind.{TicketKind}
 use Rattle.jr_model.specs.declared.tickets.TicketKind.TheVariants as ticket
 use Rattle.jr_model.specs.Choice.{choice}
-use Rattle.jr_model.specs.Content.{pattern_bytes, block_version, expected_of, expected_headers, expected_pattern, digest_of, header_of, chunks_in, chunk_header}
+use Rattle.jr_model.specs.Content.{pattern_bytes, block_version, chunk_version, magic, chunk_at, expected_of, expected_headers, expected_pattern, digest_of, header_of, chunks_in, chunk_header}
 use Rattle.jr_model.specs.Draws.{draws_of}
-use Rattle.jr_model.specs.History.{Started, started, started_by, flies, outcome_of, is_judged, is_probe, ended_whole}
-use Rattle.jr_model.specs.Judgement.{digest_in, first_difference, byte_verdict, verdict_of, header_verdict, same_bytes, in_chunk, first_bad, bytes_of_chunk, chunk_verdict}
-use Rattle.jr_model.specs.Legal.{is_legal, outcome_fits, end_fits, verdict_fits, is_header_finding, is_chunk_finding, digest_finds, kind_finds, kind_says, job_says}
-use Rattle.jr_model.specs.Machine.{State, Stepped, is_skip, choices_after, taken, take_answer, work_of, verdict_in_job, verdict_on, seed_of_draw, content_of_io, read_of, bytes_read, first_state, end_refusal, judge_refusal, is_judgeable, read_ends, ends_by, machine_end_by, machine_judge_by, machine_take, machine_step, machine_run}
+use Rattle.jr_model.specs.History.{Started, started, started_by, flies, outcome_of, is_judged, is_judged_kind, ended_whole}
+use Rattle.jr_model.specs.Judgement.{digest_in, first_difference, byte_verdict, verdict_of, header_verdict, same_bytes, in_chunk, first_bad, bytes_of_chunk, chunk_verdict, own_header, own_chunk_verdict, own_header_verdict, own_interval, cuts_whole, own_chunks_verdict, own_digest_verdict, own_verdict_of, pattern_verdict}
+use Rattle.jr_model.specs.Legal.{is_legal, outcome_fits, end_fits, verdict_fits, is_header_finding, is_chunk_finding, digest_finds, own_digest_finds, own_finds, own_says, kind_finds, kind_says, job_says, ticket_says}
+use Rattle.jr_model.specs.Machine.{expected_by, State, Stepped, is_skip, choices_after, taken, take_answer, work_of, verdict_in_job, verdict_on, seed_of_draw, content_of_io, read_of, bytes_read, first_state, end_refusal, judge_refusal, is_judgeable, read_ends, ends_by, machine_end_by, machine_judge_by, machine_take, machine_step, machine_run}
 use Rattle.jr_model.specs.Plan.{Plan, SubJob, IsNumbered, clone_of}
 use Rattle.jr_model.specs.Replies.{FileBytes, outcome_for, stored, stored_in, reply_to_read, reply_to_write}
 use Rattle.jr_model.proofs.LegalLaws.{is_legal-more, choice_may_happen, started_planned}
@@ -80,17 +82,28 @@ first_difference_within (x ∷ xs) [] i h = cc
 first_difference_within (x ∷ xs) (y ∷ ys) i h =
     within_cond (x == y) (first_difference xs ys) (length xs) i (λ (k : ℕ) (found : first_difference xs ys ≡ Some k). first_difference_within xs ys k found) h
 
-pub byte_fits : (o : Option ℕ) (interval len : ℕ) → ((i : ℕ) → o ≡ Some i → i < len) → kind_says verify.Pattern interval len (byte_verdict o) ≡ true
-byte_fits None interval len f = refl
-byte_fits (Some i) interval len f = lt-ltb i len (f i refl)
+-- what a verdict by a pattern can be
+pub byte_says : (P : GivenVerdict → Type 0) (o : Option ℕ) → P Good → ((i : ℕ) → o ≡ Some i → P (Bad (Byte i))) → P (byte_verdict o)
+byte_says P None good bad = good
+byte_says P (Some i) good bad = bad i refl
 
-pub pattern_fits : (pattern : Option (List ℕ)) (method : Method) (write : WriteId) (piece : Piece) (bytes : List ℕ) → length bytes ≤ piece.len → kind_says verify.Pattern method.interval piece.len (verdict_of method write piece (expected_pattern pattern) bytes) ≡ true
-pattern_fits None method write piece bytes h = refl
-pattern_fits (Some p) method write piece bytes h =
-    byte_fits (first_difference bytes (pattern_bytes p (length bytes))) method.interval piece.len
-    (λ (i : ℕ) (found : first_difference bytes (pattern_bytes p (length bytes)) ≡ Some i).
-    let below : i < length bytes = first_difference_within bytes (pattern_bytes p (length bytes)) i found in
-    omega (arith, below, h))
+pub repeated_says : (P : GivenVerdict → Type 0) (pattern bytes : List ℕ) (len : ℕ) → length bytes ≤ len → P Good → ((i : ℕ) → i < len → P (Bad (Byte i))) → P (byte_verdict (first_difference bytes (pattern_bytes pattern (length bytes))))
+repeated_says P pattern bytes len h good bad =
+    byte_says P (first_difference bytes (pattern_bytes pattern (length bytes))) good
+    (λ (i : ℕ) (found : first_difference bytes (pattern_bytes pattern (length bytes)) ≡ Some i).
+    let below : i < length bytes = first_difference_within bytes (pattern_bytes pattern (length bytes)) i found in
+    bad i (omega (arith, below, h)))
+
+pub pattern_says : (P : GivenVerdict → Type 0) (pattern : Option (List ℕ)) (bytes : List ℕ) (len : ℕ) → length bytes ≤ len → P Good → ((i : ℕ) → i < len → P (Bad (Byte i))) → P (pattern_verdict pattern bytes)
+pattern_says P None bytes len h good bad = good
+pattern_says P (Some p) bytes len h good bad = repeated_says P p bytes len h good bad
+
+pub pattern_fits : (pattern : Option (List ℕ)) (method : Method) (write : WriteId) (piece : Piece) (bytes : List ℕ) → method.kind ≡ verify.Pattern → length bytes ≤ piece.len → kind_says verify.Pattern method.interval piece.len (verdict_of method write piece (expected_pattern pattern) bytes) ≡ true
+pattern_fits None method write piece bytes same h =
+    ap (λ (kind : VerifyKind). kind_says verify.Pattern method.interval piece.len (own_verdict_of kind method.pattern piece bytes)) same
+    ∙ pattern_says (λ (v : GivenVerdict). kind_says verify.Pattern method.interval piece.len v ≡ true) method.pattern bytes piece.len h refl (λ i below. lt-ltb i piece.len below)
+pattern_fits (Some p) method write piece bytes same h =
+    repeated_says (λ (v : GivenVerdict). kind_says verify.Pattern method.interval piece.len v ≡ true) p bytes piece.len h refl (λ i below. lt-ltb i piece.len below)
 
 -- what a header's verdict can be
 pub header_says : (P : GivenVerdict → Type 0) (kind : VerifyKind) (header bytes : List ℕ) → P Good → P (Bad Header) → P (Bad Digest) → P (Bad DataArea) → P (header_verdict kind header bytes)
@@ -146,16 +159,67 @@ digest_fits kind method write piece seed bytes same =
         ∙ finds
 
 -- the verdict on no more bytes than the piece has is one that its kind can find
-pub verdict_of_fits : (kind : VerifyKind) (method : Method) (write : WriteId) (piece : Piece) (seed : ℕ) (bytes : List ℕ) → length bytes ≤ piece.len → kind_says kind method.interval piece.len (verdict_of method write piece (expected_of kind method write piece seed) bytes) ≡ true
-verdict_of_fits verify.Plain method write piece seed bytes h = refl
-verdict_of_fits verify.Pattern method write piece seed bytes h = pattern_fits method.pattern method write piece bytes h
-verdict_of_fits verify.Md5 method write piece seed bytes h = digest_fits verify.Md5 method write piece seed bytes (λ what. refl)
-verdict_of_fits verify.Sha1 method write piece seed bytes h = digest_fits verify.Sha1 method write piece seed bytes (λ what. refl)
-verdict_of_fits verify.Sha256 method write piece seed bytes h = digest_fits verify.Sha256 method write piece seed bytes (λ what. refl)
+verdict_fits_by : (kind : VerifyKind) (method : Method) (write : WriteId) (piece : Piece) (seed : ℕ) (bytes : List ℕ) → method.kind ≡ kind → length bytes ≤ piece.len → kind_says kind method.interval piece.len (verdict_of method write piece (expected_of kind method write piece seed) bytes) ≡ true
+verdict_fits_by verify.Plain method write piece seed bytes same h =
+    ap (λ (kind : VerifyKind). kind_says verify.Plain method.interval piece.len (own_verdict_of kind method.pattern piece bytes)) same
+verdict_fits_by verify.Pattern method write piece seed bytes same h = pattern_fits method.pattern method write piece bytes same h
+verdict_fits_by verify.Md5 method write piece seed bytes same h = digest_fits verify.Md5 method write piece seed bytes (λ what. refl)
+verdict_fits_by verify.Sha1 method write piece seed bytes same h = digest_fits verify.Sha1 method write piece seed bytes (λ what. refl)
+verdict_fits_by verify.Sha256 method write piece seed bytes same h = digest_fits verify.Sha256 method write piece seed bytes (λ what. refl)
 
-pub job_says_fits : (job : Option SubJob) (found : SubJob) (io : Started) (seed : ℕ) (bytes : List ℕ) → job ≡ Some found → length bytes ≤ io.piece.len → job_says job io.piece.len (verdict_in_job job io seed bytes) ≡ true
-job_says_fits None found io seed bytes planned h = cc
-job_says_fits (Some job) found io seed bytes planned h = verdict_of_fits job.method.kind job.method io.write io.piece seed bytes h
+pub verdict_of_fits : (method : Method) (write : WriteId) (piece : Piece) (seed : ℕ) (bytes : List ℕ) → length bytes ≤ piece.len → kind_says method.kind method.interval piece.len (verdict_of method write piece (expected_of method.kind method write piece seed) bytes) ≡ true
+verdict_of_fits method write piece seed bytes h = verdict_fits_by method.kind method write piece seed bytes refl h
+
+-- what bytes say of themselves is what a checked read may find
+
+-- a chunk of such an interval is one of the 512-byte blocks, by its number
+chunk_below : (interval len i : ℕ) → cuts_whole interval len ≡ true → i < len / interval → i < max 1 (len / 512)
+chunk_below interval len i cuts below =
+    let parts = and_parts (nat_lt 0 interval && (interval % 512 == 0)) (len % interval == 0) cuts in
+    let front = and_parts (nat_lt 0 interval) (interval % 512 == 0) parts.0 in
+    let some : 0 < interval = ltb-true 0 interval front.0 in
+    let sectors : interval % 512 ≡ 0 = eqb-true (interval % 512) 0 front.1 in
+    let least : 512 ≤ interval = omega (arith, some, sectors) in
+    let all : len / interval * interval ≤ len = div-mul-le_self len interval in
+    let each : len / interval * 512 ≤ len / interval * interval = mul-le-mul_left (len / interval) least in
+    let fewer : len / interval ≤ len / 512 = le-div (len / interval) len 512 (lit< tt) (omega (arith, all, each)) in
+    let most : len / 512 ≤ max 1 (len / 512) = le-max_right 1 (len / 512) in
+    omega (arith, below, fewer, most)
+
+own_digest_fits : (kind : VerifyKind) (piece : Piece) (bytes : List ℕ) → ((what : What) → own_finds kind piece.len what ≡ own_digest_finds piece.len what) → own_says kind piece.len (own_digest_verdict kind piece bytes) ≡ true
+own_digest_fits kind piece bytes same =
+    let interval = own_interval bytes in
+    cond_both (same_bytes (take 4 bytes) (magic chunk_version)) (own_chunks_verdict kind interval piece bytes) (own_header_verdict block_version kind piece bytes)
+    (λ (v : GivenVerdict). own_says kind piece.len v ≡ true)
+    (λ _. cond_both (cuts_whole interval piece.len) _ (Bad (Chunk 0 part.Header)) (λ (v : GivenVerdict). own_says kind piece.len v ≡ true)
+    (λ (cuts : cuts_whole interval piece.len ≡ true). first_of_says (λ (v : GivenVerdict). own_says kind piece.len v ≡ true) (own_chunk_verdict kind interval piece bytes) 0 (chunks_in interval piece) refl
+    (λ (i : ℕ) (below : i < 0 + chunks_in interval piece).
+    let inside : i < max 1 (piece.len / 512) = chunk_below interval piece.len i cuts (omega (arith, below)) in
+    header_says (λ (v : GivenVerdict). own_says kind piece.len (in_chunk i v) ≡ true) kind (own_header chunk_version kind (chunk_at interval piece i) (bytes_of_chunk interval i bytes)) (bytes_of_chunk interval i bytes)
+    refl (of_chunk i part.Header inside) (of_chunk i part.Digest inside) (of_chunk i part.DataArea inside)))
+    (λ _. of_chunk 0 part.Header (omega (arith, le-max_left 1 (piece.len / 512)))))
+    (λ _. header_says (λ (v : GivenVerdict). own_says kind piece.len v ≡ true) kind (own_header block_version kind piece bytes) bytes refl (same Header) (same Digest) (same DataArea))
+  where
+    of_chunk : (i : ℕ) (found : Part) → i < max 1 (piece.len / 512) → own_says kind piece.len (Bad (Chunk i found)) ≡ true
+    of_chunk i found inside = same (Chunk i found) ∙ lt-ltb i (max 1 (piece.len / 512)) inside
+
+pub own_verdict_fits : (kind : VerifyKind) (pattern : Option (List ℕ)) (piece : Piece) (bytes : List ℕ) → length bytes ≤ piece.len → own_says kind piece.len (own_verdict_of kind pattern piece bytes) ≡ true
+own_verdict_fits verify.Plain pattern piece bytes h = refl
+own_verdict_fits verify.Pattern pattern piece bytes h =
+    pattern_says (λ (v : GivenVerdict). own_says verify.Pattern piece.len v ≡ true) pattern bytes piece.len h refl (λ i below. lt-ltb i piece.len below)
+own_verdict_fits verify.Md5 pattern piece bytes h = own_digest_fits verify.Md5 piece bytes (λ what. refl)
+own_verdict_fits verify.Sha1 pattern piece bytes h = own_digest_fits verify.Sha1 piece bytes (λ what. refl)
+own_verdict_fits verify.Sha256 pattern piece bytes h = own_digest_fits verify.Sha256 piece bytes (λ what. refl)
+
+ticket_says_fits : (kind : TicketKind) (method : Method) (io : Started) (seed : ℕ) (bytes : List ℕ) → is_judged_kind kind ≡ true → length bytes ≤ io.piece.len → ticket_says kind method io.piece.len (verdict_of method io.write io.piece (expected_by kind method io seed) bytes) ≡ true
+ticket_says_fits ticket.Probe method io seed bytes judged h = verdict_of_fits method io.write io.piece seed bytes h
+ticket_says_fits ticket.ReadCheck method io seed bytes judged h = own_verdict_fits method.kind method.pattern io.piece bytes h
+ticket_says_fits ticket.Read method io seed bytes judged h = cc
+ticket_says_fits ticket.Write method io seed bytes judged h = cc
+
+pub job_says_fits : (job : Option SubJob) (found : SubJob) (io : Started) (seed : ℕ) (bytes : List ℕ) → job ≡ Some found → is_judged_kind io.kind ≡ true → length bytes ≤ io.piece.len → job_says job io.kind io.piece.len (verdict_in_job job io seed bytes) ≡ true
+job_says_fits None found io seed bytes planned judged h = cc
+job_says_fits (Some job) found io seed bytes planned judged h = ticket_says_fits io.kind job.method io seed bytes judged h
 
 -- what a read leaves in its buffer is no longer than its piece
 
@@ -257,6 +321,7 @@ sound_read plan s id reply io sound free at =
 pub sound_ends_by : (plan : Plan) (s : State) (id : ℕ) (reply : Reply) (kind : TicketKind) (io : Started) → IsSound plan s → end_refusal s id ≡ None → slice_get (started s.history) id ≡ Some io → IsSound plan (ends_by plan s id reply kind io)
 sound_ends_by plan s id reply ticket.Read io sound free at = sound_read plan s id reply io sound free at
 sound_ends_by plan s id reply ticket.Probe io sound free at = sound_read plan s id reply io sound free at
+sound_ends_by plan s id reply ticket.ReadCheck io sound free at = sound_read plan s id reply io sound free at
 sound_ends_by plan s id reply ticket.Write io sound free at =
     let given = reply_to_write reply (content_of_io plan io) in
     let outcome = outcome_for given.count io.piece.len in
@@ -285,16 +350,16 @@ sound_judge_by plan s by id None (Some io) sound free at =
     let verdict = verdict_on plan io bytes in
     let open_to = four_conds s.is_stopped (nat_lt id (length (started s.history))) (is_judged s.history id) (is_judgeable s.history id (slice_get (started s.history) id)) Stopped Twice WrongKind Stranger free in
     let planned = started_planned plan [] s.history id io sound.legal at in
-    let check = and_parts (is_probe io.kind) (ended_whole (outcome_of s.history id))
+    let check = and_parts (is_judged_kind io.kind) (ended_whole (outcome_of s.history id))
     (subst (λ (o : Option Started). is_judgeable s.history id o ≡ true) at open_to.1) in
     record {
       legal = is_legal-more plan s.history (Verdict by id verdict) sound.legal
           (and_from (ended_whole (outcome_of s.history id) && not (is_judged s.history id)) (verdict_fits plan verdict (slice_get (started s.history) id))
           (and_from (ended_whole (outcome_of s.history id)) (not (is_judged s.history id)) check.1 (not_from_false (is_judged s.history id) open_to.0))
           (subst (λ (o : Option Started). verdict_fits plan verdict o ≡ true) (sym at)
-          (and_from (is_probe io.kind) (job_says (clone_of plan io.write.clone) io.piece.len verdict) check.0
+          (and_from (is_judged_kind io.kind) (job_says (clone_of plan io.write.clone) io.kind io.piece.len verdict) check.0
           (job_says_fits (clone_of plan io.write.clone) planned.0 io
-          (seed_of_draw (slice_get (draws_of plan io.write.clone io.write.pass) io.write.number)) bytes planned.1
+          (seed_of_draw (slice_get (draws_of plan io.write.clone io.write.pass) io.write.number)) bytes planned.1 check.0
           (read_fits (started s.history) s.read_back id io sound.fits at)))));
       fits = fit_longer s.history (Verdict by id verdict ∷ []) s.read_back sound.fits;
     }

@@ -5,22 +5,27 @@ use Rattle.std.specs.Option.{option_or}
 use Rattle.std.specs.List.{list_any, cons_option}
 use Rattle.std.proofs.lemmas.Bool.{and_parts, and_from, eq-eqb, eqb-true, lt-ltb, ltb-true}
 use Rattle.std.proofs.lemmas.List.Elements.{filter_map-append}
-use Rattle.jr_model.specs.declared.blocks.Dir.{Dir}
 use Rattle.jr_model.specs.declared.blocks.Piece.{Piece}
 use Rattle.jr_model.specs.declared.events.Event.{Event}
 use Rattle.jr_model.specs.declared.events.Event.TheVariants.{Issue, Probe, Skip, End, Verdict}
+use Rattle.jr_model.specs.declared.events.IssueKind.{IssueKind}
+use Rattle.jr_model.specs.declared.events.IssueKind.TheVariants as issue
 use Rattle.jr_model.specs.declared.events.Outcome.{Outcome}
 use Rattle.jr_model.specs.declared.events.Outcome.TheVariants.{Whole, Failed, Short}
+use Rattle.jr_model.specs.declared.events.Verdict.{Verdict as GivenVerdict}
 use Rattle.jr_model.specs.declared.events.Verdict.TheVariants.{Good}
 use Rattle.jr_model.specs.declared.events.WriteId.{WriteId}
 use Rattle.jr_model.specs.declared.tickets.TicketKind.TheVariants as ticket
 use Rattle.jr_model.specs.Choice.{choice}
-use Rattle.jr_model.specs.History.{first_given, Started, started, started_by, kind_for, end_of, outcome_of, flies, is_verdict_on, is_judged, ended_whole, is_probe}
+use Rattle.jr_model.specs.History.{first_given, Started, started, started_by, end_of, outcome_of, flies, is_verdict_on, is_judged, ended_whole, is_judged_kind}
 use Rattle.jr_model.specs.Legal.{is_legal, may_happen, end_fits, verdict_fits, job_says}
-use Rattle.jr_model.specs.Plan.{Plan, SubJob, IsNumbered, clone_of}
-use Rattle.jr_model.specs.Serial.{carried_out, goes_on, serial_after, serial_history}
+use Rattle.jr_model.specs.Plan.{Plan, SubJob, IsNumbered, clone_of, issued_as}
+use Rattle.jr_model.specs.Serial.{carried_out, goes_on, memory_after, serial_after, serial_history, stored_for}
+use Rattle.jr_model.proofs.MachineLaws.{job_says_fits, range_short}
 use Rattle.jr_model.proofs.LegalLaws.{is_legal-more, choice_may_happen, choice_is_step, cases_step_of, starts_planned}
-use Rattle.jr_model.specs.Machine.{work_of}
+use Rattle.jr_model.specs.Machine.{seed_of_draw, verdict_on, work_of}
+use Rattle.jr_model.specs.Draws.{draws_of}
+use Rattle.jr_model.specs.Replies.{FileBytes}
 use Rattle.jr_model.specs.Rounds.{pass_of, write_id}
 
 -- an I/O that ended was started
@@ -64,7 +69,7 @@ cond_some false o p h = cc
 
 -- an event that ends an I/O may happen only while it flies
 pub end_was_started : (plan : Plan) (history : List Event) (e : Event) (io : ℕ) (o : Outcome) → may_happen plan history e ≡ true → option_or (end_of io e) None ≡ Some o → io < length (started history)
-end_was_started plan history (Issue worker dir write piece) io o may h = cc
+end_was_started plan history (Issue worker kind write piece) io o may h = cc
 end_was_started plan history (Probe worker write piece) io o may h = cc
 end_was_started plan history (Skip worker write) io o may h = cc
 end_was_started plan history (Verdict worker id verdict) io o may h = cc
@@ -94,7 +99,7 @@ whole_some (Some Failed) h = cc
 whole_some (Some (Short n)) h = cc
 
 pub judge_was_started : (plan : Plan) (history : List Event) (e : Event) (io : ℕ) → EndsWereStarted history → may_happen plan history e ≡ true → (is_verdict_on io e || false) ≡ true → io < length (started history)
-judge_was_started plan history (Issue worker dir write piece) io ends may h = cc
+judge_was_started plan history (Issue worker kind write piece) io ends may h = cc
 judge_was_started plan history (Probe worker write piece) io ends may h = cc
 judge_was_started plan history (Skip worker write) io ends may h = cc
 judge_was_started plan history (End worker id outcome) io ends may h = cc
@@ -204,63 +209,89 @@ module _ (plan : Plan) (history : List Event) (e : Event) (s : Started) (well : 
       (filter_map-append started_by (history ++ e ∷ []) (End 0 io Whole ∷ []) ∙ append-nil (started (history ++ e ∷ [])))
       ∙ started_last
 
-  may_be_good : is_probe s.kind ≡ true → may_happen plan history e ≡ true → may_happen plan ((history ++ e ∷ []) ++ End 0 (length (started history)) Whole ∷ []) (Verdict 0 (length (started history)) Good) ≡ true
-  may_be_good probe may =
-      let planned = starts_planned plan history e s may starts in
+  -- a verdict that may be said of it may follow
+  may_be_said : (said : GivenVerdict) → is_judged_kind s.kind ≡ true → job_says (clone_of plan s.write.clone) s.kind s.piece.len said ≡ true → may_happen plan ((history ++ e ∷ []) ++ End 0 (length (started history)) Whole ∷ []) (Verdict 0 (length (started history)) said) ≡ true
+  may_be_said said judged says =
       let io = length (started history) in
       let later = (history ++ e ∷ []) ++ End 0 io Whole ∷ [] in
-      and_from (ended_whole (outcome_of later io) && not (is_judged later io)) (verdict_fits plan Good (slice_get (started later) io))
+      and_from (ended_whole (outcome_of later io) && not (is_judged later io)) (verdict_fits plan said (slice_get (started later) io))
       (and_from (ended_whole (outcome_of later io)) (not (is_judged later io)) ended_whole_now (ap not not_judged_now))
-      (subst (λ (o : Option Started). verdict_fits plan Good o ≡ true) (sym started_then)
-      (and_from (is_probe s.kind) (job_says (clone_of plan s.write.clone) s.piece.len Good) probe (says_good (clone_of plan s.write.clone) planned.0 s.piece.len planned.1)))
-    where
-      says_good : (job : Option SubJob) (found : SubJob) (len : ℕ) → job ≡ Some found → job_says job len Good ≡ true
-      says_good None found len planned = cc
-      says_good (Some job) found len planned = refl
+      (subst (λ (o : Option Started). verdict_fits plan said o ≡ true) (sym started_then)
+      (and_from (is_judged_kind s.kind) (job_says (clone_of plan s.write.clone) s.kind s.piece.len said) judged says))
+
+  -- the event, its end, and a verdict that may be said of it
+  well_judged : (said : GivenVerdict) → s.worker ≡ 0 → may_happen plan history e ≡ true → is_judged_kind s.kind ≡ true → job_says (clone_of plan s.write.clone) s.kind s.piece.len said ≡ true → IsWell plan (history ++ e ∷ End 0 (length (started history)) Whole ∷ Verdict 0 (length (started history)) said ∷ [])
+  well_judged said worker may judged says =
+      let io = length (started history) in
+      subst (λ (all : List Event). IsWell plan all) (append_assoc history (e ∷ []) (End 0 io Whole ∷ Verdict 0 io said ∷ []))
+      (subst (λ (all : List Event). IsWell plan all) (append_assoc (history ++ e ∷ []) (End 0 io Whole ∷ []) (Verdict 0 io said ∷ []))
+      (well-more plan ((history ++ e ∷ []) ++ End 0 io Whole ∷ []) (Verdict 0 io said) (well_ended worker may) (may_be_said said judged says)))
+
+  -- the event and its end alone
+  well_unjudged : s.worker ≡ 0 → may_happen plan history e ≡ true → IsWell plan (history ++ e ∷ End 0 (length (started history)) Whole ∷ [])
+  well_unjudged worker may =
+      subst (λ (all : List Event). IsWell plan all) (append_assoc history (e ∷ []) (End 0 (length (started history)) Whole ∷ []))
+      (well_ended worker may)
+
+-- the bytes that a memory has of a piece are no more than the piece's
+pub stored_short : (memory : List FileBytes) (s : Started) → length (stored_for memory s) ≤ s.piece.len
+stored_short memory s = range_short (slice_get memory s.piece.file) s.piece.offset s.piece.len
+
+-- a check may be good
+says_good : (job : Option SubJob) (found : SubJob) (len : ℕ) → job ≡ Some found → job_says job ticket.Probe len Good ≡ true
+says_good None found len planned = cc
+says_good (Some job) found len planned = refl
+
+-- of a checked read may be said what its bytes say
+says_own : (plan : Plan) (s : Started) (found : SubJob) (bytes : List ℕ) → clone_of plan s.write.clone ≡ Some found → is_judged_kind s.kind ≡ true → length bytes ≤ s.piece.len → job_says (clone_of plan s.write.clone) s.kind s.piece.len (verdict_on plan s bytes) ≡ true
+says_own plan s found bytes planned judged short =
+    job_says_fits (clone_of plan s.write.clone) found s (seed_of_draw (slice_get (draws_of plan s.write.clone s.write.pass) s.write.number)) bytes planned judged short
 
 -- a choice that is carried out leaves a legal history
-pub well_issue : (plan : Plan) (history : List Event) (dir : Dir) (write : WriteId) (piece : Piece) → IsWell plan history → may_happen plan history (Issue 0 dir write piece) ≡ true → IsWell plan (history ++ carried_out (length (started history)) (Issue 0 dir write piece))
-well_issue plan history dir write piece well may =
-    let e = Issue 0 dir write piece in
-    let s : Started = record { worker = 0; kind = kind_for dir; write = write; piece = piece } in
-    subst (λ (all : List Event). IsWell plan all) (append_assoc history (e ∷ []) (End 0 (length (started history)) Whole ∷ []))
-    (well_ended plan history e s well refl refl refl refl may)
+pub well_issue : (plan : Plan) (history : List Event) (kind : IssueKind) (write : WriteId) (piece : Piece) → IsWell plan history → may_happen plan history (Issue 0 kind write piece) ≡ true → IsWell plan (history ++ carried_out plan history (Issue 0 kind write piece))
+well_issue plan history issue.Read write piece well may =
+    well_unjudged plan history (Issue 0 issue.Read write piece) (record { worker = 0; kind = ticket.Read; write = write; piece = piece }) well refl refl refl refl may
+well_issue plan history issue.Write write piece well may =
+    well_unjudged plan history (Issue 0 issue.Write write piece) (record { worker = 0; kind = ticket.Write; write = write; piece = piece }) well refl refl refl refl may
+well_issue plan history issue.ReadCheck write piece well may =
+    let e = Issue 0 issue.ReadCheck write piece in
+    let s : Started = record { worker = 0; kind = ticket.ReadCheck; write = write; piece = piece } in
+    let planned = starts_planned plan history e s may refl in
+    let bytes = stored_for (memory_after plan history) s in
+    well_judged plan history e s well refl refl refl (verdict_on plan s bytes) refl may refl
+    (says_own plan s planned.0 bytes planned.1 refl (stored_short (memory_after plan history) s))
 
-pub well_probe : (plan : Plan) (history : List Event) (write : WriteId) (piece : Piece) → IsWell plan history → may_happen plan history (Probe 0 write piece) ≡ true → IsWell plan (history ++ carried_out (length (started history)) (Probe 0 write piece))
+pub well_probe : (plan : Plan) (history : List Event) (write : WriteId) (piece : Piece) → IsWell plan history → may_happen plan history (Probe 0 write piece) ≡ true → IsWell plan (history ++ carried_out plan history (Probe 0 write piece))
 well_probe plan history write piece well may =
-    let io = length (started history) in
     let e = Probe 0 write piece in
     let s : Started = record { worker = 0; kind = ticket.Probe; write = write; piece = piece } in
-    let ended = well_ended plan history e s well refl refl refl refl may in
-    let judged = well-more plan ((history ++ e ∷ []) ++ End 0 io Whole ∷ []) (Verdict 0 io Good) ended (may_be_good plan history e s well refl refl refl refl may) in
-    subst (λ (all : List Event). IsWell plan all) (append_assoc history (e ∷ []) (End 0 io Whole ∷ Verdict 0 io Good ∷ []))
-    (subst (λ (all : List Event). IsWell plan all) (append_assoc (history ++ e ∷ []) (End 0 io Whole ∷ []) (Verdict 0 io Good ∷ [])) judged)
+    let planned = starts_planned plan history e s may refl in
+    well_judged plan history e s well refl refl refl Good refl may refl (says_good (clone_of plan write.clone) planned.0 piece.len planned.1)
 
-pub well_choice : (plan : Plan) (history : List Event) (e : Event) → IsNumbered plan → IsWell plan history → choice plan history 0 ≡ Some e → IsWell plan (history ++ carried_out (length (started history)) e)
+pub well_choice : (plan : Plan) (history : List Event) (e : Event) → IsNumbered plan → IsWell plan history → choice plan history 0 ≡ Some e → IsWell plan (history ++ carried_out plan history e)
 well_choice plan history e numbered well chosen =
-    let io = length (started history) in
     let may = choice_may_happen plan history 0 e numbered chosen in
     let step = choice_is_step plan history 0 e numbered chosen in
     let pass = pass_of step.0 step.1 in
     elim (cases_step_of plan history 0 pass step.2 e step.3) [
       | inl probe ↦
-          subst (λ (x : Event). IsWell plan (history ++ carried_out io x)) (sym probe)
+          subst (λ (x : Event). IsWell plan (history ++ carried_out plan history x)) (sym probe)
           (well_probe plan history (write_id pass step.2) step.2.piece well (subst (λ (x : Event). may_happen plan history x ≡ true) probe may))
       | inr other ↦
           elim other [
             | inl skip ↦
-                subst (λ (x : Event). IsWell plan (history ++ carried_out io x)) (sym skip)
+                subst (λ (x : Event). IsWell plan (history ++ carried_out plan history x)) (sym skip)
                 (well-more plan history (Skip 0 (write_id pass step.2)) well (subst (λ (x : Event). may_happen plan history x ≡ true) skip may))
-            | inr issue ↦
-                subst (λ (x : Event). IsWell plan (history ++ carried_out io x)) (sym issue)
-                (well_issue plan history step.2.dir (write_id pass step.2) step.2.piece well (subst (λ (x : Event). may_happen plan history x ≡ true) issue may))
+            | inr issued ↦
+                subst (λ (x : Event). IsWell plan (history ++ carried_out plan history x)) (sym issued)
+                (well_issue plan history (issued_as step.0 step.2.dir) (write_id pass step.2) step.2.piece well (subst (λ (x : Event). may_happen plan history x ≡ true) issued may))
           ]
     ]
 
-pub well_goes_on : (plan : Plan) (rest : List Event → List Event) (history : List Event) (o : Option Event) → ((longer : List Event) → IsWell plan longer → IsWell plan (rest longer)) → IsNumbered plan → IsWell plan history → choice plan history 0 ≡ o → IsWell plan (goes_on rest history o)
+pub well_goes_on : (plan : Plan) (rest : List Event → List Event) (history : List Event) (o : Option Event) → ((longer : List Event) → IsWell plan longer → IsWell plan (rest longer)) → IsNumbered plan → IsWell plan history → choice plan history 0 ≡ o → IsWell plan (goes_on plan rest history o)
 well_goes_on plan rest history None keeps numbered well chosen = well
 well_goes_on plan rest history (Some e) keeps numbered well chosen =
-    keeps (history ++ carried_out (length (started history)) e) (well_choice plan history e numbered well chosen)
+    keeps (history ++ carried_out plan history e) (well_choice plan history e numbered well chosen)
 
 pub well_serial : (limit : ℕ) (plan : Plan) (history : List Event) → IsNumbered plan → IsWell plan history → IsWell plan (serial_after limit plan history)
 well_serial zero plan history numbered well = well

@@ -5,26 +5,27 @@ use Rattle.std.specs.Option.{option_or}
 use Rattle.std.specs.List.{list_any, enumerate_from}
 use Rattle.std.specs.Ordering.{nat_cmp, ordering_then}
 use Rattle.std.specs.declared.cmp.Ordering.{Ordering}
-use Rattle.jr_model.specs.declared.blocks.Dir.{Dir}
-use Rattle.jr_model.specs.declared.blocks.Dir.TheVariants as direction
 use Rattle.jr_model.specs.declared.blocks.Piece.{Piece}
 use Rattle.jr_model.specs.declared.events.Event.{Event}
 use Rattle.jr_model.specs.declared.events.Event.TheVariants.{Issue, Probe, Skip, End, Verdict}
 use Rattle.jr_model.specs.declared.events.Outcome.{Outcome}
 use Rattle.jr_model.specs.declared.events.Outcome.TheVariants.{Whole, Failed, Short}
+use Rattle.jr_model.specs.declared.events.IssueKind.{IssueKind}
+use Rattle.jr_model.specs.declared.events.IssueKind.TheVariants as issue
 pub use Rattle.jr_model.specs.declared.events.Started.{Started}
 use Rattle.jr_model.specs.declared.events.WriteId.{WriteId}
 use Rattle.jr_model.specs.declared.tickets.TicketKind.{TicketKind}
 use Rattle.jr_model.specs.declared.tickets.TicketKind.TheVariants as ticket
 
--- the kind of ticket for a draw of this direction
-abbrev pub kind_for : Dir → TicketKind
-kind_for direction.Read = ticket.Read
-kind_for direction.Write = ticket.Write
+-- the kind of ticket for a draw that is issued so
+abbrev pub kind_for : IssueKind → TicketKind
+kind_for issue.Read = ticket.Read
+kind_for issue.Write = ticket.Write
+kind_for issue.ReadCheck = ticket.ReadCheck
 
 -- what an event starts
 abbrev pub started_by : Event → Option Started
-started_by (Issue worker dir write piece) = Some (record { worker = worker; kind = kind_for dir; write = write; piece = piece })
+started_by (Issue worker kind write piece) = Some (record { worker = worker; kind = kind_for kind; write = write; piece = piece })
 started_by (Probe worker write piece) = Some (record { worker = worker; kind = ticket.Probe; write = write; piece = piece })
 started_by (Skip worker write) = None
 started_by (End worker io outcome) = None
@@ -37,7 +38,7 @@ started history = filter_map started_by history
 -- how I/O io ended, where this event is its end
 abbrev pub end_of : ℕ → Event → Option Outcome
 end_of io (End worker id outcome) = if id == io then Some outcome else None
-end_of io (Issue worker dir write piece) = None
+end_of io (Issue worker kind write piece) = None
 end_of io (Probe worker write piece) = None
 end_of io (Skip worker write) = None
 end_of io (Verdict worker id verdict) = None
@@ -74,7 +75,7 @@ in_flight_of history c = filter (is_of_clone c) (in_flight history)
 -- the event is the verdict on check io
 abbrev pub is_verdict_on : ℕ → Event → Bool
 is_verdict_on io (Verdict worker id verdict) = id == io
-is_verdict_on io (Issue worker dir write piece) = false
+is_verdict_on io (Issue worker kind write piece) = false
 is_verdict_on io (Probe worker write piece) = false
 is_verdict_on io (Skip worker write) = false
 is_verdict_on io (End worker id outcome) = false
@@ -83,15 +84,25 @@ is_verdict_on io (End worker id outcome) = false
 abbrev pub is_judged : List Event → ℕ → Bool
 is_judged history io = list_any (is_verdict_on io) history
 
+-- it is the check of a write, which a round asks for
 abbrev pub is_probe : TicketKind → Bool
 is_probe ticket.Probe = true
 is_probe ticket.Read = false
 is_probe ticket.Write = false
+is_probe ticket.ReadCheck = false
+
+-- it gets a verdict, where it ends whole
+abbrev pub is_judged_kind : TicketKind → Bool
+is_judged_kind ticket.Probe = true
+is_judged_kind ticket.ReadCheck = true
+is_judged_kind ticket.Read = false
+is_judged_kind ticket.Write = false
 
 abbrev pub is_write : TicketKind → Bool
 is_write ticket.Write = true
 is_write ticket.Read = false
 is_write ticket.Probe = false
+is_write ticket.ReadCheck = false
 
 -- the I/O ended with all its bytes
 abbrev pub ended_whole : Option Outcome → Bool
@@ -100,14 +111,14 @@ ended_whole (Some Failed) = false
 ended_whole (Some (Short n)) = false
 ended_whole None = false
 
--- this one, where it is a check that ended whole and has no verdict yet
+-- this one, where it gets a verdict, ended whole and has none yet
 abbrev pub if_awaiting : List Event → ℕ × Started → Option Started
 if_awaiting history numbered =
-    if is_probe numbered.1.kind && ended_whole (outcome_of history numbered.0) && not (is_judged history numbered.0)
+    if is_judged_kind numbered.1.kind && ended_whole (outcome_of history numbered.0) && not (is_judged history numbered.0)
     then Some numbered.1
     else None
 
--- the checks whose verdicts are still to come
+-- the checks and checked reads whose verdicts are still to come
 abbrev pub awaiting : List Event → List Started
 awaiting history = filter_map (if_awaiting history) (enumerate_from 0 (started history))
 

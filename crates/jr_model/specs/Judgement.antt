@@ -1,6 +1,6 @@
 -- Believed: the verdict on the bytes of a check (fio's manual, "verify"; the order of the tests is of this project). The
 -- header that is compared is the one that was written, never the one that was read.
-use Rattle.std.specs.Prelude.{◌≡◌, ◌<◌, ℕ, suc, ◌*◌, ◌==◌, nat_eq, Bool, true, false, is_some, List, [], ◌∷◌, length, map, take, drop, slice_range, Option, Some, None, if◌then◌else◌}
+use Rattle.std.specs.Prelude.{◌≡◌, ◌<◌, ℕ, suc, ◌*◌, ◌==◌, nat_eq, Bool, true, false, is_some, List, [], ◌∷◌, length, map, take, drop, slice_range, Option, Some, None, if◌then◌else◌, nat_lt, ◌&&◌, ◌++◌, ◌-◌, ◌+◌, ◌%◌, replicate}
 use Rattle.std.specs.Bool.{MatchBool}
 use Rattle.std.specs.List.{range_with_len}
 use Rattle.std.specs.Option.{option_map}
@@ -19,7 +19,9 @@ use Rattle.jr_model.specs.declared.events.What.TheVariants.{Header, Digest, Data
 use Rattle.jr_model.specs.declared.events.WriteId.{WriteId}
 use Rattle.jr_model.specs.declared.events.Verdict.{Verdict}
 use Rattle.jr_model.specs.declared.events.Verdict.TheVariants.{Good, Bad}
-use Rattle.jr_model.specs.Content.{digest_of, digest_length, pattern_bytes, data_area, chunk_at, chunk_seed, chunks_in, chunk_header}
+use Rattle.std.specs.Int.{w32, w64, to_le_bytes, from_le_bytes}
+use Rattle.jr_model.specs.declared.limits.TheConstants.{SECTOR}
+use Rattle.jr_model.specs.Content.{magic, kind_code, block_version, chunk_version, digest_of, digest_length, pattern_bytes, data_area, chunk_at, chunk_seed, chunks_in, chunk_header}
 
 -- the same bytes
 abbrev pub same_bytes : List ℕ → List ℕ → Bool
@@ -77,9 +79,62 @@ abbrev pub chunks_verdict : Method → WriteId → Piece → ℕ → List ℕ �
 chunks_verdict method write piece seed bytes =
     first_bad (map (chunk_verdict method write piece seed bytes) (range_with_len 0 (chunks_in method.interval piece)))
 
--- the verdict on the bytes of a check of this write, by what is expected of it
+-- the verdict on bytes by what they say of themselves
+
+-- the header that the bytes of a piece should begin with: magic, kind, lengths and offset are known, and nothing follows the
+-- digest; pass, clone, draw number and the digest are what was read
+abbrev pub own_header : ℕ → VerifyKind → Piece → List ℕ → List ℕ
+own_header version kind piece bytes =
+    magic version ++ (kind_code kind ∷ digest_length kind ∷ [])
+    ++ slice_range bytes 6 8 ++ to_le_bytes w32 piece.len ++ slice_range bytes 12 16
+    ++ to_le_bytes w64 piece.offset ++ slice_range bytes 24 (32 + digest_length kind) ++ replicate (32 - digest_length kind) 0
+
+-- the verdict on a piece by its own header
+abbrev pub own_header_verdict : ℕ → VerifyKind → Piece → List ℕ → Verdict
+own_header_verdict version kind piece bytes = header_verdict kind (own_header version kind piece bytes) bytes
+
+-- on chunk i, where the bytes are cut at this interval
+abbrev pub own_chunk_verdict : VerifyKind → ℕ → Piece → List ℕ → ℕ → Verdict
+own_chunk_verdict kind interval piece bytes i =
+    in_chunk i (own_header_verdict chunk_version kind (chunk_at interval piece i) (bytes_of_chunk interval i bytes))
+
+-- the interval that the bytes say they are cut at
+abbrev pub own_interval : List ℕ → ℕ
+own_interval bytes = from_le_bytes w32 (slice_range bytes 8 12)
+
+-- whole 512-byte blocks, of which a whole number makes up the piece
+abbrev pub cuts_whole : ℕ → ℕ → Bool
+cuts_whole interval len = nat_lt 0 interval && (interval % SECTOR == 0) && (len % interval == 0)
+
+-- on all chunks: that on the first that isn't good
+abbrev pub own_chunks_verdict : VerifyKind → ℕ → Piece → List ℕ → Verdict
+own_chunks_verdict kind interval piece bytes =
+    if cuts_whole interval piece.len
+    then first_bad (map (own_chunk_verdict kind interval piece bytes) (range_with_len 0 (chunks_in interval piece)))
+    else Bad (Chunk 0 part.Header)
+
+-- on bytes with a digest: they are chunks where they begin as one does, else one block
+abbrev pub own_digest_verdict : VerifyKind → Piece → List ℕ → Verdict
+own_digest_verdict kind piece bytes =
+    if same_bytes (take 4 bytes) (magic chunk_version)
+    then own_chunks_verdict kind (own_interval bytes) piece bytes
+    else own_header_verdict block_version kind piece bytes
+
+-- the first byte that differs from the pattern, where there is one
+abbrev pub pattern_verdict : Option (List ℕ) → List ℕ → Verdict
+pattern_verdict None bytes = Good
+pattern_verdict (Some pattern) bytes = byte_verdict (first_difference bytes (pattern_bytes pattern (length bytes)))
+
+abbrev pub own_verdict_of : VerifyKind → Option (List ℕ) → Piece → List ℕ → Verdict
+own_verdict_of verify.Plain pattern piece bytes = Good
+own_verdict_of verify.Pattern pattern piece bytes = pattern_verdict pattern bytes
+own_verdict_of verify.Md5 pattern piece bytes = own_digest_verdict verify.Md5 piece bytes
+own_verdict_of verify.Sha1 pattern piece bytes = own_digest_verdict verify.Sha1 piece bytes
+own_verdict_of verify.Sha256 pattern piece bytes = own_digest_verdict verify.Sha256 piece bytes
+
+-- the verdict on the bytes of a check of this write, by what is expected of it; where nothing is, by what the bytes say of themselves
 abbrev pub verdict_of : Method → WriteId → Piece → Expected → List ℕ → Verdict
-verdict_of method write piece expected.Nothing bytes = Good
+verdict_of method write piece expected.Nothing bytes = own_verdict_of method.kind method.pattern piece bytes
 verdict_of method write piece (expected.Pattern pattern) bytes =
     byte_verdict (first_difference bytes (pattern_bytes pattern (length bytes)))
 verdict_of method write piece (expected.Header header) bytes = header_verdict method.kind header bytes

@@ -27,7 +27,7 @@ last_after_end (Some io) outcome file block last =
 -- what an event makes of the block's last write, where these I/Os are started
 abbrev pub last_after : List Started → ℕ → ℕ → Option WriteId → Event → Option WriteId
 last_after ios file block last (End worker io outcome) = last_after_end (slice_get ios io) outcome file block last
-last_after ios file block last (Issue worker dir write piece) = last
+last_after ios file block last (Issue worker kind write piece) = last
 last_after ios file block last (Probe worker write piece) = last
 last_after ios file block last (Skip worker write) = last
 last_after ios file block last (Verdict worker io verdict) = last

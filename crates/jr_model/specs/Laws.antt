@@ -1,14 +1,15 @@
 -- Believed: laws over the definitions alone: what holds of every plan, history and list of steps.
-use Rattle.std.specs.Prelude.{◌≡◌, ◌≤◌, ℕ, true, List, [], ◌∷◌, ◌++◌, length, Some}
+use Rattle.std.specs.Prelude.{◌≡◌, ◌≤◌, ℕ, true, List, [], ◌∷◌, ◌++◌, length, Option, Some}
 use Rattle.jr_model.specs.declared.blocks.Piece.{Piece}
 use Rattle.jr_model.specs.declared.contents.Method.{Method}
+use Rattle.jr_model.specs.declared.contents.VerifyKind.{VerifyKind}
 use Rattle.jr_model.specs.declared.events.Event.{Event}
 use Rattle.jr_model.specs.declared.events.WriteId.{WriteId}
 use Rattle.jr_model.specs.declared.steps.Step.{Step}
 use Rattle.jr_model.specs.Choice.{choice}
 use Rattle.jr_model.specs.Content.{expected_of}
-use Rattle.jr_model.specs.Judgement.{verdict_of}
-use Rattle.jr_model.specs.Legal.{is_legal, may_happen, kind_says}
+use Rattle.jr_model.specs.Judgement.{verdict_of, own_verdict_of}
+use Rattle.jr_model.specs.Legal.{is_legal, may_happen, kind_says, own_says}
 use Rattle.jr_model.specs.Machine.{first_state, machine_run}
 use Rattle.jr_model.specs.Plan.{Plan, IsNumbered}
 use Rattle.jr_model.specs.Serial.{serial_history}
@@ -39,6 +40,13 @@ VerdictIsOfItsKind =
     (method : Method) (write : WriteId) (piece : Piece) (seed : ℕ) (bytes : List ℕ)
     → length bytes ≤ piece.len
     → kind_says method.kind method.interval piece.len (verdict_of method write piece (expected_of method.kind method write piece seed) bytes) ≡ true
+
+-- and so is the verdict on bytes by what they say of themselves
+abbrev pub OwnVerdictIsOfItsKind : Type 0
+OwnVerdictIsOfItsKind =
+    (kind : VerifyKind) (pattern : Option (List ℕ)) (piece : Piece) (bytes : List ℕ)
+    → length bytes ≤ piece.len
+    → own_says kind piece.len (own_verdict_of kind pattern piece bytes) ≡ true
 
 -- whatever steps are made, in any order and refused ones among them, the machine's history is legal
 abbrev pub EveryRunIsLegal : Type 0

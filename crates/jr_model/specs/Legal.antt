@@ -1,14 +1,15 @@
 -- Believed: which event may happen after a history (fio's manual, "iodepth", "serialize_overlap", "stonewall",
 -- "verify_fatal"; the halt after a fault and the serialising over all jobs are of this project).
-use Rattle.std.specs.Prelude.{ℕ, ◌/◌, ◌==◌, nat_lt, nat_le, Bool, true, false, not, ◌&&◌, ◌||◌, List, [], ◌∷◌, ◌++◌, length, slice_get, Option, Some, None, if◌then◌else◌}
+use Rattle.std.specs.Prelude.{ℕ, ◌/◌, max, ◌==◌, nat_lt, nat_le, Bool, true, false, not, ◌&&◌, ◌||◌, List, [], ◌∷◌, ◌++◌, length, slice_get, Option, Some, None, if◌then◌else◌}
 use Rattle.std.specs.List.{list_any, list_all}
-use Rattle.jr_model.specs.declared.blocks.Dir.{Dir}
-use Rattle.jr_model.specs.declared.blocks.Dir.TheVariants as direction
 use Rattle.jr_model.specs.declared.blocks.Piece.{Piece}
 use Rattle.jr_model.specs.declared.contents.VerifyKind.{VerifyKind}
 use Rattle.jr_model.specs.declared.contents.VerifyKind.TheVariants as verify
+use Rattle.jr_model.specs.declared.contents.Method.{Method}
 use Rattle.jr_model.specs.declared.events.Event.{Event}
 use Rattle.jr_model.specs.declared.events.Event.TheVariants.{Issue, Probe, Skip, End, Verdict}
+use Rattle.jr_model.specs.declared.events.IssueKind.{IssueKind}
+use Rattle.jr_model.specs.declared.events.IssueKind.TheVariants as issue
 use Rattle.jr_model.specs.declared.events.Outcome.{Outcome}
 use Rattle.jr_model.specs.declared.events.Outcome.TheVariants.{Whole, Failed, Short}
 use Rattle.jr_model.specs.declared.events.Verdict.{Verdict as GivenVerdict}
@@ -16,11 +17,14 @@ use Rattle.jr_model.specs.declared.events.Verdict.TheVariants.{Good, Bad}
 use Rattle.jr_model.specs.declared.events.What.{What}
 use Rattle.jr_model.specs.declared.events.What.TheVariants.{Header, Digest, DataArea, Byte, Chunk}
 use Rattle.jr_model.specs.declared.events.WriteId.{WriteId}
+use Rattle.jr_model.specs.declared.limits.TheConstants.{SECTOR}
+use Rattle.jr_model.specs.declared.tickets.TicketKind.{TicketKind}
+use Rattle.jr_model.specs.declared.tickets.TicketKind.TheVariants as ticket
 use Rattle.jr_model.specs.declared.workloads.Draw.{Draw}
-use Rattle.jr_model.specs.History.{Started, started, flies, outcome_of, in_flight, in_flight_of, awaiting, is_of_clone, is_judged, is_probe, is_write, ended_whole, same_write, same_piece}
+use Rattle.jr_model.specs.History.{Started, started, flies, outcome_of, in_flight, in_flight_of, awaiting, is_of_clone, is_judged, is_judged_kind, is_write, ended_whole, same_write, same_piece}
 use Rattle.jr_model.specs.LastWrite.{is_intact}
 use Rattle.jr_model.specs.Pieces.{pieces_overlap}
-use Rattle.jr_model.specs.Plan.{Plan, SubJob, clone_of}
+use Rattle.jr_model.specs.Plan.{Plan, SubJob, clone_of, issued_as}
 use Rattle.jr_model.specs.Rounds.{Pass, pass_of, write_id, is_write_draw, issued_count, has_rounds, group_index, is_open, waits_for_round, clone_finished, is_current, nothing_flies_of}
 
 -- the I/O is the clone's
@@ -42,7 +46,7 @@ is_bad (Bad what) = true
 abbrev pub halts : List Started → SubJob → Event → Bool
 halts ios job (End worker io outcome) = is_io_of job.clone (slice_get ios io) && is_fault outcome
 halts ios job (Verdict worker io verdict) = is_io_of job.clone (slice_get ios io) && job.is_fatal && is_bad verdict
-halts ios job (Issue worker dir write piece) = false
+halts ios job (Issue worker kind write piece) = false
 halts ios job (Probe worker write piece) = false
 halts ios job (Skip worker write) = false
 
@@ -94,7 +98,7 @@ may_issue plan history pass draw =
 abbrev pub takes_up : WriteId → Event → Bool
 takes_up write (Probe worker probed piece) = same_write probed write
 takes_up write (Skip worker skipped) = same_write skipped write
-takes_up write (Issue worker dir issued piece) = false
+takes_up write (Issue worker kind issued piece) = false
 takes_up write (End worker io outcome) = false
 takes_up write (Verdict worker io verdict) = false
 
@@ -120,7 +124,7 @@ abbrev pub step_of : Plan → List Event → ℕ → Pass → Draw → Option Ev
 step_of plan history worker pass draw =
     if may_take_up history pass draw
     then Some (check_or_skip history worker pass draw)
-    else (if may_issue plan history pass draw then Some (Issue worker draw.dir (write_id pass draw) draw.piece) else None)
+    else (if may_issue plan history pass draw then Some (Issue worker (issued_as pass.job draw.dir) (write_id pass draw) draw.piece) else None)
 
 -- the same for a draw that may not be there
 abbrev pub step_of_draw : Plan → List Event → ℕ → Pass → Option Draw → Option Event
@@ -137,24 +141,29 @@ step_of_clone plan history worker write (Some job) =
 abbrev pub step_at : Plan → List Event → ℕ → WriteId → Option Event
 step_at plan history worker write = step_of_clone plan history worker write (clone_of plan write.clone)
 
-abbrev pub same_dir : Dir → Dir → Bool
-same_dir direction.Read direction.Read = true
-same_dir direction.Write direction.Write = true
-same_dir direction.Read direction.Write = false
-same_dir direction.Write direction.Read = false
+abbrev pub same_issue : IssueKind → IssueKind → Bool
+same_issue issue.Read issue.Read = true
+same_issue issue.Write issue.Write = true
+same_issue issue.ReadCheck issue.ReadCheck = true
+same_issue issue.Read issue.Write = false
+same_issue issue.Read issue.ReadCheck = false
+same_issue issue.Write issue.Read = false
+same_issue issue.Write issue.ReadCheck = false
+same_issue issue.ReadCheck issue.Read = false
+same_issue issue.ReadCheck issue.Write = false
 
 -- the step is this issue, this check, this skip
-abbrev pub is_this_issue : Dir → WriteId → Piece → Option Event → Bool
-is_this_issue dir write piece (Some (Issue worker d w p)) = same_dir d dir && same_write w write && same_piece p piece
-is_this_issue dir write piece (Some (Probe worker w p)) = false
-is_this_issue dir write piece (Some (Skip worker w)) = false
-is_this_issue dir write piece (Some (End worker io outcome)) = false
-is_this_issue dir write piece (Some (Verdict worker io verdict)) = false
-is_this_issue dir write piece None = false
+abbrev pub is_this_issue : IssueKind → WriteId → Piece → Option Event → Bool
+is_this_issue kind write piece (Some (Issue worker k w p)) = same_issue k kind && same_write w write && same_piece p piece
+is_this_issue kind write piece (Some (Probe worker w p)) = false
+is_this_issue kind write piece (Some (Skip worker w)) = false
+is_this_issue kind write piece (Some (End worker io outcome)) = false
+is_this_issue kind write piece (Some (Verdict worker io verdict)) = false
+is_this_issue kind write piece None = false
 
 abbrev pub is_this_probe : WriteId → Piece → Option Event → Bool
 is_this_probe write piece (Some (Probe worker w p)) = same_write w write && same_piece p piece
-is_this_probe write piece (Some (Issue worker d w p)) = false
+is_this_probe write piece (Some (Issue worker k w p)) = false
 is_this_probe write piece (Some (Skip worker w)) = false
 is_this_probe write piece (Some (End worker io outcome)) = false
 is_this_probe write piece (Some (Verdict worker io verdict)) = false
@@ -162,7 +171,7 @@ is_this_probe write piece None = false
 
 abbrev pub is_this_skip : WriteId → Option Event → Bool
 is_this_skip write (Some (Skip worker w)) = same_write w write
-is_this_skip write (Some (Issue worker d w p)) = false
+is_this_skip write (Some (Issue worker k w p)) = false
 is_this_skip write (Some (Probe worker w p)) = false
 is_this_skip write (Some (End worker io outcome)) = false
 is_this_skip write (Some (Verdict worker io verdict)) = false
@@ -216,18 +225,42 @@ abbrev pub kind_says : VerifyKind → ℕ → ℕ → GivenVerdict → Bool
 kind_says kind interval len Good = true
 kind_says kind interval len (Bad what) = kind_finds kind interval len what
 
-abbrev pub job_says : Option SubJob → ℕ → GivenVerdict → Bool
-job_says None len verdict = false
-job_says (Some job) len verdict = kind_says job.method.kind job.method.interval len verdict
+-- what may be said of a checked read, whose bytes say themselves how they are cut: into whole 512-byte blocks at least (a piece
+-- has one or more)
+abbrev pub own_digest_finds : ℕ → What → Bool
+own_digest_finds len what = is_header_finding what || is_chunk_finding (max 1 (len / SECTOR)) what
 
--- a check that may be said this of
+abbrev pub own_finds : VerifyKind → ℕ → What → Bool
+own_finds verify.Plain len what = false
+own_finds verify.Pattern len what = is_byte_finding len what
+own_finds verify.Md5 len what = own_digest_finds len what
+own_finds verify.Sha1 len what = own_digest_finds len what
+own_finds verify.Sha256 len what = own_digest_finds len what
+
+abbrev pub own_says : VerifyKind → ℕ → GivenVerdict → Bool
+own_says kind len Good = true
+own_says kind len (Bad what) = own_finds kind len what
+
+-- what may be said of an I/O of this kind, where its clone verifies so
+abbrev pub ticket_says : TicketKind → Method → ℕ → GivenVerdict → Bool
+ticket_says ticket.Probe method len verdict = kind_says method.kind method.interval len verdict
+ticket_says ticket.ReadCheck method len verdict = own_says method.kind len verdict
+ticket_says ticket.Read method len verdict = false
+ticket_says ticket.Write method len verdict = false
+
+abbrev pub job_says : Option SubJob → TicketKind → ℕ → GivenVerdict → Bool
+job_says None kind len verdict = false
+job_says (Some job) kind len verdict = ticket_says kind job.method len verdict
+
+-- a check or checked read that may be said this of
 abbrev pub verdict_fits : Plan → GivenVerdict → Option Started → Bool
 verdict_fits plan verdict None = false
-verdict_fits plan verdict (Some io) = is_probe io.kind && job_says (clone_of plan io.write.clone) io.piece.len verdict
+verdict_fits plan verdict (Some io) =
+    is_judged_kind io.kind && job_says (clone_of plan io.write.clone) io.kind io.piece.len verdict
 
 -- the event may happen after the history
 abbrev pub may_happen : Plan → List Event → Event → Bool
-may_happen plan history (Issue worker dir write piece) = is_this_issue dir write piece (step_at plan history worker write)
+may_happen plan history (Issue worker kind write piece) = is_this_issue kind write piece (step_at plan history worker write)
 may_happen plan history (Probe worker write piece) = is_this_probe write piece (step_at plan history worker write)
 may_happen plan history (Skip worker write) = is_this_skip write (step_at plan history worker write)
 may_happen plan history (End worker io outcome) =
@@ -245,7 +278,7 @@ legal_after plan before (event ∷ events) =
 abbrev pub is_legal : Plan → List Event → Bool
 is_legal plan history = legal_after plan [] history
 
--- nothing is in flight, each check that ended whole has its verdict, and each clone is finished or halted
+-- nothing is in flight, each check or checked read that ended whole has its verdict, and each clone is finished or halted
 abbrev pub is_complete : Plan → List Event → Bool
 is_complete plan history =
     (length (in_flight history) == 0) && (length (awaiting history) == 0)

@@ -3,6 +3,9 @@
 use Rattle.std.specs.Prelude.{◌≡◌, ℕ, zero, suc, ◌*◌, ◌==◌, nat_lt, Bool, true, false, ◌&&◌, List, [], ◌∷◌, ◌++◌, length, map, sum, replicate, slice_get, Option, Some, None, is_none, if◌then◌else◌}
 use Rattle.std.specs.Bool.{MatchBool}
 use Rattle.jr_model.specs.declared.blocks.Piece.{Piece}
+use Rattle.jr_model.specs.declared.contents.Expected.{Expected}
+use Rattle.jr_model.specs.declared.contents.Expected.TheVariants as expected
+use Rattle.jr_model.specs.declared.contents.Method.{Method}
 use Rattle.jr_model.specs.declared.events.Event.{Event}
 use Rattle.jr_model.specs.declared.events.Event.TheVariants.{Issue, Probe, Skip, End, Verdict}
 use Rattle.jr_model.specs.declared.events.Outcome.{Outcome}
@@ -22,7 +25,7 @@ use Rattle.jr_model.specs.declared.workloads.Draw.{Draw}
 use Rattle.jr_model.specs.Choice.{choice}
 use Rattle.jr_model.specs.Content.{content_of, expected_of}
 use Rattle.jr_model.specs.Draws.{draws_of}
-use Rattle.jr_model.specs.History.{Started, started, outcome_of, is_judged, is_probe, ended_whole}
+use Rattle.jr_model.specs.History.{Started, started, outcome_of, is_judged, is_judged_kind, ended_whole}
 use Rattle.jr_model.specs.Judgement.{verdict_of}
 use Rattle.jr_model.specs.Legal.{is_complete}
 use Rattle.jr_model.specs.Plan.{Plan, SubJob, clone_of}
@@ -32,7 +35,7 @@ use Rattle.jr_model.specs.Replies.{FileBytes, ReadReply, WriteReply, fresh_memor
 
 abbrev pub is_skip : Event → Bool
 is_skip (Skip worker write) = true
-is_skip (Issue worker dir write piece) = false
+is_skip (Issue worker kind write piece) = false
 is_skip (Probe worker write piece) = false
 is_skip (End worker io outcome) = false
 is_skip (Verdict worker io verdict) = false
@@ -67,7 +70,7 @@ idle_answer plan history = if is_complete plan history then answer.Finished else
 
 -- the answer where this was started, or skipped, last
 abbrev pub answer_to : Plan → List Event → ℕ → Event → StepReply
-answer_to plan history io (Issue worker dir write piece) = answer.Io io
+answer_to plan history io (Issue worker kind write piece) = answer.Io io
 answer_to plan history io (Probe worker write piece) = answer.Probe io
 answer_to plan history io (Skip worker write) = idle_answer plan history
 answer_to plan history io (End worker id outcome) = idle_answer plan history
@@ -100,10 +103,10 @@ end_refusal s io =
     then (if is_none (outcome_of s.history io) then None else Some Twice)
     else Some Stranger)
 
--- it is a check that ended whole
+-- it is a check, or a checked read, that ended whole
 abbrev pub is_judgeable : List Event → ℕ → Option Started → Bool
 is_judgeable history io None = false
-is_judgeable history io (Some s) = is_probe s.kind && ended_whole (outcome_of history io)
+is_judgeable history io (Some s) = is_judged_kind s.kind && ended_whole (outcome_of history io)
 
 -- why a verdict on this I/O is refused, if it is
 abbrev pub judge_refusal : State → ℕ → Option DeskFault
@@ -129,13 +132,21 @@ content_of_io plan io =
     content_in_job (clone_of plan io.write.clone) io.write io.piece
     (seed_of_draw (slice_get (draws_of plan io.write.clone io.write.pass) io.write.number))
 
--- what is expected of a check of the run
+-- what the bytes of an I/O of this kind are judged by: those of a check by what its write put there, those of a checked read by
+-- nothing but what they say of themselves
+abbrev pub expected_by : TicketKind → Method → Started → ℕ → Expected
+expected_by ticket.Read method io seed = expected.Nothing
+expected_by ticket.Write method io seed = expected.Nothing
+expected_by ticket.ReadCheck method io seed = expected.Nothing
+expected_by ticket.Probe method io seed = expected_of method.kind method io.write io.piece seed
+
+-- the verdict on the bytes of an I/O of this clone
 abbrev pub verdict_in_job : Option SubJob → Started → ℕ → List ℕ → GivenVerdict
 verdict_in_job None io seed bytes = Good
 verdict_in_job (Some job) io seed bytes =
-    verdict_of job.method io.write io.piece (expected_of job.method.kind job.method io.write io.piece seed) bytes
+    verdict_of job.method io.write io.piece (expected_by io.kind job.method io seed) bytes
 
--- the verdict on the bytes read by a check
+-- the verdict on the bytes read by a check or a checked read
 abbrev pub verdict_on : Plan → Started → List ℕ → GivenVerdict
 verdict_on plan io bytes =
     verdict_in_job (clone_of plan io.write.clone) io
@@ -170,6 +181,7 @@ abbrev pub ends_by : Plan → State → ℕ → Reply → TicketKind → Started
 ends_by plan s io reply ticket.Write started = write_ends s io started (reply_to_write reply (content_of_io plan started))
 ends_by plan s io reply ticket.Read started = read_ends s io started (read_of s.memory reply started)
 ends_by plan s io reply ticket.Probe started = read_ends s io started (read_of s.memory reply started)
+ends_by plan s io reply ticket.ReadCheck started = read_ends s io started (read_of s.memory reply started)
 
 -- what a check gave, if it has ended
 abbrev pub bytes_read : List (ℕ × List ℕ) → ℕ → List ℕ

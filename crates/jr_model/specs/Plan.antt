@@ -1,11 +1,16 @@
 -- Believed: what a job file asks for, as the other definitions read it (fio's manual, "Job file format" and "Parameters").
 -- Names are lists of bytes; offsets and sizes are in bytes.
-use Rattle.std.specs.Prelude.{◌≡◌, ℕ, Bool, true, false, List, Option, Some, slice_get}
+use Rattle.std.specs.Prelude.{◌≡◌, ℕ, Bool, true, false, not, ◌&&◌, List, Option, Some, slice_get, if◌then◌else◌}
+use Rattle.jr_model.specs.declared.blocks.Dir.{Dir}
+use Rattle.jr_model.specs.declared.blocks.Dir.TheVariants as direction
 use Rattle.jr_model.specs.declared.contents.Method.{Method}
 use Rattle.jr_model.specs.declared.contents.VerifyKind.{VerifyKind}
 use Rattle.jr_model.specs.declared.contents.VerifyKind.TheVariants as verify
+use Rattle.jr_model.specs.declared.events.IssueKind.{IssueKind}
+use Rattle.jr_model.specs.declared.events.IssueKind.TheVariants as issue
 use Rattle.jr_model.specs.declared.workloads.EngineKind.{EngineKind}
 use Rattle.jr_model.specs.declared.workloads.IoType.{IoType}
+use Rattle.jr_model.specs.Directions.{has_writes}
 
 -- one planned clone: one of the `numjobs` threads of a job
 pub record SubJob : Type 0 where
@@ -57,3 +62,12 @@ is_verified verify.Pattern = true
 is_verified verify.Md5 = true
 is_verified verify.Sha1 = true
 is_verified verify.Sha256 = true
+
+-- the clone checks what it reads: it writes nothing, and its blocks are verified
+abbrev pub checks_reads : SubJob → Bool
+checks_reads job = is_verified job.method.kind && job.checks_writes && not (has_writes job.io_type)
+
+-- what a draw of this direction is issued as
+abbrev pub issued_as : SubJob → Dir → IssueKind
+issued_as job direction.Write = issue.Write
+issued_as job direction.Read = if checks_reads job then issue.ReadCheck else issue.Read

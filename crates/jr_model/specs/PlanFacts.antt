@@ -1,8 +1,8 @@
 -- Believed: what holds of every plan, however it is made (the limits are of this project).
-use Rattle.std.specs.Prelude.{◌≡◌, ℕ, ◌+◌, ◌*◌, ◌%◌, ◌^◌, ◌<◌, ◌≤◌, true, List, length, sum_by, Some, slice_get}
+use Rattle.std.specs.Prelude.{◌≡◌, ℕ, ◌+◌, ◌*◌, ◌%◌, ◌<◌, ◌≤◌, true, List, length, sum_by, Some, slice_get}
 use Rattle.jr_model.specs.declared.limits.TheConstants.{SECTOR, LARGEST_BLOCK, LARGEST_END, MOST_CELLS, MOST_CLONES, MOST_DEPTH, MOST_PASSES, MOST_VERIFIERS, MOST_WORK}
 use Rattle.jr_model.specs.Draws.{size_at}
-use Rattle.jr_model.specs.Plan.{SubJob, FileSpec, Plan, is_verified}
+use Rattle.jr_model.specs.Plan.{SubJob, FileSpec, Plan}
 use Rattle.jr_model.specs.Tickets.{has_pattern, interval_fits}
 pub use Rattle.jr_model.specs.Directions.{has_reads, has_writes}
 
@@ -31,7 +31,6 @@ pub record KeepsLimits (job : SubJob) : Type 0 where
   pub writes : has_writes job.io_type ≡ true → SizesFit job.cell job.write_split
   pub pattern : has_pattern job.method.kind job.method.pattern ≡ true
   pub interval : interval_fits job.method.kind job.method.interval job.cell ≡ true
-  pub verified : is_verified job.method.kind ≡ true → has_writes job.io_type ≡ true
 
 -- the clone at place i of a list over these files: it is numbered so, and its region lies within its file
 pub record IsPlaced (files : List FileSpec) (i : ℕ) (job : SubJob) : Type 0 where

@@ -156,4 +156,5 @@ asked_write reply memory piece buffer =
 abbrev pub asked : Reply → List FileBytes → TicketKind → Piece → List ℕ → Asked
 asked reply memory ticket.Read piece buffer = asked_read reply memory piece buffer
 asked reply memory ticket.Probe piece buffer = asked_read reply memory piece buffer
+asked reply memory ticket.ReadCheck piece buffer = asked_read reply memory piece buffer
 asked reply memory ticket.Write piece buffer = asked_write reply memory piece buffer

@@ -14,7 +14,7 @@ use Rattle.jr_model.specs.declared.events.What.TheVariants.{Header, Digest, Data
 use Rattle.jr_model.specs.declared.events.WriteId.{WriteId}
 use Rattle.jr_model.specs.declared.totals.Totals.{Totals}
 use Rattle.jr_model.specs.History.{Started, started, same_write}
-use Rattle.jr_model.specs.Plan.{Plan, SubJob, FileSpec}
+use Rattle.jr_model.specs.Plan.{Plan, SubJob, FileSpec, clone_of, checks_reads}
 use Rattle.jr_model.specs.Rounds.{Pass, pass_of, write_id}
 use Rattle.jr_model.specs.Totals.{totals_of}
 
@@ -62,7 +62,7 @@ miscompare_on (Some io) (Bad what) = Some (record { write = io.write; piece = io
 
 abbrev pub miscompare_by : List Started → Event → Option Miscompare
 miscompare_by ios (Verdict worker io verdict) = miscompare_on (slice_get ios io) verdict
-miscompare_by ios (Issue worker dir write piece) = None
+miscompare_by ios (Issue worker kind write piece) = None
 miscompare_by ios (Probe worker write piece) = None
 miscompare_by ios (Skip worker write) = None
 miscompare_by ios (End worker io outcome) = None
@@ -90,10 +90,15 @@ file_name plan file = name_of (slice_get plan.files file)
     name_of None = []
     name_of (Some spec) = spec.name
 
+-- what the line of a bad verdict begins with: a clone that checks its reads has no other checks
+abbrev pub found_word : Option SubJob → List ℕ
+found_word None = codes "miscompare:"
+found_word (Some job) = if checks_reads job then codes "badread:" else codes "miscompare:"
+
 -- the line of a bad verdict
 abbrev pub miscompare_line : Plan → Miscompare → List ℕ
 miscompare_line plan m =
-    codes "miscompare:" ++ field (codes "clone") m.write.clone ++ field (codes "pass") m.write.pass
+    found_word (clone_of plan m.write.clone) ++ field (codes "clone") m.write.clone ++ field (codes "pass") m.write.pass
     ++ field (codes "number") m.write.number ++ codes " file=" ++ file_name plan m.piece.file
     ++ field (codes "offset") m.piece.offset ++ field (codes "length") m.piece.len
     ++ codes " what=" ++ what_text m.what ++ codes "\n"

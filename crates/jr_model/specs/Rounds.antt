@@ -38,7 +38,7 @@ is_write_draw draw = writes draw.dir
 
 -- the event issues a draw of the pass
 abbrev pub issues_of : Pass → Event → Bool
-issues_of pass (Issue worker dir write piece) = (write.clone == pass.job.clone) && (write.pass == pass.number)
+issues_of pass (Issue worker kind write piece) = (write.clone == pass.job.clone) && (write.pass == pass.number)
 issues_of pass (Probe worker write piece) = false
 issues_of pass (Skip worker write) = false
 issues_of pass (End worker io outcome) = false
@@ -95,7 +95,7 @@ is_probe_of write (Some io) = is_probe io.kind && same_write io.write write
 abbrev pub settles : List Started → WriteId → Event → Bool
 settles ios write (Skip worker skipped) = same_write skipped write
 settles ios write (End worker io outcome) = is_probe_of write (slice_get ios io)
-settles ios write (Issue worker dir issued piece) = false
+settles ios write (Issue worker kind issued piece) = false
 settles ios write (Probe worker probed piece) = false
 settles ios write (Verdict worker io verdict) = false
 

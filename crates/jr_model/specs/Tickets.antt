@@ -11,6 +11,7 @@ use Rattle.jr_model.specs.declared.tickets.TicketKind.{TicketKind}
 use Rattle.jr_model.specs.declared.tickets.TicketKind.TheVariants as ticket
 use Rattle.jr_model.specs.declared.tickets.Ticket.{Ticket}
 use Rattle.jr_model.specs.PatternBytes.{same_pattern}
+use Rattle.jr_model.specs.Plan.{is_verified}
 
 -- one or more whole 512-byte blocks, at most the largest block, that end within the largest region
 abbrev pub piece_fits : Piece → Bool
@@ -66,11 +67,12 @@ suits_method verify.Md5 method e = is_of_interval method.interval e
 suits_method verify.Sha1 method e = is_of_interval method.interval e
 suits_method verify.Sha256 method e = is_of_interval method.interval e
 
--- a probe has what its method is judged by, and a read or write has nothing
+-- a probe has what its method is judged by, and a read or write has nothing; the method of a checked read verifies
 abbrev pub suits_kind : TicketKind → Method → Expected → Bool
 suits_kind ticket.Read method e = is_nothing e
 suits_kind ticket.Write method e = is_nothing e
 suits_kind ticket.Probe method e = suits_method method.kind method e
+suits_kind ticket.ReadCheck method e = is_nothing e && is_verified method.kind
 
 abbrev pub expected_fits : Ticket → Bool
 expected_fits t = suits_kind t.kind t.method t.expected
@@ -89,6 +91,7 @@ interval_fits verify.Sha256 interval len = has_whole_chunks interval len
 -- a write or a probe is cut into whole chunks
 abbrev pub chunks_fit : TicketKind → Method → ℕ → Bool
 chunks_fit ticket.Read method len = true
+chunks_fit ticket.ReadCheck method len = true
 chunks_fit ticket.Write method len = interval_fits method.kind method.interval len
 chunks_fit ticket.Probe method len = interval_fits method.kind method.interval len
 

@@ -50,6 +50,7 @@ abbrev pub called : Plan → KnownEngine → ℕ → TicketKind → Started → 
 called plan engine io ticket.Write started = write_called plan engine started (scripted_reply engine.script engine.calls)
 called plan engine io ticket.Read started = read_called engine io started (scripted_reply engine.script engine.calls)
 called plan engine io ticket.Probe started = read_called engine io started (scripted_reply engine.script engine.calls)
+called plan engine io ticket.ReadCheck started = read_called engine io started (scripted_reply engine.script engine.calls)
 
 -- the verdict on an I/O, where this worker started it, is that on the bytes that its engine gave
 abbrev pub IsOnBytes : Plan → ℕ → List Started → KnownEngine → ℕ → Verdict → Type 0
@@ -68,7 +69,7 @@ TiedAlong plan inline worker ios before (End w io outcome ∷ events) after =
     (TiedAlong plan inline worker ios before events after)
 TiedAlong plan inline worker ios before (event.Verdict w io verdict ∷ events) after =
     MatchBool inline (IsOnBytes plan worker ios before io verdict) (Unit {0}) × TiedAlong plan inline worker ios before events after
-TiedAlong plan inline worker ios before (Issue w dir write piece ∷ events) after =
+TiedAlong plan inline worker ios before (Issue w kind write piece ∷ events) after =
     TiedAlong plan inline worker ios before events after
 TiedAlong plan inline worker ios before (Probe w write piece ∷ events) after =
     TiedAlong plan inline worker ios before events after

@@ -13,6 +13,7 @@ use Rattle.std.specs.Prelude.{◌==◌, not}
 abbrev pub is_read : TicketKind → Bool
 is_read ticket.Read = true
 is_read ticket.Write = false
+is_read ticket.ReadCheck = true
 is_read ticket.Probe = false
 
 -- the I/O that the event ends with all its bytes, where these are started and it is one of the clone's that passes the test
@@ -22,7 +23,7 @@ if_wanted test c whole (Some io) = if whole && test io.kind && is_of_clone c io 
 
 abbrev pub moved_by : List Started → (TicketKind → Bool) → ℕ → Event → Option Started
 moved_by ios test c (End worker io outcome) = if_wanted test c (ended_whole (Some outcome)) (slice_get ios io)
-moved_by ios test c (Issue worker dir write piece) = None
+moved_by ios test c (Issue worker kind write piece) = None
 moved_by ios test c (Probe worker write piece) = None
 moved_by ios test c (Skip worker write) = None
 moved_by ios test c (Verdict worker io verdict) = None
@@ -38,7 +39,7 @@ bytes_of ios = sum (map (λ (io : Started). io.piece.len) ios)
 -- the event is a verdict on a check of the clone that passes the test
 abbrev pub is_verdict_of : List Started → (GivenVerdict → Bool) → ℕ → Event → Bool
 is_verdict_of ios test c (Verdict worker io verdict) = is_io_of c (slice_get ios io) && test verdict
-is_verdict_of ios test c (Issue worker dir write piece) = false
+is_verdict_of ios test c (Issue worker kind write piece) = false
 is_verdict_of ios test c (Probe worker write piece) = false
 is_verdict_of ios test c (Skip worker write) = false
 is_verdict_of ios test c (End worker io outcome) = false
@@ -46,7 +47,7 @@ is_verdict_of ios test c (End worker io outcome) = false
 -- the event skips a write of the clone
 abbrev pub is_skip_of : ℕ → Event → Bool
 is_skip_of c (Skip worker write) = write.clone == c
-is_skip_of c (Issue worker dir write piece) = false
+is_skip_of c (Issue worker kind write piece) = false
 is_skip_of c (Probe worker write piece) = false
 is_skip_of c (End worker io outcome) = false
 is_skip_of c (Verdict worker io verdict) = false
@@ -54,7 +55,7 @@ is_skip_of c (Verdict worker io verdict) = false
 -- the event is a fault of the clone
 abbrev pub is_fault_of : List Started → ℕ → Event → Bool
 is_fault_of ios c (End worker io outcome) = is_io_of c (slice_get ios io) && is_fault outcome
-is_fault_of ios c (Issue worker dir write piece) = false
+is_fault_of ios c (Issue worker kind write piece) = false
 is_fault_of ios c (Probe worker write piece) = false
 is_fault_of ios c (Skip worker write) = false
 is_fault_of ios c (Verdict worker io verdict) = false

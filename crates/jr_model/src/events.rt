@@ -1,4 +1,4 @@
-use crate::blocks::{Dir, Piece};
+use crate::blocks::Piece;
 use crate::tickets::TicketKind;
 
 /// The number of an I/O or a check, counted from 0 over all that a run starts.
@@ -66,13 +66,22 @@ pub enum Verdict {
     Bad(What),
 }
 
+/// What a draw is issued as.
+#[derive(Clone, Copy, Debug, PartialEq, Eq)]
+pub enum IssueKind {
+    Read,
+    Write,
+    /// A read that is judged by what its bytes say of themselves.
+    ReadCheck,
+}
+
 /// One step of a run, with the worker or verifier that made it.
 #[derive(Clone, Copy, Debug, PartialEq, Eq)]
 pub enum Event {
     /// A read or write of the job was started: the draw that `write` names, over `piece`.
     Issue {
         worker: u32,
-        dir: Dir,
+        kind: IssueKind,
         write: WriteId,
         piece: Piece,
     },

@@ -20,10 +20,10 @@ mod workloads;
 pub use blocks::{Dir, Piece, overlaps};
 pub use contents::{Expected, Method, Pattern, VerifyKind};
 pub use digits::{all_digits, digits_number};
-pub use events::{Event, IoId, Outcome, Part, Started, Verdict, What, WriteId};
+pub use events::{Event, IoId, IssueKind, Outcome, Part, Started, Verdict, What, WriteId};
 pub use laws::{
-    choice_may_happen, every_run_is_legal, front_is_legal, legal_goes_on, serial_is_legal,
-    verdict_is_of_its_kind,
+    choice_may_happen, every_run_is_legal, front_is_legal, legal_goes_on,
+    own_verdict_is_of_its_kind, serial_is_legal, verdict_is_of_its_kind,
 };
 pub use limits::{
     LARGEST_BLOCK, LARGEST_END, LONGEST_TEXT, MOST_CELLS, MOST_CLONES, MOST_DEPTH, MOST_PASSES,

@@ -13,6 +13,8 @@ pub enum TicketKind {
     Write,
     /// A read back of a write, to be judged.
     Probe,
+    /// A read of a job that checks what it reads: judged by what its bytes say of themselves.
+    ReadCheck,
 }
 
 /// All that a worker must know to carry out one I/O.
@@ -27,7 +29,7 @@ pub struct Ticket {
     /// The seed of the filler, where the job has no pattern.
     pub seed: u64,
     pub method: Method,
-    /// What a probe's bytes are judged by; nothing for a read or a write.
+    /// What a probe's bytes are judged by; nothing for a read or a write, also where the read is checked.
     pub expected: Expected,
 }
 
@@ -35,7 +37,8 @@ impl Ticket {
     ghost use Rattle.jr_model.specs.Tickets.{ticket_fits, piece_fits, expected_fits, chunks_fit};
 
     /// Whether the ticket can be carried out: whole 512-byte blocks within the limits, a pass below
-    /// 1000, a pattern where the method needs one, and expected bytes for a probe alone.
+    /// 1000, a pattern where the method needs one, a method that verifies where a read is checked, and expected bytes for a probe
+    /// alone.
     pub fn fits(&self) -> bool
         ensures { result ≡ ticket_fits self.now }
     {
@@ -64,7 +67,7 @@ impl Ticket {
         ensures { result ≡ chunks_fit self.now.kind self.now.method self.now.piece.len }
     {
         match self.kind {
-            TicketKind::Read => true,
+            TicketKind::Read | TicketKind::ReadCheck => true,
             TicketKind::Write | TicketKind::Probe => {
                 let method = &self.method;
                 method.kind.fits_interval(method.interval, self.piece.len)
@@ -72,12 +75,15 @@ impl Ticket {
         }
     }
 
-    // A probe has what its method is judged by, and no other ticket has anything.
+    // A probe has what its method is judged by, and no other ticket has anything. A checked read has a method that verifies.
     fn has_fitting_expected(&self) -> bool
         ensures { result ≡ expected_fits self.now }
     {
         match self.kind {
             TicketKind::Read | TicketKind::Write => self.expected == Expected::Nothing,
+            TicketKind::ReadCheck => {
+                self.expected == Expected::Nothing && self.method.kind.is_verified()
+            }
             TicketKind::Probe => match (self.method.kind, self.expected) {
                 (VerifyKind::Pattern, Expected::Pattern(pattern)) => {
                     is_pattern(&self.method.pattern, &pattern)

@@ -1,15 +1,13 @@
 -- A fault of a line names that line, one of a job names none, and the first fault of a file is that of the first refused line.
-use Rattle.std.proofs.Common.{◌≡◌, ℕ, Bool, true, false, not, cond, List, [], ◌∷◌, map, Option, Some, None, Result, Ok, Err, ap, ◌∙◌, sym, refl, length}
-use Rattle.std.specs.Prelude.{filter, is_some, ok_or, slice_get, sum_by, nat_lt, ◌==◌, ◌&&◌, ◌||◌, ◌/◌}
+use Rattle.std.proofs.Common.{◌≡◌, ℕ, Bool, true, false, not, cond, List, [], ◌∷◌, map, Option, Some, None, Ok, Err, ap, ◌∙◌, sym, refl, length}
+use Rattle.std.specs.Prelude.{filter, is_some, ok_or, slice_get, sum_by, nat_lt, ◌==◌, ◌||◌, ◌/◌}
 use Rattle.std.specs.List.{list_any, position_or_len}
 use Rattle.std.specs.Option.{option_map, option_or}
 use Rattle.std.specs.Result.{result_err}
 use Rattle.jr_model.specs.History.{first_given}
 use Rattle.jr_model.specs.declared.limits.TheConstants.{MOST_CLONES, MOST_WORK}
-use Rattle.jr_model.specs.Plan.{is_verified}
 use Rattle.jr_model.specs.Tickets.{has_pattern}
-use Rattle.jr_model.specs.Directions.{has_writes}
-use Rattle.jr_text.specs.Records.{LineText, SectionText}
+use Rattle.jr_text.specs.Records.{LineText}
 use Rattle.jr_plan.specs.declared.faults.Bound.TheVariants as bound
 use Rattle.jr_settings.specs.declared.faults.JobFault.{JobFault}
 use Rattle.jr_settings.specs.declared.faults.JobFault.TheVariants as fault
@@ -23,12 +21,12 @@ use Rattle.jr_settings.specs.declared.settings.Setting.TheVariants as setting
 use Rattle.jr_settings.specs.declared.shapes.Shape.{Shape}
 use Rattle.jr_settings.specs.OptionValues.{flag_of, block_sizes, splits, is_colon, pattern_of, interval_of}
 use Rattle.jr_settings.specs.OptionWords.{meaning_of, keys}
-use Rattle.jr_settings.specs.Settings.{setting_of, keyed_setting, valued_setting, text_setting, form_setting, flag_setting, choice_setting, number_setting}
-use Rattle.jr_settings.specs.Shapes.{shape_of, shape_with, cut_shape, options_fit, cell_of, reads_of, writes_of}
+use Rattle.jr_settings.specs.Settings.{setting_of, keyed_setting, text_setting, form_setting, flag_setting, choice_setting, number_setting}
+use Rattle.jr_settings.specs.Shapes.{shape_of, shape_with, options_fit, cell_of, reads_of, writes_of}
 use Rattle.jr_options.specs.PlanOf.{JobAsked, jobs_below}
 use Rattle.jr_options.specs.Refusals.{counting_lines, line_fault, job_fault, joint_fault, jobs_fault, refusal_of, are_mixed, clones_in, is_far, is_long, work_in}
 use Rattle.jr_options.specs.Surveys.{is_global, is_planned}
-use Rattle.jr_notes.specs.Notes.{is_refused, line_number, refused_in, refused_lines}
+use Rattle.jr_notes.specs.Notes.{is_refused, line_number, refused_in}
 use Rattle.jr_notes.specs.Laws.{faulty_line, AcceptedHaveNone, FirstIsNamed}
 
 -- a fault, where there is one, names this line
@@ -89,18 +87,17 @@ abbrev NamesNone : Option JobFault → Type 0
 NamesNone None = Unit {0}
 NamesNone (Some f) = faulty_line f ≡ None
 
-cut_none : (line : ℕ) (shape : Shape) (a b c : Bool) → NamesNone (result_err (cond a (Err (fault.BadBlock line)) (cond b (Err (fault.NoPattern line)) (cond c (Err (fault.VerifyNeedsWrite line)) (Ok shape)))))
-cut_none line shape true b c = refl
-cut_none line shape false true c = refl
-cut_none line shape false false true = refl
-cut_none line shape false false false = tt
+cut_none : (line : ℕ) (shape : Shape) (a b : Bool) → NamesNone (result_err (cond a (Err (fault.BadBlock line)) (cond b (Err (fault.NoPattern line)) (Ok shape))))
+cut_none line shape true b = refl
+cut_none line shape false true = refl
+cut_none line shape false false = tt
 
 sized_none : (o : JobOptions) (line : ℕ) (size : Option ℕ) → NamesNone (result_err (shape_with o line size))
 sized_none o line None = refl
 sized_none o line (Some size) =
     let cell = cell_of o (reads_of o) (writes_of o) in
     cut_none line (record { size = size; cell = cell; cells = size / cell; reads = reads_of o; writes = writes_of o })
-    (not (options_fit o cell (reads_of o) (writes_of o)) || (size / cell == 0)) (not (has_pattern o.kind o.pattern)) (is_verified o.kind && not (has_writes o.io_type))
+    (not (options_fit o cell (reads_of o) (writes_of o)) || (size / cell == 0)) (not (has_pattern o.kind o.pattern))
 
 job_none : (job : JobAsked) → NamesNone (job_fault job)
 unfolding shape_of

@@ -1,6 +1,6 @@
 -- The notes of lines and of sections that are gone over one after another.
-use Rattle.std.proofs.Common.{◌≡◌, ℕ, ◌+◌, ◌<◌, Bool, true, false, cond, not, List, [], ◌∷◌, ◌++◌, length, drop, map, ◌≤◌, slice_index_or, Option, Some, None, Result, Ok, Err, ap, ◌∙◌, sym, subst, refl, arith, append_assoc, append-nil}
-use Rattle.std.specs.Prelude.{IfOk, IsErr, filter, flat_map, is_some, ◌||◌, ◌==◌}
+use Rattle.std.proofs.Common.{◌≡◌, ℕ, ◌+◌, ◌<◌, Bool, true, false, cond, List, [], ◌∷◌, ◌++◌, length, drop, map, ◌≤◌, slice_index_or, Option, Some, None, Result, Ok, Err, ap, ◌∙◌, sym, refl, arith, append_assoc, append-nil}
+use Rattle.std.specs.Prelude.{IfOk, IsErr, filter, is_some, ◌||◌, ◌==◌}
 use Rattle.std.specs.List.{list_any}
 use Rattle.std.specs.Result.{result_err}
 use Rattle.std.proofs.lemmas.List.{at_drop_all, at_drop_more, map-append}
@@ -18,7 +18,7 @@ use Rattle.jr_settings.specs.Options.{and_setting, options_from}
 use Rattle.jr_settings.specs.Settings.{setting_of}
 use Rattle.jr_options.specs.Refusals.{counts, counting_lines, line_fault, lines_of}
 use Rattle.jr_notes.specs.declared.notes.Note.{Note}
-use Rattle.jr_notes.specs.Notes.{HasRefused, is_refused, is_want, line_number, lines_noted, noted, noted_line, refused_in, refused_lines, sections_noted}
+use Rattle.jr_notes.specs.Notes.{HasRefused, is_refused, is_want, line_number, lines_noted, noted, noted_line, refused_in, sections_noted}
 
 -- a line that is read alone is refused by its own fault
 alone_by : (o : JobOptions) (read : Result Setting JobFault) → result_err (and_setting o read) ≡ result_err read

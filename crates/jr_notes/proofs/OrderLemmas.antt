@@ -1,7 +1,7 @@
 -- The lines of a text are numbered in their order, and so are those of some of its sections.
-use Rattle.std.proofs.Common.{◌≡◌, ℕ, ◌+◌, ◌≤◌, Bool, true, false, not, cond, List, [], ◌∷◌, ◌++◌, map, Option, Some, None, Result, Ok, Err, ap, ◌∙◌, sym, subst, refl, arith, length}
-use Rattle.std.specs.Prelude.{filter, is_some, flat_map, nat_lt}
-use Rattle.std.specs.List.{enumerate_from, slice_split}
+use Rattle.std.proofs.Common.{◌≡◌, ℕ, ◌+◌, ◌≤◌, Bool, true, false, not, cond, List, [], ◌∷◌, ◌++◌, map, Option, Some, None, Ok, Err, sym, subst, arith, length}
+use Rattle.std.specs.Prelude.{filter, is_some, nat_lt}
+use Rattle.std.specs.List.{slice_split}
 use Rattle.std.specs.Str.{is_utf8}
 use Rattle.std.proofs.lemmas.List.Sums.{take_while-cons}
 use Rattle.jr_model.specs.declared.limits.TheConstants.{LONGEST_TEXT}

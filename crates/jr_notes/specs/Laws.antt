@@ -1,5 +1,5 @@
 -- Believed: what holds of the lines that are refused by themselves.
-use Rattle.std.specs.Prelude.{◌≡◌, ℕ, ◌+◌, ◌≤◌, List, [], ◌∷◌, Option, Some, None, Result, Ok, slice_get}
+use Rattle.std.specs.Prelude.{◌≡◌, ℕ, ◌+◌, ◌≤◌, List, [], ◌∷◌, Option, Some, None, Ok, slice_get}
 use Rattle.jr_text.specs.JobText.{sections_of}
 use Rattle.jr_text.specs.Records.{SectionText}
 use Rattle.jr_settings.specs.declared.faults.JobFault.{JobFault}

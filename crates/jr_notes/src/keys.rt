@@ -7,17 +7,18 @@ use jr_text::Line;
 pub type Row = (&'static str, &'static str, &'static str);
 
 // The keys that aren't read.
-const KEYS: [Row; 32] = [
+const KEYS: [Row; 33] = [
     (
         "name",
         "a job's name is its heading",
         "[NAME] above its lines",
     ),
     (
-        "runtime timeout time_based ramp_time startdelay",
+        "runtime timeout time_based",
         "a run ends by what it has done",
-        "loops, or another size",
+        "loops, another size, or timeout around fiorun",
     ),
+    ("ramp_time startdelay", "no time is taken", "nothing"),
     (
         "io_size io_limit number_ios fill_device fill_fs filesize file_append",
         "size and loops say how much is done",
@@ -50,8 +51,8 @@ const KEYS: [Row; 32] = [
     ),
     (
         "verify_only",
-        "what an earlier run wrote can't be checked yet",
-        "one job that writes and checks",
+        "a job that only reads checks what it reads",
+        "rw=read, with verify as it was written",
     ),
     (
         "verify_state_save verify_state_load verify_dump",

@@ -98,7 +98,8 @@ fn whole_notes(
     Ok(notes)
 }
 
-/// What is worth knowing of a job file that is taken: that a job has a pattern or a backlog and checks nothing.
+/// What is worth knowing of a job file that is taken: that a job has a pattern or a backlog and checks nothing, or only reads and checks
+/// nothing.
 pub fn plan_notes(alloc: Global, text: &[u8], only: Option<&str>) -> Result<Vec<Note>, AllocError> {
     match sections(alloc, text) {
         Ok(sections) => {

@@ -88,10 +88,6 @@ fn own_text(alloc: Global, job: &Job, fault: JobFault) -> Result<String, AllocEr
             alloc,
             "verify=pattern without a pattern; instead: a line verify_pattern=0x..",
         ),
-        JobFault::VerifyNeedsWrite(_) => String::from_str(
-            alloc,
-            "verify, and nothing is written; instead: rw=write, randwrite, rw or randrw, or no verify",
-        ),
         _ => block_text(alloc, &job.options),
     }
 }
@@ -286,7 +282,7 @@ fn visits(options: &JobOptions, shape: &Shape) -> u128 {
         .saturating_mul(u128::from(options.clones))
 }
 
-// Says which jobs have a pattern or a backlog and verify nothing.
+// Says which jobs have a pattern or a backlog and verify nothing, and which only read and don't check what they read.
 pub(crate) fn unchecked_notes(alloc: Global, jobs: &[Job]) -> Result<Vec<Note>, AllocError> {
     let mut notes = Vec::new(alloc);
     for job in jobs {
@@ -298,8 +294,20 @@ pub(crate) fn unchecked_notes(alloc: Global, jobs: &[Job]) -> Result<Vec<Note>, 
             )?;
             add(alloc, &mut notes, job, text)?;
         }
+        if leaves_reads(&job.options) {
+            let text = String::from_str(
+                alloc,
+                "do_verify=0, and nothing is written: nothing is checked; instead: do_verify=1",
+            )?;
+            add(alloc, &mut notes, job, text)?;
+        }
     }
     Ok(notes)
+}
+
+// Whether a job says how its blocks are verified, and neither writes nor checks any.
+fn leaves_reads(options: &JobOptions) -> bool {
+    options.kind.is_verified() && !options.checks_writes && !options.io_type.has_writes()
 }
 
 // The key that does nothing without `verify`.

@@ -67,11 +67,6 @@ cell_most o shape fit =
       | inr e ↦ let s = fit.writes e in omega (arith, s.least 0 (omega arith), s.most 0 (omega arith))
     ]
 
-unneeded : (a b : Bool) → (a ≡ true → b ≡ true) → (a && not b) ≡ false
-unneeded true true h = refl
-unneeded true false h = absurd (let e : false ≡ true = h refl in cc)
-unneeded false b h = refl
-
 pub cells_within : (o : JobOptions) (shape : Shape) → HasShape o shape → shape.cells * shape.cell ≤ shape.size
 cells_within o shape h =
     let fit = fit_of o shape h in
@@ -90,12 +85,11 @@ none_against d job start range h place region cells room work =
     and_from _ _ (and_from _ _ (and_from _ _ (and_from _ _ (and_from _ _ (and_from _ _ (and_from _ _ (le-leb 512 w.cell fit.cell_least) (le-leb w.cell 16777216 (cell_most o job.shape fit))) (eq-eqb (w.cell % 512) 0 fit.cell_sectors)) (eq-eqb (start % 512) 0 place)) (le-leb 1 w.cells h.cells_least)) tests.0) tests.1.0) tests.1.1 in
     let numbers : numbers_fit w ≡ true =
     and_from _ _ (and_from _ _ (and_from _ _ (and_from _ _ (le-leb w.read_percent 100 range.percent) (le-leb 1 w.depth range.depth_least)) (le-leb w.depth 256 range.depth_most)) (le-leb 1 w.passes range.passes_least)) (le-leb w.passes 1000 range.passes_most) in
-    let verified = unneeded _ _ h.verified in
     let few : leb 64 (length d.clones) ≡ false = lt-leb 64 (length d.clones) room in
     let near : ltb 1125899906842624 (start + w.cells * w.cell) ≡ false = le-ltb 1125899906842624 (start + w.cells * w.cell) (omega (arith, within, region)) in
     let short : ltb 16777216 w.cells ≡ false = le-ltb 16777216 w.cells cells in
     let little : ltb 1073741824 (work_of d.clones + w.cells * w.passes) ≡ false = le-ltb 1073741824 (work_of d.clones + w.cells * w.passes) work in
-    rw (cut, numbers, h.pattern, verified, few, near, short, little) refl
+    rw (cut, numbers, h.pattern, few, near, short, little) refl
 
 -- clones of a sound job begin at whole blocks
 pub start_sectors : (o : JobOptions) (shape : Shape) (index start : ℕ) → HasShape o shape → start ≡ o.offset + o.offset_step * index → start % 512 ≡ 0

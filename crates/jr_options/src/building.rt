@@ -118,10 +118,8 @@ fn only_memory(fault: PlanFault) -> JobFault
 {
     match fault {
         PlanFault::Memory => JobFault::Memory,
-        PlanFault::Block
-        | PlanFault::Number
-        | PlanFault::NoPattern
-        | PlanFault::VerifyNeedsWrite
-        | PlanFault::Limit(_) => unreachable!(),
+        PlanFault::Block | PlanFault::Number | PlanFault::NoPattern | PlanFault::Limit(_) => {
+            unreachable!()
+        }
     }
 }

@@ -23,7 +23,7 @@ use Rattle.std.specs.Prelude.{slice_get, nat_lt, ◌⊎◌}
 -- the I/O that an event ends
 abbrev pub end_id : Event → Option ℕ
 end_id (End worker io outcome) = Some io
-end_id (Issue worker dir write piece) = None
+end_id (Issue worker kind write piece) = None
 end_id (Probe worker write piece) = None
 end_id (Skip worker write) = None
 end_id (Verdict worker io verdict) = None
@@ -35,7 +35,7 @@ ended history = filter_map end_id history
 -- an I/O with no outcome is none of those that ended
 not_ended : (io : ℕ) (history : List Event) → is_none (outcome_of history io) ≡ true → list_any (eqb io) (ended history) ≡ false
 not_ended io [] h = refl
-not_ended io (Issue worker dir write piece ∷ events) h = not_ended io events h
+not_ended io (Issue worker kind write piece ∷ events) h = not_ended io events h
 not_ended io (Probe worker write piece ∷ events) h = not_ended io events h
 not_ended io (Skip worker write ∷ events) h = not_ended io events h
 not_ended io (Verdict worker id verdict ∷ events) h = not_ended io events h
@@ -91,7 +91,7 @@ ends_once history worker io outcome flying within once =
 
 -- after an event that may happen
 goes_on_once : (plan : Plan) (history : List Event) (e : Event) → may_happen plan history e ≡ true → EndedOnce history → EndedOnce (history ++ e ∷ [])
-goes_on_once plan history (Issue worker dir write piece) may once = keeps_once history (Issue worker dir write piece) refl once
+goes_on_once plan history (Issue worker kind write piece) may once = keeps_once history (Issue worker kind write piece) refl once
 goes_on_once plan history (Probe worker write piece) may once = keeps_once history (Probe worker write piece) refl once
 goes_on_once plan history (Skip worker write) may once = keeps_once history (Skip worker write) refl once
 goes_on_once plan history (Verdict worker io verdict) may once = keeps_once history (Verdict worker io verdict) refl once
@@ -114,7 +114,7 @@ none_ended = record { distinct = tt; below = λ q h. cc }
 -- what is moved is no more than what ended
 moved_at_most_ended : (ios : List Started) (test : TicketKind → Bool) (c : ℕ) (history : List Event) → length (filter_map (moved_by ios test c) history) ≤ length (ended history)
 moved_at_most_ended ios test c [] = omega arith
-moved_at_most_ended ios test c (Issue worker dir write piece ∷ events) = moved_at_most_ended ios test c events
+moved_at_most_ended ios test c (Issue worker kind write piece ∷ events) = moved_at_most_ended ios test c events
 moved_at_most_ended ios test c (Probe worker write piece ∷ events) = moved_at_most_ended ios test c events
 moved_at_most_ended ios test c (Skip worker write ∷ events) = moved_at_most_ended ios test c events
 moved_at_most_ended ios test c (Verdict worker io verdict ∷ events) = moved_at_most_ended ios test c events

@@ -8,10 +8,11 @@ use jr_history::{Past, ended_whole, is_bad, is_fault, is_io_of, is_of_clone, is_
 use jr_model::{Event, Memory, Started, TicketKind, Totals};
 use std::alloc::Global;
 
+// Whether a ticket of this kind is a read of a job, checked or not.
 fn is_read(kind: TicketKind) -> bool
     ensures { result ≡ is_read kind }
 {
-    kind == TicketKind::Read
+    matches!(kind, TicketKind::Read | TicketKind::ReadCheck)
 }
 
 // This I/O, where it is there, a read of the clone, and ended with all its bytes.
@@ -115,7 +116,7 @@ fn write_bytes(ios: &[Started], events: &[Event], clone: u32) -> u64
     total
 }
 
-// Whether the event is a verdict on a check of the clone.
+// Whether the event is a verdict on a check or checked read of the clone.
 fn is_verdict(ios: &[Started], clone: u32, event: &Event) -> bool
     ensures { result ≡ is_verdict_of ios.now (λ verdict. true) clone event.now }
 {
@@ -125,7 +126,7 @@ fn is_verdict(ios: &[Started], clone: u32, event: &Event) -> bool
     }
 }
 
-// Whether the event is a good verdict on a check of the clone.
+// Whether the event is a good verdict on one.
 fn is_good_verdict(ios: &[Started], clone: u32, event: &Event) -> bool
     ensures { result ≡ is_verdict_of ios.now (λ verdict. not (is_bad verdict)) clone event.now }
 {
@@ -137,7 +138,7 @@ fn is_good_verdict(ios: &[Started], clone: u32, event: &Event) -> bool
     }
 }
 
-// Whether the event is a bad verdict on a check of the clone.
+// Whether the event is a bad verdict on one.
 fn is_bad_verdict(ios: &[Started], clone: u32, event: &Event) -> bool
     ensures { result ≡ is_verdict_of ios.now is_bad clone event.now }
 {

@@ -3,3 +3,4 @@ pub mod Lists
 pub mod Pieces
 mod Rows
 pub mod Sweeping
+pub mod Verdicts

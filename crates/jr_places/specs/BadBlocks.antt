@@ -10,17 +10,18 @@ use Rattle.jr_model.specs.declared.events.What.TheVariants.{Header, Digest, Data
 use Rattle.jr_model.specs.declared.events.WriteId.{WriteId}
 use Rattle.jr_model.specs.Content.{chunk_at, chunks_in}
 use Rattle.jr_model.specs.Pieces.{pieces_overlap}
-use Rattle.jr_model.specs.Plan.{Plan, SubJob, clone_of}
+use Rattle.jr_model.specs.Plan.{Plan, SubJob, checks_reads, clone_of}
 use Rattle.jr_model.specs.Report.{Miscompare}
 
 -- the bytes of a block
 abbrev pub block_piece : ℕ → ℕ → ℕ → Piece
 block_piece file size block = record { file = file; offset = block * size; len = size }
 
--- the bytes from one header of a clone's blocks to the next; 0 where a block has one header or none
+-- the bytes from one header of a clone's blocks to the next; 0 where a block has one header or none, and where the clone checks its
+-- reads: what it read may have been written with another interval, which no history says
 abbrev pub interval_of : Option SubJob → ℕ
 interval_of None = 0
-interval_of (Some job) = job.method.interval
+interval_of (Some job) = if checks_reads job then 0 else job.method.interval
 
 -- the bytes of a piece that came back wrong: of the chunk that the finding names, else all of them
 abbrev pub wrong_bytes : ℕ → Piece → What → Piece
@@ -30,7 +31,7 @@ wrong_bytes interval piece DataArea = piece
 wrong_bytes interval piece (Byte n) = piece
 wrong_bytes interval piece (Chunk i found) = if nat_lt i (chunks_in interval piece) then chunk_at interval piece i else piece
 
--- the bytes that a bad verdict on this write is over
+-- the bytes that a bad verdict on this write, or on this checked read, is over
 abbrev pub bad_bytes : Plan → WriteId → Piece → What → Piece
 bad_bytes plan write piece what = wrong_bytes (interval_of (clone_of plan write.clone)) piece what
 

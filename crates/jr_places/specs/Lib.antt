@@ -1,4 +1,5 @@
 pub mod BadBlocks
+pub mod Firsts
 pub mod Maps
 pub mod Spans
 pub mod Sweeps

@@ -38,7 +38,7 @@ worse a b = if nat_lt (rank a) (rank b) then b else a
 -- the event skips the write
 abbrev pub skips : WriteId → Event → Bool
 skips write (Skip worker skipped) = same_write skipped write
-skips write (Issue worker dir issued piece) = false
+skips write (Issue worker kind issued piece) = false
 skips write (Probe worker probed piece) = false
 skips write (End worker io outcome) = false
 skips write (Verdict worker io verdict) = false
@@ -50,7 +50,7 @@ is_io_on write (Some io) = same_write io.write write
 -- the event is a verdict on the write
 abbrev pub judges : List Started → WriteId → Event → Bool
 judges ios write (Verdict worker io verdict) = is_io_on write (slice_get ios io)
-judges ios write (Issue worker dir issued piece) = false
+judges ios write (Issue worker kind issued piece) = false
 judges ios write (Probe worker probed piece) = false
 judges ios write (Skip worker skipped) = false
 judges ios write (End worker io outcome) = false
@@ -61,11 +61,12 @@ fate_of_write history write =
     if list_any (skips write) history then Skipped
     else (if list_any (judges (started history) write) history then Untouched else Unchecked)
 
--- of an I/O that ended whole; a check then awaits its verdict
+-- of an I/O that ended whole; a check then awaits its verdict, and so does a checked read, which is read whatever the verdict says
 abbrev pub fate_of_whole : List Event → TicketKind → WriteId → Fate
 fate_of_whole history ticket.Read write = Read
 fate_of_whole history ticket.Write write = fate_of_write history write
 fate_of_whole history ticket.Probe write = Untouched
+fate_of_whole history ticket.ReadCheck write = Read
 
 abbrev pub fate_of_end : List Event → Started → Outcome → Fate
 fate_of_end history io outcome = if is_fault outcome then Fault else fate_of_whole history io.kind io.write
@@ -95,7 +96,7 @@ said_by_verdict plan verdict (Some io) = Some (record { piece = verdict_bytes pl
 abbrev pub said_of : Plan → List Event → Event → Option Said
 said_of plan history (End worker io outcome) = said_by_end history outcome (slice_get (started history) io)
 said_of plan history (Verdict worker io verdict) = said_by_verdict plan verdict (slice_get (started history) io)
-said_of plan history (Issue worker dir write piece) = None
+said_of plan history (Issue worker kind write piece) = None
 said_of plan history (Probe worker write piece) = None
 said_of plan history (Skip worker write) = None
 

@@ -8,7 +8,7 @@ pub enum Fate {
     Untouched,
     /// A job's read.
     Read,
-    /// A check that found what was written.
+    /// A check that found what was written, or a read whose bytes were right.
     Good,
     /// A write that is not checked, since a later one took some of its blocks.
     Skipped,
@@ -16,7 +16,7 @@ pub enum Fate {
     Unchecked,
     /// An I/O that failed or ended short.
     Fault,
-    /// A check that found something else.
+    /// A check that found something else, or a read whose bytes were wrong.
     Bad,
 }
 

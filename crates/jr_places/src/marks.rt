@@ -88,7 +88,7 @@ fn fate_of_whole(told: &Told, kind: TicketKind, write: &WriteId) -> Fate
     ensures { (history : List Happened) → IsTold history told.now → result ≡ fate_of_whole history kind write.now }
 {
     match kind {
-        TicketKind::Read => Fate::Read,
+        TicketKind::Read | TicketKind::ReadCheck => Fate::Read,
         TicketKind::Write => fate_of_write(told, write),
         TicketKind::Probe => Fate::Untouched,
     }

@@ -29,7 +29,7 @@ pub(crate) fn whole(piece: &Piece) -> Span
     }
 }
 
-// The bytes that a bad verdict on this write is over.
+// The bytes that a bad verdict on this write, or on this checked read, is over.
 pub(crate) fn bad_bytes(plan: &Plan, write: &WriteId, piece: &Piece, what: What) -> Span
     ensures { span_bytes result ≡ bad_bytes plan.now write.now piece.now what }
 {
@@ -37,14 +37,18 @@ pub(crate) fn bad_bytes(plan: &Plan, write: &WriteId, piece: &Piece, what: What)
     wrong_bytes(interval, piece, what)
 }
 
-// The bytes from one header of this clone's blocks to the next.
+// The bytes from one header of this clone's blocks to the next; 0 where that isn't known.
 fn interval_of(plan: &Plan, clone: usize) -> u32
     ensures { result ≡ interval_of (clone_of plan.now clone) }
 {
-    if clone < plan.clones() {
-        plan.clone_at(clone).method().interval
-    } else {
+    if clone >= plan.clones() {
+        return 0;
+    }
+    let job = plan.clone_at(clone);
+    if job.checks_reads() {
         0
+    } else {
+        job.method().interval
     }
 }
 

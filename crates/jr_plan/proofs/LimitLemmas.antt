@@ -1,13 +1,11 @@
 -- What a workload that is taken keeps.
-use Rattle.std.proofs.Common.{◌≡◌, ℕ, ◌+◌, ◌-◌, ◌*◌, ◌%◌, ◌<◌, ◌≤◌, Bool, true, false, not, ◌&&◌, ◌||◌, cond, leb, ltb, eqb, List, [], ◌∷◌, length, Option, Some, None, ap, arith, refl, sym, ◌∙◌, ◌⊎◌, inl, inr}
+use Rattle.std.proofs.Common.{◌≡◌, ℕ, ◌+◌, ◌-◌, ◌*◌, ◌%◌, ◌<◌, ◌≤◌, Bool, true, false, not, ◌||◌, cond, leb, ltb, eqb, List, [], ◌∷◌, length, Option, Some, None, arith, refl, inl, inr}
 use Rattle.std.specs.Option.{option_or}
 use Rattle.std.proofs.lemmas.Bool.{and_parts, or_cases, cases_lt, lt-ltb, le-ltb, leb-true, leb-false, ltb-false, eqb-true}
 use Rattle.std.proofs.lemmas.List.Sums.{sum_by-append}
 use Rattle.jr_model.specs.Directions.{has_reads, has_writes}
 use Rattle.jr_model.specs.Draws.{size_at}
-use Rattle.jr_model.specs.Plan.{is_verified}
 use Rattle.jr_model.specs.Tickets.{has_pattern, interval_fits}
-use Rattle.jr_plan.specs.declared.faults.PlanFault.{PlanFault}
 use Rattle.jr_plan.specs.declared.faults.PlanFault.TheVariants as fault
 use Rattle.jr_plan.specs.declared.workloads.Workload.{Workload}
 use Rattle.jr_plan.specs.Clones.{planned_clone}
@@ -67,17 +65,11 @@ holds : (b : Bool) → not b ≡ false → b ≡ true
 holds true e = refl
 holds false e = absurd (cc)
 
-implied : (a b : Bool) → (a && not b) ≡ false → a ≡ true → b ≡ true
-implied a true h e = refl
-implied true false h e = absurd (cc)
-implied false false h e = absurd (cc)
-
 -- what is known of a clone that nothing speaks against
 pub record IsTaken (d : Clones) (w : Workload) (start : ℕ) : Type 0 where
   pub cut : is_cut w start ≡ true
   pub numbers : numbers_fit w ≡ true
   pub pattern : has_pattern w.method.kind w.method.pattern ≡ true
-  pub verified : is_verified w.method.kind ≡ true → has_writes w.io_type ≡ true
   pub room : length d.clones < 64
   pub region : start + w.cells * w.cell ≤ 1125899906842624
   pub cells : w.cells ≤ 16777216
@@ -88,8 +80,7 @@ taken_of d w start none =
     let both = neither (workload_fault w start) (limit_fault d w start) none in
     let a1 = none_chosen (not (is_cut w start)) fault.Block _ both.0 in
     let a2 = none_chosen (not (numbers_fit w)) fault.Number _ a1.1 in
-    let a3 = none_chosen (not (has_pattern w.method.kind w.method.pattern)) fault.NoPattern _ a2.1 in
-    let a4 = none_chosen (is_verified w.method.kind && not (has_writes w.io_type)) fault.VerifyNeedsWrite None a3.1 in
+    let a3 = none_chosen (not (has_pattern w.method.kind w.method.pattern)) fault.NoPattern None a2.1 in
     let b1 = none_chosen (leb 64 (length d.clones)) _ _ both.1 in
     let b2 = none_chosen (ltb 1125899906842624 (start + w.cells * w.cell)) _ _ b1.1 in
     let b3 = none_chosen (ltb 16777216 w.cells) _ _ b2.1 in
@@ -98,7 +89,6 @@ taken_of d w start none =
       cut = holds _ a1.0;
       numbers = holds _ a2.0;
       pattern = holds _ a3.0;
-      verified = implied _ _ a4.0;
       room = leb-false _ _ b1.0;
       region = ltb-false _ _ b2.0;
       cells = ltb-false _ _ b3.0;
@@ -139,5 +129,4 @@ limits_kept d w job number file start none reads writes =
       writes = λ e. sizes_fit w.cell w.writes (if_needed _ _ c6.1 e) writes;
       pattern = t.pattern;
       interval = c7.1;
-      verified = t.verified;
     }

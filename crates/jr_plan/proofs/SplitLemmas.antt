@@ -1,5 +1,5 @@
 -- Entries of a split in their array.
-use Rattle.std.proofs.Common.{◌≡◌, ℕ, ◌-◌, ◌≤◌, List, ◌++◌, length, replicate, ap, ◌∙◌, sym, arith, refl, length-append}
+use Rattle.std.proofs.Common.{◌≡◌, ℕ, ◌-◌, ◌≤◌, List, length, replicate, ap, ◌∙◌, sym, arith, refl, length-append}
 use Rattle.std.proofs.lemmas.List.{take_at, length-replicate}
 use Rattle.jr_plan.specs.SplitEntries.{IsPadded, padded, percents_total}
 

@@ -15,6 +15,5 @@ abbrev pub plan_fault_text : PlanFault → List ℕ
 plan_fault_text fault.Block = codes "bad block size or place"
 plan_fault_text fault.Number = codes "number out of range"
 plan_fault_text fault.NoPattern = codes "no pattern"
-plan_fault_text fault.VerifyNeedsWrite = codes "verify needs a write"
 plan_fault_text (fault.Limit b) = codes "limit of " ++ bound_text b
 plan_fault_text fault.Memory = codes "out of memory"

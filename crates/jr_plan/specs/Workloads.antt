@@ -1,10 +1,9 @@
 -- Believed: which workload a clone may have (fio's manual, "Block size", "iodepth", "loops", "verify"; the limits are of this project).
-use Rattle.std.specs.Prelude.{ℕ, ◌%◌, nat_le, ◌==◌, Bool, true, false, not, ◌&&◌, ◌||◌, List, [], ◌∷◌, Option, Some, None, if◌then◌else◌}
+use Rattle.std.specs.Prelude.{ℕ, ◌%◌, nat_le, ◌==◌, Bool, true, false, not, ◌&&◌, ◌||◌, [], ◌∷◌, Option, Some, None, if◌then◌else◌}
 use Rattle.jr_model.specs.declared.limits.TheConstants.{SECTOR, LARGEST_BLOCK, MOST_DEPTH, MOST_PASSES}
 use Rattle.jr_model.specs.declared.contents.VerifyKind.TheVariants as verify
 use Rattle.jr_model.specs.declared.workloads.IoType.{IoType}
 use Rattle.jr_model.specs.Directions.{has_reads, has_writes}
-use Rattle.jr_model.specs.Plan.{is_verified}
 use Rattle.jr_model.specs.Tickets.{has_pattern, interval_fits}
 use Rattle.jr_plan.specs.declared.faults.PlanFault.{PlanFault}
 use Rattle.jr_plan.specs.declared.faults.PlanFault.TheVariants as fault
@@ -49,5 +48,4 @@ abbrev pub workload_fault : Workload → ℕ → Option PlanFault
 workload_fault w start =
     if not (is_cut w start) then Some fault.Block
     else (if not (numbers_fit w) then Some fault.Number
-    else (if not (has_pattern w.method.kind w.method.pattern) then Some fault.NoPattern
-    else (if is_verified w.method.kind && not (has_writes w.io_type) then Some fault.VerifyNeedsWrite else None)))
+    else (if not (has_pattern w.method.kind w.method.pattern) then Some fault.NoPattern else None))

@@ -1,9 +1,10 @@
 ghost use Rattle.std.specs.Prelude.{◌≡◌};
+ghost use Rattle.jr_model.specs.Plan.{checks_reads, issued_as};
 ghost use Rattle.jr_model.specs.PlanFacts.{KeepsLimits};
 
 use crate::splits::Split;
 use crate::workloads::Workload;
-use jr_model::{IoType, Method};
+use jr_model::{Dir, IoType, IssueKind, Method};
 use std::marker::Model;
 
 /// One planned clone: one of the `numjobs` threads of a job.
@@ -149,11 +150,29 @@ impl SubJob {
         self.workload.method
     }
 
-    /// Whether its writes are read back (`do_verify`).
+    /// Whether its writes are read back, or where it writes nothing its reads are checked (`do_verify`).
     pub fn checks_writes(&self) -> bool
         ensures { result ≡ self.now.checks_writes }
     {
         self.workload.checks_writes
+    }
+
+    /// Whether it checks what it reads: it writes nothing, and its blocks are verified.
+    pub fn checks_reads(&self) -> bool
+        ensures { result ≡ checks_reads self.now }
+    {
+        self.method().kind.is_verified() && self.checks_writes() && !self.io_type().has_writes()
+    }
+
+    /// What a draw of this direction is issued as.
+    pub fn issued_as(&self, dir: Dir) -> IssueKind
+        ensures { result ≡ issued_as self.now dir }
+    {
+        match dir {
+            Dir::Write => IssueKind::Write,
+            Dir::Read if self.checks_reads() => IssueKind::ReadCheck,
+            Dir::Read => IssueKind::Read,
+        }
     }
 
     /// After how many writes they are checked; 0 is after all of a pass.

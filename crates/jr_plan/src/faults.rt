@@ -28,8 +28,6 @@ pub enum PlanFault {
     Number,
     /// Verification by a pattern without one.
     NoPattern,
-    /// Verification without writes.
-    VerifyNeedsWrite,
     Limit(Bound),
     Memory,
 }
@@ -61,7 +59,6 @@ impl fmt::Display for PlanFault {
             PlanFault::Block => write!(f, "bad block size or place"),
             PlanFault::Number => write!(f, "number out of range"),
             PlanFault::NoPattern => write!(f, "no pattern"),
-            PlanFault::VerifyNeedsWrite => write!(f, "verify needs a write"),
             PlanFault::Limit(bound) => write!(f, "limit of {bound}"),
             PlanFault::Memory => write!(f, "out of memory"),
         }

@@ -31,7 +31,7 @@ pub struct Workload {
     /// How often it goes over its region, 1 to 1000.
     pub passes: u32,
     pub method: Method,
-    /// Whether its writes are read back (`do_verify`).
+    /// Whether its writes are read back, or where it writes nothing its reads are checked (`do_verify`).
     pub checks_writes: bool,
     /// After how many writes they are checked; 0 is after all of a pass.
     pub backlog: u32,
@@ -113,9 +113,6 @@ impl Workload {
         }
         if !self.has_pattern() {
             return Some(PlanFault::NoPattern);
-        }
-        if self.method.kind.is_verified() && !self.io_type.has_writes() {
-            return Some(PlanFault::VerifyNeedsWrite);
         }
         None
     }

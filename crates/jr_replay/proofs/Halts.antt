@@ -16,7 +16,7 @@ never_both false = refl
 
 -- an event by its fault and its bad verdict
 by_parts : (ios : List Started) (job : SubJob) (e : Event) → (is_fault_of ios job.clone e || (job.is_fatal && is_verdict_of ios is_bad job.clone e)) ≡ halts ios job e
-by_parts ios job (Issue worker dir write piece) = never_both job.is_fatal
+by_parts ios job (Issue worker kind write piece) = never_both job.is_fatal
 by_parts ios job (Probe worker write piece) = never_both job.is_fatal
 by_parts ios job (Skip worker write) = never_both job.is_fatal
 by_parts ios job (End worker io outcome) = or_never (is_io_of job.clone (slice_get ios io) && is_fault outcome) (job.is_fatal && false) (never_both job.is_fatal)

@@ -1,21 +1,18 @@
 -- What the order of a clone's issues says of its next step in a legal history.
-use Rattle.std.proofs.Common.{◌≡◌, ℕ, suc, ◌<◌, ◌≤◌, List, [], ◌∷◌, ◌++◌, length, take, Bool, true, false, ◌&&◌, ◌||◌, not, refl, sym, ◌∙◌, ap, subst, arith, inl, inr}
+use Rattle.std.proofs.Common.{◌≡◌, ℕ, suc, ◌<◌, List, [], ◌∷◌, ◌++◌, take, Bool, true, false, ◌&&◌, ◌||◌, not, refl, sym, ◌∙◌, ap, subst, arith, inl, inr}
 use Rattle.std.specs.Prelude.{◌⊎◌, Some, slice_get, nat_le}
 use Rattle.std.specs.List.{list_any, list_all, range_with_len}
 use Rattle.std.proofs.lemmas.Bool.{and_parts, and_from, and_left, or_cases, or_left, or_right, cases_Bool, cases_eq, cases_lt, not-true, false_from_ne_true, both_ways}
 use Rattle.std.proofs.lemmas.List.FromFn.{length-map-range_with_len}
 use Rattle.std.proofs.lemmas.Option.{same_Some, slice_get_within}
-use Rattle.jr_model.specs.declared.blocks.Dir.{Dir}
-use Rattle.jr_model.specs.declared.blocks.Piece.{Piece}
 use Rattle.jr_model.specs.declared.events.Event.{Event}
 use Rattle.jr_model.specs.declared.events.Event.TheVariants.{Issue, Probe, Skip, End, Verdict}
-use Rattle.jr_model.specs.declared.events.WriteId.{WriteId}
 use Rattle.jr_model.specs.declared.workloads.Draw.{Draw}
 use Rattle.jr_model.specs.Draws.{draws_of_job}
 use Rattle.jr_model.specs.History.{is_of_clone, awaiting}
 use Rattle.jr_model.specs.Legal.{is_legal, may_happen, is_halted, is_over, is_at_rest, phase_is_open, takes_up}
 use Rattle.jr_model.specs.Plan.{Plan, SubJob, clone_of}
-use Rattle.jr_model.specs.Rounds.{Pass, pass_of, passes_of, write_id, is_write_draw, writes_of, issued_count, has_rounds, group_index, group_count, is_full, is_settled, is_closed, no_issue_flies, is_open, waits_for_round, nothing_flies_of, pass_finished, clone_finished}
+use Rattle.jr_model.specs.Rounds.{Pass, pass_of, passes_of, write_id, is_write_draw, writes_of, issued_count, has_rounds, group_index, group_count, is_full, is_closed, no_issue_flies, is_open, waits_for_round, nothing_flies_of, pass_finished, clone_finished}
 use Rattle.jr_model.specs.PlanFacts.{IsPlanned}
 use Rattle.jr_laws_steps.proofs.IdleLaws.{numbered_of}
 use Rattle.jr_laws_steps.proofs.PlaceLemmas.{all_from}
@@ -221,13 +218,13 @@ module _ (plan : Plan) (planned : IsPlanned plan) (job : SubJob) (there : clone_
       ]
 
   phases_step : (h : List Event) (e : Event) → is_legal plan h ≡ true → PhasesOver h → may_happen plan h e ≡ true → PhasesOver (h ++ e ∷ [])
-  phases_step h (Issue worker dir write piece) legal was may q i other some at =
-      longer h (Issue worker dir write piece) legal may i other at
+  phases_step h (Issue worker kind write piece) legal was may q i other some at =
+      longer h (Issue worker kind write piece) legal may i other at
       (elim (cases_eq write.clone job.clone) [
         | inl own ↦
-            let issue = issue_in plan planned job there h worker dir write piece may own in
+            let issue = issue_in plan planned job there h worker kind write piece may own in
             opened h i other at (can_issue plan h (pass_of job write.pass) issue.draw issue.may).opened
-        | inr foreign ↦ was q i other (omega (arith, some, issued_by_other job h worker dir write piece q foreign)) at
+        | inr foreign ↦ was q i other (omega (arith, some, issued_by_other job h worker kind write piece q foreign)) at
       ])
   phases_step h (Probe worker write piece) legal was may q i other some at =
       longer h (Probe worker write piece) legal may i other at (was q i other (omega (arith, some, issued_same h (Probe worker write piece) (pass_of job q) refl)) at)

@@ -1,16 +1,17 @@
 ghost use Rattle.std.specs.Prelude.{◌≡◌, ◌&&◌, not, ◌==◌, IfOk, length, slice_get};
 ghost use Rattle.std.specs.List.{list_all};
 ghost use Rattle.jr_model.specs.History.{started, flies, outcome_of, is_judged, ended_whole, in_flight, awaiting};
-ghost use Rattle.jr_model.specs.Legal.{step_of_draw, step_of_clone, step_at, same_dir, is_this_issue, is_this_probe};
+ghost use Rattle.jr_model.specs.Legal.{step_of_draw, step_of_clone, step_at, same_issue, is_this_issue, is_this_probe};
 ghost use Rattle.jr_model.specs.Legal.{is_this_skip, outcome_fits, end_fits, is_header_finding, is_byte_finding, is_chunk_finding, digest_finds, kind_finds};
-ghost use Rattle.jr_model.specs.Legal.{kind_says, job_says, verdict_fits, may_happen, is_over, is_complete};
+ghost use Rattle.jr_model.specs.Legal.{kind_says, own_digest_finds, own_finds, own_says, ticket_says, job_says, verdict_fits};
+ghost use Rattle.jr_model.specs.Legal.{may_happen, is_over, is_complete};
 ghost use Rattle.jr_model.specs.Plan.{clone_of};
 
 use crate::legal::{is_over, step_of};
-use jr_history::{Past, ended_whole, is_probe};
+use jr_history::{Past, ended_whole, is_judged_kind};
 use jr_model::{
-    Dir, Draw, Event, Memory, Outcome, Piece, Started, Verdict, VerifyKind, What, WriteId,
-    same_piece, same_write,
+    Draw, Event, IssueKind, Memory, Method, Outcome, Piece, SECTOR, Started, TicketKind, Verdict,
+    VerifyKind, What, WriteId, same_piece, same_write,
 };
 use jr_passes::{Agenda, PlannedClone, PlannedPass};
 use jr_plan::Plan;
@@ -71,24 +72,24 @@ pub(crate) fn step_at(
     }
 }
 
-fn same_dir(a: Dir, b: Dir) -> bool
-    ensures { result ≡ same_dir a b }
+fn same_issue(a: IssueKind, b: IssueKind) -> bool
+    ensures { result ≡ same_issue a b }
 {
     a == b
 }
 
-fn is_this_issue(dir: Dir, write: &WriteId, piece: &Piece, step: &Option<Event>) -> bool
-    ensures { result ≡ is_this_issue dir write.now piece.now step.now }
+fn is_this_issue(kind: IssueKind, write: &WriteId, piece: &Piece, step: &Option<Event>) -> bool
+    ensures { result ≡ is_this_issue kind write.now piece.now step.now }
 {
     match step {
         Some(
             Event::Issue {
-                dir: d,
+                kind: k,
                 write: w,
                 piece: p,
                 ..
             },
-        ) => same_dir(*d, dir) && same_write(w, write) && same_piece(p, piece),
+        ) => same_issue(*k, kind) && same_write(w, write) && same_piece(p, piece),
         _ => false,
     }
 }
@@ -199,14 +200,52 @@ fn kind_says(kind: VerifyKind, interval: u32, len: u32, verdict: Verdict) -> boo
     }
 }
 
-// Whether a check of this clone of the plan can have this verdict.
-fn clone_says(plan: &Plan, clone: u32, len: u32, verdict: Verdict) -> bool
-    ensures { result ≡ job_says (clone_of plan.now clone) len verdict }
+// Whether a checked read's own headers can find this: they say themselves how it is cut, into whole blocks at least.
+fn own_digest_finds(len: u32, what: What) -> bool
+    ensures { result ≡ own_digest_finds len what }
+{
+    is_header_finding(what) || is_chunk_finding((len / SECTOR).max(1), what)
+}
+
+// Whether a checked read of this kind can find this.
+fn own_finds(kind: VerifyKind, len: u32, what: What) -> bool
+    ensures { result ≡ own_finds kind len what }
+{
+    match kind {
+        VerifyKind::Plain => false,
+        VerifyKind::Pattern => is_byte_finding(len, what),
+        VerifyKind::Md5 | VerifyKind::Sha1 | VerifyKind::Sha256 => own_digest_finds(len, what),
+    }
+}
+
+// Whether a checked read of this kind can have this verdict.
+fn own_says(kind: VerifyKind, len: u32, verdict: Verdict) -> bool
+    ensures { result ≡ own_says kind len verdict }
+{
+    match verdict {
+        Verdict::Good => true,
+        Verdict::Bad(what) => own_finds(kind, len, what),
+    }
+}
+
+// Whether an I/O of this kind can have this verdict, where its clone verifies so.
+fn ticket_says(kind: TicketKind, method: &Method, len: u32, verdict: Verdict) -> bool
+    ensures { result ≡ ticket_says kind method.now len verdict }
+{
+    match kind {
+        TicketKind::Probe => kind_says(method.kind, method.interval, len, verdict),
+        TicketKind::ReadCheck => own_says(method.kind, len, verdict),
+        TicketKind::Read | TicketKind::Write => false,
+    }
+}
+
+// Whether an I/O of this clone of the plan can have this verdict.
+fn clone_says(plan: &Plan, clone: u32, kind: TicketKind, len: u32, verdict: Verdict) -> bool
+    ensures { result ≡ job_says (clone_of plan.now clone) kind len verdict }
 {
     let clone = clone as usize;
     if clone < plan.clones() {
-        let method = plan.clone_at(clone).method();
-        kind_says(method.kind, method.interval, len, verdict)
+        ticket_says(kind, &plan.clone_at(clone).method(), len, verdict)
     } else {
         false
     }
@@ -217,7 +256,10 @@ fn verdict_fits(plan: &Plan, verdict: Verdict, io: Option<Started>) -> bool
 {
     match io {
         None => false,
-        Some(io) => { is_probe(io.kind) && clone_says(plan, io.write.clone, io.piece.len, verdict) }
+        Some(io) => {
+            is_judged_kind(io.kind)
+                && clone_says(plan, io.write.clone, io.kind, io.piece.len, verdict)
+        }
     }
 }
 
@@ -229,7 +271,7 @@ pub fn may_end(past: &Past, worker: u32, io: usize, outcome: Outcome) -> bool
     past.flies(io) && end_fits(worker, outcome, past.started_at(io))
 }
 
-/// Whether a check may have this verdict now.
+/// Whether a check or checked read may have this verdict now.
 pub fn may_judge(plan: &Plan, past: &Past, io: usize, verdict: Verdict) -> bool
     ensures { result
         ≡ (ended_whole (outcome_of past.now io) && not (is_judged past.now io)
@@ -261,12 +303,12 @@ fn may_follow(alloc: Global, plan: &Plan, past: &Past, event: &Event) -> Result<
     match event {
         Event::Issue {
             worker,
-            dir,
+            kind,
             write,
             piece,
         } => {
             let step = step_after(alloc, plan, past, *worker, write)?;
-            Ok(is_this_issue(*dir, write, piece, &step))
+            Ok(is_this_issue(*kind, write, piece, &step))
         }
         Event::Probe {
             worker,

@@ -3,6 +3,7 @@ ghost use Rattle.std.specs.List.{list_any, list_all};
 ghost use Rattle.jr_model.specs.History.{is_of_clone, awaiting, in_flight};
 ghost use Rattle.jr_model.specs.Legal.{is_halted, is_over, is_at_rest, phase_is_open, has_room, conflicts, is_clear, takes_up};
 ghost use Rattle.jr_model.specs.Legal.{may_take_up, may_issue, check_or_skip, step_of};
+ghost use Rattle.jr_model.specs.Plan.{issued_as};
 ghost use Rattle.jr_model.specs.Rounds.{write_id, is_write_draw, issued_count, has_rounds, clone_finished, is_current};
 ghost use Rattle.jr_model.specs.Rounds.{pass_finished, passes_of};
 
@@ -210,11 +211,12 @@ pub(crate) fn check_or_skip(past: &Past, worker: u32, pass: &PlannedPass<'_>, dr
 
 // The issue of a draw.
 pub(crate) fn issue_of(worker: u32, pass: &PlannedPass<'_>, draw: &Draw) -> Event
-    ensures { result ≡ Event.Issue worker draw.now.dir (write_id pass.now draw.now) draw.now.piece }
+    ensures { result
+        ≡ Event.Issue worker (issued_as pass.now.job draw.now.dir) (write_id pass.now draw.now) draw.now.piece }
 {
     Event::Issue {
         worker,
-        dir: draw.dir,
+        kind: pass.job().issued_as(draw.dir),
         write: pass.write_id(draw),
         piece: draw.piece,
     }

@@ -20,7 +20,6 @@ job_fault_text (fault.MissingSize line) = at_job line (codes ": no size")
 job_fault_text (fault.BadBlock line) = at_job line (codes ": bad block size or place")
 job_fault_text (fault.BadSplit line) = at_line line (codes ": bad split")
 job_fault_text (fault.NoPattern line) = at_job line (codes ": no verify_pattern")
-job_fault_text (fault.VerifyNeedsWrite line) = at_job line (codes ": verify needs a write")
 job_fault_text fault.MixedEngines = codes "job file: several engine kinds"
 job_fault_text (fault.SeveralFiles line) = at_line line (codes ": several files")
 job_fault_text (fault.Limit b) = codes "job file: limit of " ++ bound_text b

@@ -1,10 +1,9 @@
 -- Believed: how a job's region is cut into cells (fio's manual, "Block size"; the limits are of this project).
 use Rattle.std.specs.Prelude.{◌≡◌, ℕ, ◌/◌, ◌%◌, ◌≤◌, nat_le, min, ◌==◌, Bool, true, not, ◌&&◌, ◌||◌, List, [], ◌∷◌, Option, Some, None, Result, Ok, Err, unwrap_or, if◌then◌else◌}
 use Rattle.jr_model.specs.declared.limits.TheConstants.{SECTOR}
-use Rattle.jr_model.specs.Plan.{is_verified}
 use Rattle.jr_model.specs.Tickets.{has_pattern, interval_fits}
 use Rattle.jr_settings.specs.declared.faults.JobFault.{JobFault}
-use Rattle.jr_settings.specs.declared.faults.JobFault.TheVariants.{MissingSize, BadBlock, NoPattern, VerifyNeedsWrite}
+use Rattle.jr_settings.specs.declared.faults.JobFault.TheVariants.{MissingSize, BadBlock, NoPattern}
 use Rattle.jr_settings.specs.declared.options.JobOptions.{JobOptions}
 use Rattle.jr_settings.specs.declared.shapes.Shape.{Shape}
 use Rattle.jr_plan.specs.Sizes.{split_fits}
@@ -29,7 +28,6 @@ pub record HasShape (o : JobOptions) (shape : Shape) : Type 0 where
   pub reads_total : percents_total shape.reads ≡ 100
   pub writes_total : percents_total shape.writes ≡ 100
   pub pattern : has_pattern o.kind o.pattern ≡ true
-  pub verified : is_verified o.kind ≡ true → has_writes o.io_type ≡ true
 
 -- the least of a number and of the sizes that a split gives at all
 abbrev pub least_from : ℕ → List (ℕ × ℕ) → ℕ
@@ -64,8 +62,7 @@ abbrev pub cut_shape : JobOptions → ℕ → ℕ → ℕ → Result Shape JobFa
 cut_shape o line size cell =
     if not (options_fit o cell (reads_of o) (writes_of o)) || (size / cell == 0) then Err (BadBlock line)
     else (if not (has_pattern o.kind o.pattern) then Err (NoPattern line)
-    else (if is_verified o.kind && not (has_writes o.io_type) then Err (VerifyNeedsWrite line)
-    else Ok (record { size = size; cell = cell; cells = size / cell; reads = reads_of o; writes = writes_of o })))
+    else Ok (record { size = size; cell = cell; cells = size / cell; reads = reads_of o; writes = writes_of o }))
 
 -- the shape of a job whose section begins at this line, or what is wrong with the job
 abbrev pub shape_with : JobOptions → ℕ → Option ℕ → Result Shape JobFault

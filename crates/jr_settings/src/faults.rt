@@ -25,8 +25,6 @@ pub enum JobFault {
     BadSplit(u32),
     /// `verify=pattern` without `verify_pattern`.
     NoPattern(u32),
-    /// A job that verifies and never writes.
-    VerifyNeedsWrite(u32),
     /// Planned jobs of several kinds of engine.
     MixedEngines,
     /// A file name with a colon, which lists several files.
@@ -87,7 +85,6 @@ impl JobFault {
             JobFault::BadBlock(line) => Wording::Job(*line, "bad block size or place"),
             JobFault::BadSplit(line) => Wording::Line(*line, "bad split"),
             JobFault::NoPattern(line) => Wording::Job(*line, "no verify_pattern"),
-            JobFault::VerifyNeedsWrite(line) => Wording::Job(*line, "verify needs a write"),
             JobFault::MixedEngines => Wording::Alone("job file: several engine kinds"),
             JobFault::SeveralFiles(line) => Wording::Line(*line, "several files"),
             JobFault::Limit(bound) => Wording::Limit(*bound),

@@ -110,9 +110,6 @@ impl JobOptions {
         if !self.has_pattern() {
             return Err(JobFault::NoPattern(line));
         }
-        if self.kind.is_verified() && !self.io_type.has_writes() {
-            return Err(JobFault::VerifyNeedsWrite(line));
-        }
         Ok(Shape {
             size,
             cell,

@@ -1,7 +1,8 @@
 ghost use Rattle.std.specs.Prelude.{◌≡◌, ◌++◌, IfOk, OnOk, flat_map, map};
-ghost use Rattle.jr_model.specs.Report.{file_name, in_order, miscompares, part_text, report_of, what_text};
+ghost use Rattle.jr_model.specs.Plan.{clone_of};
+ghost use Rattle.jr_model.specs.Report.{file_name, found_word, in_order, miscompares, part_text, report_of, what_text};
 ghost use Rattle.jr_tallies.specs.Tallying.{miscompare_of};
-ghost use Rattle.jr_stats.specs.Miscompares.{bad_line, named_fields, place_fields};
+ghost use Rattle.jr_stats.specs.Miscompares.{AreOfRun, bad_line, named_fields, place_fields};
 
 use crate::totals::totals_text;
 use jr_desk::{Bad, Desk};
@@ -20,15 +21,23 @@ pub fn report(alloc: Global, desk: &Desk) -> Result<Vec<u8>, Memory>
     Ok(text)
 }
 
-// The bad verdicts of a run by clone, pass and number.
+// The bad verdicts of a desk's run by clone, pass and number.
 fn sorted_bads(alloc: Global, desk: &Desk) -> Result<Vec<Bad>, Memory>
     ensures { IfOk result (λ bads. map miscompare_of bads.items ≡ in_order desk.now.plan (miscompares desk.now.history)) }
 {
+    bads_in_order(alloc, desk.plan(), desk.bads())
+}
+
+/// The bad verdicts of a run by clone, pass and number, as its report has them.
+pub fn bads_in_order(alloc: Global, plan: &Plan, bads: &[Bad]) -> Result<Vec<Bad>, Memory>
+    requires { AreOfRun plan.now (map miscompare_of bads.now) }
+    ensures { IfOk result (λ sorted. map miscompare_of sorted.items ≡ in_order plan.now (map miscompare_of bads.now)) }
+{
     // Its contract says what holds of every plan.
-    desk.plan().facts();
-    let mut bads = Vec::from_slice(alloc, desk.bads())?;
-    bads.sort_unstable_by_key(|bad| bad.write);
-    Ok(bads)
+    plan.facts();
+    let mut sorted = Vec::from_slice(alloc, bads)?;
+    sorted.sort_unstable_by_key(|bad| bad.write);
+    Ok(sorted)
 }
 
 // The lines of bad verdicts, one after another.
@@ -45,13 +54,24 @@ fn push_bads(text: &mut Vec<u8>, plan: &Plan, bads: &[Bad]) -> Result<(), Memory
 fn push_bad(text: &mut Vec<u8>, plan: &Plan, bad: &Bad) -> Result<(), Memory>
     ensures { OnOk result (text.new.items ≡ text.old.items ++ bad_line plan.now bad.now) }
 {
-    push_text(text, "miscompare:")?;
+    push_found(text, plan, bad.write.clone)?;
     push_named(text, &bad.write)?;
     push_place(text, plan, &bad.piece)?;
     push_text(text, " what=")?;
     push_what(text, bad.what)?;
     push_text(text, "\n")?;
     Ok(())
+}
+
+// What its line begins with, by whether its clone checks its reads.
+fn push_found(text: &mut Vec<u8>, plan: &Plan, clone: u32) -> Result<(), Memory>
+    ensures { OnOk result (text.new.items ≡ text.old.items ++ found_word (clone_of plan.now clone)) }
+{
+    let i = clone as usize;
+    if i < plan.clones() && plan.clone_at(i).checks_reads() {
+        return push_text(text, "badread:");
+    }
+    push_text(text, "miscompare:")
 }
 
 // Which write it is.

@@ -6,7 +6,7 @@ use Rattle.std.proofs.lemmas.Bool.{eq-eqb, eqb-true, and_parts}
 use Rattle.std.proofs.lemmas.List.Sums.{length-filter}
 use Rattle.jr_model.specs.declared.events.Event.{Event}
 use Rattle.jr_model.specs.declared.events.Started.{Started}
-use Rattle.jr_model.specs.History.{started, outcome_of, is_judged, in_flight, in_flight_of, awaiting, is_of_clone, is_probe, ended_whole}
+use Rattle.jr_model.specs.History.{started, outcome_of, is_judged, in_flight, in_flight_of, awaiting, is_of_clone, is_judged_kind, is_probe, ended_whole}
 use Rattle.jr_model.specs.Legal.{is_complete, is_legal, is_over, is_at_rest, has_room}
 use Rattle.jr_model.specs.Plan.{Plan, SubJob}
 use Rattle.jr_model.specs.Rounds.{no_issue_flies, nothing_flies_of}
@@ -126,7 +126,7 @@ each_is_judged plan history none =
 
 none_awaits : (plan : Plan) (history : List Event) → IsPlanned plan → is_legal plan history ≡ true → list_all (is_judged_all history) plan.clones ≡ true → awaiting history ≡ []
 none_awaits plan history planned legal all =
-    none_kept_of plan history (λ (i : ℕ) (io : Started). is_probe io.kind && ended_whole (outcome_of history i) && not (is_judged history i)) planned legal
+    none_kept_of plan history (λ (i : ℕ) (io : Started). is_judged_kind io.kind && ended_whole (outcome_of history i) && not (is_judged history i)) planned legal
     (λ (k : ℕ) (job : SubJob) (at : slice_get plan.clones k ≡ Some job). eqb-true (awaited history job.clone) 0 (each_clone plan (is_judged_all history) all k job at))
 
 pub awaits_none : (plan : Plan) (history : List Event) → IsPlanned plan → is_legal plan history ≡ true → (length (awaiting history) == 0) ≡ list_all (λ (job : SubJob). awaited history job.clone == 0) plan.clones

@@ -2,11 +2,11 @@
 use Rattle.std.proofs.Common.{◌≡◌, ℕ, suc, ◌+◌, ◌-◌, ◌≤◌, List, [], ◌∷◌, ◌++◌, length, Bool, true, false, cond, ◌&&◌, not, refl, sym, ◌∙◌, ap, arith, zero-add}
 use Rattle.std.specs.Prelude.{Option, Some, None, slice_get, ◌==◌, is_none, count_by}
 use Rattle.std.proofs.lemmas.Bool.{eq-eqb}
-use Rattle.jr_model.specs.declared.blocks.Dir.{Dir}
-use Rattle.jr_model.specs.declared.blocks.Dir.TheVariants as direction
 use Rattle.jr_model.specs.declared.blocks.Piece.{Piece}
 use Rattle.jr_model.specs.declared.events.Event.{Event}
 use Rattle.jr_model.specs.declared.events.Event.TheVariants.{Issue, Probe, Skip, End, Verdict}
+use Rattle.jr_model.specs.declared.events.IssueKind.{IssueKind}
+use Rattle.jr_model.specs.declared.events.IssueKind.TheVariants as issue
 use Rattle.jr_model.specs.declared.events.Outcome.{Outcome}
 use Rattle.jr_model.specs.declared.events.Outcome.TheVariants.{Whole, Failed, Short}
 use Rattle.jr_model.specs.declared.events.Started.{Started}
@@ -14,7 +14,7 @@ use Rattle.jr_model.specs.declared.events.Verdict.{Verdict as GivenVerdict}
 use Rattle.jr_model.specs.declared.events.WriteId.{WriteId}
 use Rattle.jr_model.specs.declared.tickets.TicketKind.{TicketKind}
 use Rattle.jr_model.specs.declared.tickets.TicketKind.TheVariants as ticket
-use Rattle.jr_model.specs.History.{started, started_by, kind_for, end_of, outcome_of, is_verdict_on, is_judged, in_flight, in_flight_of, is_of_clone, is_probe, ended_whole}
+use Rattle.jr_model.specs.History.{started, started_by, kind_for, end_of, outcome_of, is_verdict_on, is_judged, in_flight, in_flight_of, is_of_clone, is_judged_kind, is_probe, ended_whole}
 use Rattle.jr_model.specs.Legal.{is_legal, may_happen}
 use Rattle.jr_model.specs.Plan.{Plan}
 use Rattle.jr_laws_steps.proofs.JudgedEnded.{flying_unjudged}
@@ -39,11 +39,11 @@ abbrev awaits : Bool → Option Outcome → Bool → Bool → Bool
 awaits check outcome judged own = (check && ended_whole outcome && not judged) && own
 
 abbrev awaited_weight : List Event → ℕ → ℕ → Started → Bool
-awaited_weight history c i io = awaits (is_probe io.kind) (outcome_of history i) (is_judged history i) (is_of_clone c io)
+awaited_weight history c i io = awaits (is_judged_kind io.kind) (outcome_of history i) (is_judged history i) (is_of_clone c io)
 
 count_awaited : (history : List Event) (c : ℕ) → awaited history c ≡ tallied (awaited_weight history c) 0 (started history)
 count_awaited history c =
-    count_kept (λ (i : ℕ) (io : Started). is_probe io.kind && ended_whole (outcome_of history i) && not (is_judged history i)) (is_of_clone c) 0 (started history)
+    count_kept (λ (i : ℕ) (io : Started). is_judged_kind io.kind && ended_whole (outcome_of history i) && not (is_judged history i)) (is_of_clone c) 0 (started history)
 
 -- a tally over what was started, after one event more
 module _ (W : List Event → ℕ → Started → Bool) (history : List Event) (e : Event) where
@@ -143,7 +143,7 @@ awaited-stays history e c none ends verdicts =
     let more = history ++ e ∷ [] in
     count_awaited more c
     ∙ tally_stays (λ (h : List Event). awaited_weight h c) history e none
-    (λ (i : ℕ) (io : Started). awaits_same (is_probe io.kind) (is_of_clone c io) (is_judged more i) (is_judged history i) (outcome_of more i) (outcome_of history i) (outcome_of-stays history e i (ends i)) (is_judged-stays history e i (verdicts i)))
+    (λ (i : ℕ) (io : Started). awaits_same (is_judged_kind io.kind) (is_of_clone c io) (is_judged more i) (is_judged history i) (outcome_of more i) (outcome_of history i) (outcome_of-stays history e i (ends i)) (is_judged-stays history e i (verdicts i)))
     ∙ sym (count_awaited history c)
 
 pub awaited-starts : (plan : Plan) (history : List Event) (e : Event) (c : ℕ) (s : Started) → is_legal plan history ≡ true → started_by e ≡ Some s → ((i : ℕ) → end_of i e ≡ None) → ((i : ℕ) → is_verdict_on i e ≡ false) → awaited (history ++ e ∷ []) c ≡ awaited history c
@@ -151,20 +151,20 @@ awaited-starts plan history e c s legal starts ends verdicts =
     let more = history ++ e ∷ [] in
     let n = length (started history) in
     let grown = tally_starts (λ (h : List Event). awaited_weight h c) history e s starts
-    (λ (i : ℕ) (io : Started). awaits_same (is_probe io.kind) (is_of_clone c io) (is_judged more i) (is_judged history i) (outcome_of more i) (outcome_of history i) (outcome_of-stays history e i (ends i)) (is_judged-stays history e i (verdicts i))) in
-    let now = awaits_none (is_probe s.kind) (is_of_clone c s) (is_judged history n) (outcome_of history n) (not_ended_yet plan history n legal (omega arith)) in
+    (λ (i : ℕ) (io : Started). awaits_same (is_judged_kind io.kind) (is_of_clone c io) (is_judged more i) (is_judged history i) (outcome_of more i) (outcome_of history i) (outcome_of-stays history e i (ends i)) (is_judged-stays history e i (verdicts i))) in
+    let now = awaits_none (is_judged_kind s.kind) (is_of_clone c s) (is_judged history n) (outcome_of history n) (not_ended_yet plan history n legal (omega arith)) in
     omega (arith, count_awaited more c, count_awaited history c, grown, now)
 
-pub awaited-end : (plan : Plan) (history : List Event) (worker io : ℕ) (outcome : Outcome) (c : ℕ) (s : Started) → is_legal plan history ≡ true → may_happen plan history (End worker io outcome) ≡ true → slice_get (started history) io ≡ Some s → awaited (history ++ End worker io outcome ∷ []) c ≡ awaited history c + counted (is_of_clone c s && (is_probe s.kind && ended_whole (Some outcome)))
+pub awaited-end : (plan : Plan) (history : List Event) (worker io : ℕ) (outcome : Outcome) (c : ℕ) (s : Started) → is_legal plan history ≡ true → may_happen plan history (End worker io outcome) ≡ true → slice_get (started history) io ≡ Some s → awaited (history ++ End worker io outcome ∷ []) c ≡ awaited history c + counted (is_of_clone c s && (is_judged_kind s.kind && ended_whole (Some outcome)))
 awaited-end plan history worker io outcome c s legal may there =
     let e = End worker io outcome in
     let more = history ++ e ∷ [] in
     let flies = (end_names plan history worker io outcome may).flies in
     let moves = tally_moves (λ (h : List Event). awaited_weight h c) history e io s refl there
-    (λ (i : ℕ) (x : Started) (apart : i ≡ io → ⊥). awaits_same (is_probe x.kind) (is_of_clone c x) (is_judged more i) (is_judged history i) (outcome_of more i) (outcome_of history i) (outcome_of-other history worker io outcome i (λ equal. apart (sym equal))) (is_judged-stays history e i refl)) in
-    let past = awaits_none (is_probe s.kind) (is_of_clone c s) (is_judged history io) (outcome_of history io) flies in
+    (λ (i : ℕ) (x : Started) (apart : i ≡ io → ⊥). awaits_same (is_judged_kind x.kind) (is_of_clone c x) (is_judged more i) (is_judged history i) (outcome_of more i) (outcome_of history i) (outcome_of-other history worker io outcome i (λ equal. apart (sym equal))) (is_judged-stays history e i refl)) in
+    let past = awaits_none (is_judged_kind s.kind) (is_of_clone c s) (is_judged history io) (outcome_of history io) flies in
     let unjudged : is_judged more io ≡ false = is_judged-stays history e io refl ∙ flying_unjudged plan history io legal flies in
-    let now = awaits_now (is_probe s.kind) (is_of_clone c s) (is_judged more io) (outcome_of more io) outcome (outcome_of-end history worker io outcome flies) unjudged in
+    let now = awaits_now (is_judged_kind s.kind) (is_of_clone c s) (is_judged more io) (outcome_of more io) outcome (outcome_of-end history worker io outcome flies) unjudged in
     omega (arith, count_awaited more c, count_awaited history c, moves, past, now)
 
 pub awaited-verdict : (plan : Plan) (history : List Event) (worker io : ℕ) (verdict : GivenVerdict) (c : ℕ) (s : Started) → may_happen plan history (Verdict worker io verdict) ≡ true → slice_get (started history) io ≡ Some s → awaited history c ≡ awaited (history ++ Verdict worker io verdict ∷ []) c + counted (is_of_clone c s)
@@ -173,12 +173,12 @@ awaited-verdict plan history worker io verdict c s may there =
     let more = history ++ e ∷ [] in
     let names = verdict_names plan history worker io verdict may in
     let same : names.judged ≡ s = let both : Some names.judged ≡ Some s = sym names.there ∙ there in cc in
-    let check : is_probe s.kind ≡ true = ap {B = Bool} (λ (x : Started). is_probe x.kind) (sym same) ∙ names.check in
+    let check : is_judged_kind s.kind ≡ true = ap {B = Bool} (λ (x : Started). is_judged_kind x.kind) (sym same) ∙ names.check in
     let moves = tally_moves (λ (h : List Event). awaited_weight h c) history e io s refl there
-    (λ (i : ℕ) (x : Started) (apart : i ≡ io → ⊥). awaits_same (is_probe x.kind) (is_of_clone c x) (is_judged more i) (is_judged history i) (outcome_of more i) (outcome_of history i) (outcome_of-stays history e i refl) (is_judged-other history worker io verdict i (λ equal. apart (sym equal)))) in
-    let was = awaits_now (is_probe s.kind) (is_of_clone c s) (is_judged history io) (outcome_of history io) Whole names.ended names.unjudged in
-    let own : counted (is_of_clone c s && (is_probe s.kind && true)) ≡ counted (is_of_clone c s) = ap {B = ℕ} (λ (b : Bool). counted (is_of_clone c s && (b && true))) check ∙ and_true (is_of_clone c s) in
-    let past = awaits_judged (is_probe s.kind) (is_of_clone c s) (is_judged more io) (outcome_of more io) (is_judged-verdict history worker io verdict) in
+    (λ (i : ℕ) (x : Started) (apart : i ≡ io → ⊥). awaits_same (is_judged_kind x.kind) (is_of_clone c x) (is_judged more i) (is_judged history i) (outcome_of more i) (outcome_of history i) (outcome_of-stays history e i refl) (is_judged-other history worker io verdict i (λ equal. apart (sym equal)))) in
+    let was = awaits_now (is_judged_kind s.kind) (is_of_clone c s) (is_judged history io) (outcome_of history io) Whole names.ended names.unjudged in
+    let own : counted (is_of_clone c s && (is_judged_kind s.kind && true)) ≡ counted (is_of_clone c s) = ap {B = ℕ} (λ (b : Bool). counted (is_of_clone c s && (b && true))) check ∙ and_true (is_of_clone c s) in
+    let past = awaits_judged (is_judged_kind s.kind) (is_of_clone c s) (is_judged more io) (outcome_of more io) (is_judged-verdict history worker io verdict) in
     omega (arith, count_awaited more c, count_awaited history c, moves, was, own, past)
   where
     and_true : (b : Bool) → counted (b && (true && true)) ≡ counted b
@@ -204,10 +204,13 @@ verdict_tally : (b : Bool) (t u : Tally) → u.issues ≡ t.issues → u.checks 
 verdict_tally true t u i k v = same_tally u (record t { verdicts = t.verdicts - 1 }) i k (omega (arith, v))
 verdict_tally false t u i k v = same_tally u t i k (omega (arith, v))
 
-end_tally : (b : Bool) (kind : TicketKind) (outcome : Outcome) (t u : Tally) → t.issues ≡ u.issues + counted (b && not (is_probe kind)) → t.checks ≡ u.checks + counted (b && is_probe kind) → u.verdicts ≡ t.verdicts + counted (b && (is_probe kind && ended_whole (Some outcome))) → u ≡ cond b (tally_ended kind outcome t) t
+end_tally : (b : Bool) (kind : TicketKind) (outcome : Outcome) (t u : Tally) → t.issues ≡ u.issues + counted (b && not (is_probe kind)) → t.checks ≡ u.checks + counted (b && is_probe kind) → u.verdicts ≡ t.verdicts + counted (b && (is_judged_kind kind && ended_whole (Some outcome))) → u ≡ cond b (tally_ended kind outcome t) t
 end_tally false kind outcome t u i k v = same_tally u t (omega (arith, i)) (omega (arith, k)) (omega (arith, v))
 end_tally true ticket.Read outcome t u i k v = same_tally u (record t { issues = t.issues - 1 }) (omega (arith, i)) (omega (arith, k)) (omega (arith, v))
 end_tally true ticket.Write outcome t u i k v = same_tally u (record t { issues = t.issues - 1 }) (omega (arith, i)) (omega (arith, k)) (omega (arith, v))
+end_tally true ticket.ReadCheck Whole t u i k v = same_tally u (record t { issues = t.issues - 1; verdicts = t.verdicts + 1 }) (omega (arith, i)) (omega (arith, k)) (omega (arith, v))
+end_tally true ticket.ReadCheck Failed t u i k v = same_tally u (record t { issues = t.issues - 1 }) (omega (arith, i)) (omega (arith, k)) (omega (arith, v))
+end_tally true ticket.ReadCheck (Short n) t u i k v = same_tally u (record t { issues = t.issues - 1 }) (omega (arith, i)) (omega (arith, k)) (omega (arith, v))
 end_tally true ticket.Probe Whole t u i k v = same_tally u (record t { checks = t.checks - 1; verdicts = t.verdicts + 1 }) (omega (arith, i)) (omega (arith, k)) (omega (arith, v))
 end_tally true ticket.Probe Failed t u i k v = same_tally u (record t { checks = t.checks - 1 }) (omega (arith, i)) (omega (arith, k)) (omega (arith, v))
 end_tally true ticket.Probe (Short n) t u i k v = same_tally u (record t { checks = t.checks - 1 }) (omega (arith, i)) (omega (arith, k)) (omega (arith, v))
@@ -220,11 +223,13 @@ abbrev is_check : Started → Bool
 is_check io = is_probe io.kind
 
 -- a draw's I/O is no check
-issued_kind : (dir : Dir) (b : Bool) → (counted (b && not (is_probe (kind_for dir))) ≡ counted b) × (counted (b && is_probe (kind_for dir)) ≡ 0)
-issued_kind direction.Read true = (refl, refl)
-issued_kind direction.Read false = (refl, refl)
-issued_kind direction.Write true = (refl, refl)
-issued_kind direction.Write false = (refl, refl)
+issued_kind : (dir : IssueKind) (b : Bool) → (counted (b && not (is_probe (kind_for dir))) ≡ counted b) × (counted (b && is_probe (kind_for dir)) ≡ 0)
+issued_kind issue.Read true = (refl, refl)
+issued_kind issue.Read false = (refl, refl)
+issued_kind issue.Write true = (refl, refl)
+issued_kind issue.Write false = (refl, refl)
+issued_kind issue.ReadCheck true = (refl, refl)
+issued_kind issue.ReadCheck false = (refl, refl)
 
 probed_kind : (b : Bool) → (counted (b && not true) ≡ 0) × (counted (b && true) ≡ counted b)
 probed_kind true = (refl, refl)
@@ -232,7 +237,7 @@ probed_kind false = (refl, refl)
 
 -- what an event makes of the three
 module _ (plan : Plan) (history : List Event) (c : ℕ) (legal : is_legal plan history ≡ true) where
-  pub tally-issue : (worker : ℕ) (dir : Dir) (write : WriteId) (piece : Piece) → tally_of (history ++ Issue worker dir write piece ∷ []) c ≡ tally_after c None (Issue worker dir write piece) (tally_of history c)
+  pub tally-issue : (worker : ℕ) (dir : IssueKind) (write : WriteId) (piece : Piece) → tally_of (history ++ Issue worker dir write piece ∷ []) c ≡ tally_after c None (Issue worker dir write piece) (tally_of history c)
   tally-issue worker dir write piece =
       let e = Issue worker dir write piece in
       let s : Started = record { worker = worker; kind = kind_for dir; write = write; piece = piece } in

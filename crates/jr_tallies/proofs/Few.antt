@@ -12,7 +12,7 @@ use Rattle.jr_model.specs.declared.events.Started.{Started}
 use Rattle.jr_model.specs.declared.tickets.TicketKind.{TicketKind}
 use Rattle.jr_model.specs.declared.tickets.TicketKind.TheVariants as ticket
 use Rattle.jr_model.specs.declared.totals.Totals.{Totals}
-use Rattle.jr_model.specs.History.{started, started_by, end_of, is_verdict_on, kind_for, is_of_clone, is_probe, is_write, ended_whole}
+use Rattle.jr_model.specs.History.{started, started_by, end_of, is_verdict_on, kind_for, is_of_clone, is_judged_kind, is_probe, is_write, ended_whole}
 use Rattle.jr_model.specs.Legal.{is_legal, may_happen, is_io_of, is_bad}
 use Rattle.jr_model.specs.Machine.{work_of}
 use Rattle.jr_model.specs.Plan.{Plan, SubJob, clone_of}
@@ -45,7 +45,7 @@ abbrev EndedFew : List Event → ℕ → Type 0
 EndedFew h c = ended_all (totals_of h c) + (flying_issues h c + flying_checks h c) ≤ length (started h)
 
 abbrev JudgedFew : List Event → ℕ → Type 0
-JudgedFew h c = (totals_of h c).checks + awaited h c + flying_checks h c ≤ length (started h)
+JudgedFew h c = (totals_of h c).checks + awaited h c + (flying_issues h c + flying_checks h c) ≤ length (started h)
 
 -- an I/O is a check or not
 one_kind : (own check : Bool) → counted (own && not check) + counted (own && check) ≤ 1
@@ -58,23 +58,28 @@ end_few : (own : Bool) (kind : TicketKind) (outcome : Outcome) (io : Started) �
 end_few true ticket.Read Whole io = omega arith
 end_few true ticket.Write Whole io = omega arith
 end_few true ticket.Probe Whole io = omega arith
+end_few true ticket.ReadCheck Whole io = omega arith
 end_few true ticket.Read Failed io = omega arith
 end_few true ticket.Write Failed io = omega arith
 end_few true ticket.Probe Failed io = omega arith
+end_few true ticket.ReadCheck Failed io = omega arith
 end_few true ticket.Read (Short n) io = omega arith
 end_few true ticket.Write (Short n) io = omega arith
 end_few true ticket.Probe (Short n) io = omega arith
+end_few true ticket.ReadCheck (Short n) io = omega arith
 end_few false ticket.Read Whole io = omega arith
 end_few false ticket.Write Whole io = omega arith
 end_few false ticket.Probe Whole io = omega arith
+end_few false ticket.ReadCheck Whole io = omega arith
 end_few false kind Failed io = omega arith
 end_few false kind (Short n) io = omega arith
 
-part_of : (own check whole : Bool) → counted (own && (check && whole)) ≤ counted (own && check)
+part_of : (own check some : Bool) → counted (own && some) ≤ counted (own && not check) + counted (own && check)
 part_of true true true = omega arith
 part_of true true false = omega arith
-part_of true false whole = omega arith
-part_of false check whole = omega arith
+part_of true false true = omega arith
+part_of true false false = omega arith
+part_of false check some = omega arith
 
 own_true : (own : Bool) → counted (own && true) ≡ counted own
 own_true true = refl
@@ -92,7 +97,7 @@ module _ (plan : Plan) (h : List Event) (e : Event) (c : ℕ) (legal : is_legal 
       let one = one_kind (is_of_clone c s) (is_probe s.kind) in
       let longer : length (started more) ≡ suc (length (started h)) = length-started-starts h e s starts in (
         λ (few : EndedFew h c). omega (arith, few, added.reads, added.writes, added.faults, nothing, issues, checks, one, longer),
-        λ (few : JudgedFew h c). omega (arith, few, added.checks, unjudged, checks, verdicts_same, one, longer),
+        λ (few : JudgedFew h c). omega (arith, few, added.checks, unjudged, issues, checks, verdicts_same, one, longer),
       )
 
   stays_few : started_by e ≡ None → ((i : ℕ) → end_of i e ≡ None) → ended_all (gain (started h) c e) ≡ 0 → EndedFew h c → EndedFew (h ++ e ∷ []) c
@@ -112,11 +117,12 @@ both_few plan h (Skip worker write) c legal may =
     let e = Skip worker write in
     let more = h ++ e ∷ [] in
     let added = totals_added plan h e c legal may in
+    let issues : flying_issues more c ≡ flying_issues h c = flying-stays h e is_issue c refl (λ i. refl) in
     let checks : flying_checks more c ≡ flying_checks h c = flying-stays h e is_check c refl (λ i. refl) in
     let verdicts : awaited more c ≡ awaited h c = awaited-stays h e c refl (λ i. refl) (λ i. refl) in
     let same : length (started more) ≡ length (started h) = length-started-other h e refl in (
       λ (few : EndedFew h c). stays_few plan h e c legal may refl (λ i. refl) (omega arith) few,
-      λ (few : JudgedFew h c). omega (arith, few, added.checks, checks, verdicts, same),
+      λ (few : JudgedFew h c). omega (arith, few, added.checks, issues, checks, verdicts, same),
     )
 both_few plan h (End worker io outcome) c legal may =
     let e = End worker io outcome in
@@ -126,13 +132,13 @@ both_few plan h (End worker io outcome) c legal may =
     let added = totals_added plan h e c legal may in
     let issues : flying_issues h c ≡ flying_issues more c + counted (is_of_clone c s && not (is_probe s.kind)) = flying-end plan h worker io outcome is_issue c s may names.there in
     let checks : flying_checks h c ≡ flying_checks more c + counted (is_of_clone c s && is_probe s.kind) = flying-end plan h worker io outcome is_check c s may names.there in
-    let verdicts : awaited more c ≡ awaited h c + counted (is_of_clone c s && (is_probe s.kind && ended_whole (Some outcome))) = awaited-end plan h worker io outcome c s legal may names.there in
+    let verdicts : awaited more c ≡ awaited h c + counted (is_of_clone c s && (is_judged_kind s.kind && ended_whole (Some outcome))) = awaited-end plan h worker io outcome c s legal may names.there in
     let gained : ended_all (gain (started h) c e) ≡ ended_all (end_gain (is_of_clone c s) s.kind outcome s) = ap {B = ℕ} (λ (o : Option Started). ended_all (named_gain c outcome o)) names.there in
     let few_more = end_few (is_of_clone c s) s.kind outcome s in
-    let part = part_of (is_of_clone c s) (is_probe s.kind) (ended_whole (Some outcome)) in
+    let part = part_of (is_of_clone c s) (is_probe s.kind) (is_judged_kind s.kind && ended_whole (Some outcome)) in
     let same : length (started more) ≡ length (started h) = length-started-other h e refl in (
       λ (few : EndedFew h c). omega (arith, few, added.reads, added.writes, added.faults, gained, few_more, issues, checks, same),
-      λ (few : JudgedFew h c). omega (arith, few, added.checks, checks, verdicts, part, same),
+      λ (few : JudgedFew h c). omega (arith, few, added.checks, issues, checks, verdicts, part, same),
     )
 both_few plan h (Verdict worker io verdict) c legal may =
     let e = Verdict worker io verdict in
@@ -140,12 +146,13 @@ both_few plan h (Verdict worker io verdict) c legal may =
     let names = verdict_names plan h worker io verdict may in
     let s = names.judged in
     let added = totals_added plan h e c legal may in
+    let issues : flying_issues more c ≡ flying_issues h c = flying-stays h e is_issue c refl (λ i. refl) in
     let checks : flying_checks more c ≡ flying_checks h c = flying-stays h e is_check c refl (λ i. refl) in
     let verdicts : awaited h c ≡ awaited more c + counted (is_of_clone c s) = awaited-verdict plan h worker io verdict c s may names.there in
     let gained : (gain (started h) c e).checks ≡ counted (is_of_clone c s) = ap {B = ℕ} (λ (o : Option Started). counted (is_io_of c o && true)) names.there ∙ own_true (is_of_clone c s) in
     let same : length (started more) ≡ length (started h) = length-started-other h e refl in (
       λ (few : EndedFew h c). stays_few plan h e c legal may refl (λ i. refl) (omega arith) few,
-      λ (few : JudgedFew h c). omega (arith, few, added.checks, gained, checks, verdicts, same),
+      λ (few : JudgedFew h c). omega (arith, few, added.checks, gained, issues, checks, verdicts, same),
     )
 
 -- verdicts are good or bad

@@ -299,11 +299,13 @@ end_gain own kind outcome io = record none {
 end_adds : (own : Bool) (kind : TicketKind) (outcome : Outcome) (io : Started) (t u : Totals) → AreAdded t (end_gain own kind outcome io) u → u ≡ cond own (totals_ended kind io.piece.len outcome t) t
 end_adds true ticket.Read Whole io t u h = add_read io.piece.len t u h
 end_adds true ticket.Write Whole io t u h = add_write io.piece.len t u h
+end_adds true ticket.ReadCheck Whole io t u h = add_read io.piece.len t u h
 end_adds true ticket.Probe Whole io t u h = add_none t u h
 end_adds true kind Failed io t u h = add_fault t u h
 end_adds true kind (Short n) io t u h = add_fault t u h
 end_adds false ticket.Read Whole io t u h = add_none t u h
 end_adds false ticket.Write Whole io t u h = add_none t u h
+end_adds false ticket.ReadCheck Whole io t u h = add_none t u h
 end_adds false ticket.Probe Whole io t u h = add_none t u h
 end_adds false kind Failed io t u h = add_none t u h
 end_adds false kind (Short n) io t u h = add_none t u h

@@ -6,10 +6,10 @@ use Rattle.std.specs.Option.{option_map}
 use Rattle.std.proofs.lemmas.Bool.{eq-eqb}
 use Rattle.std.proofs.lemmas.List.{length-map, map-append}
 use Rattle.std.proofs.lemmas.Option.{slice_get-map, slice_get_within, slice_get_read}
-use Rattle.jr_model.specs.declared.blocks.Dir.{Dir}
 use Rattle.jr_model.specs.declared.blocks.Piece.{Piece}
 use Rattle.jr_model.specs.declared.events.Event.{Event}
 use Rattle.jr_model.specs.declared.events.Event.TheVariants.{Issue, Probe, Skip, End, Verdict}
+use Rattle.jr_model.specs.declared.events.IssueKind.{IssueKind}
 use Rattle.jr_model.specs.declared.events.Outcome.{Outcome}
 use Rattle.jr_model.specs.declared.events.Started.{Started}
 use Rattle.jr_model.specs.declared.events.Verdict.{Verdict as GivenVerdict}
@@ -113,6 +113,7 @@ its_counts plan history tallies c d counts planned is same got =
 flying_some : (kind : TicketKind) (k : Counts) (n m : ℕ) → (is_probe kind ≡ false → k.issues ≡ suc n) → (is_probe kind ≡ true → k.checks ≡ suc m) → 1 ≤ flying_in kind k
 flying_some ticket.Read k n m issue check = omega (arith, issue refl)
 flying_some ticket.Write k n m issue check = omega (arith, issue refl)
+flying_some ticket.ReadCheck k n m issue check = omega (arith, issue refl)
 flying_some ticket.Probe k n m issue check = omega (arith, check refl)
 
 pub can_end : (plan : Plan) (history : List Event) (worker id : ℕ) (outcome : Outcome) (io : Started) (tallies : Tallies) (c : ℕ) (kind : TicketKind) → slice_get (started history) id ≡ Some io → io.write.clone ≡ c → io.kind ≡ kind → IsNext plan history (End worker id outcome) → IsTallied plan history tallies → (counts : Counts) → slice_get tallies.counts.items c ≡ Some counts → 1 ≤ flying_in kind counts
@@ -293,7 +294,7 @@ module _ (plan : Plan) (history : List Event) (e : Event) (c : ℕ) (before : Ta
 
 -- what an event about the clone makes of its counts
 
-issue_step : (job : SubJob) (worker : ℕ) (dir : Dir) (write : WriteId) (piece : Piece) (k : Counts) → write.clone ≡ job.clone → record k { issues = k.issues + 1 } ≡ counts_after job None (Issue worker dir write piece) k
+issue_step : (job : SubJob) (worker : ℕ) (dir : IssueKind) (write : WriteId) (piece : Piece) (k : Counts) → write.clone ≡ job.clone → record k { issues = k.issues + 1 } ≡ counts_after job None (Issue worker dir write piece) k
 issue_step job worker dir write piece k same =
     let more : Tally = record (tally_in k) { issues = k.issues + 1 } in
     sym
@@ -345,7 +346,7 @@ bads_more history before after io verdict write piece what was pushed bad wrote 
 
 -- the steps
 
-pub issued_tallied : (plan : Plan) (history : List Event) (worker : ℕ) (dir : Dir) (write : WriteId) (piece : Piece) (c : ℕ) (before after : Tallies) (old : Counts) → write.clone ≡ c → IsNext plan history (Issue worker dir write piece) → IsTallied plan history before → c < length before.counts.items → old ≡ get_or before.counts.items c old → after.counts.items ≡ set before.counts.items c (record old { issues = old.issues + 1 }) → after.totals.items ≡ before.totals.items → after.bads.items ≡ before.bads.items → IsTallied plan (grown history (Issue worker dir write piece)) after
+pub issued_tallied : (plan : Plan) (history : List Event) (worker : ℕ) (dir : IssueKind) (write : WriteId) (piece : Piece) (c : ℕ) (before after : Tallies) (old : Counts) → write.clone ≡ c → IsNext plan history (Issue worker dir write piece) → IsTallied plan history before → c < length before.counts.items → old ≡ get_or before.counts.items c old → after.counts.items ≡ set before.counts.items c (record old { issues = old.issues + 1 }) → after.totals.items ≡ before.totals.items → after.bads.items ≡ before.bads.items → IsTallied plan (grown history (Issue worker dir write piece)) after
 issued_tallied plan history worker dir write piece c before after old same next was there read counts totals bads =
     let e : Event = Issue worker dir write piece in
     tallied-more plan history e c before next was there after (eq-eqb write.clone c same)

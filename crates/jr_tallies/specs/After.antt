@@ -7,7 +7,7 @@ use Rattle.jr_model.specs.declared.events.Outcome.{Outcome}
 use Rattle.jr_model.specs.declared.events.Outcome.TheVariants.{Whole}
 use Rattle.jr_model.specs.declared.events.Started.{Started}
 use Rattle.jr_model.specs.declared.events.Verdict.{Verdict as GivenVerdict}
-use Rattle.jr_model.specs.History.{started, in_flight, in_flight_of, awaiting, outcome_of, is_judged, is_probe}
+use Rattle.jr_model.specs.History.{started, in_flight, in_flight_of, awaiting, outcome_of, is_judged, is_judged_kind, is_probe}
 use Rattle.jr_model.specs.declared.limits.TheConstants.{LARGEST_BLOCK}
 use Rattle.jr_model.specs.declared.totals.Totals.{Totals}
 use Rattle.jr_model.specs.Machine.{work_of}
@@ -68,11 +68,11 @@ EndsAreCounted =
     → may_happen plan history (End worker io outcome) ≡ true
     → EndsCounted history io (End worker io outcome)
 
--- the check that a Verdict names ended whole, has no verdict, and is counted
+-- the check or checked read that a Verdict names ended whole, has no verdict, and is counted
 pub record JudgesCounted (history : List Event) (io : ℕ) (event : Event) : Type 0 where
   pub judged : Started
   pub there : slice_get (started history) io ≡ Some judged
-  pub check : is_probe judged.kind ≡ true
+  pub check : is_judged_kind judged.kind ≡ true
   pub ended : outcome_of history io ≡ Some Whole
   pub unjudged : is_judged history io ≡ false
   pub verdict : awaited history judged.write.clone ≡ suc (awaited (history ++ event ∷ []) judged.write.clone)
@@ -84,11 +84,11 @@ VerdictsAreCounted =
     → may_happen plan history (Verdict worker io verdict) ≡ true
     → JudgesCounted history io (Verdict worker io verdict)
 
--- how large the counts and totals are: each I/O flies or ended, and ended in one way; each check flies, awaits its verdict or
+-- how large the counts and totals are: each I/O flies or ended, and ended in one way; each that gets a verdict flies, awaits it or
 -- has it, if it ended whole; a write is skipped once
 pub record AreFew (plan : Plan) (history : List Event) (c : ℕ) (t : Totals) : Type 0 where
   pub ended : t.reads + t.writes + t.faults + (flying_issues history c + flying_checks history c) ≤ length (started history)
-  pub judged : t.checks + awaited history c + flying_checks history c ≤ length (started history)
+  pub judged : t.checks + awaited history c + (flying_issues history c + flying_checks history c) ≤ length (started history)
   pub found : t.good + t.bad ≡ t.checks
   pub skipped : t.skipped ≤ work_of plan
   pub rbytes : t.rbytes ≤ t.reads * LARGEST_BLOCK

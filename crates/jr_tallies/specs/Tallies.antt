@@ -65,6 +65,9 @@ tally_ended ticket.Write outcome t = record t { issues = t.issues - 1 }
 tally_ended ticket.Probe Whole t = record t { checks = t.checks - 1; verdicts = t.verdicts + 1 }
 tally_ended ticket.Probe Failed t = record t { checks = t.checks - 1 }
 tally_ended ticket.Probe (Short n) t = record t { checks = t.checks - 1 }
+tally_ended ticket.ReadCheck Whole t = record t { issues = t.issues - 1; verdicts = t.verdicts + 1 }
+tally_ended ticket.ReadCheck Failed t = record t { issues = t.issues - 1 }
+tally_ended ticket.ReadCheck (Short n) t = record t { issues = t.issues - 1 }
 
 -- its I/O, if it is the clone's, ended
 abbrev pub tally_after_end : ℕ → Option Started → Outcome → Tally → Tally
@@ -84,6 +87,7 @@ tally_after c io (Verdict worker id verdict) t = if is_io_of c io then record t 
 abbrev pub totals_moved : TicketKind → ℕ → Totals → Totals
 totals_moved ticket.Read len t = record t { reads = t.reads + 1; rbytes = t.rbytes + len }
 totals_moved ticket.Write len t = record t { writes = t.writes + 1; wbytes = t.wbytes + len }
+totals_moved ticket.ReadCheck len t = record t { reads = t.reads + 1; rbytes = t.rbytes + len }
 totals_moved ticket.Probe len t = t
 
 abbrev pub totals_ended : TicketKind → ℕ → Outcome → Totals → Totals

@@ -42,6 +42,7 @@ tally_judged tally = record tally { verdicts = tally.verdicts - 1 }
 abbrev pub flying_in : TicketKind → Counts → ℕ
 flying_in ticket.Read counts = counts.issues
 flying_in ticket.Write counts = counts.issues
+flying_in ticket.ReadCheck counts = counts.issues
 flying_in ticket.Probe counts = counts.checks
 
 -- a bad verdict as the definitions have it

@@ -1,12 +1,12 @@
 ghost use Rattle.std.specs.Prelude.{◌≡◌, ◌≤◌, ◌<◌, ◌^◌, ◌-◌, ◌&&◌, ◌||◌, ℕ, List, [], slice_get, Some};
-ghost use Rattle.std.specs.Prelude.{IfOk, OnOk, vec_len, vec_capacity};
-ghost use Rattle.jr_model.specs.declared.blocks.Dir.{Dir as Way};
+ghost use Rattle.std.specs.Prelude.{IfOk, OnOk, vec_len, vec_capacity, ◌+◌, if◌then◌else◌};
+ghost use Rattle.jr_model.specs.declared.events.IssueKind.{IssueKind as Way};
 ghost use Rattle.jr_model.specs.declared.blocks.Piece.{Piece as Place};
 ghost use Rattle.jr_model.specs.declared.events.Event.{Event};
 ghost use Rattle.jr_model.specs.declared.events.Event.TheVariants.{Issue, Probe, Skip, End, Verdict as Judged};
 ghost use Rattle.jr_model.specs.declared.events.Started.{Started};
 ghost use Rattle.jr_model.specs.declared.events.WriteId.{WriteId as Name};
-ghost use Rattle.jr_model.specs.History.{started};
+ghost use Rattle.jr_model.specs.History.{started, ended_whole};
 ghost use Rattle.jr_model.specs.Legal.{is_fault, is_bad};
 ghost use Rattle.jr_model.specs.Plan.{Plan as Planned, SubJob, clone_of};
 ghost use Rattle.jr_model.specs.Totals.{totals_of};
@@ -84,9 +84,9 @@ impl Tallies {
     /// A read or write of the clone was issued.
     pub fn issued(&mut self, clone: usize)
         requires { CanCount self.old clone }
-        ensures { (plan : Planned) (history : List Event) (worker : ℕ) (dir : Way) (write : Name) (piece : Place) → write.clone ≡ clone
-            → IsNext plan history (Issue worker dir write piece) → IsTallied plan history self.old
-            → IsTallied plan (grown history (Issue worker dir write piece)) self.new }
+        ensures { (plan : Planned) (history : List Event) (worker : ℕ) (kind : Way) (write : Name) (piece : Place) → write.clone ≡ clone
+            → IsNext plan history (Issue worker kind write piece) → IsTallied plan history self.old
+            → IsTallied plan (grown history (Issue worker kind write piece)) self.new }
     {
         self.counts[clone].issues += 1;
     }
@@ -171,15 +171,27 @@ fn count_end(counts: &mut Counts, kind: TicketKind, outcome: Outcome)
 {
     match kind {
         TicketKind::Read | TicketKind::Write => counts.issues -= 1,
+        TicketKind::ReadCheck => {
+            counts.issues -= 1;
+            await_verdict(counts, outcome);
+        }
         TicketKind::Probe => {
             counts.checks -= 1;
-            if outcome == Outcome::Whole {
-                counts.verdicts += 1;
-            }
+            await_verdict(counts, outcome);
         }
     }
     if outcome != Outcome::Whole {
         counts.is_halted = true;
+    }
+}
+
+// One verdict more is to come, where what gets one ended whole.
+fn await_verdict(counts: &mut Counts, outcome: Outcome)
+    requires { counts.old.verdicts + 1 < 2 ^ 32 }
+    ensures { counts.new ≡ (if ended_whole (Some outcome) then record counts.old { verdicts = counts.old.verdicts + 1 } else counts.old) }
+{
+    if outcome == Outcome::Whole {
+        counts.verdicts += 1;
     }
 }
 
@@ -194,7 +206,7 @@ fn total_end(totals: &mut Totals, kind: TicketKind, len: u32, outcome: Outcome)
         return;
     }
     match kind {
-        TicketKind::Read => {
+        TicketKind::Read | TicketKind::ReadCheck => {
             totals.reads += 1;
             totals.rbytes += u64::from(len);
         }

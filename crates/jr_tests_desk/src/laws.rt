@@ -2,7 +2,7 @@
 
 use jr_laws_bytes::{
     checks_stay_intact, honest_is_good, keeps_last_writes, miscompares_exactly, quiet_play,
-    serial_is_clean, serial_is_quiet,
+    serial_is_clean, serial_is_good, serial_is_quiet,
 };
 use jr_laws_log::{
     clear_is_clear, ended_flies_no_more, flies_is_flying, flying_is_started, log_grows,
@@ -40,6 +40,7 @@ fn the_steps_laws_can_be_called() {
 #[test]
 fn the_laws_can_be_called() {
     serial_is_clean();
+    serial_is_good();
     serial_is_quiet();
     honest_is_good();
     miscompares_exactly();

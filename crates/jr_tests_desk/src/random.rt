@@ -38,14 +38,10 @@ fn draw_kind(seed: &mut u64) -> VerifyKind {
     }
 }
 
-fn draw_method(seed: &mut u64, io_type: IoType) -> Method {
+fn draw_method(seed: &mut u64) -> Method {
     let kind = draw_kind(seed);
     Method {
-        kind: if io_type.has_writes() {
-            kind
-        } else {
-            VerifyKind::Plain
-        },
+        kind,
         pattern: if kind == VerifyKind::Pattern || draw(seed, 2) == 0 {
             Pattern::new(&[0xa5, 0x5a, 0x0f])
         } else {
@@ -77,7 +73,7 @@ fn draw_workload(seed: &mut u64) -> Workload {
         seed: u64::from(draw(seed, 1000)),
         depth: 1 + draw(seed, 4),
         passes: 1 + draw(seed, 3),
-        method: draw_method(seed, io_type),
+        method: draw_method(seed),
         checks_writes: draw(seed, 5) != 0,
         backlog: draw(seed, 3) * 3 / 2,
         is_fatal: draw(seed, 2) == 0,

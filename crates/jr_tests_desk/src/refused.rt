@@ -105,7 +105,7 @@ fn asked_twice(rt: &impl Abort, desk: &mut Desk, call: &Call<'_>) -> Option<Take
     }
 }
 
-// A desk and its engine, what is in flight, and the checks that ended whole and have no verdict.
+// A desk and its engine, what is in flight, and the checks and checked reads that ended whole and have no verdict.
 #[derive(Drop)]
 struct Side {
     desk: Desk,

@@ -1,6 +1,6 @@
 use crate::asserts::same;
 use jr_history::{PART, Past, is_intact, last_write, part_of};
-use jr_model::{Dir, Event, Outcome, Piece, Verdict, What, WriteId};
+use jr_model::{Event, IssueKind, Outcome, Piece, Verdict, What, WriteId};
 use std::alloc::Global;
 use std::process::Abort;
 use std::test::Fail;
@@ -24,9 +24,13 @@ fn block(x: u8) -> Piece {
 }
 
 fn issue(number: u32, piece: Piece) -> Event {
+    issue_as(IssueKind::Write, number, piece)
+}
+
+fn issue_as(kind: IssueKind, number: u32, piece: Piece) -> Event {
     Event::Issue {
         worker: 0,
-        dir: Dir::Write,
+        kind,
         write: write(number),
         piece,
     }
@@ -97,7 +101,28 @@ fn a_run_event_by_event(rt: HostRuntime) -> Result<(), Fail> {
     Ok(())
 }
 
-// So many I/Os fly, and so many checks wait for their verdict.
+// A checked read, and then one that isn't checked.
+#[test]
+fn a_checked_read_awaits_its_verdict(rt: HostRuntime) -> Result<(), Fail> {
+    let events = [
+        issue_as(IssueKind::ReadCheck, 0, block(0)),
+        end(0, Outcome::Whole),
+        issue_as(IssueKind::Read, 1, block(1)),
+        end(1, Outcome::Whole),
+        verdict(0, Verdict::Bad(What::Header)),
+    ];
+    let flying = [1, 0, 1, 0, 0];
+    let waiting = [0, 1, 1, 1, 0];
+    let mut past = Past::new(rt.alloc(), &[])?;
+    for ((event, flies), waits) in events.iter().zip(flying).zip(waiting) {
+        past = past.followed_by(rt.alloc(), *event)?;
+        assert_under_way(&rt, &past, flies, waits);
+    }
+    assert!(rt; past.ledger().is_condemned(1));
+    Ok(())
+}
+
+// So many I/Os fly, and so many checks and checked reads wait for their verdict.
 fn assert_under_way(rt: &impl Abort, past: &Past, flies: usize, waits: usize) {
     same(rt, past.in_flight().len(), flies);
     same(rt, past.awaiting().len(), waits);

@@ -1,7 +1,8 @@
 use crate::asserts::same;
 use crate::plans::plan_of;
 use jr_model::{
-    Dir, Event, IoType, Method, Outcome, Pattern, Piece, Totals, Verdict, VerifyKind, What, WriteId,
+    Event, IoType, IssueKind, Method, Outcome, Pattern, Piece, Totals, Verdict, VerifyKind, What,
+    WriteId,
 };
 use jr_passes::{Agenda, PlannedClone, PlannedPass, totals};
 use jr_plan::Workload;
@@ -24,7 +25,7 @@ fn totals_of_a_run(rt: HostRuntime) -> Result<(), Fail> {
     let history = [
         Event::Issue {
             worker: 0,
-            dir: Dir::Write,
+            kind: IssueKind::Write,
             write: WRITE_0,
             piece: BLOCK_0,
         },

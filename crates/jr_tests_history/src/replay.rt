@@ -1,7 +1,10 @@
 use crate::asserts::same;
 use crate::plans::{checked, plan_of};
 use jr_history::{Past, is_intact, last_write, started};
-use jr_model::{Dir, Event, IoType, Outcome, Piece, TicketKind, Verdict, WriteId};
+use jr_model::{
+    Event, IoType, IssueKind, Method, Outcome, Part, Piece, TicketKind, Verdict, VerifyKind, What,
+    WriteId,
+};
 use jr_plan::{Plan, Workload};
 use jr_replay::{allowed, choice, complete};
 use std::alloc::Global;
@@ -27,9 +30,13 @@ fn block(x: u8) -> Piece {
 }
 
 fn issue(worker: u32, write: WriteId, piece: Piece) -> Event {
+    issue_as(IssueKind::Write, worker, write, piece)
+}
+
+fn issue_as(kind: IssueKind, worker: u32, write: WriteId, piece: Piece) -> Event {
     Event::Issue {
         worker,
-        dir: Dir::Write,
+        kind,
         write,
         piece,
     }
@@ -52,10 +59,14 @@ fn end(worker: u32, io: u32, outcome: Outcome) -> Event {
 }
 
 fn good(worker: u32, io: u32) -> Event {
+    said(worker, io, Verdict::Good)
+}
+
+fn said(worker: u32, io: u32, verdict: Verdict) -> Event {
     Event::Verdict {
         worker,
         io,
-        verdict: Verdict::Good,
+        verdict,
     }
 }
 
@@ -116,6 +127,43 @@ fn each_start_of_a_run_is_the_choice(rt: HostRuntime) -> Result<(), Fail> {
     let step = choice(rt.alloc(), &plan, front(&history, 6), 0)?;
     same(&rt, step, Some(history[7]));
     same(&rt, choice(rt.alloc(), &plan, &history, 0)?, None);
+    Ok(())
+}
+
+// A read of a clone that checks its reads by headers, and then what is said of it.
+#[test]
+fn a_checked_read_is_said_what_its_own_headers_say(rt: HostRuntime) -> Result<(), Fail> {
+    let method = Method {
+        kind: VerifyKind::Md5,
+        pattern: None,
+        interval: 1024,
+    };
+    let reads = Workload {
+        method,
+        ..Workload::plain(IoType::Read, 4096, 1)
+    };
+    let plan = plan_of(rt.alloc(), &[(reads, "f", 0)])?;
+    let begun = [
+        issue_as(IssueKind::ReadCheck, 0, write(0, 0), block(0)),
+        end(0, 0, Outcome::Whole),
+    ];
+    same(&rt, legal_front(rt.alloc(), &plan, &begun)?, 2);
+    assert!(rt; !complete(rt.alloc(), &plan, &begun)?);
+    let verdicts = [
+        (Verdict::Good, true),
+        (Verdict::Bad(What::Header), true),
+        (Verdict::Bad(What::Chunk(7, Part::Digest)), true),
+        (Verdict::Bad(What::Chunk(8, Part::Header)), false),
+        (Verdict::Bad(What::Byte(3)), false),
+    ];
+    for (verdict, is_allowed) in verdicts {
+        let found = allowed(rt.alloc(), &plan, &begun, &said(1, 0, verdict))?;
+        same(&rt, (verdict, found), (verdict, is_allowed));
+    }
+    let plain = issue_as(IssueKind::Read, 0, write(0, 0), block(0));
+    assert!(rt; !allowed(rt.alloc(), &plan, &[], &plain)?);
+    let history = [begun[0], begun[1], good(0, 0)];
+    assert!(rt; complete(rt.alloc(), &plan, &history)?);
     Ok(())
 }
 

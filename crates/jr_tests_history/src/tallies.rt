@@ -55,7 +55,7 @@ fn flies(tallies: &Tallies, clone: usize, kind: TicketKind) -> bool
     match tallies.counts.get(clone) {
         None => false,
         Some(counts) => match kind {
-            TicketKind::Read | TicketKind::Write => counts.issues > 0,
+            TicketKind::Read | TicketKind::Write | TicketKind::ReadCheck => counts.issues > 0,
             TicketKind::Probe => counts.checks > 0,
         },
     }

@@ -388,6 +388,133 @@ fn the_block_of_another_write_is_wrong(rt: HostRuntime) -> Result<(), Fail> {
     Ok(())
 }
 
+// A read of a write's piece, of a job that checks its reads by this kind.
+fn read_of(ticket: &Ticket, kind: VerifyKind) -> Ticket {
+    let mut read = *ticket;
+    read.kind = TicketKind::ReadCheck;
+    read.method.kind = kind;
+    read.expected = Expected::Nothing;
+    read
+}
+
+// What is said of a read of a write, by what its bytes say of themselves.
+fn own_verdict(
+    alloc: Global,
+    ticket: &Ticket,
+    kind: VerifyKind,
+    reply: Reply,
+) -> Result<Verdict, Fail> {
+    let mut engine = memory_for(alloc, ticket.piece.len)?;
+    let written = carried_out(alloc, &mut engine, ticket, Reply::Pass)?;
+    let read = carried_out(alloc, &mut engine, &read_of(written.ticket(), kind), reply)?;
+    verdict_on(&read)
+}
+
+// Is this what is said of a read of the same kind, with the byte at this place the other way round; and are bytes of another kind
+// told by their first header?
+fn assert_own(
+    rt: &impl Abort,
+    alloc: Global,
+    ticket: &Ticket,
+    flips: &[(u32, Verdict)],
+    of_another: What,
+) -> Result<(), Fail> {
+    for (place, wanted) in flips {
+        let found = own_verdict(alloc, ticket, VerifyKind::Md5, Reply::Flip(*place))?;
+        same(rt, (*place, found), (*place, *wanted));
+    }
+    let good = own_verdict(alloc, ticket, VerifyKind::Md5, Reply::Pass)?;
+    let other = own_verdict(alloc, ticket, VerifyKind::Sha1, Reply::Pass)?;
+    let wanted = (Verdict::Good, Verdict::Bad(of_another));
+    same(rt, (good, other), wanted);
+    Ok(())
+}
+
+// The draw's number is as it was read, and so is the digest: it is that of other bytes, where it was turned round.
+#[test]
+fn a_checked_read_is_judged_by_its_own_header(rt: HostRuntime) -> Result<(), Fail> {
+    let flips = [
+        (20, Verdict::Bad(What::Header)),
+        (30, Verdict::Good),
+        (40, Verdict::Bad(What::DataArea)),
+        (50, Verdict::Bad(What::Digest)),
+        (100, Verdict::Bad(What::DataArea)),
+    ];
+    let ticket = at_start(VerifyKind::Md5, &[], 4096);
+    assert_own(&rt, rt.alloc(), &ticket, &flips, What::Header)
+}
+
+// Byte 3 tells a chunk from a block, and bytes 8 to 11 how long the chunks are.
+#[test]
+fn a_checked_read_is_cut_as_its_first_header_says(rt: HostRuntime) -> Result<(), Fail> {
+    let flips = [
+        (3, Verdict::Bad(What::Header)),
+        (9, Verdict::Bad(What::Chunk(0, Part::Header))),
+        (1044, Verdict::Bad(What::Chunk(1, Part::Header))),
+        (1054, Verdict::Good),
+        (1074, Verdict::Bad(What::Chunk(1, Part::Digest))),
+        (4095, Verdict::Bad(What::Chunk(3, Part::DataArea))),
+    ];
+    let ticket = in_chunks(at_start(VerifyKind::Md5, &[], 4096), 1024);
+    let of_another = What::Chunk(0, Part::Header);
+    assert_own(&rt, rt.alloc(), &ticket, &flips, of_another)
+}
+
+// A header from its layout: 512 bytes at the file's first, of draw 11 of clone 3 in pass 7. Its digest is that of 448 zeros, as Python's
+// hashlib has it.
+const OF_ZEROS: [u8; 48] = [
+    0x4a, 0x52, 0x56, 0x31, 1, 16, 7, 0, 0, 2, 0, 0, 3, 0, 0, 0, 0, 0, 0, 0, 0, 0, 0, 0, 11, 0, 0,
+    0, 0, 0, 0, 0, 0xd2, 0x69, 0x37, 0xa0, 0xa6, 0x15, 0x26, 0x6c, 0xcd, 0x9f, 0xb1, 0x99, 0xe7,
+    0xfb, 0x7f, 0xb9,
+];
+
+// What is said of a checked read of these bytes, and of zeros behind them.
+fn verdict_on_begun(alloc: Global, begin: &[u8]) -> Result<Verdict, Fail> {
+    let ticket = read_of(&at_start(VerifyKind::Md5, &[], 512), VerifyKind::Md5);
+    let mut engine = memory_for(alloc, ticket.piece.len)?;
+    let reply = Reply::Bytes(ReplyBytes::new(begin.to_vec(alloc)?));
+    let read = carried_out(alloc, &mut engine, &ticket, reply)?;
+    verdict_on(&read)
+}
+
+// Without the last byte of its digest the header has another one.
+#[test]
+fn a_header_from_outside_is_taken(rt: HostRuntime) -> Result<(), Fail> {
+    let mut begin = OF_ZEROS;
+    begin[47] = 0;
+    let whole = verdict_on_begun(rt.alloc(), &OF_ZEROS)?;
+    let cut = verdict_on_begun(rt.alloc(), &begin)?;
+    let none = verdict_on_begun(rt.alloc(), &[])?;
+    same(&rt, whole, Verdict::Good);
+    same(&rt, cut, Verdict::Bad(What::DataArea));
+    same(&rt, none, Verdict::Bad(What::Header));
+    Ok(())
+}
+
+// Is a read judged where the reply to it is this?
+fn is_judged(alloc: Global, ticket: &Ticket, reply: Reply) -> Result<bool, Fail> {
+    let mut engine = memory_for(alloc, ticket.piece.len)?;
+    let served = carried_out(alloc, &mut engine, ticket, reply)?;
+    Ok(served.to_judge())
+}
+
+// Only a checked read that ended whole is judged, and no read of a job that doesn't check.
+#[test]
+fn a_checked_read_that_failed_is_not_judged(rt: HostRuntime) -> Result<(), Fail> {
+    let check = read_of(&at_start(VerifyKind::Md5, &[], 512), VerifyKind::Md5);
+    let mut read = check;
+    read.kind = TicketKind::Read;
+    same(&rt, is_judged(rt.alloc(), &check, Reply::Pass)?, true);
+    same(&rt, is_judged(rt.alloc(), &check, Reply::Fail)?, false);
+    same(
+        &rt,
+        is_judged(rt.alloc(), &check, Reply::Short(511))?,
+        false,
+    );
+    same(&rt, is_judged(rt.alloc(), &read, Reply::Pass)?, false);
+    Ok(())
+}
+
 // Is the first difference of a block of a pattern named, wherever it stands?
 fn assert_differs(rt: &impl Abort, alloc: Global, ticket: &Ticket) -> Result<(), Fail> {
     let len = ticket.piece.len;

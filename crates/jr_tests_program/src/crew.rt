@@ -12,14 +12,16 @@ const FLIPPED: &str = "[w]\nioengine=memory\nrw=write\nsize=16k\nverify=md5\n";
 const FLIPPED_REPORT: &str =
     "w: clone=0 reads=0 rbytes=0 writes=4 wbytes=16384 checks=4 good=3 bad=1 skipped=0 void=0 faults=0\nmiscompare: clone=0 pass=0 number=2 file=w.0.0 offset=8192 length=4096 what=data\n";
 
-// What a run of the job text over one engine prints, whose third check reads an inverted byte; and its status.
-fn flipped<R: AllocGlobal + Threads + Wait + Sync>(
+// What a run of the job text over one engine prints whose call of this number has a reply of its own, and its status.
+pub(crate) fn answered_to_a_crew<R: AllocGlobal + Threads + Wait + Sync>(
     rt: &R,
     text: &str,
+    call: u64,
+    reply: Reply,
 ) -> Result<(u8, Vec<u8>), Fail> {
     let plan = read_job(rt.alloc(), text.as_bytes(), None)?;
     let memory = MemoryEngine::new(rt.alloc(), &plan)?;
-    let script = Vec::from_array(rt.alloc(), [(6, Reply::Flip(100))])?;
+    let script = Vec::from_array(rt.alloc(), [(call, reply)])?;
     let mut engines: Vec<Box<dyn Engine + Send>> = Vec::new(rt.alloc());
     engines.push(Box::new(rt.alloc(), ScriptedEngine::new(memory, script))?)?;
     let mut out = Vec::new(rt.alloc());
@@ -28,11 +30,12 @@ fn flipped<R: AllocGlobal + Threads + Wait + Sync>(
     Ok((ended.status(), out))
 }
 
+// The third check reads an inverted byte.
 #[test]
 fn a_flipped_byte_is_found_by_a_crew(rt: HostRuntime) -> Result<(), Fail> {
     for judged_by in ["", "verify_async=2\n"] {
         let text = format!(in rt.alloc(); "{FLIPPED}{judged_by}")?;
-        let (status, out) = flipped(&rt, text.as_str())?;
+        let (status, out) = answered_to_a_crew(&rt, text.as_str(), 6, Reply::Flip(100))?;
         let want = FLIPPED_REPORT.as_bytes();
         same(&rt, (status, out.as_slice()), (1, want));
     }

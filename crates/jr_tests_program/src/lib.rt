@@ -17,6 +17,8 @@ mod plans;
 #[cfg(test)]
 mod program;
 #[cfg(test)]
+mod reads;
+#[cfg(test)]
 mod replies;
 #[cfg(test)]
 mod sections;
@@ -26,5 +28,7 @@ mod settings;
 mod sizes;
 #[cfg(test)]
 mod texts;
+#[cfg(test)]
+mod wiping;
 #[cfg(test)]
 mod words;

@@ -170,6 +170,7 @@ fn laws_can_be_called() {
     jr_model::every_run_is_legal();
     jr_model::serial_is_legal();
     jr_model::verdict_is_of_its_kind();
+    jr_model::own_verdict_is_of_its_kind();
     jr_options::files_are_asked();
     jr_options::low_is_least();
     jr_options::high_is_greatest();

@@ -6,7 +6,12 @@ use std::process::Abort;
 use std::test::Fail;
 
 // What a run of one worker writes whose call of this number has a reply of its own, and its status.
-fn answered(alloc: Global, text: &str, call: u64, reply: Reply) -> Result<(Vec<u8>, u8), Fail> {
+pub(crate) fn answered(
+    alloc: Global,
+    text: &str,
+    call: u64,
+    reply: Reply,
+) -> Result<(Vec<u8>, u8), Fail> {
     let plan = read_job(alloc, text.as_bytes(), None)?;
     let memory = MemoryEngine::new(alloc, &plan)?;
     let script = Vec::from_array(alloc, [(call, reply)])?;

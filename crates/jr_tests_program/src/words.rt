@@ -20,6 +20,9 @@ const NOTHING: Choice<'static> = Choice {
     bad_blocks: None,
     bad_blocks_size: None,
     map: false,
+    progress: None,
+    json: None,
+    page: None,
 };
 
 #[test]
@@ -41,6 +44,9 @@ fn each_word_goes_to_its_field(rt: HostRuntime) -> Result<(), Fail> {
         "--bad-blocks=l",
         "--bad-blocks-size=4096",
         "--map",
+        "--progress=86400",
+        "--json=j",
+        "--page=p",
     ];
     let want = Choice {
         job: Some("disk.fio"),
@@ -58,6 +64,9 @@ fn each_word_goes_to_its_field(rt: HostRuntime) -> Result<(), Fail> {
         bad_blocks: Some("l"),
         bad_blocks_size: Some("4096"),
         map: true,
+        progress: Some(86400),
+        json: Some("j"),
+        page: Some("p"),
     };
     same(&rt, choose(rt.alloc(), &words)?, want);
     Ok(())
@@ -100,6 +109,9 @@ fn words_are_refused_by_their_kind(rt: HostRuntime) -> Result<(), Fail> {
     assert_refused(&rt, "--workers=17", value, 2)?;
     assert_refused(&rt, "--workers=-1", value, 2)?;
     assert_refused(&rt, "--workers=two", value, 2)?;
+    assert_refused(&rt, "--progress=0", value, 2)?;
+    assert_refused(&rt, "--progress=86401", value, 2)?;
+    assert_refused(&rt, "--progress=1.5", value, 2)?;
     assert_refused(&rt, "--nosuch", ErrorKind::UnknownArgument, 2)?;
     assert_refused(&rt, "--workers", ErrorKind::InvalidValue, 2)?;
     assert_refused(&rt, "--parse-only=1", ErrorKind::TooManyValues, 2)?;

@@ -135,6 +135,7 @@ expected_same : (kind : TicketKind) (method : Method) (io : Started) (seed : ℕ
     → expected_again kind method seed found ≡ expected_by kind method io seed
 expected_same ticket.Read method io seed found has = refl
 expected_same ticket.Write method io seed found has = refl
+expected_same ticket.ReadCheck method io seed found has = refl
 expected_same ticket.Probe method io seed found has = check_same method.kind method io.write io.piece seed found has
 
 made_again : (plan : Plan) (headers : List (List ℕ)) (id m : ℕ) (io : Started)

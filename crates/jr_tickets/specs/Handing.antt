@@ -79,6 +79,7 @@ check_again verify.Sha256 method seed header = headers_again method seed header
 abbrev pub expected_again : TicketKind → Method → ℕ → Option (List ℕ) → Expected
 expected_again ticket.Read method seed header = expected.Nothing
 expected_again ticket.Write method seed header = expected.Nothing
+expected_again ticket.ReadCheck method seed header = expected.Nothing
 expected_again ticket.Probe method seed header = check_again method.kind method seed header
 
 -- the ticket of this number, made again of what is kept of it

@@ -1,16 +1,12 @@
 -- Believed: the tickets that a desk hands out (of this project).
 use Rattle.std.specs.Prelude.{◌≡◌, ◌<◌, ℕ, true, slice_get, Option, Some, None}
-use Rattle.jr_model.specs.declared.contents.Expected.{Expected}
-use Rattle.jr_model.specs.declared.contents.Expected.TheVariants as expected
 use Rattle.jr_model.specs.declared.contents.Method.{Method}
 use Rattle.jr_model.specs.declared.contents.VerifyKind.TheVariants as verify
 use Rattle.jr_model.specs.declared.events.Started.{Started}
 use Rattle.jr_model.specs.declared.tickets.Ticket.{Ticket}
-use Rattle.jr_model.specs.declared.tickets.TicketKind.{TicketKind}
-use Rattle.jr_model.specs.declared.tickets.TicketKind.TheVariants as ticket
-use Rattle.jr_model.specs.Content.{expected_of}
 use Rattle.jr_model.specs.Draws.{draws_of}
 use Rattle.jr_model.specs.Machine.{seed_of_draw}
+pub use Rattle.jr_model.specs.Machine.{expected_by}
 use Rattle.jr_model.specs.Plan.{Plan, SubJob, clone_of}
 use Rattle.jr_model.specs.Tickets.{piece_fits, has_pattern, interval_fits}
 
@@ -22,12 +18,6 @@ method_of (Some job) = job.method
 -- the seed of the filler of an I/O's draw
 abbrev pub seed_of : Plan → Started → ℕ
 seed_of plan io = seed_of_draw (slice_get (draws_of plan io.write.clone io.write.pass) io.write.number)
-
--- what the bytes of an I/O of this kind are judged by: those of a check by what its write put there
-abbrev pub expected_by : TicketKind → Method → Started → ℕ → Expected
-expected_by ticket.Read method io seed = expected.Nothing
-expected_by ticket.Write method io seed = expected.Nothing
-expected_by ticket.Probe method io seed = expected_of method.kind method io.write io.piece seed
 
 -- the ticket of an I/O or check and its number: the worker, kind, draw and piece as it was started, and the seed, method and
 -- expected bytes as the plan has them

@@ -73,6 +73,7 @@ impl Launch {
         match self.kind {
             TicketKind::Read => Expected::Nothing,
             TicketKind::Write => Expected::Nothing,
+            TicketKind::ReadCheck => Expected::Nothing,
             TicketKind::Probe => match method.kind {
                 VerifyKind::Plain => Expected::Nothing,
                 VerifyKind::Pattern => pattern_expected(method),

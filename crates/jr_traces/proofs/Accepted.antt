@@ -1,6 +1,6 @@
 -- What is accepted is the trace of a whole legal run.
 use Rattle.std.proofs.Common.{◌≡◌, ℕ, ◌+◌, List, [], ◌∷◌, ◌++◌, length, Bool, true, false, cond, ◌&&◌, Result, Ok, Err, refl, sym, ap, ◌∙◌, subst, append_assoc, append-nil, arith}
-use Rattle.std.specs.Prelude.{Option, Some, None, codes, ◌==◌}
+use Rattle.std.specs.Prelude.{Option, Some, None, codes, slice_get, ◌==◌}
 use Rattle.std.specs.List.{join_with_byte, slice_split}
 use Rattle.std.specs.Fmt.{decimal}
 use Rattle.std.proofs.lemmas.Bool.{and_from, and_parts, eqb-true}
@@ -11,10 +11,12 @@ use Rattle.jr_model.specs.declared.events.Outcome.TheVariants.{Whole, Failed, Sh
 use Rattle.jr_model.specs.declared.events.Verdict.TheVariants.{Good, Bad}
 use Rattle.jr_model.specs.declared.events.Part.TheVariants as part
 use Rattle.jr_model.specs.declared.events.What.TheVariants.{Header, Digest, DataArea, Byte, Chunk}
+use Rattle.jr_model.specs.declared.events.WriteId.{WriteId}
 use Rattle.jr_model.specs.declared.workloads.Draw.{Draw}
+use Rattle.jr_model.specs.Draws.{draws_of_job}
 use Rattle.jr_model.specs.History.{started}
 use Rattle.jr_model.specs.Legal.{is_complete, legal_after, may_happen}
-use Rattle.jr_model.specs.Plan.{Plan}
+use Rattle.jr_model.specs.Plan.{Plan, SubJob, clone_of, issued_as}
 use Rattle.jr_model.specs.Report.{all_totals}
 use Rattle.jr_traces.specs.declared.entries.Ending.{Ending}
 use Rattle.jr_traces.specs.declared.entries.Ending.TheVariants as ending
@@ -25,8 +27,8 @@ use Rattle.jr_traces.specs.declared.entries.Finding.TheVariants as finding
 use Rattle.jr_traces.specs.declared.entries.Start.{Start}
 use Rattle.jr_traces.specs.declared.faults.TraceFault.{TraceFault}
 use Rattle.jr_traces.specs.declared.faults.TraceFault.TheVariants.{Illegal, Line, Unfinished}
-use Rattle.jr_traces.specs.TraceChecks.{after, draw_of, entry_event, entry_fits, event_of, history_in, if_legal, is_newline, is_numbered, legal_event, line_event, lines_read, outcome_of, verdict_of, write_of}
-use Rattle.jr_traces.specs.TraceLaws.{AcceptedIsATrace, ending_of, entry_of, finding_of, lines_fit}
+use Rattle.jr_traces.specs.TraceChecks.{after, draw_of, entry_event, entry_fits, event_of, history_in, if_legal, is_newline, is_numbered, issue_of, legal_event, line_event, lines_read, outcome_of, verdict_of, write_of}
+use Rattle.jr_traces.specs.TraceLaws.{AcceptedIsATrace, ending_of, entry_of, finding_of, lines_fit, start_by}
 use Rattle.jr_traces.specs.TraceLines.{read_line}
 use Rattle.jr_traces.specs.Traces.{event_text, lines_after}
 use Rattle.jr_traces.proofs.LineWriting.{entry_text, from_map, line_is_entry}
@@ -49,14 +51,19 @@ finding_back finding.DataArea = refl
 finding_back (finding.Byte i) = refl
 finding_back (finding.Chunk i found) = refl
 
+entry_of_issue : (o : Option SubJob) (worker io : ℕ) (write : WriteId) (e : Event) → issue_of o worker write ≡ Some e → entry.Issue (start_by worker io write) ≡ entry_of io e
+entry_of_issue None worker io write e h = cc
+entry_of_issue (Some job) worker io write e h =
+    ap (entry_of io) (from_map (λ (draw : Draw). Issue worker (issued_as job draw.dir) write draw.piece) (slice_get (draws_of_job job write.pass) write.number) e h).2
+
 -- an event that an entry speaks of has that entry
 entry_of_event : (plan : Plan) (history : List Event) (x : Entry) (e : Event) → is_numbered history x ≡ true → event_of plan x ≡ Some e → x ≡ entry_of (length (started history)) e
 entry_of_event plan history (entry.Issue start) e numbered h =
     let io = length (started history) in
     let write = write_of start.write in
-    let drawn = from_map (λ (draw : Draw). Issue start.worker draw.dir write draw.piece) (draw_of plan write) e h in
     let made : ℕ → Start = λ n. record { worker = start.worker; io = n; write = start.write } in
-    ap (λ (n : ℕ). entry.Issue (made n)) (eqb-true start.io io numbered) ∙ ap (entry_of io) drawn.2
+    ap (λ (n : ℕ). entry.Issue (made n)) (eqb-true start.io io numbered)
+    ∙ entry_of_issue (clone_of plan write.clone) start.worker io write e h
 entry_of_event plan history (entry.Probe start) e numbered h =
     let io = length (started history) in
     let write = write_of start.write in
@@ -87,7 +94,7 @@ join_number t a b w n = simp append_assoc refl
 
 -- the line of an event is its entry's
 entry_text_is : (io : ℕ) (e : Event) → entry_text (entry_of io e) ≡ event_text io e
-entry_text_is io (Issue worker dir write piece) =
+entry_text_is io (Issue worker kind write piece) =
     join_start (codes "I") (decimal worker) (decimal io) (decimal write.clone) (decimal write.pass) (decimal write.number)
 entry_text_is io (Probe worker write piece) =
     join_start (codes "P") (decimal worker) (decimal io) (decimal write.clone) (decimal write.pass) (decimal write.number)

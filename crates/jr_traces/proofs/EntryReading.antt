@@ -139,7 +139,7 @@ finding_read a b c (Bad (Chunk i part.DataArea)) fits = ap (λ (o : Option ℕ).
 -- the line of an event, read
 pub event_read : (io : ℕ) (e : Event) → entry_fits (entry_of io e) ≡ true → read_line (event_text io e) ≡ Some (entry_of io e)
 unfolding outcome_parts verdict_parts
-event_read io (Issue worker dir write piece) fits =
+event_read io (Issue worker kind write piece) fits =
     let parts = and_parts (is_small worker && is_small io) (name_fits (name_of write)) fits in
     let numbers = and_parts (is_small worker) (is_small io) parts.0 in
     let name = and_parts (is_small write.clone && is_small write.pass) (is_small write.number) parts.1 in

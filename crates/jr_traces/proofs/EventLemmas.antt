@@ -2,31 +2,32 @@
 use Rattle.std.proofs.Common.{◌≡◌, ℕ, List, Bool, true, false, cond, ◌&&◌, refl, sym, ap, ◌∙◌, inl, inr}
 use Rattle.std.specs.Prelude.{Option, Some, None, slice_get}
 use Rattle.std.specs.Option.{option_map}
-use Rattle.jr_model.specs.declared.blocks.Dir.{Dir}
 use Rattle.jr_model.specs.declared.blocks.Piece.{Piece}
 use Rattle.jr_model.specs.declared.events.Event.{Event}
 use Rattle.jr_model.specs.declared.events.Event.TheVariants.{Issue, Probe, Skip, End, Verdict}
+use Rattle.jr_model.specs.declared.events.IssueKind.{IssueKind}
 use Rattle.jr_model.specs.declared.events.WriteId.{WriteId}
 use Rattle.jr_model.specs.declared.workloads.Draw.{Draw}
 use Rattle.jr_model.specs.Draws.{draws_of_clone, draws_of_job}
 use Rattle.jr_model.specs.History.{same_write, same_piece}
-use Rattle.jr_model.specs.Legal.{step_of, step_of_draw, step_of_clone, step_at, same_dir, is_this_issue, is_this_probe, is_this_skip}
-use Rattle.jr_model.specs.Plan.{Plan, SubJob, clone_of}
+use Rattle.jr_model.specs.Legal.{step_of, step_of_draw, step_of_clone, step_at, same_issue, is_this_issue, is_this_probe, is_this_skip}
+use Rattle.jr_model.specs.Plan.{Plan, SubJob, clone_of, issued_as}
 use Rattle.jr_model.specs.Rounds.{Pass, pass_of}
-use Rattle.jr_model.proofs.LegalLaws.{cases_step_of, same_dir_refl, same_piece_refl}
+use Rattle.jr_model.proofs.LegalLaws.{cases_step_of, same_issue_refl, same_piece_refl}
 use Rattle.jr_traces.specs.declared.entries.Entry.{Entry}
 use Rattle.jr_traces.specs.declared.entries.Entry.TheVariants as entry
 use Rattle.jr_traces.specs.declared.entries.Finding.{Finding}
 use Rattle.jr_traces.specs.declared.entries.Name.{Name}
 use Rattle.jr_traces.specs.declared.entries.Start.{Start}
-use Rattle.jr_traces.specs.TraceChecks.{draw_of, if_legal, is_small, legal_event, name_fits, write_of}
+use Rattle.jr_traces.specs.TraceChecks.{draw_of, if_legal, is_small, issue_of, legal_event, name_fits, write_of}
 use Rattle.jr_traces.specs.TraceSteps.{event_in, event_named, issue_in, judged, named, probe_in, skip_in}
 
--- the issue of a draw, where it is this step
-if_issue : ℕ → WriteId → Option Draw → Option Event → Option Event
-if_issue worker write None step = None
-if_issue worker write (Some draw) step =
-    cond (is_this_issue draw.dir write draw.piece step) (Some (Issue worker draw.dir write draw.piece)) None
+-- the issue of a clone's draw, where it is this step
+if_issue : SubJob → ℕ → WriteId → Option Draw → Option Event → Option Event
+if_issue job worker write None step = None
+if_issue job worker write (Some draw) step =
+    let kind = issued_as job draw.dir in
+    cond (is_this_issue kind write draw.piece step) (Some (Issue worker kind write draw.piece)) None
 
 -- the check of a draw, where it is this step
 if_probe : ℕ → WriteId → Option Draw → Option Event → Option Event
@@ -35,17 +36,17 @@ if_probe worker write (Some draw) step =
     cond (is_this_probe write draw.piece step) (Some (Probe worker write draw.piece)) None
 
 -- an issue of a draw, compared with the draw itself
-same_issue : (worker : ℕ) (write issued : WriteId) (dir d : Dir) (piece p : Piece) → d ≡ dir → p ≡ piece → cond (same_dir d dir && same_write issued write && same_piece p piece) (Some (Issue worker dir write piece)) None ≡ cond (same_write issued write) (Some (Issue worker d write p)) None
-same_issue worker write issued dir d piece p e f =
-    ap (λ (x : Dir). cond (same_dir x dir && same_write issued write && same_piece p piece) (Some (Issue worker dir write piece)) None) e
-    ∙ ap (λ (x : Piece). cond (same_dir dir dir && same_write issued write && same_piece x piece) (Some (Issue worker dir write piece)) None) f
-    ∙ ap (λ (b : Bool). cond (b && same_write issued write && same_piece piece piece) (Some (Issue worker dir write piece)) None) (same_dir_refl dir)
-    ∙ ap (λ (b : Bool). cond (true && same_write issued write && b) (Some (Issue worker dir write piece)) None) (same_piece_refl piece)
+issue_compared : (worker : ℕ) (write issued : WriteId) (kind k : IssueKind) (piece p : Piece) → k ≡ kind → p ≡ piece → cond (same_issue k kind && same_write issued write && same_piece p piece) (Some (Issue worker kind write piece)) None ≡ cond (same_write issued write) (Some (Issue worker k write p)) None
+issue_compared worker write issued kind k piece p e f =
+    ap (λ (x : IssueKind). cond (same_issue x kind && same_write issued write && same_piece p piece) (Some (Issue worker kind write piece)) None) e
+    ∙ ap (λ (x : Piece). cond (same_issue kind kind && same_write issued write && same_piece x piece) (Some (Issue worker kind write piece)) None) f
+    ∙ ap (λ (b : Bool). cond (b && same_write issued write && same_piece piece piece) (Some (Issue worker kind write piece)) None) (same_issue_refl kind)
+    ∙ ap (λ (b : Bool). cond (true && same_write issued write && b) (Some (Issue worker kind write piece)) None) (same_piece_refl piece)
     ∙ and_true (same_write issued write)
-    ∙ ap (λ (x : Dir). cond (same_write issued write) (Some (Issue worker x write piece)) None) (sym e)
-    ∙ ap (λ (x : Piece). cond (same_write issued write) (Some (Issue worker d write x)) None) (sym f)
+    ∙ ap (λ (x : IssueKind). cond (same_write issued write) (Some (Issue worker x write piece)) None) (sym e)
+    ∙ ap (λ (x : Piece). cond (same_write issued write) (Some (Issue worker k write x)) None) (sym f)
   where
-    and_true : (b : Bool) → cond (true && b && true) (Some (Issue worker dir write piece)) None ≡ cond b (Some (Issue worker dir write piece)) None
+    and_true : (b : Bool) → cond (true && b && true) (Some (Issue worker kind write piece)) None ≡ cond b (Some (Issue worker kind write piece)) None
     and_true true = refl
     and_true false = refl
 
@@ -60,22 +61,22 @@ same_probe worker write probed piece p f =
     and_true true = refl
     and_true false = refl
 
--- the step of a draw has its direction and its piece
-issue_of_step : (plan : Plan) (history : List Event) (worker : ℕ) (write : WriteId) (pass : Pass) (draw : Draw) (step : Option Event) → step_of plan history worker pass draw ≡ step → if_issue worker write (Some draw) step ≡ issue_in worker write step
+-- the step of a draw has what it is issued as, and its piece
+issue_of_step : (plan : Plan) (history : List Event) (worker : ℕ) (write : WriteId) (pass : Pass) (draw : Draw) (step : Option Event) → step_of plan history worker pass draw ≡ step → if_issue pass.job worker write (Some draw) step ≡ issue_in worker write step
 unfolding if_issue
 issue_of_step plan history worker write pass draw None h = refl
 issue_of_step plan history worker write pass draw (Some (Probe k w p)) h = refl
 issue_of_step plan history worker write pass draw (Some (Skip k w)) h = refl
 issue_of_step plan history worker write pass draw (Some (End k io outcome)) h = refl
 issue_of_step plan history worker write pass draw (Some (Verdict k io verdict)) h = refl
-issue_of_step plan history worker write pass draw (Some (Issue k d w p)) h =
-    elim (cases_step_of plan history worker pass draw (Issue k d w p) h) [
+issue_of_step plan history worker write pass draw (Some (Issue j k w p)) h =
+    elim (cases_step_of plan history worker pass draw (Issue j k w p) h) [
       | inl probe ↦ cc
       | inr (inl skip) ↦ cc
       | inr (inr issue) ↦
-          let dir : d ≡ draw.dir = cc in
+          let kind : k ≡ issued_as pass.job draw.dir = cc in
           let piece : p ≡ draw.piece = cc in
-          same_issue worker write w draw.dir d draw.piece p dir piece
+          issue_compared worker write w (issued_as pass.job draw.dir) k draw.piece p kind piece
     ]
 
 probe_of_step : (plan : Plan) (history : List Event) (worker : ℕ) (write : WriteId) (pass : Pass) (draw : Draw) (step : Option Event) → step_of plan history worker pass draw ≡ step → if_probe worker write (Some draw) step ≡ probe_in worker write step
@@ -95,24 +96,25 @@ probe_of_step plan history worker write pass draw (Some (Probe k w p)) h =
     ]
 
 module _ (plan : Plan) (history : List Event) (worker : ℕ) (write : WriteId) where
-  of_draw : (pass : Pass) (o : Option Draw) → if_issue worker write o (step_of_draw plan history worker pass o) ≡ issue_in worker write (step_of_draw plan history worker pass o)
+  of_draw : (pass : Pass) (o : Option Draw) → if_issue pass.job worker write o (step_of_draw plan history worker pass o) ≡ issue_in worker write (step_of_draw plan history worker pass o)
   unfolding if_issue
   of_draw pass None = refl
   of_draw pass (Some draw) = issue_of_step plan history worker write pass draw (step_of plan history worker pass draw) refl
 
-  of_clone : (o : Option SubJob) → if_issue worker write (slice_get (draws_of_clone o write.pass) write.number) (step_of_clone plan history worker write o) ≡ issue_in worker write (step_of_clone plan history worker write o)
+  legal_as_issue : (job : SubJob) (o : Option Draw) → if_legal plan history (option_map (λ (draw : Draw). Issue worker (issued_as job draw.dir) write draw.piece) o) ≡ if_issue job worker write o (step_at plan history worker write)
   unfolding if_issue
-  of_clone None = refl
-  of_clone (Some job) = of_draw (pass_of job write.pass) (slice_get (draws_of_job job write.pass) write.number)
+  legal_as_issue job None = refl
+  legal_as_issue job (Some draw) = refl
 
-  legal_as_issue : (o : Option Draw) → if_legal plan history (option_map (λ (draw : Draw). Issue worker draw.dir write draw.piece) o) ≡ if_issue worker write o (step_at plan history worker write)
-  unfolding if_issue
-  legal_as_issue None = refl
-  legal_as_issue (Some draw) = refl
+  of_clone : (o : Option SubJob) → step_at plan history worker write ≡ step_of_clone plan history worker write o → if_legal plan history (issue_of o worker write) ≡ issue_in worker write (step_of_clone plan history worker write o)
+  of_clone None is = refl
+  of_clone (Some job) is =
+      let o = slice_get (draws_of_job job write.pass) write.number in
+      legal_as_issue job o ∙ ap (if_issue job worker write o) is ∙ of_draw (pass_of job write.pass) o
 
   -- the issue of a planned draw is legal where it is the draw's step
-  pub issue_is_step : if_legal plan history (option_map (λ (draw : Draw). Issue worker draw.dir write draw.piece) (draw_of plan write)) ≡ issue_in worker write (step_at plan history worker write)
-  issue_is_step = legal_as_issue (draw_of plan write) ∙ of_clone (clone_of plan write.clone)
+  pub issue_is_step : if_legal plan history (issue_of (clone_of plan write.clone) worker write) ≡ issue_in worker write (step_at plan history worker write)
+  issue_is_step = of_clone (clone_of plan write.clone) refl
 
   probe_of_draw : (pass : Pass) (o : Option Draw) → if_probe worker write o (step_of_draw plan history worker pass o) ≡ probe_in worker write (step_of_draw plan history worker pass o)
   unfolding if_probe
@@ -139,7 +141,7 @@ skip_is_step plan history worker write = by_step (step_at plan history worker wr
   where
     by_step : (step : Option Event) → cond (is_this_skip write step) (Some (Skip worker write)) None ≡ skip_in worker write step
     by_step None = refl
-    by_step (Some (Issue w dir issued piece)) = refl
+    by_step (Some (Issue w kind issued piece)) = refl
     by_step (Some (Probe w probed piece)) = refl
     by_step (Some (Skip w skipped)) = refl
     by_step (Some (End w io outcome)) = refl

@@ -72,7 +72,7 @@ head_line tag a b h fits_a fits_b =
 
 event_one_line : (io : ℕ) (e : Event) → entry_fits (entry_of io e) ≡ true → is_line (event_text io e) ≡ true
 unfolding is_line
-event_one_line io (Issue worker dir write piece) fits =
+event_one_line io (Issue worker kind write piece) fits =
     let parts = and_parts (is_small worker && is_small io) (name_fits (name_of write)) fits in
     let numbers = and_parts (is_small worker) (is_small io) parts.0 in
     two_lines ((codes "I" ++ spaced worker) ++ spaced io) (draw_fields write) (head_line (codes "I") worker io refl numbers.0 numbers.1) (draw_line write parts.1)

@@ -1,13 +1,13 @@
 -- The numbers in the lines of a legal history of a plan are small.
 use Rattle.std.proofs.Common.{◌≡◌, ℕ, ◌+◌, ◌%◌, ◌^◌, ◌<◌, ◌≤◌, List, [], ◌∷◌, ◌++◌, length, Bool, true, false, not, ◌&&◌, refl, ap, ◌∙◌, arith}
-use Rattle.std.specs.Prelude.{Option, Some, None, Bool, true, false, cond, ◌/◌, nat_le, nat_lt, slice_get, ◌==◌}
+use Rattle.std.specs.Prelude.{Option, Some, None, Bool, true, false, cond, max, ◌/◌, nat_le, nat_lt, slice_get, ◌==◌}
 use Rattle.std.proofs.lemmas.Bool.{and_parts, leb-true, lt-ltb, ltb-true}
 use Rattle.std.proofs.lemmas.Option.{slice_get_within}
-use Rattle.jr_model.specs.declared.blocks.Dir.{Dir}
 use Rattle.jr_model.specs.declared.blocks.Piece.{Piece}
 use Rattle.jr_model.specs.declared.limits.TheConstants.{SECTOR, LARGEST_BLOCK, LARGEST_END}
 use Rattle.jr_model.specs.declared.events.Event.{Event}
 use Rattle.jr_model.specs.declared.events.Event.TheVariants.{Issue, Probe, Skip, End, Verdict}
+use Rattle.jr_model.specs.declared.events.IssueKind.{IssueKind}
 use Rattle.jr_model.specs.declared.events.Outcome.{Outcome}
 use Rattle.jr_model.specs.declared.events.Outcome.TheVariants.{Whole, Failed, Short}
 use Rattle.jr_model.specs.declared.events.Started.{Started}
@@ -18,11 +18,13 @@ use Rattle.jr_model.specs.declared.events.What.TheVariants.{Header, Digest, Data
 use Rattle.jr_model.specs.declared.events.WriteId.{WriteId}
 use Rattle.jr_model.specs.declared.contents.VerifyKind.{VerifyKind}
 use Rattle.jr_model.specs.declared.contents.VerifyKind.TheVariants as verify
+use Rattle.jr_model.specs.declared.tickets.TicketKind.{TicketKind}
+use Rattle.jr_model.specs.declared.tickets.TicketKind.TheVariants as ticket
 use Rattle.jr_model.specs.declared.workloads.Draw.{Draw}
 use Rattle.jr_model.specs.Draws.{draws_of_job}
-use Rattle.jr_model.specs.History.{ended_whole, flies, is_judged, is_probe, outcome_of, started}
+use Rattle.jr_model.specs.History.{ended_whole, flies, is_judged, is_judged_kind, outcome_of, started}
 use Rattle.std.proofs.Math.Nat.{div-le_self}
-use Rattle.jr_model.specs.Legal.{digest_finds, end_fits, is_legal, job_says, kind_says, legal_after, may_happen, verdict_fits}
+use Rattle.jr_model.specs.Legal.{digest_finds, end_fits, is_legal, job_says, kind_says, legal_after, may_happen, own_digest_finds, own_says, verdict_fits}
 use Rattle.jr_model.specs.Plan.{Plan, SubJob, clone_of}
 use Rattle.jr_model.specs.Rounds.{pass_of}
 use Rattle.jr_model.proofs.LegalLaws.{is_legal-more}
@@ -62,9 +64,9 @@ module _ (plan : Plan) (planned : IsPlanned plan) where
     io_small : (io : ℕ) → io ≤ length (started history) → is_small io ≡ true
     io_small io most = lt-ltb io (2 ^ 32) (omega (arith, most, started_small plan history planned legal))
 
-    issue_small : (worker : ℕ) (write : WriteId) (dir : Dir) (piece : Piece) → may_happen plan history (Issue worker dir write piece) ≡ true → name_fits (name_of write) ≡ true
-    issue_small worker write dir piece may =
-        let step = may_issue_of plan history worker dir write piece may in
+    issue_small : (worker : ℕ) (write : WriteId) (kind : IssueKind) (piece : Piece) → may_happen plan history (Issue worker kind write piece) ≡ true → name_fits (name_of write) ≡ true
+    issue_small worker write kind piece may =
+        let step = may_issue_of plan history worker kind write piece may in
         let pass = pass_of step.job write.pass in
         name_small write step.job step.draw step.named.planned
         (current_pass history pass (issuable plan history pass step.draw step.may).current)
@@ -128,10 +130,30 @@ module _ (plan : Plan) (planned : IsPlanned plan) where
     byte_small verify.Sha1 interval len (Bad what) most h = chunk_small interval len what most h
     byte_small verify.Sha256 interval len (Bad what) most h = chunk_small interval len what most h
 
-    says_small : (job : Option SubJob) (len : ℕ) (verdict : GivenVerdict) → len ≤ 2 ^ 32 → job_says job len verdict ≡ true → finding_fits (finding_of verdict) ≡ true
-    says_small None len Good most h = refl
-    says_small None len (Bad what) most h = cc
-    says_small (Some job) len verdict most h = byte_small job.method.kind job.method.interval len verdict most h
+    -- so it is of a checked read, where a chunk has a 512-byte block at least
+    own_chunk_small : (len : ℕ) (what : What) → len ≤ 2 ^ 32 → own_digest_finds len what ≡ true → finding_fits (finding_of (Bad what)) ≡ true
+    own_chunk_small len Header most h = refl
+    own_chunk_small len Digest most h = refl
+    own_chunk_small len DataArea most h = refl
+    own_chunk_small len (Byte i) most h = cc
+    own_chunk_small len (Chunk i found) most h =
+        let chunks = max 1 (len / SECTOR) in
+        less i chunks (omega (arith, most, div-le_self len SECTOR)) (ltb-true i chunks h)
+
+    own_small : (kind : VerifyKind) (len : ℕ) (verdict : GivenVerdict) → len ≤ 2 ^ 32 → own_says kind len verdict ≡ true → finding_fits (finding_of verdict) ≡ true
+    own_small kind len Good most h = refl
+    own_small verify.Plain len (Bad what) most h = cc
+    own_small verify.Pattern len (Bad what) most h = byte_small verify.Pattern 0 len (Bad what) most h
+    own_small verify.Md5 len (Bad what) most h = own_chunk_small len what most h
+    own_small verify.Sha1 len (Bad what) most h = own_chunk_small len what most h
+    own_small verify.Sha256 len (Bad what) most h = own_chunk_small len what most h
+
+    says_small : (job : Option SubJob) (kind : TicketKind) (len : ℕ) (verdict : GivenVerdict) → len ≤ 2 ^ 32 → job_says job kind len verdict ≡ true → finding_fits (finding_of verdict) ≡ true
+    says_small None kind len verdict most h = cc
+    says_small (Some job) ticket.Probe len verdict most h = byte_small job.method.kind job.method.interval len verdict most h
+    says_small (Some job) ticket.ReadCheck len verdict most h = own_small job.method.kind len verdict most h
+    says_small (Some job) ticket.Read len verdict most h = cc
+    says_small (Some job) ticket.Write len verdict most h = cc
 
     record IsOnStarted (id : ℕ) (fits : Bool) : Type 0 where
       below : id < length (started history)
@@ -140,17 +162,17 @@ module _ (plan : Plan) (planned : IsPlanned plan) where
     verdict_small : (id : ℕ) (verdict : GivenVerdict) (o : Option Started) → slice_get (started history) id ≡ o → verdict_fits plan verdict o ≡ true → IsOnStarted id (finding_fits (finding_of verdict))
     verdict_small id verdict None at h = cc
     verdict_small id verdict (Some io) at h =
-        let parts = and_parts (is_probe io.kind) (job_says (clone_of plan io.write.clone) io.piece.len verdict) h in
+        let parts = and_parts (is_judged_kind io.kind) (job_says (clone_of plan io.write.clone) io.kind io.piece.len verdict) h in
         record {
           below = slice_get_within (started history) id io at;
-          small = says_small (clone_of plan io.write.clone) io.piece.len verdict (len_small id io at) parts.1;
+          small = says_small (clone_of plan io.write.clone) io.kind io.piece.len verdict (len_small id io at) parts.1;
         }
 
     -- the numbers of an event that may happen are small, but for its worker's
     event_small : (e : Event) → may_happen plan history e ≡ true → entry_fits (entry_of (length (started history)) e) ≡ is_small (worker_of e)
-    event_small (Issue worker dir write piece) may =
+    event_small (Issue worker kind write piece) may =
         let io = length (started history) in
-        all_three (is_small worker) (is_small io) (name_fits (name_of write)) (io_small io (omega arith)) (issue_small worker write dir piece may)
+        all_three (is_small worker) (is_small io) (name_fits (name_of write)) (io_small io (omega arith)) (issue_small worker write kind piece may)
     event_small (Probe worker write piece) may =
         let io = length (started history) in
         all_three (is_small worker) (is_small io) (name_fits (name_of write)) (io_small io (omega arith)) (probe_small worker write piece may)

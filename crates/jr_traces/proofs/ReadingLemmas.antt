@@ -64,7 +64,7 @@ module _ (plan : Plan) (history : List Event) (n : ℕ) (line rest more : List �
 
 -- what starts at most
 started_most : (e : Event) → length (started (e ∷ [])) ≤ 1
-started_most (Issue worker dir write piece) = omega arith
+started_most (Issue worker kind write piece) = omega arith
 started_most (Probe worker write piece) = omega arith
 started_most (Skip worker write) = omega arith
 started_most (End worker io outcome) = omega arith

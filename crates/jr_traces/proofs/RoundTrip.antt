@@ -5,30 +5,29 @@ use Rattle.std.specs.List.{slice_split}
 use Rattle.std.specs.Option.{option_map}
 use Rattle.std.proofs.lemmas.Bool.{and_from, and_parts, eq-eqb, eqb-true}
 use Rattle.std.proofs.lemmas.List.Splits.{slice_split_at}
-use Rattle.jr_model.specs.declared.blocks.Dir.{Dir}
-use Rattle.jr_model.specs.declared.blocks.Dir.TheVariants.{Read, Write}
 use Rattle.jr_model.specs.declared.blocks.Piece.{Piece}
 use Rattle.jr_model.specs.declared.events.Event.{Event}
 use Rattle.jr_model.specs.declared.events.Event.TheVariants.{Issue, Probe, Skip, End, Verdict}
+use Rattle.jr_model.specs.declared.events.IssueKind.{IssueKind}
 use Rattle.jr_model.specs.declared.events.Outcome.{Outcome}
 use Rattle.jr_model.specs.declared.events.Outcome.TheVariants.{Whole, Failed, Short}
 use Rattle.jr_model.specs.declared.events.Verdict.{Verdict as GivenVerdict}
 use Rattle.jr_model.specs.declared.events.Verdict.TheVariants.{Good, Bad}
-use Rattle.jr_model.specs.declared.events.Part.TheVariants as part
 use Rattle.jr_model.specs.declared.events.What.TheVariants.{Header, Digest, DataArea, Byte, Chunk}
 use Rattle.jr_model.specs.declared.events.WriteId.{WriteId}
 use Rattle.jr_model.specs.declared.workloads.Draw.{Draw}
 use Rattle.jr_model.specs.Draws.{draws_of_clone, draws_of_job}
 use Rattle.jr_model.specs.History.{started, same_write, same_piece}
-use Rattle.jr_model.specs.Legal.{is_complete, is_legal, is_this_issue, is_this_probe, legal_after, may_happen, same_dir, step_of, step_of_clone, step_of_draw}
-use Rattle.jr_model.specs.Plan.{Plan, SubJob, clone_of}
+use Rattle.jr_model.specs.Legal.{is_complete, is_legal, is_this_issue, is_this_probe, legal_after, may_happen, same_issue, step_of, step_of_clone, step_of_draw}
+use Rattle.jr_model.specs.Plan.{Plan, SubJob, clone_of, issued_as}
 use Rattle.jr_model.specs.Report.{all_totals}
 use Rattle.jr_model.specs.Rounds.{Pass, pass_of}
+use Rattle.jr_model.proofs.Equality.{eq_issue}
 use Rattle.jr_model.proofs.LegalLaws.{cases_step_of}
 use Rattle.jr_model.specs.PlanFacts.{IsPlanned}
 use Rattle.jr_traces.specs.declared.faults.TraceFault.{TraceFault}
 use Rattle.jr_traces.specs.declared.faults.TraceFault.TheVariants.{Illegal, Unfinished}
-use Rattle.jr_traces.specs.TraceChecks.{after, check_of, entry_event, entry_fits, event_of, if_legal, is_newline, is_numbered, legal_event, line_event, lines_read, outcome_of, verdict_of}
+use Rattle.jr_traces.specs.TraceChecks.{after, check_of, entry_event, entry_fits, event_of, if_legal, is_newline, is_numbered, issue_of, legal_event, line_event, lines_read, outcome_of, verdict_of}
 use Rattle.jr_traces.specs.TraceLaws.{TraceIsAccepted, ending_of, entry_of, finding_of, lines_fit, workers_fit}
 use Rattle.jr_traces.specs.Traces.{event_text, lines_after, trace_of}
 use Rattle.jr_traces.proofs.EntryReading.{event_read}
@@ -36,13 +35,7 @@ use Rattle.jr_traces.proofs.LineEnds.{no_newline}
 use Rattle.jr_traces.proofs.Numbers.{numbers_fit}
 use Rattle.jr_traces.proofs.ReadingLemmas.{lines_read_next}
 
--- one direction, one piece
-same_dir_is : (a b : Dir) → same_dir a b ≡ true → a ≡ b
-same_dir_is Read Read h = refl
-same_dir_is Write Write h = refl
-same_dir_is Read Write h = cc
-same_dir_is Write Read h = cc
-
+-- one piece
 same_piece_is : (a b : Piece) → same_piece a b ≡ true → a ≡ b
 same_piece_is a b h =
     let parts = and_parts ((a.file == b.file) && (a.offset == b.offset)) (a.len == b.len) h in
@@ -56,10 +49,10 @@ same_piece_is a b h =
     ∙ ap (λ (n : ℕ). let q : Piece = record { file = b.file; offset = b.offset; len = n } in q) len
 
 -- an issue that may happen is of its draw
-record IsDrawn (dir : Dir) (piece : Piece) (o : Option Draw) : Type 0 where
+record IsDrawn (job : SubJob) (kind : IssueKind) (piece : Piece) (o : Option Draw) : Type 0 where
   draw : Draw
   there : o ≡ Some draw
-  dir_is : draw.dir ≡ dir
+  kind_is : issued_as job draw.dir ≡ kind
   piece_is : draw.piece ≡ piece
 
 record IsPlaced (piece : Piece) (o : Option Draw) : Type 0 where
@@ -68,35 +61,39 @@ record IsPlaced (piece : Piece) (o : Option Draw) : Type 0 where
   piece_is : draw.piece ≡ piece
 
 module _ (plan : Plan) (history : List Event) (worker : ℕ) (write : WriteId) where
-  issue_by_step : (dir : Dir) (piece : Piece) (pass : Pass) (draw : Draw) (step : Option Event) → step_of plan history worker pass draw ≡ step → is_this_issue dir write piece step ≡ true → (draw.dir ≡ dir) × (draw.piece ≡ piece)
-  issue_by_step dir piece pass draw None h t = cc
-  issue_by_step dir piece pass draw (Some (Probe k w p)) h t = cc
-  issue_by_step dir piece pass draw (Some (Skip k w)) h t = cc
-  issue_by_step dir piece pass draw (Some (End k io outcome)) h t = cc
-  issue_by_step dir piece pass draw (Some (Verdict k io verdict)) h t = cc
-  issue_by_step dir piece pass draw (Some (Issue k d w p)) h t =
-      let parts = and_parts (same_dir d dir && same_write w write) (same_piece p piece) t in
-      let ways = and_parts (same_dir d dir) (same_write w write) parts.0 in
-      let same_d = same_dir_is d dir ways.0 in
+  issue_by_step : (kind : IssueKind) (piece : Piece) (pass : Pass) (draw : Draw) (step : Option Event) → step_of plan history worker pass draw ≡ step → is_this_issue kind write piece step ≡ true → (issued_as pass.job draw.dir ≡ kind) × (draw.piece ≡ piece)
+  issue_by_step kind piece pass draw None h t = cc
+  issue_by_step kind piece pass draw (Some (Probe k w p)) h t = cc
+  issue_by_step kind piece pass draw (Some (Skip k w)) h t = cc
+  issue_by_step kind piece pass draw (Some (End k io outcome)) h t = cc
+  issue_by_step kind piece pass draw (Some (Verdict k io verdict)) h t = cc
+  issue_by_step kind piece pass draw (Some (Issue j k w p)) h t =
+      let parts = and_parts (same_issue k kind && same_write w write) (same_piece p piece) t in
+      let ways = and_parts (same_issue k kind) (same_write w write) parts.0 in
+      let same_k = eq_issue k kind ways.0 in
       let same_p = same_piece_is p piece parts.1 in
-      elim (cases_step_of plan history worker pass draw (Issue k d w p) h) [
+      elim (cases_step_of plan history worker pass draw (Issue j k w p) h) [
         | inl probe ↦ cc
         | inr (inl skip) ↦ cc
         | inr (inr issue) ↦
-            let of_d : d ≡ draw.dir = cc in
+            let of_k : k ≡ issued_as pass.job draw.dir = cc in
             let of_p : p ≡ draw.piece = cc in
-            (sym of_d ∙ same_d, sym of_p ∙ same_p)
+            (sym of_k ∙ same_k, sym of_p ∙ same_p)
       ]
 
-  issue_drawn : (dir : Dir) (piece : Piece) (pass : Pass) (o : Option Draw) → is_this_issue dir write piece (step_of_draw plan history worker pass o) ≡ true → IsDrawn dir piece o
-  issue_drawn dir piece pass None t = cc
-  issue_drawn dir piece pass (Some draw) t =
-      let same = issue_by_step dir piece pass draw (step_of plan history worker pass draw) refl t in
-      record { draw = draw; there = refl; dir_is = same.0; piece_is = same.1 }
+  issue_drawn : (kind : IssueKind) (piece : Piece) (pass : Pass) (o : Option Draw) → is_this_issue kind write piece (step_of_draw plan history worker pass o) ≡ true → IsDrawn pass.job kind piece o
+  issue_drawn kind piece pass None t = cc
+  issue_drawn kind piece pass (Some draw) t =
+      let same = issue_by_step kind piece pass draw (step_of plan history worker pass draw) refl t in
+      record { draw = draw; there = refl; kind_is = same.0; piece_is = same.1 }
 
-  issue_of_clone : (dir : Dir) (piece : Piece) (o : Option SubJob) → is_this_issue dir write piece (step_of_clone plan history worker write o) ≡ true → IsDrawn dir piece (slice_get (draws_of_clone o write.pass) write.number)
-  issue_of_clone dir piece None t = cc
-  issue_of_clone dir piece (Some job) t = issue_drawn dir piece (pass_of job write.pass) (slice_get (draws_of_job job write.pass) write.number) t
+  issue_back : (kind : IssueKind) (piece : Piece) (o : Option SubJob) → is_this_issue kind write piece (step_of_clone plan history worker write o) ≡ true → issue_of o worker write ≡ Some (Issue worker kind write piece)
+  issue_back kind piece None t = cc
+  issue_back kind piece (Some job) t =
+      let drawn = issue_drawn kind piece (pass_of job write.pass) (slice_get (draws_of_job job write.pass) write.number) t in
+      ap (option_map (λ (draw : Draw). Issue worker (issued_as job draw.dir) write draw.piece)) drawn.there
+      ∙ ap (λ (k : IssueKind). Some (Issue worker k write drawn.draw.piece)) drawn.kind_is
+      ∙ ap (λ (p : Piece). Some (Issue worker kind write p)) drawn.piece_is
 
   probe_by_step : (piece : Piece) (pass : Pass) (draw : Draw) (step : Option Event) → step_of plan history worker pass draw ≡ step → is_this_probe write piece step ≡ true → draw.piece ≡ piece
   probe_by_step piece pass draw None h t = cc
@@ -138,11 +135,8 @@ verdict_back (Bad (Chunk i found)) = refl
 
 -- the entry of an event that may happen names it
 event_back : (plan : Plan) (history : List Event) (io : ℕ) (e : Event) → may_happen plan history e ≡ true → event_of plan (entry_of io e) ≡ Some e
-event_back plan history io (Issue worker dir write piece) may =
-    let drawn = issue_of_clone plan history worker write dir piece (clone_of plan write.clone) may in
-    ap (option_map (λ (draw : Draw). Issue worker draw.dir write draw.piece)) drawn.there
-    ∙ ap (λ (d : Dir). Some (Issue worker d write drawn.draw.piece)) drawn.dir_is
-    ∙ ap (λ (p : Piece). Some (Issue worker dir write p)) drawn.piece_is
+event_back plan history io (Issue worker kind write piece) may =
+    issue_back plan history worker write kind piece (clone_of plan write.clone) may
 event_back plan history io (Probe worker write piece) may =
     let placed = probe_of_clone plan history worker write piece (clone_of plan write.clone) may in
     ap (option_map (λ (draw : Draw). Probe worker write draw.piece)) placed.there
@@ -152,7 +146,7 @@ event_back plan history io (End worker id outcome) may = ap (λ (o : Outcome). S
 event_back plan history io (Verdict by id verdict) may = ap (λ (v : GivenVerdict). Some (Verdict by id v)) (verdict_back verdict)
 
 numbered : (history : List Event) (e : Event) → is_numbered history (entry_of (length (started history)) e) ≡ true
-numbered history (Issue worker dir write piece) = eq-eqb (length (started history)) (length (started history)) refl
+numbered history (Issue worker kind write piece) = eq-eqb (length (started history)) (length (started history)) refl
 numbered history (Probe worker write piece) = eq-eqb (length (started history)) (length (started history)) refl
 numbered history (Skip worker write) = refl
 numbered history (End worker io outcome) = refl

@@ -19,14 +19,14 @@ lines_more history i d within =
     ∙ ap (λ (before : List Event). event_line (length (started (take i history))) (get_or history i d) ++ lines_after before (drop (i + 1) history)) (sym (take_more history i d within))
 
 starts_one : (e : Event) → is_some (started_by e) ≡ true → length (started (e ∷ [])) ≡ 1
-starts_one (Issue worker dir write piece) h = refl
+starts_one (Issue worker kind write piece) h = refl
 starts_one (Probe worker write piece) h = refl
 starts_one (Skip worker write) h = cc
 starts_one (End worker io outcome) h = cc
 starts_one (Verdict worker io verdict) h = cc
 
 starts_none : (e : Event) → is_some (started_by e) ≡ false → length (started (e ∷ [])) ≡ 0
-starts_none (Issue worker dir write piece) h = cc
+starts_none (Issue worker kind write piece) h = cc
 starts_none (Probe worker write piece) h = cc
 starts_none (Skip worker write) h = refl
 starts_none (End worker io outcome) h = refl

@@ -1,4 +1,5 @@
 pub mod FaultTexts
+pub mod Runs
 pub mod TraceChecks
 pub mod TraceLaws
 pub mod TraceLines

@@ -12,10 +12,10 @@ use Rattle.jr_model.specs.declared.events.What.TheVariants as what
 use Rattle.jr_model.specs.declared.events.WriteId.{WriteId}
 use Rattle.jr_model.specs.declared.totals.Totals.{Totals}
 use Rattle.jr_model.specs.declared.workloads.Draw.{Draw}
-use Rattle.jr_model.specs.Draws.{draws_of}
+use Rattle.jr_model.specs.Draws.{draws_of, draws_of_job}
 use Rattle.jr_model.specs.History.{started}
 use Rattle.jr_model.specs.Legal.{may_happen, is_complete}
-use Rattle.jr_model.specs.Plan.{Plan}
+use Rattle.jr_model.specs.Plan.{Plan, SubJob, clone_of, issued_as}
 use Rattle.jr_model.specs.Report.{all_totals}
 use Rattle.jr_traces.specs.declared.entries.Ending.{Ending}
 use Rattle.jr_traces.specs.declared.entries.Ending.TheVariants as ending
@@ -87,11 +87,18 @@ verdict_of (finding.Chunk i part) = verdict.Bad (what.Chunk i part)
 abbrev pub draw_of : Plan → WriteId → Option Draw
 draw_of plan write = slice_get (draws_of plan write.clone write.pass) write.number
 
--- the event that a line speaks of: the plan's draws give the directions and the pieces
+-- the issue of the draw of this name, where its clone is there and has it
+abbrev pub issue_of : Option SubJob → ℕ → WriteId → Option Event
+issue_of None worker write = None
+issue_of (Some job) worker write =
+    option_map (λ (draw : Draw). event.Issue worker (issued_as job draw.dir) write draw.piece)
+    (slice_get (draws_of_job job write.pass) write.number)
+
+-- the event that a line speaks of: the plan gives the pieces, and what each draw is issued as
 abbrev pub event_of : Plan → Entry → Option Event
 event_of plan (entry.Issue start) =
     let write = write_of start.write in
-    option_map (λ (draw : Draw). event.Issue start.worker draw.dir write draw.piece) (draw_of plan write)
+    issue_of (clone_of plan write.clone) start.worker write
 event_of plan (entry.Probe start) =
     let write = write_of start.write in
     option_map (λ (draw : Draw). event.Probe start.worker write draw.piece) (draw_of plan write)

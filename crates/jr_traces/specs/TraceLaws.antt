@@ -51,7 +51,7 @@ finding_of (verdict.Bad w) = bad w
     bad (what.Chunk i part) = finding.Chunk i part
 
 abbrev pub entry_of : ℕ → Event → Entry
-entry_of io (event.Issue worker dir write piece) = entry.Issue (start_by worker io write)
+entry_of io (event.Issue worker kind write piece) = entry.Issue (start_by worker io write)
 entry_of io (event.Probe worker write piece) = entry.Probe (start_by worker io write)
 entry_of io (event.Skip worker write) = entry.Skip worker (name_of write)
 entry_of io (event.End worker id outcome) = entry.End worker id (ending_of outcome)
@@ -66,7 +66,7 @@ lines_fit before (event ∷ events) =
 
 -- the worker of an event
 abbrev pub worker_of : Event → ℕ
-worker_of (event.Issue worker dir write piece) = worker
+worker_of (event.Issue worker kind write piece) = worker
 worker_of (event.Probe worker write piece) = worker
 worker_of (event.Skip worker write) = worker
 worker_of (event.End worker id outcome) = worker

@@ -91,7 +91,7 @@ end_of None io ending = None
 abbrev pub end_in : List (List ℕ) → Option Entry
 end_in fields = end_of (number_at fields 1) (number_at fields 2) (ending_in fields)
 
--- what is said of a check: one word, or a word and a number
+-- what is said of a check or checked read: one word, or a word and a number
 abbrev pub word_finding : List ℕ → Option Finding
 word_finding word =
     if is_word word (codes "good") then Some finding.Good

@@ -34,7 +34,7 @@ ended history worker io ending =
     && (flies history io && end_fits worker (outcome_of ending) (slice_get (started history) io))
     then Some (End worker io (outcome_of ending)) else None
 
--- the verdict on a check, where it may have it
+-- the verdict on an I/O, where it may have it
 abbrev pub judged : Plan → List Event → ℕ → ℕ → Finding → Option Event
 judged plan history by io finding =
     if is_small by && is_small io && finding_fits finding
@@ -44,8 +44,8 @@ judged plan history by io finding =
 
 -- the issue of this draw, where the step is one
 abbrev pub issue_in : ℕ → WriteId → Option Event → Option Event
-issue_in worker write (Some (Issue w dir issued piece)) =
-    if same_write issued write then Some (Issue worker dir write piece) else None
+issue_in worker write (Some (Issue w kind issued piece)) =
+    if same_write issued write then Some (Issue worker kind write piece) else None
 issue_in worker write (Some (Probe w probed piece)) = None
 issue_in worker write (Some (Skip w skipped)) = None
 issue_in worker write (Some (End w io outcome)) = None
@@ -56,7 +56,7 @@ issue_in worker write None = None
 abbrev pub probe_in : ℕ → WriteId → Option Event → Option Event
 probe_in worker write (Some (Probe w probed piece)) =
     if same_write probed write then Some (Probe worker write piece) else None
-probe_in worker write (Some (Issue w dir issued piece)) = None
+probe_in worker write (Some (Issue w kind issued piece)) = None
 probe_in worker write (Some (Skip w skipped)) = None
 probe_in worker write (Some (End w io outcome)) = None
 probe_in worker write (Some (Verdict w io verdict)) = None
@@ -65,7 +65,7 @@ probe_in worker write None = None
 -- the skip of this write, where the step is one
 abbrev pub skip_in : ℕ → WriteId → Option Event → Option Event
 skip_in worker write (Some (Skip w skipped)) = if same_write skipped write then Some (Skip worker write) else None
-skip_in worker write (Some (Issue w dir issued piece)) = None
+skip_in worker write (Some (Issue w kind issued piece)) = None
 skip_in worker write (Some (Probe w probed piece)) = None
 skip_in worker write (Some (End w io outcome)) = None
 skip_in worker write (Some (Verdict w io verdict)) = None

@@ -28,7 +28,7 @@ outcome_fields Whole = codes " whole"
 outcome_fields Failed = codes " failed"
 outcome_fields (Short n) = codes " short" ++ spaced n
 
--- what is said of a check
+-- what is said of a check or checked read
 abbrev pub part_fields : Part → List ℕ
 part_fields part.Header = codes " header"
 part_fields part.Digest = codes " digest"
@@ -47,7 +47,7 @@ verdict_fields (Bad what) = what_fields what
 
 -- the line of an event before its line feed, where so many I/Os and checks were started before it
 abbrev pub event_text : ℕ → Event → List ℕ
-event_text io (Issue worker dir write piece) = codes "I" ++ spaced worker ++ spaced io ++ draw_fields write
+event_text io (Issue worker kind write piece) = codes "I" ++ spaced worker ++ spaced io ++ draw_fields write
 event_text io (Probe worker write piece) = codes "P" ++ spaced worker ++ spaced io ++ draw_fields write
 event_text io (Skip worker write) = codes "S" ++ spaced worker ++ draw_fields write
 event_text io (End worker id outcome) = codes "E" ++ spaced worker ++ spaced id ++ outcome_fields outcome

@@ -3,6 +3,7 @@ ghost use Rattle.std.specs.List.{before_first, slice_split};
 ghost use Rattle.jr_model.specs.History.{started};
 ghost use Rattle.jr_model.specs.Legal.{is_legal};
 ghost use Rattle.jr_model.specs.Report.{all_totals};
+ghost use Rattle.jr_traces.specs.Runs.{IsRunIn};
 ghost use Rattle.jr_traces.specs.TraceChecks.{IsRefusal, check_of, check_of_part, history_in, is_newline, line_event};
 
 use crate::faults::TraceFault;
@@ -38,6 +39,33 @@ pub fn check_part(alloc: Global, plan: &Plan, text: &[u8]) -> Result<Vec<Totals>
     let work = Agenda::new(alloc, plan)?;
     let past = past_in(alloc, &work, text)?;
     Ok(all_totals(alloc, plan, &past)?)
+}
+
+/// A trace that was read: the legal history that it says, what each clone did in it, and whether that is all.
+#[derive(Drop)]
+pub struct Checked {
+    /// What happened.
+    pub past: Past,
+    /// What each clone did, in the order of the clones.
+    pub totals: Vec<Totals>,
+    /// Nothing was to come.
+    pub is_complete: bool,
+}
+
+/// Reads the trace of a run that may have been stopped.
+pub fn read_run(alloc: Global, plan: &Plan, text: &[u8]) -> Result<Checked, TraceFault>
+    ensures ok { IfOk result (IsRunIn plan.now text.now) }
+    ensures err { IfErr result (λ fault. IsRefusal fault (history_in plan.now text.now)) }
+{
+    let work = Agenda::new(alloc, plan)?;
+    let past = past_in(alloc, &work, text)?;
+    let totals = all_totals(alloc, plan, &past)?;
+    let is_complete = complete_among(&work, &past);
+    Ok(Checked {
+        past,
+        totals,
+        is_complete,
+    })
 }
 
 // What each clone did.

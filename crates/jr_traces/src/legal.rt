@@ -104,7 +104,7 @@ fn ended(past: &Past, worker: u64, io: u64, ending: &Ending) -> Option<Event>
     }
 }
 
-// The verdict on a check, where it may have it.
+// The verdict on an I/O, where it may have it.
 fn judged(plan: &Plan, past: &Past, by: u64, io: u64, finding: &Finding) -> Option<Event>
     ensures { result ≡ judged plan.now past.now by io finding.now }
 {
@@ -129,14 +129,14 @@ fn issue_in(worker: u32, write: &WriteId, step: &Option<Event>) -> Option<Event>
     match step {
         Some(
             Event::Issue {
-                dir,
+                kind,
                 write: issued,
                 piece,
                 ..
             },
         ) if same_write(issued, write) => Some(Event::Issue {
             worker,
-            dir: *dir,
+            kind: *kind,
             write: *write,
             piece: *piece,
         }),

@@ -1,7 +1,6 @@
 -- Believed: the intact writes as a list of entries in the order of the writes, and what it becomes where a write of a
 -- piece is settled or a piece is unsettled (of this project).
 use Rattle.std.specs.Prelude.{Bool, not, List, Option, Some, None, filter, if◌then◌else◌}
-use Rattle.std.specs.declared.cmp.Ordering.{Ordering}
 use Rattle.std.specs.Map.{lookup}
 use Rattle.std.specs.BTreeMap.{insert_entry, is_at}
 use Rattle.jr_model.specs.declared.blocks.Piece.{Piece}

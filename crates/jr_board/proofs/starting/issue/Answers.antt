@@ -1,6 +1,6 @@
 use Rattle.std.proofs.Common.{◌≡◌, true, length, refl, sym, ◌∙◌, subst, arith}
-use Rattle.jr_model.specs.declared.blocks.Dir.{Dir}
-use Rattle.jr_model.specs.declared.blocks.Dir.TheVariants.{Write}
+use Rattle.jr_model.specs.declared.events.IssueKind.{IssueKind}
+use Rattle.jr_model.specs.declared.events.IssueKind.TheVariants.{Write}
 use Rattle.jr_model.specs.declared.events.Event.TheVariants.{Issue}
 use Rattle.jr_model.specs.declared.events.Started.{Started}
 use Rattle.jr_model.specs.History.{kind_for, started}
@@ -49,7 +49,7 @@ issue-requires-clause-pass c =
     c.index_mut.ensures.value).in_pass.within
 
 -- a write that is issued fits its round
-fits_round : (c : goal.After-index_mut) → has_rounds c.clone_at-job.result.now ≡ true → c.args.dir ≡ Write
+fits_round : (c : goal.After-index_mut) → has_rounds c.clone_at-job.result.now ≡ true → c.args.kind ≡ Write
     → (takes_writes c.index_mut.result.now.rounds.round ≡ true) × (comes_last c.index_mut.result.now.rounds.round c.args.write ≡ true)
 fits_round c rounds writes =
     let plan = c.args.plan.now in
@@ -62,9 +62,9 @@ fits_round c rounds writes =
     let job = c.clone_at-job.result.now in
     let planned = c.clone_at-job.ensures.value in
     let standing = c.index_mut.result.now in
-    let next = next_of plan board (Issue worker c.args.dir write piece) is c.requires.may in
+    let next = next_of plan board (Issue worker c.args.kind write piece) is c.requires.may in
     issue_fills plan history worker write piece job standing
-    (subst (λ (d : Dir). IsNext plan history (Issue worker d write piece)) writes next) planned rounds
+    (subst (λ (d : IssueKind). IsNext plan history (Issue worker d write piece)) writes next) planned rounds
     (stands_now plan board write.clone job standing is planned c.index_mut.ensures.value) (issue-requires-clause-prepared c).settled
 
 pub issue-requires-clause-room : goal.issue-requires-clause-room
@@ -93,7 +93,7 @@ returns-clause-ticket c =
     let board = c.args.board.now in
     let history = board.history.items in
     let worker = c.args.worker in
-    let dir = c.args.dir in
+    let dir = c.args.kind in
     let write = c.args.write in
     let piece = c.args.piece in
     let is = c.requires.board in
@@ -112,7 +112,7 @@ returns-clause-board c =
     let board = c.args.board.now in
     let history = board.history.items in
     let worker = c.args.worker in
-    let dir = c.args.dir in
+    let dir = c.args.kind in
     let write = c.args.write in
     let piece = c.args.piece in
     let is = c.requires.board in
@@ -125,7 +125,7 @@ returns-clause-board c =
     board_grows plan board _ e is c.requires.may c.push_reserved.ensures.items
     (c.hand.ensures plan history e io next refl (returns-clause-ticket c) is.tickets)
     (c.start.ensures plan history e io next refl
-    (issue_io (length (started history)) worker dir write piece c.count-id.result _ refl id) is.flying)
+    (issue_io (length (started history)) worker dir c.dir_for.result write piece c.count-id.result _ refl c.dir_for.ensures id) is.flying)
     (is.log ∙ sym (log_issue plan history worker dir write piece next))
     (c.issued.ensures plan history worker dir write piece refl next is.tallies)
     (standing_moves plan history (grown history e) board.standings.items write.clone job c.issue.new.self is.standings planned

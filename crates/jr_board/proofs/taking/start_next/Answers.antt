@@ -27,8 +27,8 @@ pub issue-requires-clause-may : goal.issue-requires-clause-may
 issue-requires-clause-may c =
     let planned = c.choices.invariant.index.planned in
     let history = c.choices.board.history.items in
-    chosen_may c.args.plan.now history c.args.worker (Issue c.args.worker c.in-Issue.dir c.in-Issue.write c.in-Issue.piece) planned
-    (chosen_issue c.args.plan.now history c.args.worker c.in-Issue.worker c.in-Issue.dir c.in-Issue.write c.in-Issue.piece planned
+    chosen_may c.args.plan.now history c.args.worker (Issue c.args.worker c.in-Issue.kind c.in-Issue.write c.in-Issue.piece) planned
+    (chosen_issue c.args.plan.now history c.args.worker c.in-Issue.worker c.in-Issue.kind c.in-Issue.write c.in-Issue.piece planned
     (sym c.choose.ensures ∙ c.in-Some.is ∙ ap Some c.in-Issue.is))
 
 pub returns-in-Issue-clause-taken : goal.returns-in-Issue-clause-taken
@@ -36,8 +36,8 @@ returns-in-Issue-clause-taken c =
     let planned = c.choices.invariant.index.planned in
     let history = c.choices.board.history.items in
     taken_one c.args.plan.now c.args.worker c.args.board.now.history.items c.choices.board c.issue.new.board
-    (Issue c.args.worker c.in-Issue.dir c.in-Issue.write c.in-Issue.piece) _ c.issue.result c.choices.invariant
-    (chosen_issue c.args.plan.now history c.args.worker c.in-Issue.worker c.in-Issue.dir c.in-Issue.write c.in-Issue.piece planned
+    (Issue c.args.worker c.in-Issue.kind c.in-Issue.write c.in-Issue.piece) _ c.issue.result c.choices.invariant
+    (chosen_issue c.args.plan.now history c.args.worker c.in-Issue.worker c.in-Issue.kind c.in-Issue.write c.in-Issue.piece planned
     (sym c.choose.ensures ∙ c.in-Some.is ∙ ap Some c.in-Issue.is))
     refl refl c.issue.ensures.history c.issue.ensures.ticket
 

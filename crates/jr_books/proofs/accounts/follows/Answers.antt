@@ -1,4 +1,4 @@
-use Rattle.std.proofs.Common.{◌≡◌, Bool, cond, refl, sym, ap, ◌∙◌}
+use Rattle.std.proofs.Common.{Bool, cond, refl, sym, ap, ◌∙◌}
 use Rattle.std.specs.Prelude.{None, slice_get}
 use Rattle.std.proofs.lemmas.Bool.{eq-eqb}
 use Rattle.jr_books.specs.Books.{verdict_in, done_by, done_with}

@@ -59,9 +59,9 @@ returns-clause-serial g c fresh whole =
     ]
 
 pub returns-clause-clean : goal.returns-clause-clean
-returns-clause-clean g c fresh whole =
+returns-clause-clean g c fresh good whole =
     let clean = serial_clean c.args.plan in
-    (returns-clause-serial g c fresh whole).0.ends ∙ clean_status (serial_history c.args.plan) clean.0 clean.1 c.args.plan
+    (returns-clause-serial g c fresh whole).0.ends ∙ clean_status (serial_history c.args.plan) clean.0 good c.args.plan
 
 pub returns-clause-quiet : goal.returns-clause-quiet
 returns-clause-quiet g c whole =

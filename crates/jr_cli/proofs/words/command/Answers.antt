@@ -24,4 +24,7 @@ returns c =
     let with_stop = c.in_ok-arg-12.ensures.shape c.stop_fd_arg.ensures.local ∙ ap₂ with_rule with_interrupted c.stop_fd_arg.ensures.rule in
     let with_list = c.in_ok-arg-13.ensures.shape c.bad_blocks_arg.ensures.local ∙ ap₂ with_rule with_stop c.bad_blocks_arg.ensures.rule in
     let with_size = c.in_ok-arg-14.ensures.shape c.bad_blocks_size_arg.ensures.local ∙ ap₂ with_rule with_list c.bad_blocks_size_arg.ensures.rule in
-    IfOk-weaker c.arg-15.result _ _ (λ r added. added.shape c.map_arg.ensures.local ∙ ap₂ with_rule with_size c.map_arg.ensures.rule) c.arg-15.ensures
+    let with_map = c.in_ok-arg-15.ensures.shape c.map_arg.ensures.local ∙ ap₂ with_rule with_size c.map_arg.ensures.rule in
+    let with_progress = c.in_ok-arg-16.ensures.shape c.progress_arg.ensures.local ∙ ap₂ with_rule with_map c.progress_arg.ensures.rule in
+    let with_json = c.in_ok-arg-17.ensures.shape c.json_arg.ensures.local ∙ ap₂ with_rule with_progress c.json_arg.ensures.rule in
+    IfOk-weaker c.arg-18.result _ _ (λ r added. added.shape c.page_arg.ensures.local ∙ ap₂ with_rule with_json c.page_arg.ensures.rule) c.arg-18.ensures

@@ -9,15 +9,15 @@ use Rattle.jr_crew.proofs.serial.carry_out.Goals as goal
 pub judge-requires-clause-own : goal.judge-requires-clause-own
 judge-requires-clause-own g c =
     let desk = c.args.desk.now in
-    let answer = c.serve-served.result in
+    let answer = c.serve_own-served.result in
     subst (λ (d : DeskState). IsOwn d.plan d.history answer.ticket) (sym c.in_ok-end.ensures.ok)
     (own_then desk.plan desk.history answer.ticket answer.ticket.worker answer.ticket.id answer.outcome
-    (subst (λ (t : Ticket). IsOwn desk.plan desk.history t) (sym c.serve-served.ensures.ticket) c.requires.open.own))
+    (subst (λ (t : Ticket). IsOwn desk.plan desk.history t) (sym c.serve_own-served.ensures.ticket) c.requires.open.own))
 
 pub judge-requires-clause-ended : goal.judge-requires-clause-ended
 judge-requires-clause-ended g c =
     let desk = c.args.desk.now in
-    let answer = c.serve-served.result in
+    let answer = c.serve_own-served.result in
     ap (λ (d : DeskState). outcome_of d.history answer.ticket.id) c.in_ok-end.ensures.ok
     ∙ outcome_then desk.history answer.ticket.worker answer.ticket.id answer.outcome []
-    (ap (λ (t : Ticket). outcome_of desk.history t.id) c.serve-served.ensures.ticket ∙ c.requires.open.unended)
+    (ap (λ (t : Ticket). outcome_of desk.history t.id) c.serve_own-served.ensures.ticket ∙ c.requires.open.unended)

@@ -4,7 +4,7 @@ use Rattle.std.proofs.lemmas.List.{take_all}
 use Rattle.jr_model.specs.declared.events.Event.{Event}
 use Rattle.jr_model.specs.History.{started}
 use Rattle.jr_faults.specs.Faults.{AreFirst, fault_by, named}
-use Rattle.jr_faults.proofs.FaultLemmas.{kept_more}
+use Rattle.jr_faults.proofs.FaultLemmas.{event_added, kept_more}
 use Rattle.jr_faults.proofs.faults.faults_of.Goals as goal
 
 pub loop-event-init : goal.loop-event-init
@@ -18,9 +18,10 @@ loop-event-preserved c =
     let history = c.args.history.now in
     record {
       kept =
-          kept_more c.args.plan.now (fault_by (started history)) history c.loop-event.event-index _ c.add_event.new.self c.loop-event-test.true
-          (c.in_ok-add_event.ensures.added history _ c.requires c.loop-event.invariant.kept);
-      few = omega (arith, c.add_event.ensures.more, c.loop-event.invariant.few);
+          kept_more c.args.plan.now (fault_by (started history)) history c.loop-event.event-index _ c.add_if.new.self c.loop-event-test.true
+          (event_added c.args.plan.now _ c.fault_by.result _ c.add_if.new.self (c.fault_by.ensures history c.requires)
+          (c.in_ok-add_if.ensures.added _ c.loop-event.invariant.kept));
+      few = omega (arith, c.add_if.ensures.more, c.loop-event.invariant.few);
     }
 
 pub returns : goal.returns

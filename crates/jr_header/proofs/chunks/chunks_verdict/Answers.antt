@@ -1,6 +1,5 @@
-use Rattle.std.proofs.Common.{◌≡◌, ℕ, ◌+◌, ◌-◌, ◌*◌, ◌<◌, ◌≤◌, List, take, drop, inl, inr, refl, sym, ap, ◌∙◌, arith}
+use Rattle.std.proofs.Common.{◌≡◌, ℕ, ◌+◌, ◌-◌, ◌*◌, ◌<◌, ◌≤◌, take, drop, inl, inr, sym, ap, ◌∙◌, arith}
 use Rattle.std.proofs.lemmas.Bool.{cases_lt}
-use Rattle.jr_model.specs.declared.events.Verdict.TheVariants.{Good}
 use Rattle.jr_model.specs.Content.{chunk_header, chunks_in}
 use Rattle.jr_model.specs.Judgement.{chunk_verdict, header_verdict, in_chunk}
 use Rattle.jr_header.proofs.ChunkLemmas.{all_good, bad_at}

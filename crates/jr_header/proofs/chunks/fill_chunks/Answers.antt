@@ -1,8 +1,8 @@
-use Rattle.std.proofs.Common.{◌≡◌, ℕ, ◌+◌, ◌-◌, ◌*◌, ◌<◌, ◌≤◌, List, [], ◌∷◌, ◌++◌, length, take, drop, flat_map, refl, sym, ap, ◌∙◌, arith}
+use Rattle.std.proofs.Common.{◌≡◌, ℕ, ◌+◌, ◌-◌, ◌*◌, ◌≤◌, List, ◌++◌, length, take, flat_map, ap, ◌∙◌, arith}
 use borrow.Rule.Slice.PartMut.{put_mid, mid_len}
 use Rattle.std.specs.List.{range_with_len}
 use Rattle.jr_model.specs.declared.blocks.Piece.{Piece}
-use Rattle.jr_model.specs.Content.{chunk_version, headed_block, chunk_at, chunk_bytes, chunk_seed}
+use Rattle.jr_model.specs.Content.{chunk_version, headed_block, chunk_at, chunk_bytes}
 use Rattle.jr_header.proofs.ChunkLemmas.{chunk_inside, flat_more, take_put_more, length-put}
 use Rattle.jr_header.proofs.chunks.fill_chunks.Goals as goal
 

@@ -1,5 +1,4 @@
-use Rattle.std.proofs.Common.{◌≡◌, List, ℕ, take, drop, ap, ◌∙◌, sym, arith, length-take}
-use borrow.Rule.Slice.PartMut.{mid_of}
+use Rattle.std.proofs.Common.{drop, ap, ◌∙◌, sym, arith, length-take}
 use Rattle.std.specs.Prelude.{slice_range}
 use Rattle.std.proofs.lemmas.Slice.Eq.{bytes_eq-Decides}
 use Rattle.jr_model.specs.Content.{digest_of}

@@ -1,4 +1,4 @@
-use Rattle.std.proofs.Common.{◌≡◌, ℕ, ◌+◌, ◌-◌, ◌/◌, ◌%◌, List, ◌++◌, length, take, drop, refl, sym, ap, subst, ◌∙◌, arith, length-take, length-append, length-drop}
+use Rattle.std.proofs.Common.{◌≡◌, ℕ, ◌+◌, ◌/◌, ◌%◌, List, ◌++◌, length, take, drop, refl, sym, ap, subst, ◌∙◌, arith, length-take, length-append, length-drop}
 use Rattle.std.proofs.lemmas.List.{take_at}
 use Rattle.jr_model.specs.Content.{generated_bytes, header_back}
 use Rattle.jr_model.specs.Words.{seeded, words_from, state_after, word_bytes}

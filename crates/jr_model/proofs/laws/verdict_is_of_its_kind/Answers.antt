@@ -2,4 +2,4 @@ use Rattle.jr_model.proofs.MachineLaws.{verdict_of_fits}
 use Rattle.jr_model.proofs.laws.verdict_is_of_its_kind.Goals as goal
 
 pub returns : goal.returns
-returns c method write piece seed bytes short = verdict_of_fits method.kind method write piece seed bytes short
+returns c = verdict_of_fits

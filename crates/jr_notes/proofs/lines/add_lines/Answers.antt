@@ -1,4 +1,4 @@
-use Rattle.std.proofs.Common.{◌≤◌, ◌<◌, ◌++◌, length, arith, sym, ◌∙◌}
+use Rattle.std.proofs.Common.{◌≤◌, ◌<◌, ◌++◌, length, arith, ◌∙◌}
 use Rattle.jr_notes.specs.Notes.{lines_noted, noted}
 use Rattle.jr_notes.proofs.NoteLemmas.{lines_done, lines_more}
 use Rattle.jr_notes.proofs.lines.add_lines.Goals as goal

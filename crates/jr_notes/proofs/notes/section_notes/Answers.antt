@@ -1,7 +1,6 @@
-use Rattle.std.proofs.Common.{◌≡◌, ◌∙◌, sym, true, Bool, List, length, arith}
+use Rattle.std.proofs.Common.{◌≡◌, true, arith}
 use Rattle.std.specs.Prelude.{◌==◌}
 use Rattle.std.specs.Option.{option_copied}
-use Rattle.jr_notes.specs.declared.notes.Note.{Note}
 use Rattle.jr_notes.specs.Notes.{HasRefused, noted, sections_noted}
 use Rattle.jr_notes.proofs.NoteLemmas.{none_noted, nothing_in, of_any}
 use Rattle.jr_notes.proofs.notes.section_notes.Goals as goal

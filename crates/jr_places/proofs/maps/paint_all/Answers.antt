@@ -2,9 +2,9 @@ use Rattle.std.proofs.Common.{◌∙◌, ◌<◌, List, Option, ap, sym, get_or,
 use Rattle.std.specs.Prelude.{fold}
 use Rattle.std.proofs.lemmas.List.{take_all}
 use Rattle.std.proofs.lemmas.List.Sums.{fold_more}
-use Rattle.jr_model.specs.declared.blocks.Dir.TheVariants as direction
 use Rattle.jr_model.specs.declared.events.Event.{Event}
 use Rattle.jr_model.specs.declared.events.Event.TheVariants.{Issue}
+use Rattle.jr_model.specs.declared.events.IssueKind.TheVariants as issue
 use Rattle.jr_places.specs.declared.fates.Fate.{Fate}
 use Rattle.jr_places.specs.declared.fates.Fate.TheVariants.{Untouched}
 use Rattle.jr_places.specs.Maps.{marked, said_of, Said}
@@ -12,7 +12,7 @@ use Rattle.jr_places.proofs.maps.paint_all.Goals as goal
 
 -- what stands behind the end of a list of events
 abbrev none : Event
-none = Issue 0 direction.Read (record { clone = 0; pass = 0; number = 0 }) (record { file = 0; offset = 0; len = 0 })
+none = Issue 0 issue.Read (record { clone = 0; pass = 0; number = 0 }) (record { file = 0; offset = 0; len = 0 })
 
 pub loop-event-preserved : goal.loop-event-preserved
 loop-event-preserved c = λ cell d within.

@@ -3,15 +3,15 @@ use Rattle.std.specs.Prelude.{◌||◌}
 use Rattle.std.specs.List.{list_any}
 use Rattle.std.proofs.lemmas.List.{take_all}
 use Rattle.std.proofs.lemmas.List.Folds.{list_any_more}
-use Rattle.jr_model.specs.declared.blocks.Dir.TheVariants as direction
 use Rattle.jr_model.specs.declared.events.Event.{Event}
 use Rattle.jr_model.specs.declared.events.Event.TheVariants.{Issue}
+use Rattle.jr_model.specs.declared.events.IssueKind.TheVariants as issue
 use Rattle.jr_places.specs.Maps.{judges}
 use Rattle.jr_places.proofs.told.judged_in.Goals as goal
 
 -- what stands behind the end of a list of events
 abbrev none : Event
-none = Issue 0 direction.Read (record { clone = 0; pass = 0; number = 0 }) (record { file = 0; offset = 0; len = 0 })
+none = Issue 0 issue.Read (record { clone = 0; pass = 0; number = 0 }) (record { file = 0; offset = 0; len = 0 })
 
 pub loop-event-preserved : goal.loop-event-preserved
 loop-event-preserved c = λ write.

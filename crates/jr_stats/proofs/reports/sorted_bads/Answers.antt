@@ -1,14 +1,18 @@
-use Rattle.std.proofs.Common.{List, rules, subst, IsPermutation}
-use Rattle.std.proofs.lemmas.Fn.{always_returns_same}
-use Rattle.jr_model.specs.PlanFacts.{IsPlanned}
-use Rattle.jr_stats.proofs.SortedBads.{sorted_by_writes}
+use Rattle.std.proofs.Common.{◌≡◌, ◌∙◌, true, map, subst, sym, ap}
+use Rattle.std.proofs.lemmas.Result.{IfOk-weaker}
+use Rattle.jr_model.specs.Legal.{is_legal}
+use Rattle.jr_model.specs.Plan.{Plan}
+use Rattle.jr_model.specs.Report.{in_order}
+use Rattle.jr_tallies.specs.Tallying.{miscompare_of}
 use Rattle.jr_stats.proofs.reports.sorted_bads.Goals as goal
-use Rattle.jr_tallies.specs.declared.tallies.Bad.{Bad}
+
+pub bads_in_order-requires : goal.bads_in_order-requires
+bads_in_order-requires c =
+    let history = c.args.desk.now.history in
+    (history, subst (λ (plan : Plan). is_legal plan history ≡ true) (sym c.plan.ensures) c.bads.ensures.legal, c.bads.ensures.value)
 
 pub returns : goal.returns
 returns c =
-    let bads : List Bad = c.sort_unstable_by_key.new.self.items in
-    sorted_by_writes c.args.desk.now.plan c.args.desk.now.history c.bads.result.now bads
-    (subst IsPlanned c.plan.ensures c.facts.ensures) c.bads.ensures.legal c.bads.ensures.value
-    (subst (λ (old : List Bad). IsPermutation old bads) c.in_ok-bads.ensures.items c.sort_unstable_by_key.ensures.permutation)
-    (c.sort_unstable_by_key.ensures.sorted (λ (bad : Bad). bad.write) (always_returns_same _ _ _ (λ a r q k. search rules)))
+    IfOk-weaker c.bads_in_order.result _ _ (λ sorted same.
+    same ∙ ap (λ (plan : Plan). in_order plan (map miscompare_of c.bads.result.now)) c.plan.ensures
+    ∙ ap (in_order c.args.desk.now.plan) c.bads.ensures.value) c.bads_in_order.ensures

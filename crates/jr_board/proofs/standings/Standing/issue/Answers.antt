@@ -44,34 +44,34 @@ ready_else c =
 pub returns-then-has_rounds-clause-seed : goal.returns-then-has_rounds-clause-seed
 returns-then-has_rounds-clause-seed c =
     λ plan history worker piece next there is.
-    let here = at_draw plan history worker c.args.dir c.args.write piece c.args.job.now next there c.args.self.now is c.requires.prepared.later c.if-is_over.self (ready_then c) in
+    let here = at_draw plan history worker c.args.kind c.args.write piece c.args.job.now next there c.args.self.now is c.requires.prepared.later c.if-is_over.self (ready_then c) in
     c.next_seed-seed.ensures ∙ ap seed_of_draw (seed_at history c.args.job.now c.args.write c.if-is_over.self here)
 
 pub returns-else-has_rounds-clause-seed : goal.returns-else-has_rounds-clause-seed
 returns-else-has_rounds-clause-seed c =
     λ plan history worker piece next there is.
-    let here = at_draw plan history worker c.args.dir c.args.write piece c.args.job.now next there c.args.self.now is c.requires.prepared.later c.if-is_over.self (ready_else c) in
+    let here = at_draw plan history worker c.args.kind c.args.write piece c.args.job.now next there c.args.self.now is c.requires.prepared.later c.if-is_over.self (ready_else c) in
     c.next_seed-seed.ensures ∙ ap seed_of_draw (seed_at history c.args.job.now c.args.write c.if-is_over.self here)
 
 pub returns-then-has_rounds-clause-kept : goal.returns-then-has_rounds-clause-kept
 returns-then-has_rounds-clause-kept c =
     λ plan history worker piece next there place is.
     let ready = ready_then c in
-    let here = at_draw plan history worker c.args.dir c.args.write piece c.args.job.now next there c.args.self.now is c.requires.prepared.later c.if-is_over.self ready in
-    stands_after plan history worker c.args.dir c.args.write piece c.args.job.now next there
+    let here = at_draw plan history worker c.args.kind c.args.write piece c.args.job.now next there c.args.self.now is c.requires.prepared.later c.if-is_over.self ready in
+    stands_after plan history worker c.args.kind c.args.write piece c.args.job.now next there
     c.args.self.now c.if-is_over.self _ c.args.id is c.requires.prepared.settled here place
     refl c.pass.ensures refl c.push_reserved.ensures.items
     (λ has.
     c.issued.ensures
     ∙ ap (λ (d : Deferred). with_draw d c.written.result c.is_over-then-has_rounds.result) (ready_rounds c.args.self.now c.if-is_over.self ready)
-    ∙ ap (λ (o : Option WriteId). with_draw c.args.self.now.rounds o c.is_over-then-has_rounds.result) (written_is c.args.dir c.args.write c.written.result c.written.ensures.write c.written.ensures.read)
-    ∙ ap (λ (b : Bool). with_draw c.args.self.now.rounds (written c.args.dir c.args.write) b) c.is_over-then-has_rounds.ensures)
+    ∙ ap (λ (o : Option WriteId). with_draw c.args.self.now.rounds o c.is_over-then-has_rounds.result) (written_is c.args.kind c.args.write c.written.result c.written.ensures.write c.written.ensures.read c.written.ensures.checked)
+    ∙ ap (λ (b : Bool). with_draw c.args.self.now.rounds (written c.args.kind c.args.write) b) c.is_over-then-has_rounds.ensures)
 
 pub returns-else-has_rounds-clause-kept : goal.returns-else-has_rounds-clause-kept
 returns-else-has_rounds-clause-kept c =
     λ plan history worker piece next there place is.
-    let here = at_draw plan history worker c.args.dir c.args.write piece c.args.job.now next there c.args.self.now is c.requires.prepared.later c.if-is_over.self (ready_else c) in
-    stands_after plan history worker c.args.dir c.args.write piece c.args.job.now next there
+    let here = at_draw plan history worker c.args.kind c.args.write piece c.args.job.now next there c.args.self.now is c.requires.prepared.later c.if-is_over.self (ready_else c) in
+    stands_after plan history worker c.args.kind c.args.write piece c.args.job.now next there
     c.args.self.now c.if-is_over.self _ c.args.id is c.requires.prepared.settled here place
     refl c.pass.ensures refl c.push_reserved.ensures.items
     (λ has. absurd (false≢true (sym c.if-has_rounds.false ∙ c.has_rounds.ensures ∙ has)))

@@ -3,7 +3,7 @@ use Rattle.std.specs.Prelude.{Ok, Err}
 use Rattle.jr_model.specs.declared.events.Event.TheVariants.{Verdict}
 use Rattle.jr_model.specs.declared.events.Verdict.{Verdict as GivenVerdict}
 use Rattle.jr_model.specs.declared.tickets.Ticket.{Ticket}
-use Rattle.jr_model.specs.History.{outcome_of, is_judged, is_probe, ended_whole}
+use Rattle.jr_model.specs.History.{outcome_of, is_judged, is_judged_kind, ended_whole}
 use Rattle.jr_model.specs.Legal.{is_legal, may_happen}
 use Rattle.jr_model.specs.Judgement.{verdict_of}
 use Rattle.jr_model.specs.PlanFacts.{IsPlanned}
@@ -43,8 +43,8 @@ judge-requires-clause-may c =
     let whole : ended_whole (outcome_of desk.history t.id) ≡ true = sym c.has_ended_whole.ensures ∙ c.if-not-has_ended_whole.false in
     let planned : IsPlanned desk.plan = subst (λ (d : DeskState). IsPlanned d.plan) c.self.view_is c.self.invariant.planned in
     let legal : is_legal desk.plan desk.history ≡ true = subst (λ (d : DeskState). is_legal d.plan d.history ≡ true) c.self.view_is c.self.invariant.legal in
-    let probe : is_probe t.kind ≡ true =
-    ap (λ (x : Ticket). is_probe x.kind) same ∙ judged_probe ruling.ticket.kind ruling.outcome c.served.ensures.to_judge in
+    let probe : is_judged_kind t.kind ≡ true =
+    ap (λ (x : Ticket). is_judged_kind x.kind) same ∙ judged_probe ruling.ticket.kind ruling.outcome c.served.ensures.to_judge in
     let len : length ruling.bytes ≡ t.piece.len = c.served.ensures.room ∙ ap (λ (x : Ticket). x.piece.len) (sym same) in
     let said : verdict_of t.method t.write t.piece t.expected ruling.bytes ≡ c.verdict.result =
     ap (λ (x : Ticket). verdict_of x.method x.write x.piece x.expected ruling.bytes) same ∙ sym c.verdict.ensures.value in

@@ -1,11 +1,12 @@
 use Rattle.std.proofs.Common.{◌≡◌, Bool, false, ◌||◌, sym, ◌∙◌, ap, subst}
-use Rattle.std.specs.Prelude.{Option}
+use Rattle.std.specs.Prelude.{Option, length}
+use Rattle.jr_model.specs.History.{started}
 use Rattle.jr_model.specs.declared.tickets.Ticket.{Ticket}
 use Rattle.jr_model.specs.Legal.{is_complete}
 use Rattle.jr_board.specs.declared.takes.Take.{Take}
 use Rattle.jr_desk.specs.DeskState.{DeskState}
-use Rattle.jr_board.specs.Takes.{answer_with, is_fitting, is_finished, WaitsRightly}
-use Rattle.jr_board.proofs.Answering.{answer_fits, answer_waits, answer_finished}
+use Rattle.jr_board.specs.Takes.{HandsOutOwn, answer_with, is_fitting, is_finished, WaitsRightly}
+use Rattle.jr_board.proofs.Answering.{answer_fits, answer_own, answer_waits, answer_finished}
 use Rattle.jr_desk.proofs.desk.Desk.take.Goals as goal
 
 pub returns-clause-fits : goal.returns-clause-fits
@@ -16,6 +17,16 @@ returns-clause-fits c =
     let taken = c.start_next-ticket.ensures.taken in
     ap is_fitting (c.answer_to.ensures ∙ ap (λ (t : Option Ticket). answer_with (is_complete plan history) t) taken.2)
     ∙ answer_fits plan c.args.worker before history taken.0 (is_complete plan history) c.prepare.ensures.board.planned c.prepare.ensures.board.legal taken.1
+
+pub returns-clause-own : goal.returns-clause-own
+returns-clause-own c =
+    let plan = c.self.inside.plan in
+    let before = c.prepare.new.board.history.items in
+    let history = c.start_next-ticket.new.board.history.items in
+    let taken = c.start_next-ticket.ensures.taken in
+    subst (λ (a : Take). HandsOutOwn a)
+    (sym (c.answer_to.ensures ∙ ap (λ (t : Option Ticket). answer_with (is_complete plan history) t) taken.2))
+    (answer_own plan (length (started before)) taken.0 (is_complete plan history))
 
 pub returns-clause-waits : goal.returns-clause-waits
 returns-clause-waits c =

@@ -1,4 +1,4 @@
-use Rattle.std.proofs.Common.{◌≡◌, ℕ, List, sym, ap, ◌∙◌, arith}
+use Rattle.std.proofs.Common.{List, sym, ap, ◌∙◌, arith}
 use Rattle.std.specs.Prelude.{slice_get, ◌-◌}
 use Rattle.jr_model.specs.declared.workloads.Draw.{Draw}
 use Rattle.jr_passes.proofs.RankLemmas.{none_below, last_found}

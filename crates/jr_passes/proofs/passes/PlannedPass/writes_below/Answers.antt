@@ -1,9 +1,9 @@
-use Rattle.std.proofs.Common.{◌≡◌, ℕ, ◌+◌, ◌-◌, ◌/◌, ◌<◌, length, true, false, Bool, sym, ap, ◌∙◌, arith}
+use Rattle.std.proofs.Common.{◌+◌, ◌-◌, ◌/◌, length, sym, ap, ◌∙◌, arith}
 use Rattle.std.specs.Prelude.{Option, slice_get}
 use Rattle.jr_model.specs.declared.workloads.Draw.{Draw}
 use Rattle.jr_model.specs.Rounds.{writes_of}
 use Rattle.jr_passes.specs.Passes.{is_below}
-use Rattle.jr_passes.proofs.RankLemmas.{below, upper_half, lower_half, middle_within}
+use Rattle.jr_passes.proofs.RankLemmas.{upper_half, lower_half, middle_within}
 use Rattle.jr_passes.proofs.passes.PlannedPass.writes_below.Goals as goal
 
 pub loop-low-preserved-then-is_below : goal.loop-low-preserved-then-is_below

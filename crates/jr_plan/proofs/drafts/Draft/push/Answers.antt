@@ -1,13 +1,12 @@
-use Rattle.std.proofs.Common.{◌≡◌, ℕ, ◌+◌, ◌*◌, ◌<◌, ◌≤◌, [], ◌∷◌, ◌++◌, length, string_bytes, List, arith, ap, ◌∙◌, sym, subst, refl}
-use Rattle.std.specs.Prelude.{None}
+use Rattle.std.proofs.Common.{◌≡◌, ◌+◌, ◌*◌, [], ◌∷◌, ◌++◌, length, string_bytes, List, arith, ap, ◌∙◌, refl}
 use Rattle.std.proofs.lemmas.List.Sums.{sum_by-append}
 use Rattle.jr_model.specs.Plan.{SubJob}
 use Rattle.jr_plan.specs.Clones.{planned_clone}
-use Rattle.jr_plan.specs.Drafts.{Clones, clone_fault}
+use Rattle.jr_plan.specs.Drafts.{Clones}
 use Rattle.jr_plan.specs.Files.{with_file}
 use Rattle.jr_model.specs.PlanFacts.{work_of}
 use Rattle.jr_plan.proofs.DraftLemmas.{lengths, drafted-push}
-use Rattle.jr_plan.proofs.LimitLemmas.{IsTaken, taken_of, limits_kept}
+use Rattle.jr_plan.proofs.LimitLemmas.{taken_of, limits_kept}
 use Rattle.jr_plan.proofs.drafts.Draft.push.Goals as goal
 
 pub overflow_cast-file : goal.overflow_cast-file

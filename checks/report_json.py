@@ -1,0 +1,193 @@
+#!/usr/bin/env python3
+"""checks/report_json.py [PROGRAM] compares the JSON of a run with its report.
+
+PROGRAM is the built program (bin/fiorun's where none is given, which is built first where it has to be). Each case runs jobs in a folder
+of its own with --json. The object must have the numbers and the lines of the report, each under its name, whatever the names of jobs and
+files hold, and the faults, with the reasons of the system. The same run's trace must give the same object, but for those reasons. It ends
+with 0 where all is so, else it says what differs.
+"""
+
+import errno
+import json
+import os
+import re
+import subprocess
+import sys
+import tempfile
+
+from program import FIELDS, SystemCalls, Wrong, expect, find_program, needed_library
+
+SECONDS = 60
+LINE = re.compile(r"clone=(\d+) pass=(\d+) number=(\d+) file=(.*) offset=(\d+) length=(\d+) what=(\S+)")
+NUMBERS = ("clone", "pass", "number", "offset", "length")
+MEMBERS = "badreads faults fiorun interrupted jobs miscompares more_faults status".split()
+FAULT = {*NUMBERS, "file", "kind", "outcome", "moved", "reason"}
+# Names of jobs and files that a writer of JSON may trip over: quotes, backslashes, tags, control characters, bytes above 0x7f.
+NAMES = ['<script>"\\', "a\tb", "\x01\x1f\x7f", "é ✓ \U0001f600", "</script>", "\\u0041", "'", "a: clone=1"]
+
+
+def told(report):
+    """What the lines of a report say, in the words of the JSON: the clones, and the bad verdicts by the words of their lines."""
+    jobs, bad = [], {"badread": [], "miscompare": []}
+    for line in report.split("\n")[:-1]:
+        if line.startswith(("miscompare: ", "badread: ")):
+            word, rest = line.split(": ", 1)
+            clone, turn, number, name, offset, length, what = LINE.fullmatch(rest).groups()
+            numbers = zip(NUMBERS, map(int, (clone, turn, number, offset, length)))
+            bad[word].append({**dict(numbers), "file": name, "what": what})
+        else:
+            name, counts = line.rsplit(": clone=", 1)
+            counts = dict(it.split("=") for it in f"clone={counts}".split())
+            jobs.append({"job": name, **{key: int(value) for key, value in counts.items()}})
+    return jobs, bad
+
+
+def agrees(report, status, found, interrupted=False):
+    """Whether an object is that of a report and a status."""
+    jobs, bad = told(report)
+    expect(list(found) == MEMBERS, "members", list(found))
+    expect(found["jobs"] == jobs and all(set(it) == {"job", "clone", *FIELDS} for it in jobs), "jobs", found["jobs"], jobs)
+    expect(found["badreads"] == bad["badread"], "badreads", found["badreads"], bad["badread"])
+    expect(found["miscompares"] == bad["miscompare"], "miscompares", found["miscompares"], bad["miscompare"])
+    expect((found["status"], found["interrupted"]) == (status, interrupted), "end", found["status"], found["interrupted"])
+    faults = sum(it["faults"] for it in jobs)
+    expect(len(found["faults"]) == min(faults, 100) and found["more_faults"] == max(faults - 100, 0), "faults", found["more_faults"])
+    expect(all(set(it) == FAULT for it in found["faults"]), "fields of faults", found["faults"][:1])
+
+
+class Place:
+    """The folder of a case, and how the program runs there."""
+
+    def __init__(self, program, library, path):
+        self.program = program
+        self.library = library
+        self.path = path
+
+    def at(self, name):
+        return os.path.join(self.path, name)
+
+    def read(self, name):
+        """A file that has to be one line of JSON."""
+        with open(self.at(name), encoding="utf-8", newline="") as it:
+            text = it.read()
+        expect(text.endswith("}\n") and text.count("\n") == 1, "not one line", text[-100:])
+        return json.loads(text)
+
+    def run(self, jobs, *words, fault=None):
+        """The status and the report of a run, and its JSON."""
+        with open(self.at("job"), "w", encoding="utf-8", newline="") as it:
+            it.write(jobs)
+        environment = SystemCalls(self.library, self.at("calls")).environment(fault) if fault else None
+        words = [self.program, "--json=json", *words, "job"]
+        ended = subprocess.run(words, capture_output=True, timeout=SECONDS, check=False, cwd=self.path, env=environment)
+        expect(ended.stderr == b"", "it says", ended.stderr)
+        return ended.returncode, ended.stdout.decode(), self.read("json")
+
+
+def clean(place):
+    """A clean run."""
+    status, report, found = place.run("[w]\nioengine=memory\nrw=write\nsize=64k\nverify=md5\nnumjobs=3\n", "--workers=4")
+    agrees(report, status, found)
+    expect(status == 0 and len(found["jobs"]) == 3, "a clean run", status, found["jobs"])
+    version = subprocess.run([place.program, "--version"], capture_output=True, text=True, check=True).stdout
+    expect(f"fiorun {found['fiorun']}\n" == version, "version", found["fiorun"], version)
+
+
+def names(place):
+    """Names with whatever a job file lets them hold."""
+    for name in NAMES:
+        jobs = f"[{name}]\nfilename={re.sub('[/:]', '', name)}\nioengine=null\nrw=write\nsize=8k\nverify=pattern\nverify_pattern=1\n"
+        status, report, found = place.run(jobs)
+        agrees(report, status, found)
+        expect(status == 1 and found["jobs"][0]["job"] == name, "name", name, found["jobs"][0]["job"])
+
+
+def verdicts(place):
+    """Each kind of verdict; and the trace of a run gives the object of the run."""
+    common = "ioengine=null\nrw=write\nsize=64k\nloops=2\n"
+    for more in ("verify=pattern\nverify_pattern=0xff\n", "verify=sha1\n", "verify=sha256\nverify_interval=512\n"):
+        status, report, found = place.run(f"[global]\n{common}{more}[a]\n[b]\nnumjobs=2\n", "--trace=trace", "--workers=3")
+        agrees(report, status, found)
+        expect(status == 1 and len(found["miscompares"]) > 16, "no verdict is bad", len(found["miscompares"]))
+        os.unlink(place.at("json"))
+        status, totals, again = place.run(f"[global]\n{common}{more}[a]\n[b]\nnumjobs=2\n", "--check-trace=trace")
+        expect(status == 0 and report.startswith(totals), "the check of the trace", status, totals)
+        expect(again == found, "the object of the trace", again)
+
+
+def reads(place):
+    """Bad reads and miscompares of one run, each under its name; and its trace gives the same object."""
+    common = "ioengine=null\nbs=2k\nsize=4k\nverify=pattern\nverify_pattern=1\nfilename=f\n"
+    jobs = f"[global]\n{common}[a]\nrw=write\n[b]\nrw=read\n[c]\nrw=write\n"
+    status, report, found = place.run(jobs, "--trace=trace", "--workers=2")
+    agrees(report, status, found)
+    clones = [[it["clone"] for it in found[name]] for name in ("badreads", "miscompares")]
+    expect(status == 1 and clones == [[1, 1], [0, 0, 2, 2]], "whose bad verdicts", status, clones)
+    os.unlink(place.at("json"))
+    status, _, again = place.run(jobs, "--check-trace=trace")
+    expect(status == 0 and again == found, "the object of the trace", status, again)
+
+
+def faults(place):
+    """I/Os that fail or end short, with the system's reasons."""
+    jobs = "[w]\nfilename=f\nrw=write\nbs=4k\nsize=16k\nverify=md5\n"
+    reason = f"{os.strerror(errno.EIO)} (os error {errno.EIO})"
+    wanted = {"clone": 0, "pass": 0, "number": 2, "file": "f", "offset": 8192, "length": 4096, "kind": "write", "outcome": "failed"}
+    status, report, found = place.run(jobs, "--workers=1", "--trace=trace", fault=f"pwrite 3 {errno.EIO}")
+    agrees(report, status, found)
+    expect(found["faults"] == [{**wanted, "moved": None, "reason": reason}], "a write that failed", found["faults"])
+    _, _, again = place.run(jobs, "--check-trace=trace")
+    expect(again == {**found, "faults": [{**wanted, "moved": None, "reason": None}]}, "of its trace", again)
+    status, report, found = place.run(jobs, "--workers=1", fault="pread 1 cut:1000")
+    agrees(report, status, found)
+    expect((found["faults"][0]["kind"], found["faults"][0]["outcome"]) == ("check", "short"), "a check cut short", found["faults"])
+    expect(isinstance(found["faults"][0]["moved"], int) and found["faults"][0]["reason"] is None, "its bytes", found["faults"])
+
+
+def many_faults(place):
+    """Of more than a hundred faults the first hundred are told, and how many more there are."""
+    jobs = "[r]\nioengine=memory\nrw=write\nbs=4k\nsize=8k\niodepth=2\nnumjobs=64\n"
+    issues = [f"I {it} {2 * clone + it} {clone} 0 {it}\n" for clone in range(64) for it in range(2)]
+    ends = [f"E {it % 2} {it} failed\n" for it in range(128)]
+    with open(place.at("trace"), "w", encoding="ascii") as it:
+        it.writelines(issues + ends)
+    status, report, found = place.run(jobs, "--check-trace=trace")
+    expect(status == 0, "status of the check", status)
+    agrees(report, 1, found)
+    expect(found["more_faults"] == 28 and all(it["outcome"] == "failed" for it in found["faults"]), "faults", found["faults"][:1])
+
+
+def interrupted(place):
+    """A trace that was left halfway is that of an interrupted run."""
+    jobs = "[w]\nioengine=memory\nrw=write\nsize=64k\nverify=md5\n"
+    _, report, _ = place.run(jobs, "--trace=trace", "--workers=1")
+    with open(place.at("trace"), encoding="ascii") as it:
+        lines = it.readlines()
+    with open(place.at("trace"), "w", encoding="ascii") as it:
+        it.writelines(lines[: len(lines) // 2])
+    status, report, found = place.run(jobs, "--check-trace=trace", "--interrupted")
+    expect(status == 0, "status of the check", status)
+    agrees(report, 130, found, True)
+
+
+def main(words):
+    program = find_program(words[0] if words else None, "report_json")
+    wrong = []
+    with tempfile.TemporaryDirectory(prefix="report-json-") as room:
+        library = needed_library("faulty.c", room, "report_json")
+        for case in (clean, names, verdicts, reads, faults, many_faults, interrupted):
+            path = os.path.join(room, case.__name__)
+            os.mkdir(path)
+            try:
+                case(Place(program, library, path))
+            except (Wrong, OSError, ValueError) as why:
+                wrong.append(f"{case.__name__}: {why}")
+    for it in wrong:
+        print(f"report_json: FAILED: {it:.2000}")
+    if not wrong:
+        print("report_json: what JSON says of runs is what their reports say")
+    return 1 if wrong else 0
+
+
+if __name__ == "__main__":
+    sys.exit(main(sys.argv[1:]))

@@ -1,0 +1,169 @@
+ghost use Rattle.std.specs.Prelude.{◌≡◌, IfOk, map};
+ghost use Rattle.jr_faults.specs.Faults.{AreFaultsOf};
+ghost use Rattle.jr_json.specs.Rows.{ending_of, texts_of};
+ghost use Rattle.jr_model.specs.Report.{all_totals, in_order, miscompares};
+ghost use Rattle.jr_tallies.specs.Tallying.{miscompare_of};
+ghost use Rattle.jr_traces.specs.Runs.{IsLegalRun};
+ghost use Rattle.jr_cli.specs.Findings.{end_of, json_line, status_with};
+ghost use Rattle.jr_cli.specs.Status.{status_of};
+
+use crate::found::faults_found;
+use crate::runs::status_of;
+use crate::words::VERSION;
+use jr_desk::Desk;
+use jr_faults::{Faults, faults_among};
+use jr_json::Ending;
+use jr_model::{Event, Memory, Totals};
+use jr_places::bads_of;
+use jr_plan::Plan;
+use jr_stats::bads_in_order;
+use jr_tallies::Bad;
+use jr_traces::Checked;
+use std::alloc::Global;
+use std::marker::Model;
+
+/// What is told of a run beside its report, or of the run that a trace is of. Contracts see its plan and its history.
+#[derive(Drop)]
+pub struct Findings<'a> {
+    plan: &'a Plan,
+    history: &'a [Event],
+    totals: &'a [Totals],
+    bads: Vec<Bad>,
+    faults: Faults,
+    is_complete: bool,
+}
+
+impl<'a> Model for Findings<'a> {
+    ghost use Rattle.jr_cli.specs.Findings.{AreFindings, RunOf};
+
+    ghost Value = { RunOf };
+
+    ghost view = { λ f. record { plan = f.plan.now; history = f.history.now } };
+
+    ghost invariant = { λ f. AreFindings f.plan.now f.history.now f.totals.now f.bads.items f.faults f.is_complete };
+}
+
+impl<'a> Findings<'a> {
+    /// Those of the desk's run, as far as it came.
+    pub fn of_desk(alloc: Global, desk: &'a Desk) -> Result<Findings<'a>, Memory>
+        ensures { IfOk result (λ findings. findings ≡ record { plan = desk.now.plan; history = desk.now.history }) }
+    {
+        Ok(Findings {
+            plan: desk.plan(),
+            history: desk.history(),
+            totals: desk.totals(),
+            bads: Vec::from_slice(alloc, desk.bads())?,
+            faults: faults_found(alloc, desk)?,
+            is_complete: desk.is_complete(),
+        })
+    }
+
+    /// Those of the run that a trace of the plan is of.
+    pub fn of_trace(alloc: Global, plan: &'a Plan, run: &'a Checked) -> Result<Findings<'a>, Memory>
+        requires { IsLegalRun plan.now run.now }
+        ensures { IfOk result (λ findings. findings ≡ record { plan = plan.now; history = run.now.past }) }
+    {
+        let history = run.past.events();
+        Ok(Findings {
+            plan,
+            history,
+            totals: run.totals.as_slice(),
+            bads: bads_of(alloc, history)?,
+            faults: faults_among(alloc, plan, history, run.past.started())?,
+            is_complete: run.is_complete,
+        })
+    }
+
+    /// The plan.
+    pub fn plan(&self) -> &Plan
+        ensures { result.now ≡ self.now.plan }
+    {
+        self.plan
+    }
+
+    /// What happened, the oldest first.
+    pub fn history(&self) -> &[Event]
+        ensures { result.now ≡ self.now.history }
+    {
+        self.history
+    }
+
+    /// What each clone did, in the order of the clones.
+    pub fn totals(&self) -> &[Totals]
+        ensures { result.now ≡ all_totals self.now.plan self.now.history }
+    {
+        self.totals
+    }
+
+    /// The bad verdicts, in the order in which they were given.
+    pub fn bads(&self) -> &[Bad]
+        ensures { map miscompare_of result.now ≡ miscompares self.now.history }
+    {
+        self.bads.as_slice()
+    }
+
+    /// The I/Os and checks that failed or ended short: the first of them, and how many more.
+    pub fn faults(&self) -> &Faults
+        ensures { AreFaultsOf self.now.plan self.now.history result.now }
+    {
+        &self.faults
+    }
+
+    /// 1 where a block came back wrong or an I/O failed, else 0.
+    pub fn found(&self) -> u8
+        ensures { result ≡ status_of (all_totals self.now.plan self.now.history) }
+    {
+        status_of(self.totals)
+    }
+
+    /// How the run ended.
+    pub fn ending(&self) -> Ending<'static>
+        ensures { ending_of result ≡ end_of self.now }
+    {
+        Ending {
+            version: VERSION,
+            status: status_with(self.found(), self.is_complete),
+            is_interrupted: !self.is_complete,
+        }
+    }
+}
+
+/// The report as a line of JSON, with the system's reasons of the first faults.
+pub fn json_text(
+    alloc: Global,
+    findings: &Findings<'_>,
+    reasons: &[Option<String>],
+) -> Result<Vec<u8>, Memory>
+    ensures { IfOk result (λ text. text.items ≡ json_line findings.now (texts_of reasons.now)) }
+{
+    let plan = findings.plan();
+    let bads = sorted(alloc, findings)?;
+    let ending = findings.ending();
+    jr_json::json_text(
+        alloc,
+        plan,
+        findings.totals(),
+        bads.as_slice(),
+        findings.faults(),
+        reasons,
+        &ending,
+    )
+}
+
+// The bad verdicts by clone, pass and number.
+fn sorted(alloc: Global, findings: &Findings<'_>) -> Result<Vec<Bad>, Memory>
+    ensures { IfOk result (λ bads. map miscompare_of bads.items ≡ in_order findings.now.plan (miscompares findings.now.history)) }
+{
+    let _ = &findings.is_complete;
+    bads_in_order(alloc, findings.plan, findings.bads.as_slice())
+}
+
+// The exit status of a program that found this.
+fn status_with(found: u8, is_complete: bool) -> u8
+    ensures { result ≡ status_with found is_complete }
+{
+    if found != 0 {
+        return found;
+    }
+    if is_complete { 0 } else { 130 }
+}

@@ -1,0 +1,10 @@
+/// How a run ended.
+#[derive(Clone, Copy, Debug)]
+pub struct Ending<'a> {
+    /// The version of the program that ran.
+    pub version: &'a str,
+    /// Its exit status.
+    pub status: u8,
+    /// It was stopped before it was complete.
+    pub is_interrupted: bool,
+}

@@ -1,0 +1,9 @@
+// The report of a run as JSON: what its text says, and the faults.
+#![tactic(auto)]
+
+mod endings;
+mod rows;
+mod texts;
+
+pub use endings::Ending;
+pub use texts::json_text;
