@@ -1,7 +1,7 @@
 #!/usr/bin/env python3
-"""checks/disk.py [PROGRAM] runs the program (bin/fiorun where none is given) over files, and as root over a loop device that can't store
-what it is given, and looks at the order of its calls: that a file is synced before its checks, and that what was lost is found. What
-can't be tried here is skipped with a word. The status is 1 where something is wrong."""
+"""checks/disk.py [PROGRAM] runs the program (bin/fiorun where none is given) over files, and as root over a loop device and a file system
+that can't store what they are given, and looks at the order of its calls: that a file is synced before its checks, and that what was lost
+is found. What can't be tried here is skipped with a word. The status is 1 where something is wrong."""
 
 import contextlib
 import os
@@ -91,6 +91,22 @@ def a_disk_that_is_too_small_is_found(program, room):
         expect(totals_of(ran.stdout)["writes"] == 4096, f"unchecked: the report isn't there: {ran.stdout}")
 
 
+def a_full_file_system_is_found(program, room):
+    """A file of 2 MiB on a file system of one: the writes that find no room are faults, with their places and the system's reason."""
+    with tmpfs(room, "1m") as folder:
+        for words in (("--workers=1",), ("--workers=4",)):
+            job = job_of("2m", [f"directory={folder}", "iodepth=8"])
+            ran = run(program, room, job, *words, "--notes")
+            expect(ran.returncode == 1, f"{words}: status {ran.returncode}: {ran.stdout}{ran.stderr}")
+            totals = totals_of(ran.stdout)
+            expect(0 < totals["writes"] <= 256 and 1 <= totals["faults"] <= 8 and totals["bad"] == 0, f"{words}: {ran.stdout}")
+            at = rf"clone=0 pass=0 number=(\d+) file={folder}/f offset=(\d+) length=4096"
+            notes = re.findall(rf"fiorun: note: write failed: {at}: No space left on device \(os error 28\)\n", ran.stderr)
+            expect(len(notes) == totals["faults"], f"{words}: {totals['faults']} faults, and these notes: {ran.stderr}")
+            expect(all(int(offset) == 4096 * int(number) for number, offset in notes), f"{words}: other places: {notes}")
+            os.unlink(os.path.join(folder, "f"))
+
+
 def order_of(trace):
     """The calls of a run on its file, as letters: w(rite), s(ync), r(ead), each once for several in a row."""
     letters = ""
@@ -141,6 +157,7 @@ CASES = [
     a_sync_stands_before_each_round,
     several_workers_sync_before_they_check,
     a_disk_that_is_too_small_is_found,
+    a_full_file_system_is_found,
 ]
 
 

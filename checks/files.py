@@ -14,6 +14,7 @@ import select
 import subprocess
 import sys
 import tempfile
+import threading
 import time
 from concurrent.futures import ThreadPoolExecutor
 
@@ -22,6 +23,7 @@ from program import LINE, NOBODY, UNDROPPED, WIPED, Ended, SystemCalls, Wrong, c
 SECONDS = 60
 REFUSED = Ended(3, b"", b"fiorun: cannot open the files\n")
 MIB = 1 << 20
+FULL_DEVICE = threading.Lock()
 
 
 def same(what, got, wanted):
@@ -163,12 +165,14 @@ def read_only(place, workers):
 def full_device(place, workers):
     """A device that refuses each write halts its clone at the first. (It can't be extended, so a seek to its end says that it is long.)"""
     jobs = "[w]\nfilename=full\nrw=write\nsize=16k\nverify=pattern\nverify_pattern=1\n"
-    ended, trace, calls = place.traced(jobs, workers, "lseek 1 at:16384", "/dev")
+    # (there is one such device, and a run refuses what another one holds)
+    with FULL_DEVICE:
+        ended, trace, calls = place.traced(jobs, workers, "lseek 1 at:16384", "/dev")
+        # (where the seek says that it is a byte shorter, that byte can't be written)
+        shorter = place.run(jobs, workers, "/dev", env=place.fault("lseek 1 at:16383"))
     same("run", ended, said(1, total("w", faults=1)))
     same("reads and writes", calls, (0, 1))
     same("trace", re.sub(r"(?m)^([IE]) \d+", r"\1 W", trace), "I W 0 0 0 0\nE W 0 failed\n")
-    # (where the seek says that it is a byte shorter, that byte can't be written)
-    shorter = place.run(jobs, workers, "/dev", env=place.fault("lseek 1 at:16383"))
     same("run over a shorter device", shorter, REFUSED)
 
 

@@ -26,7 +26,8 @@ from program import LINE, PRINTED, WIPED, Skipped, SystemCalls, Wrong, built_lib
 HERE = os.path.dirname(os.path.realpath(__file__))
 LAUNCH = os.path.join(HERE, "..", "bin", "launch")
 SECONDS = 120
-MOST = 1 << 14
+# (the most that a job file may ask for)
+MOST = 1000
 # A loop of these is 16,384 I/Os: of bad blocks alone; and of plain ones, with a few bad blocks behind them.
 JOB = "[w]\nioengine=null\nrw=write\nbs=4k\nsize=64m\nloops={loops}\niodepth=16\nverify=md5\nverify_backlog=64\n"
 SHORT = "[long]\nioengine=null\nrw=write\nbs=4k\nsize=64m\nloops={loops}\n[bad]\nioengine=null\nrw=write\nbs=4k\nsize=64k\nverify=md5\n"
@@ -72,7 +73,7 @@ def long_enough(folder, text, loops, run):
         said, status = run()
         if DRAWN.search(said) or loops >= MOST:
             return said, status, loops
-        loops *= 2
+        loops = min(MOST, loops * 2)
 
 
 def numbers_of(lines, which=LINE):
