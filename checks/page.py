@@ -4,8 +4,9 @@
 PROGRAM is the built program (bin/fiorun's where none is given, which is built first where it has to be). NUMBER jobs are tried, 60 where
 none is given: most run over nothing, so that most of what is checked is bad; every fourth runs over a file of which some bytes are
 changed from outside, between the writes and their checks. Of each page: its title, rows and counts are those of the report, and the bad
-cells of its maps are those that the report's miscompares are over, each with the first of them. Then: what is escaped, a run that was
-stopped, and one with 100,000 miscompares. Each page is HTML whose elements are closed, its pictures are XML, and it fetches nothing.
+cells of its maps are those that the report's miscompares are over, each with the first of them. No cell is void where no verdict was. Then:
+what is escaped, the trace of a run with a void verdict, a run that was stopped, and one with 100,000 miscompares. Each page is HTML whose
+elements are closed, its pictures are XML, and it fetches nothing.
 No browser is needed. It ends with 0 where all pages are so, else it says what isn't.
 """
 
@@ -19,7 +20,7 @@ import tempfile
 import time
 import xml.etree.ElementTree
 
-from places import jobs as random_jobs
+from places import RACED, RACED_TRACE, jobs as random_jobs
 from program import FIELDS, Skipped, SystemCalls, built_library, expect, find_program
 
 SECONDS = 120
@@ -122,6 +123,8 @@ def compare(page, report, interval, is_interrupted=False):
     expect(page.head == status_of(counted, is_interrupted), "title", page.head, "and not", status_of(counted, is_interrupted))
     wanted = [[*it[:6], it[6] + (f":{it[7]}" if it[7] else "")] for it in bads]
     expect(page.rows.get("miscompares", [[]])[1:] == wanted[:1000], "the rows of miscompares differ")
+    signs = {sign for _, cells in page.maps for sign, *_ in cells}
+    expect("#v" not in signs or any(it["void"] for it in counted), "cells are void, and no verdict is")
     more = f"and {len(bads) - 1000} more"
     expect((more in page.texts) == (len(bads) > 1000), "not said:", more)
     for name, cells in page.maps:
@@ -214,6 +217,23 @@ def escaped(program, folder):
     expect("script" not in page.tags, "a job's name is an element")
 
 
+def raced(program, folder):
+    """Where a check raced a cell is void, also where a good verdict was given there, and the totals say how many."""
+    with open(os.path.join(folder, "trace"), "w", encoding="ascii") as it:
+        it.write(RACED_TRACE)
+    status, _, said, path = run(program, RACED, folder, ["--check-trace=trace"])
+    expect(status == 0 and not said, "status", status, said)
+    page, _ = read_page(path)
+    cells = page.maps[0][1]
+    signs = "".join(sign.removeprefix("#") for sign, *_ in cells)
+    expect(signs == "v" * 8 + "B" * 8, "the cells are", signs)
+    expect(cells[0][3] == "bytes 0 to 511: void", "the first cell says", cells[0][3])
+    heads, *rows = page.rows["totals"]
+    expect([it[heads.index("void")] for it in rows] == ["1", "0"], "totals", rows)
+    expect(len(page.rows["miscompares"]) == 2 and "faults" not in page.rows, "rows", page.rows)
+    expect(page.head == "BAD: 1 of 2 checks", "title", page.head)
+
+
 def stopped(program, folder):
     """A run that was stopped before its end says so, and that its page is partial."""
     ours, theirs = os.pipe()
@@ -247,7 +267,7 @@ def main(words):
                 (changed if place % 4 == 3 else tried)(program, rng, folder)
             except Skipped as why:
                 print(f"page: a run over a file isn't tried: {why}")
-        for case in (escaped, stopped, many):
+        for case in (escaped, raced, stopped, many):
             case(program, folder)
     print(f"page: {number} pages are those of their reports")
     return 0

@@ -4,8 +4,9 @@
 PROGRAM is the built program (bin/fiorun's where none is given, which is built first where it has to be). NUMBER jobs are tried, 200 where
 none is given. They run over nothing, so what is checked comes back as zeros: all of it is bad, but where zeros are what was written. The
 list that --bad-blocks writes must be that of the miscompares of the report: of each the blocks that its piece lies in, or its chunk where
-the line names one. The object that --json writes must have the numbers and the lines of the report. As root a list goes through mke2fs on
-a loop device, and dumpe2fs must give its blocks back. It ends with 0 where all lists are so, else it prints the jobs of which they aren't.
+the line names one. The object that --json writes must have the numbers and the lines of the report. Some of the jobs have
+serialize_overlap=0. Then a trace with a void verdict: neither has it among what was bad. As root a list goes through mke2fs on a loop
+device, and dumpe2fs must give its blocks back. It ends with 0 where all lists are so, else it prints the jobs of which they aren't.
 """
 
 import contextlib
@@ -24,6 +25,25 @@ from report_json import agrees
 SECONDS = 60
 LINE = re.compile(r"(miscompare|badread): .* offset=(\d+) length=(\d+) what=(\w+)(?::(\d+))?")
 
+# Two jobs over one file, and the trace of a run in which b wrote the first block while a checked it. The second block came back wrong.
+RACED = "[global]\nioengine=null\nfilename=f\nrw=write\nbs=4k\nverify=md5\n[a]\nsize=8k\n[b]\nsize=4k\nserialize_overlap=0\n"
+RACED_TRACE = """I 0 0 0 0 0
+E 0 0 whole
+I 0 1 0 0 1
+E 0 1 whole
+P 0 2 0 0 0
+I 1 3 1 0 0
+E 0 2 whole
+V 0 2 void
+P 0 4 0 0 1
+E 0 4 whole
+V 0 4 header
+E 1 3 whole
+P 1 5 1 0 0
+E 1 5 whole
+V 1 5 good
+"""
+
 
 def job(rng, size, interval):
     """A random section, and whether it may have bad blocks."""
@@ -31,6 +51,8 @@ def job(rng, size, interval):
     lines = [f"bs={size}", f"offset={512 * rng.randrange(200)}", f"size={size * cells}"]
     lines.append(f"rw={rng.choice(['write', 'randwrite', 'rw', 'randrw', 'read'])}")
     lines.append(f"randseed={rng.randrange(1 << 32)}")
+    if rng.randrange(3) == 0:
+        lines += ["serialize_overlap=0", f"iodepth={rng.randrange(1, 9)}"]
     if interval is None:
         lines += ["verify=pattern", f"verify_pattern={rng.choice(['0', '1', '0xab00'])}"]
     else:
@@ -84,6 +106,24 @@ def tried(program, rng, folder):
     return None
 
 
+def raced(program, folder):
+    """A void verdict has no bad block and no miscompare, and the JSON counts it as nothing else."""
+    path, trace = os.path.join(folder, "list"), os.path.join(folder, "trace")
+    with open(trace, "w", encoding="ascii") as it:
+        it.write(RACED_TRACE)
+    words = [program, f"--check-trace={trace}", f"--bad-blocks={path}", "--bad-blocks-size=4096", f"--json={path}.json"]
+    ended = subprocess.run(words, input=RACED, capture_output=True, text=True, timeout=SECONDS, check=False)
+    expect(ended.returncode == 0 and not ended.stderr, "status", ended.returncode, ended.stderr)
+    with open(path, encoding="ascii") as it:
+        expect(it.read() == "1\n", "the list has more than block 1")
+    with open(f"{path}.json", encoding="utf-8") as it:
+        found = json.load(it)
+    counts = [[it[word] for word in ("checks", "good", "bad", "skipped", "void", "faults")] for it in found["jobs"]]
+    expect(counts == [[1, 0, 1, 0, 1, 0], [1, 1, 0, 0, 0, 0]], "counts", counts)
+    expect([it["offset"] for it in found["miscompares"]] == [4096], "miscompares", found["miscompares"])
+    expect(not found["badreads"] and not found["faults"], "bad reads or faults", found)
+
+
 @contextlib.contextmanager
 def loop_device(folder):
     """A loop device of 16 MiB."""
@@ -128,6 +168,10 @@ def main(words):
     rng = random.Random(46)
     with tempfile.TemporaryDirectory(prefix="places-") as folder:
         wrong = [it for it in (tried(program, rng, folder) for _ in range(number)) if it]
+        try:
+            raced(program, folder)
+        except (Wrong, OSError, ValueError) as why:
+            wrong.append(f"a void verdict: {why}")
         try:
             given_to_mke2fs(program, folder)
         except Skipped as why:

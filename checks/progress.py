@@ -35,7 +35,7 @@ SHORT = "[long]\nioengine=null\nrw=write\nbs=4k\nsize=64m\nloops={loops}\n[bad]\
 FAULTY = "[global]\nioengine=psync\nrw=write\nbs=4k\nsize=64m\nloops={loops}\n[a]\n[b]\n"
 # The lines that a report, its notes and its maps have.
 DRAWN = re.compile(r"\r\x1b\[Kfiorun: \d+ % done, ")
-REPORT = re.compile(r"\S+: clone=\d+( \w+=\S+)+|fiorun: (note:|map of) .*|fiorun: interrupted|[BFusgr.]+|fiorun: B bad, F fault, .*")
+REPORT = re.compile(r"\S+: clone=\d+( \w+=\S+)+|fiorun: (note:|map of) .*|fiorun: interrupted|[BFvusgr.]+|fiorun: B bad, F fault, .*")
 
 
 def said_at(end):

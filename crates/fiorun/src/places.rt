@@ -87,7 +87,7 @@ fn show_maps<R: Eprint + AllocGlobal>(rt: &R, findings: &Findings<'_>) -> Result
         show_map(rt, findings, index as u32, file)?;
     }
     let _ = eprintln!(rt;
-        "fiorun: B bad, F fault, u unchecked, s skipped, g good, r read, . untouched"
+        "fiorun: B bad, F fault, v void, u unchecked, s skipped, g good, r read, . untouched"
     );
     Ok(())
 }
@@ -137,6 +137,7 @@ fn sign_of(fate: Fate) -> char {
         Fate::Good => 'g',
         Fate::Skipped => 's',
         Fate::Unchecked => 'u',
+        Fate::Void => 'v',
         Fate::Fault => 'F',
         Fate::Bad => 'B',
     }

@@ -156,22 +156,22 @@ writes_from round None = 0
 writes_from round (Some write) = suc (length (filter (is_before write) round.to_check))
 
 -- nothing is given of the writes to check that are before this one
-pub record IsSearched (plan : Plan) (board : Board) (standing : Standing) (worker : ℕ) (next : Option WriteId) : Type 0 where
+pub record IsSearched (plan : Plan) (board : Board) (standing : Standing) (worker : ℕ) (declines : Bool) (next : Option WriteId) : Type 0 where
   pub order : IsInOrder standing.rounds.round.to_check
   pub place : ℕ
   pub is : next ≡ to_check_at standing.rounds.round place
   pub none : (c : ℕ) (job : SubJob) → clone_of plan c ≡ Some job → slice_get board.standings.items c ≡ Some standing
-      → has_rounds job ≡ true → is_halted board.history.items job ≡ false
-      → first_given (take_up_write board.history.items worker job) standing.rounds.round.to_check
-      ≡ first_given (take_up_write board.history.items worker job) (drop place standing.rounds.round.to_check)
+      → has_rounds job ≡ true → declines ≡ job.declines → is_halted board.history.items job ≡ false
+      → first_given (take_up_write plan board.history.items worker job) standing.rounds.round.to_check
+      ≡ first_given (take_up_write plan board.history.items worker job) (drop place standing.rounds.round.to_check)
 
-pub search_starts : (plan : Plan) (board : Board) (standing : Standing) (worker : ℕ) (next : Option WriteId)
-    → IsInOrder standing.rounds.round.to_check → next ≡ next_to_check standing.rounds.round → IsSearched plan board standing worker next
-search_starts plan board standing worker next order first = record {
+pub search_starts : (plan : Plan) (board : Board) (standing : Standing) (worker : ℕ) (declines : Bool) (next : Option WriteId)
+    → IsInOrder standing.rounds.round.to_check → next ≡ next_to_check standing.rounds.round → IsSearched plan board standing worker declines next
+search_starts plan board standing worker declines next order first = record {
   order = order;
   place = 0;
   is = first;
-  none = λ c job there at rounds runs. refl;
+  none = λ c job there at rounds waits runs. refl;
 }
 
 some_of : {X : Type 0} (b : Bool) (o : Option X) (x : X) → Some x ≡ cond b o None → (b ≡ true) × (o ≡ Some x)
@@ -179,15 +179,15 @@ some_of true o x h = (refl, sym h)
 some_of false o x h = cc
 
 -- what the call gives for a write of a clone's round
-abbrev pub Gives : Plan → Board → Standing → ℕ → WriteId → Option Event → Type 0
-Gives plan board standing worker write step =
+abbrev pub Gives : Plan → Board → Standing → ℕ → Bool → WriteId → Option Event → Type 0
+Gives plan board standing worker declines write step =
     (c : ℕ) (job : SubJob) → clone_of plan c ≡ Some job → slice_get board.standings.items c ≡ Some standing
-    → has_rounds job ≡ true → is_halted board.history.items job ≡ false
+    → has_rounds job ≡ true → declines ≡ job.declines → is_halted board.history.items job ≡ false
     → list_any (same_write write) (current_round job board.history.items).to_check ≡ true
-    → step ≡ take_up_write board.history.items worker job write
+    → step ≡ take_up_write plan board.history.items worker job write
 
 module _ (plan : Plan) (board : Board) (is : IsBoard plan board) (standing : Standing) (settled : is_settled standing.rounds ≡ true)
-    (worker : ℕ) (write : WriteId) (sofar : IsSearched plan board standing worker (Some write)) where
+    (worker : ℕ) (declines : Bool) (write : WriteId) (sofar : IsSearched plan board standing worker declines (Some write)) where
   abbrev pub round : Round
   round = standing.rounds.round
 
@@ -201,11 +201,11 @@ module _ (plan : Plan) (board : Board) (is : IsBoard plan board) (standing : Sta
       (eq-eqb write.pass write.pass refl))
       (eq-eqb write.number write.number refl)
 
-  gives : (step : Option Event) → Gives plan board standing worker write step → (c : ℕ) (job : SubJob) → clone_of plan c ≡ Some job
-      → slice_get board.standings.items c ≡ Some standing → has_rounds job ≡ true → is_halted board.history.items job ≡ false
-      → step ≡ take_up_write board.history.items worker job write
-  gives step given c job there at rounds runs =
-      given c job there at rounds runs
+  gives : (step : Option Event) → Gives plan board standing worker declines write step → (c : ℕ) (job : SubJob) → clone_of plan c ≡ Some job
+      → slice_get board.standings.items c ≡ Some standing → has_rounds job ≡ true → declines ≡ job.declines → is_halted board.history.items job ≡ false
+      → step ≡ take_up_write plan board.history.items worker job write
+  gives step given c job there at rounds waits runs =
+      given c job there at rounds waits runs
       (subst (λ (r : Round). list_any (same_write write) r.to_check ≡ true)
       (round_is plan board is c job there standing at rounds runs settled)
       (any_at (same_write write) round.to_check sofar.place write here.1 same_self))
@@ -215,16 +215,16 @@ module _ (plan : Plan) (board : Board) (is : IsBoard plan board) (standing : Sta
       after ∙ ap (λ b. cond b (find (is_before write) round.to_check) None) here.0
       ∙ first_after write_order write_order_total round.to_check sofar.place write sofar.order here.1
 
-  pub search_on : (step : Option Event) (next : Option WriteId) → Gives plan board standing worker write step → is_some step ≡ false
-      → next ≡ next_to_check_after round write → IsSearched plan board standing worker next
+  pub search_on : (step : Option Event) (next : Option WriteId) → Gives plan board standing worker declines write step → is_some step ≡ false
+      → next ≡ next_to_check_after round write → IsSearched plan board standing worker declines next
   search_on step next given nothing after = record {
     order = sofar.order;
     place = suc sofar.place;
     is = next_is next after ∙ sym (ap (λ b. cond b (slice_get round.to_check (suc sofar.place)) None) here.0);
-    none = λ c job there at rounds runs.
-        given_behind (take_up_write board.history.items worker job) round.to_check sofar.place write here.1
-        (sofar.none c job there at rounds runs)
-        (ap is_some (sym (gives step given c job there at rounds runs)) ∙ nothing);
+    none = λ c job there at rounds waits runs.
+        given_behind (take_up_write plan board.history.items worker job) round.to_check sofar.place write here.1
+        (sofar.none c job there at rounds waits runs)
+        (ap is_some (sym (gives step given c job there at rounds waits runs)) ∙ nothing);
   }
 
   behind : (next : Option WriteId) → next ≡ slice_get round.to_check (suc sofar.place)
@@ -244,29 +244,29 @@ module _ (plan : Plan) (board : Board) (is : IsBoard plan board) (standing : Sta
       let fewer = behind next (next_is next after) in
       omega (arith, rest, fewer)
 
-  pub search_found : (step : Option Event) → Gives plan board standing worker write step → is_some step ≡ true → (c : ℕ) (job : SubJob)
-      → clone_of plan c ≡ Some job → slice_get board.standings.items c ≡ Some standing → has_rounds job ≡ true
+  pub search_found : (step : Option Event) → Gives plan board standing worker declines write step → is_some step ≡ true → (c : ℕ) (job : SubJob)
+      → clone_of plan c ≡ Some job → slice_get board.standings.items c ≡ Some standing → has_rounds job ≡ true → declines ≡ job.declines
       → is_halted board.history.items job ≡ false
-      → step ≡ first_given (take_up_write board.history.items worker job) (current_round job board.history.items).to_check
-  search_found step given some c job there at rounds runs =
-      let its = gives step given c job there at rounds runs in
-      its ∙ sym (given_here (take_up_write board.history.items worker job) round.to_check sofar.place write here.1
-      (sofar.none c job there at rounds runs) (ap is_some (sym its) ∙ some))
-      ∙ ap (λ (r : Round). first_given (take_up_write board.history.items worker job) r.to_check)
+      → step ≡ first_given (take_up_write plan board.history.items worker job) (current_round job board.history.items).to_check
+  search_found step given some c job there at rounds waits runs =
+      let its = gives step given c job there at rounds waits runs in
+      its ∙ sym (given_here (take_up_write plan board.history.items worker job) round.to_check sofar.place write here.1
+      (sofar.none c job there at rounds waits runs) (ap is_some (sym its) ∙ some))
+      ∙ ap (λ (r : Round). first_given (take_up_write plan board.history.items worker job) r.to_check)
       (round_is plan board is c job there standing at rounds runs settled)
 
 -- nothing is given of the whole round where the search is over
 pub search_over : (plan : Plan) (board : Board) (is : IsBoard plan board) (standing : Standing)
-    (settled : is_settled standing.rounds ≡ true) (worker : ℕ) (sofar : IsSearched plan board standing worker None) (c : ℕ) (job : SubJob)
-    → clone_of plan c ≡ Some job → slice_get board.standings.items c ≡ Some standing → has_rounds job ≡ true
+    (settled : is_settled standing.rounds ≡ true) (worker : ℕ) (declines : Bool) (sofar : IsSearched plan board standing worker declines None) (c : ℕ) (job : SubJob)
+    → clone_of plan c ≡ Some job → slice_get board.standings.items c ≡ Some standing → has_rounds job ≡ true → declines ≡ job.declines
     → is_halted board.history.items job ≡ false → is_under_way (current_round job board.history.items) ≡ true
-    → None ≡ first_given (take_up_write board.history.items worker job) (current_round job board.history.items).to_check
-search_over plan board is standing settled worker sofar c job there at rounds runs waits =
+    → None ≡ first_given (take_up_write plan board.history.items worker job) (current_round job board.history.items).to_check
+search_over plan board is standing settled worker declines sofar c job there at rounds same_wait runs waits =
     let round = standing.rounds.round in
     let same = round_is plan board is c job there standing at rounds runs settled in
     let due : is_due round ≡ true = ap is_due same ∙ (and_parts (is_due (current_round job board.history.items)) _ waits).0 in
     let past : slice_get round.to_check sofar.place
     ≡ None = sym (sofar.is ∙ ap (λ b. cond b (slice_get round.to_check sofar.place) None) due) in
-    sym (given_nowhere (take_up_write board.history.items worker job) round.to_check sofar.place past
-    (sofar.none c job there at rounds runs))
-    ∙ ap (λ (r : Round). first_given (take_up_write board.history.items worker job) r.to_check) same
+    sym (given_nowhere (take_up_write plan board.history.items worker job) round.to_check sofar.place past
+    (sofar.none c job there at rounds same_wait runs))
+    ∙ ap (λ (r : Round). first_given (take_up_write plan board.history.items worker job) r.to_check) same

@@ -136,7 +136,7 @@ module _ (plan : Plan) (board : Board) (is : IsBoard plan board) (c : ℕ) (job 
             sym (step ∙ step_barred plan events worker job standing.pass free both
             (quiet_is ∙ ne_eqb counts.issues 0 (λ none. absurd (omega (arith, none, some)))))
 
-        pub checks_first : counts.issues ≤ 0 → first_given (take_up_write events worker job) (current_round job events).to_check
+        pub checks_first : counts.issues ≤ 0 → first_given (take_up_write plan events worker job) (current_round job events).to_check
             ≡ choice_of_clone plan events worker job
         checks_first none =
             let quiet : counts.issues ≡ 0 = omega (arith, none) in

@@ -51,7 +51,7 @@ module _ (plan : Plan) (history : List Event) (worker : ℕ) (job : SubJob) (p :
   -- the first check or skip of its round
   pub step_checks : (is_halted history job || not (has_room history job)) ≡ false
       → (has_rounds job && is_under_way (current_round job history)) ≡ true → no_issue_flies history job.clone ≡ true
-      → step_in_pass plan history worker job p ≡ first_given (take_up_write history worker job) (current_round job history).to_check
+      → step_in_pass plan history worker job p ≡ first_given (take_up_write plan history worker job) (current_round job history).to_check
   step_checks free checks quiet =
       otherwise (is_halted history job || not (has_room history job)) _ _ free
       ∙ when (has_rounds job && is_under_way (current_round job history)) _ _ checks
@@ -73,8 +73,8 @@ module _ (plan : Plan) (history : List Event) (worker : ℕ) (job : SubJob) (p :
       → issue_of plan history worker (pass_of job q) draw ≡ None
   unopened q None h = refl
   unopened q (Some draw) h =
-      otherwise (is_clear history (is_write_draw draw) draw.piece && phase_is_open plan history job) _ _
-      (ap (λ b. is_clear history (is_write_draw draw) draw.piece && b) h ∙ and_false (is_clear history (is_write_draw draw) draw.piece))
+      otherwise (is_clear plan history job (is_write_draw draw) draw.piece && phase_is_open plan history job) _ _
+      (ap (λ b. is_clear plan history job (is_write_draw draw) draw.piece && b) h ∙ and_false (is_clear plan history job (is_write_draw draw) draw.piece))
 
   same_both : {X : Type 0} (b : Bool) (x y z : X) → x ≡ z → y ≡ z → cond b x y ≡ z
   same_both true x y z first second = first
@@ -139,7 +139,7 @@ left_write plan history job p write has left =
     }
 
 -- what is taken up of a draw of this name
-module _ (history : List Event) (worker : ℕ) (job : SubJob) (write : WriteId) (draw : Draw) (clone : write.clone ≡ job.clone)
+module _ (plan : Plan) (history : List Event) (worker : ℕ) (job : SubJob) (write : WriteId) (draw : Draw) (clone : write.clone ≡ job.clone)
     (drawn : slice_get (draws_of_job job write.pass) write.number ≡ Some draw) where
   named : write_id (pass_of job write.pass) draw ≡ write
   named =
@@ -147,36 +147,36 @@ module _ (history : List Event) (worker : ℕ) (job : SubJob) (write : WriteId) 
       let made : ℕ → ℕ → WriteId = λ c n. record { clone = c; pass = write.pass; number = n } in
       ap (λ c. made c draw.number) (sym clone) ∙ ap (made write.clone) number
 
-  value : take_up_write history worker job write
-      ≡ cond (list_any (takes_up write) history || not (is_clear history false draw.piece)) None
+  value : take_up_write plan history worker job write
+      ≡ cond (list_any (takes_up write) history || not (is_clear plan history job false draw.piece)) None
       (Some (cond (is_intact history write draw.piece) (Probe worker write draw.piece) (Skip worker write)))
   value =
-      ap (take_up history worker (pass_of job write.pass)) drawn
-      ∙ ap (λ (w : WriteId). cond (list_any (takes_up w) history || not (is_clear history false draw.piece)) None
+      ap (take_up plan history worker (pass_of job write.pass)) drawn
+      ∙ ap (λ (w : WriteId). cond (list_any (takes_up w) history || not (is_clear plan history job false draw.piece)) None
       (Some (cond (is_intact history w draw.piece) (Probe worker w draw.piece) (Skip worker w)))) named
 
-  pub taken_already : list_any (takes_up write) history ≡ true → take_up_write history worker job write ≡ None
+  pub taken_already : list_any (takes_up write) history ≡ true → take_up_write plan history worker job write ≡ None
   taken_already taken =
-      value ∙ ap (λ b. cond (b || not (is_clear history false draw.piece)) None
+      value ∙ ap (λ b. cond (b || not (is_clear plan history job false draw.piece)) None
       (Some (cond (is_intact history write draw.piece) (Probe worker write draw.piece) (Skip worker write)))) taken
 
   or_true : (b : Bool) → (b || true) ≡ true
   or_true true = refl
   or_true false = refl
 
-  pub barred : is_clear history false draw.piece ≡ false → take_up_write history worker job write ≡ None
+  pub barred : is_clear plan history job false draw.piece ≡ false → take_up_write plan history worker job write ≡ None
   barred unclear =
       value
       ∙ ap (λ b. cond (list_any (takes_up write) history || not b) None
       (Some (cond (is_intact history write draw.piece) (Probe worker write draw.piece) (Skip worker write)))) unclear
       ∙ when (list_any (takes_up write) history || true) _ _ (or_true (list_any (takes_up write) history))
 
-  pub taken_now : list_any (takes_up write) history ≡ false → is_clear history false draw.piece ≡ true
-      → take_up_write history worker job write ≡ Some
+  pub taken_now : list_any (takes_up write) history ≡ false → is_clear plan history job false draw.piece ≡ true
+      → take_up_write plan history worker job write ≡ Some
       (cond (is_intact history write draw.piece) (Probe worker write draw.piece) (Skip worker write))
   taken_now untaken clear =
       value
-      ∙ ap (λ b. cond (b || not (is_clear history false draw.piece)) None
+      ∙ ap (λ b. cond (b || not (is_clear plan history job false draw.piece)) None
       (Some (cond (is_intact history write draw.piece) (Probe worker write draw.piece) (Skip worker write)))) untaken
       ∙ ap (λ b. cond (not b) None (Some (cond (is_intact history write draw.piece) (Probe worker write draw.piece) (Skip worker write))))
       clear

@@ -22,7 +22,7 @@ pub board_stays : (plan : Plan) (before after : Board)
     → IsBoard plan before
     → after.history.items ≡ before.history.items
     → IsHanded plan before.history.items after.tickets
-    → IsFlying before.history.items after.flying
+    → IsFlying plan before.history.items after.flying
     → after.log ≡ before.log
     → IsTallied plan before.history.items after.tallies
     → AreStanding plan before.history.items after.standings.items
@@ -33,7 +33,7 @@ board_stays plan before after is history handed flying log tallies standings =
       planned = is.planned;
       legal = ap (is_legal plan) history ∙ is.legal;
       tickets = subst (λ (h : List Event). IsHanded plan h after.tickets) same handed;
-      flying = subst (λ (h : List Event). IsFlying h after.flying) same flying;
+      flying = subst (λ (h : List Event). IsFlying plan h after.flying) same flying;
       log = log ∙ is.log ∙ ap (log_of_run plan) same;
       tallies = subst (λ (h : List Event). IsTallied plan h after.tallies) same tallies;
       standings = subst (λ (h : List Event). AreStanding plan h after.standings.items) same standings;
@@ -56,7 +56,7 @@ own_below plan board ticket is own =
 pub board_begins : (plan : Plan) (board : Board) → board.history.items ≡ []
     → IsPlanned plan
     → IsHanded plan [] board.tickets
-    → IsFlying [] board.flying
+    → IsFlying plan [] board.flying
     → board.log ≡ []
     → IsTallied plan [] board.tallies
     → AreStanding plan [] board.standings.items
@@ -67,7 +67,7 @@ board_begins plan board none planned handed flying log tallies standings =
       planned = planned;
       legal = ap (is_legal plan) none;
       tickets = subst (λ (h : List Event). IsHanded plan h board.tickets) same handed;
-      flying = subst (λ (h : List Event). IsFlying h board.flying) same flying;
+      flying = subst (λ (h : List Event). IsFlying plan h board.flying) same flying;
       log = log ∙ ap (log_of_run plan) same;
       tallies = subst (λ (h : List Event). IsTallied plan h board.tallies) same tallies;
       standings = subst (λ (h : List Event). AreStanding plan h board.standings.items) same standings;

@@ -8,17 +8,16 @@ use Rattle.std.specs.List.{AllByRecursion, list_any, cons_option, enumerate_from
 use Rattle.std.specs.List.Sorted.{IsStrictlySortedBy}
 use Rattle.std.specs.Map.{keys_of, lookup, remove_entry}
 use Rattle.std.specs.Ordering.{nat_cmp, is_eq, match_ordering}
-use Rattle.std.proofs.lemmas.Bool.{lt-ltb}
+use Rattle.std.proofs.lemmas.Bool.{false≢true, lt-ltb}
 use Rattle.std.proofs.lemmas.Option.{none-some}
 use Rattle.jr_model.specs.declared.events.Event.{Event}
 use Rattle.jr_model.specs.declared.events.Started.{Started}
 use Rattle.jr_model.specs.History.{started, outcome_of}
+use Rattle.jr_model.specs.Plan.{Plan}
+use Rattle.jr_flight.specs.declared.ios.Ended.{Ended}
 use Rattle.jr_flight.specs.declared.ios.Io.{Io}
-use Rattle.jr_laws_log.specs.Flying.{io_of, if_flying_entry, flight_of}
-
-neither : (a b : Bool) → not (a || b) ≡ true → (a ≡ false) × (not b ≡ true)
-neither true b h = cc
-neither false b h = (refl, h)
+use Rattle.jr_flight.specs.Flights.{marked, writes_over}
+use Rattle.jr_laws_log.specs.Flying.{entry_of, if_flying_entry, flight_of}
 
 head_absent : {X : Type 0} (x : X) (o : Option X) (b : Bool) → cond b (Some x) o ≡ None → (b ≡ false) × (o ≡ None)
 head_absent x o true h = absurd (none-some x (sym h))
@@ -42,23 +41,6 @@ module _ {K X : Type 0} where
       by true here behind rest = behind
       by false here behind rest = ap (λ (b : Bool). cond b (Some e.1) (lookup test (remove_entry taken es))) here ∙ rest
 
-  -- where no entry passes none passes when something is taken out
-  pub none_passes_still : (test : K × X → Bool) (taken : K → Bool) (es : List (K × X))
-      → not (list_any test es) ≡ true
-      → not (list_any test (remove_entry taken es)) ≡ true
-  none_passes_still test taken [] none = none
-  none_passes_still test taken (e ∷ es) none =
-      let parts = neither (test e) (list_any test es) none in
-      by (taken e.0) parts.0 parts.1 (none_passes_still test taken es parts.1)
-    where
-      by : (b : Bool)
-          → test e ≡ false
-          → not (list_any test es) ≡ true
-          → not (list_any test (remove_entry taken es)) ≡ true
-          → not (list_any test (cond b es (e ∷ remove_entry taken es))) ≡ true
-      by true here behind rest = behind
-      by false here behind rest = ap (λ (b : Bool). not (b || list_any test (remove_entry taken es))) here ∙ rest
-
   module _ (cmp : K → K → Ordering) (k : K) (v : X) where
     -- the new entry by how its key compares with the first
     abbrev placed : Ordering → K × X → List (K × X) → List (K × X)
@@ -70,7 +52,33 @@ module _ {K X : Type 0} where
     put_first (e ∷ es) all =
         ap (λ (r : Ordering). placed r e es) all.0
 
+    -- a new entry stands under its own key
+    pub put_at : is_at (cmp k) k ≡ true → (es : List (K × X)) → lookup (is_at (cmp k)) es ≡ None → lookup (is_at (cmp k)) (insert_entry cmp es k v) ≡ Some v
+    put_at own [] none = ap (λ (b : Bool). cond b (Some v) None) own
+    put_at own (e ∷ es) none =
+        let parts = head_absent e.1 (lookup (is_at (cmp k)) es) (is_at (cmp k) e.0) none in
+        by parts.0 (put_at own es parts.1) (cmp k e.0) refl
+      where
+        by : is_at (cmp k) e.0 ≡ false → lookup (is_at (cmp k)) (insert_entry cmp es k v) ≡ Some v
+            → (r : Ordering) → cmp k e.0 ≡ r → lookup (is_at (cmp k)) (placed r e es) ≡ Some v
+        by here rest Less h = ap (λ (b : Bool). cond b (Some v) (lookup (is_at (cmp k)) (e ∷ es))) own
+        by here rest Equal h = absurd (false≢true (sym here ∙ ap is_eq h))
+        by here rest Greater h = ap (λ (b : Bool). cond b (Some e.1) (lookup (is_at (cmp k)) (insert_entry cmp es k v))) here ∙ rest
+
     module _ (id : K) (apart : is_at (cmp id) k ≡ false) where
+      -- and changes nothing under another
+      pub put_elsewhere : (es : List (K × X)) → lookup (is_at (cmp k)) es ≡ None → lookup (is_at (cmp id)) (insert_entry cmp es k v) ≡ lookup (is_at (cmp id)) es
+      put_elsewhere [] none = ap (λ (b : Bool). cond b (Some v) None) apart
+      put_elsewhere (e ∷ es) none =
+          let parts = head_absent e.1 (lookup (is_at (cmp k)) es) (is_at (cmp k) e.0) none in
+          by parts.0 (put_elsewhere es parts.1) (cmp k e.0) refl
+        where
+          by : is_at (cmp k) e.0 ≡ false → lookup (is_at (cmp id)) (insert_entry cmp es k v) ≡ lookup (is_at (cmp id)) es
+              → (r : Ordering) → cmp k e.0 ≡ r → lookup (is_at (cmp id)) (placed r e es) ≡ lookup (is_at (cmp id)) (e ∷ es)
+          by here rest Less h = ap (λ (b : Bool). cond b (Some v) (lookup (is_at (cmp id)) (e ∷ es))) apart
+          by here rest Equal h = absurd (false≢true (sym here ∙ ap is_eq h))
+          by here rest Greater h = ap (λ (o : Option X). cond (is_at (cmp id) e.0) (Some e.1) o) rest
+
       abbrev without : List (K × X) → List (K × X)
       without es = remove_entry (is_at (cmp id)) es
 
@@ -117,36 +125,50 @@ module _ {K X : Type 0} where
               absurd (none-some e.1 (sym none ∙ ap (λ (r : Ordering). cond (is_eq r) (Some e.1) (lookup (is_at (cmp k)) es)) h))
           by rest Greater h ordered = behind (is_at (cmp id) e.0) h (rest ordered.1)
 
+-- what isn't there isn't there when others are marked
+pub absent_marked : (io : Io) (test : ℕ → Bool) (es : List (ℕ × Ended)) → lookup test es ≡ None → lookup test (marked io es) ≡ None
+absent_marked io test [] none = none
+absent_marked io test (e ∷ es) none =
+    let parts = head_absent e.1 (lookup test es) (test e.0) none in
+    by (e.0 == io.id) parts.0 (absent_marked io test es parts.1)
+  where
+    by : (b : Bool) → test e.0 ≡ false → lookup test (marked io es) ≡ None
+        → lookup test (cond b e (e.0, record { io = e.1.io; raced = e.1.raced || writes_over e.1.io.piece io }) ∷ marked io es) ≡ None
+    by true here rest = ap (λ (b : Bool). cond b (Some e.1) (lookup test (marked io es))) here ∙ rest
+    by false here rest =
+        ap (λ (b : Bool). cond b (Some (record { io = e.1.io; raced = e.1.raced || writes_over e.1.io.piece io })) (lookup test (marked io es))) here
+        ∙ rest
+
 -- what flies from a number on
-abbrev flying_from : List Event → ℕ → List Started → List (ℕ × Io)
-flying_from h n ios = filter_map (if_flying_entry h) (enumerate_from n ios)
+abbrev flying_from : Plan → List Event → ℕ → List Started → List (ℕ × Ended)
+flying_from plan h n ios = filter_map (if_flying_entry plan h) (enumerate_from n ios)
 
-abbrev in_front : List Event → Bool → ℕ → Started → List (ℕ × Io) → List (ℕ × Io)
-in_front h flies n io es = cons_option (cond flies (Some (n, io_of n io)) None) es
+abbrev in_front : Plan → List Event → Bool → ℕ → Started → List (ℕ × Ended) → List (ℕ × Ended)
+in_front plan h flies n io es = cons_option (cond flies (Some (n, entry_of plan h n io)) None) es
 
-above : (h : List Event) (m n : ℕ) (ios : List Started)
+above : (plan : Plan) (h : List Event) (m n : ℕ) (ios : List Started)
     → m < n
-    → AllByRecursion (λ y. nat_cmp m y ≡ Less) (keys_of (flying_from h n ios))
-above h m n [] below = tt
-above h m n (io ∷ ios) below = by (is_none (outcome_of h n)) (above h m (n + 1) ios (omega (arith, below)))
+    → AllByRecursion (λ y. nat_cmp m y ≡ Less) (keys_of (flying_from plan h n ios))
+above plan h m n [] below = tt
+above plan h m n (io ∷ ios) below = by (is_none (outcome_of h n)) (above plan h m (n + 1) ios (omega (arith, below)))
   where
     by : (b : Bool)
-        → AllByRecursion (λ y. nat_cmp m y ≡ Less) (keys_of (flying_from h (n + 1) ios))
-        → AllByRecursion (λ y. nat_cmp m y ≡ Less) (keys_of (in_front h b n io (flying_from h (n + 1) ios)))
+        → AllByRecursion (λ y. nat_cmp m y ≡ Less) (keys_of (flying_from plan h (n + 1) ios))
+        → AllByRecursion (λ y. nat_cmp m y ≡ Less) (keys_of (in_front plan h b n io (flying_from plan h (n + 1) ios)))
     by true rest = (ap (λ (b : Bool). cond b Less (cond (m == n) Equal Greater)) (lt-ltb m n below), rest)
     by false rest = rest
 
-in_order : (h : List Event) (n : ℕ) (ios : List Started) → IsStrictlySortedBy nat_cmp (keys_of (flying_from h n ios))
+in_order : (plan : Plan) (h : List Event) (n : ℕ) (ios : List Started) → IsStrictlySortedBy nat_cmp (keys_of (flying_from plan h n ios))
 unfolding IsStrictlySortedBy
-in_order h n [] = tt
-in_order h n (io ∷ ios) = by (is_none (outcome_of h n)) (in_order h (n + 1) ios)
+in_order plan h n [] = tt
+in_order plan h n (io ∷ ios) = by (is_none (outcome_of h n)) (in_order plan h (n + 1) ios)
   where
     by : (b : Bool)
-        → IsStrictlySortedBy nat_cmp (keys_of (flying_from h (n + 1) ios))
-        → IsStrictlySortedBy nat_cmp (keys_of (in_front h b n io (flying_from h (n + 1) ios)))
-    by true rest = (above h n (n + 1) ios (omega arith), rest)
+        → IsStrictlySortedBy nat_cmp (keys_of (flying_from plan h (n + 1) ios))
+        → IsStrictlySortedBy nat_cmp (keys_of (in_front plan h b n io (flying_from plan h (n + 1) ios)))
+    by true rest = (above plan h n (n + 1) ios (omega arith), rest)
     by false rest = rest
 
 -- what is in flight stands in the order of the numbers
-pub flight_in_order : (history : List Event) → IsStrictlySortedBy nat_cmp (keys_of (flight_of history))
-flight_in_order h = in_order h 0 (started h)
+pub flight_in_order : (plan : Plan) (history : List Event) → IsStrictlySortedBy nat_cmp (keys_of (flight_of plan history))
+flight_in_order plan h = in_order plan h 0 (started h)

@@ -1,12 +1,13 @@
 -- What each event makes of what is in flight and of the write log.
-use Rattle.std.proofs.Common.{◌≡◌, ℕ, ◌<◌, List, [], ◌∷◌, ◌++◌, length, Bool, true, false, cond, refl, sym, ◌∙◌, ap, subst}
-use Rattle.std.specs.Prelude.{Option, Some, None, IfSome, nat_lt, ◌==◌, slice_get}
+use Rattle.std.proofs.Common.{◌≡◌, ℕ, ◌<◌, List, [], ◌∷◌, ◌++◌, length, Bool, true, false, cond, ◌&&◌, not, arith, refl, sym, ◌∙◌, ap, subst}
+use Rattle.std.specs.Prelude.{Option, Some, None, IfSome, nat_lt, ◌==◌, is_none, slice_get}
+use Rattle.std.specs.Option.{option_map}
 use Rattle.std.specs.BTreeMap.{insert_entry, is_at}
 use Rattle.std.specs.Map.{keys_of, remove_entry}
 use Rattle.std.specs.List.Sorted.{IsStrictlySortedBy}
 use Rattle.std.specs.declared.cmp.Ordering.TheVariants.{Less, Equal, Greater}
 use Rattle.std.specs.Ordering.{nat_cmp, is_eq}
-use Rattle.std.proofs.lemmas.Bool.{ne_eqb}
+use Rattle.std.proofs.lemmas.Bool.{and_parts, eq-eqb, ne_eqb, le-ltb, ltb-true}
 use Rattle.std.proofs.lemmas.Cmp.{nat_cmp_total}
 use Rattle.jr_model.specs.declared.blocks.Dir.{Dir}
 use Rattle.jr_model.specs.declared.events.IssueKind.{IssueKind}
@@ -21,27 +22,27 @@ use Rattle.jr_model.specs.declared.events.WriteId.{WriteId}
 use Rattle.jr_model.specs.declared.tickets.Ticket.{Ticket}
 use Rattle.jr_model.specs.declared.workloads.Draw.{Draw}
 use Rattle.jr_model.specs.Draws.{draws_of_job}
-use Rattle.jr_model.specs.History.{started, started_by, kind_for, is_write, ended_whole}
+use Rattle.jr_model.specs.History.{started, started_by, flies, outcome_of, is_write, ended_whole}
 use Rattle.jr_model.specs.LastWrite.{is_intact}
-use Rattle.jr_model.specs.Legal.{is_legal, may_happen, is_clear as is_clear_after}
-use Rattle.jr_model.specs.Plan.{Plan, SubJob, clone_of, issued_as}
-use Rattle.jr_model.specs.Rounds.{pass_of, is_write_draw}
+use Rattle.jr_model.specs.Legal.{is_legal, is_clear as is_clear_after}
+use Rattle.jr_model.specs.Plan.{Plan, SubJob, clone_of}
+use Rattle.jr_model.specs.Races.{has_raced}
 use Rattle.jr_model.specs.Tickets.{piece_fits}
 use Rattle.jr_model.proofs.LegalLaws.{is_legal-more}
 use Rattle.jr_model.specs.PlanFacts.{IsPlanned}
 use Rattle.jr_header.specs.Served.{ticket_expected}
+use Rattle.jr_flight.specs.declared.ios.Ended.{Ended}
 use Rattle.jr_flight.specs.declared.ios.Io.{Io}
-use Rattle.jr_flight.specs.Flights.{conflicts, is_clear, writes}
+use Rattle.jr_flight.specs.Flights.{flying_io, is_clear, is_raced, marked, raced_so_far, writes}
 use Rattle.jr_writes.specs.declared.logs.Logged.{Logged}
 use Rattle.jr_writes.specs.LoggedWrites.{logged, settled, unsettled}
 use Rattle.jr_writes.proofs.EntryLemmas.{remove-insert_entry}
-use Rattle.jr_laws_quiet.proofs.Issues.{may_issue_parts, may_take_up_parts}
 use Rattle.jr_laws_steps.proofs.DrawnLaws.{started_fit-law}
-use Rattle.jr_laws_steps.proofs.StartedLemmas.{started_next, same_some}
-use Rattle.jr_laws_steps.proofs.StepLaws.{may_issue_of, may_probe_of}
-use Rattle.jr_laws_log.specs.Flying.{dir_of, io_of, flight_of}
+use Rattle.jr_laws_steps.proofs.PlaceLemmas.{item_at}
+use Rattle.jr_laws_steps.proofs.StartedLemmas.{started_next}
+use Rattle.jr_laws_log.specs.Flying.{dir_of, io_of, entry_of, flight_of}
 use Rattle.jr_laws_log.proofs.DrawLaws.{log_is_intact_of_draws}
-use Rattle.jr_laws_log.proofs.FlyingLaws.{next_is_free, clear_is_clear, next_flies, others_fly_on, ended_flies_no_more, flight-skips, writes_as}
+use Rattle.jr_laws_log.proofs.FlyingLaws.{flying_is_started, next_is_free, clear_is_clear, next_flies, others_fly_on, ended_flies_no_more, flight-skips}
 use Rattle.jr_laws_log.proofs.IntactLaws.{fresh_at_end}
 use Rattle.jr_laws_log.proofs.LogGrowth.{log-same, log-read, log-whole, log-failed}
 use Rattle.jr_laws_steps.specs.Nexts.{IsNext, grown}
@@ -50,125 +51,95 @@ use Rattle.jr_tickets.proofs.OwnTickets.{own_started}
 use Rattle.jr_board.specs.declared.flying.Flying.{Flying}
 use Rattle.jr_board.specs.Flyings.{with_begun, CanBegin, IsFlying}
 use Rattle.jr_board.specs.WriteLogs.{checked_by, log_of_run}
-use Rattle.jr_board.proofs.FlyingEntries.{absent_still, none_passes_still, remove_beside, flight_in_order}
-use Rattle.jr_laws_quiet.proofs.Steps.{write_kind}
+use Rattle.jr_board.proofs.FlyingEntries.{absent_still, absent_marked, put_at, put_elsewhere, remove_beside, flight_in_order}
 
 -- a skip changes nothing of what flies
 pub flying_skip : (plan : Plan) (history : List Event) (worker : ℕ) (write : WriteId) (flying : Flying)
     → IsNext plan history (Skip worker write)
-    → IsFlying history flying
-    → IsFlying (grown history (Skip worker write)) flying
+    → IsFlying plan history flying
+    → IsFlying plan (grown history (Skip worker write)) flying
 flying_skip plan history worker write flying next was =
-    record { all = flight-skips history (Skip worker write ∷ []) refl ∙ was.all; begins = was.begins }
+    record { all = flight-skips plan history (Skip worker write ∷ []) refl ∙ was.all; begins = was.begins }
 
 -- nor does a verdict
 pub flying_verdict : (plan : Plan) (history : List Event) (worker id : ℕ) (verdict : Verdict) (flying : Flying)
     → IsNext plan history (Judged worker id verdict)
-    → IsFlying history flying
-    → IsFlying (grown history (Judged worker id verdict)) flying
+    → IsFlying plan history flying
+    → IsFlying plan (grown history (Judged worker id verdict)) flying
 flying_verdict plan history worker id verdict flying next was =
     let any : WriteId = record { clone = 0; pass = 0; number = 0 } in
-    record { all = (others_fly_on history worker id any verdict).1 ∙ was.all; begins = was.begins }
+    record { all = (others_fly_on plan history worker id any verdict).1 ∙ was.all; begins = was.begins }
 
--- a draw's direction is that of its I/O
-drawn_way : (job : SubJob) (draw : Draw) → is_write_draw draw ≡ writes (dir_of (kind_for (issued_as job draw.dir)))
-drawn_way job draw = sym (write_kind job draw) ∙ sym (writes_as (kind_for (issued_as job draw.dir)))
-
--- what is started is clear of what flies
-clear_of_start : (plan : Plan) (history : List Event) (event : Event) (begun : Started)
-    → may_happen plan history event ≡ true
-    → started_by event ≡ Some begun
-    → is_clear_after history (writes (dir_of begun.kind)) begun.piece ≡ true
-clear_of_start plan h (Issue worker dir write piece) begun may starts =
-    let io : Started = record { worker = worker; kind = kind_for dir; write = write; piece = piece } in
-    let issue = may_issue_of plan h worker dir write piece may in
-    let clear = (may_issue_parts plan h (pass_of issue.job write.pass) issue.draw issue.may).clear in
-    let way : is_write_draw issue.draw ≡ writes (dir_of (kind_for dir)) =
-    drawn_way issue.job issue.draw ∙ ap (λ (k : IssueKind). writes (dir_of (kind_for k))) issue.same_way in
-    let here : is_clear_after h (writes (dir_of (kind_for dir))) piece ≡ true =
-    subst (λ (p : Piece). is_clear_after h (writes (dir_of (kind_for dir))) p ≡ true) issue.same_place
-    (subst (λ (b : Bool). is_clear_after h b issue.draw.piece ≡ true) way clear) in
-    subst (λ (s : Started). is_clear_after h (writes (dir_of s.kind)) s.piece ≡ true) (same_some io begun starts) here
-clear_of_start plan h (Probe worker write piece) begun may starts =
-    let found = may_probe_of plan h worker write piece may in
-    let clear = (may_take_up_parts h (pass_of found.0.job write.pass) found.0.draw found.0.may).clear in
-    let here : is_clear_after h false piece ≡ true = subst (λ (p : Piece). is_clear_after h false p ≡ true) found.1 clear in
-    subst (λ (s : Started). is_clear_after h (writes (dir_of s.kind)) s.piece ≡ true) (same_some _ begun starts) here
-clear_of_start plan h (Skip worker write) begun may starts = cc
-clear_of_start plan h (End worker id outcome) begun may starts = cc
-clear_of_start plan h (Judged worker id verdict) begun may starts = cc
-
--- what is started can be put to what flies
-can_begin : (plan : Plan) (history : List Event) (event : Event) (begun : Started)
-    → IsNext plan history event
-    → started_by event ≡ Some begun
-    → CanBegin (flight_of history) (io_of (length (started history)) begun)
-can_begin plan h event begun next starts =
-    let n = length (started h) in
+-- what is started is a piece of whole blocks
+pub start_fits : (plan : Plan) (history : List Event) (event : Event) (begun : Started) → IsNext plan history event
+    → started_by event ≡ Some begun → piece_fits begun.piece ≡ true
+start_fits plan h event begun next starts =
     let legal = is_legal-more plan h event next.legal next.may in
-    record {
-      new = next_is_free h;
-      clear = clear_is_clear h (dir_of begun.kind) begun.piece ∙ clear_of_start plan h event begun next.may starts;
-      fits = (started_fit-law plan (h ++ event ∷ []) n begun next.planned legal (started_next h event begun starts)).1.fits;
-    }
+    (started_fit-law plan (h ++ event ∷ []) (length (started h)) begun next.planned legal (started_next h event begun starts)).1.fits
 
--- what is started stands beside what flies
+-- what is started stands beside what flies, which is marked where it races
 pub flying_start : (plan : Plan) (history : List Event) (event : Event) (begun : Started) (io : Io) (flying : Flying)
     → IsNext plan history event
     → started_by event ≡ Some begun
-    → io ≡ io_of (length (started history)) begun
+    → io ≡ io_of plan (length (started history)) begun
     → flying.begun ≡ None
-    → IsFlying history flying
-    → IsFlying (grown history event) (record { flight = flying.flight; begun = Some io })
+    → IsFlying plan history flying
+    → IsFlying plan (grown history event)
+    (record { flight = marked io flying.flight; begun = Some (record { io = io; raced = is_raced io flying.flight }) })
 flying_start plan h event begun io flying next starts is none was =
-    subst (λ (x : Io). IsFlying (grown h event) (record { flight = flying.flight; begun = Some x })) (sym is) now
+    subst (λ (x : Io). IsFlying plan (grown h event) (with_io x flying.flight)) (sym is)
+    (subst (λ (es : List (ℕ × Ended)). IsFlying plan (grown h event) (with_io own es)) same now)
   where
-    same : flight_of h ≡ flying.flight
-    same = was.all ∙ ap (λ (o : Option Io). with_begun o flying.flight) none
+    with_io : Io → List (ℕ × Ended) → Flying
+    with_io x es = record { flight = marked x es; begun = Some (record { io = x; raced = is_raced x es }) }
 
-    now : IsFlying (grown h event) (record { flight = flying.flight; begun = Some (io_of (length (started h)) begun) })
-    now = record {
-      all = next_flies plan h event begun next.legal starts
-          ∙ ap (λ (es : List (ℕ × Io)). insert_entry nat_cmp es (length (started h)) (io_of (length (started h)) begun)) same;
-      begins = subst (λ (es : List (ℕ × Io)). CanBegin es (io_of (length (started h)) begun)) same
-          (can_begin plan h event begun next starts);
-    }
+    own : Io
+    own = io_of plan (length (started h)) begun
 
--- a piece is clear of what flies just where it is after the history
-pub flying_clear : (history : List Event) (dir : Dir) (piece : Piece) (flying : Flying)
+    same : flight_of plan h ≡ flying.flight
+    same = was.all ∙ ap (λ (o : Option Ended). with_begun o flying.flight) none
+
+    now : IsFlying plan (grown h event) (with_io own (flight_of plan h))
+    now =
+        let n = length (started h) in record {
+          all = next_flies plan h event begun next.legal starts;
+          begins = record {
+            new = absent_marked own (is_at (nat_cmp n)) (flight_of plan h) (next_is_free plan h);
+            fits = start_fits plan h event begun next starts;
+          };
+        }
+
+-- a clone's piece is clear of what flies just where it is after the history
+pub flying_clear : (plan : Plan) (history : List Event) (job : SubJob) (dir : Dir) (piece : Piece) (flying : Flying)
     → flying.begun ≡ None
-    → IsFlying history flying
-    → is_clear dir piece flying.flight ≡ is_clear_after history (writes dir) piece
-flying_clear h dir piece flying none was =
-    sym (ap (is_clear dir piece) (was.all ∙ ap (λ (o : Option Io). with_begun o flying.flight) none))
-    ∙ clear_is_clear h dir piece
+    → IsFlying plan history flying
+    → is_clear job.declines dir piece flying.flight ≡ is_clear_after plan history job (writes dir) piece
+flying_clear plan h job dir piece flying none was =
+    sym (ap (is_clear job.declines dir piece) (was.all ∙ ap (λ (o : Option Ended). with_begun o flying.flight) none))
+    ∙ clear_is_clear plan h job dir piece
 
 -- the end of what began last
-pub flying_end_begun : (history : List Event) (worker id : ℕ) (outcome : Outcome) (io : Io) (flying : Flying)
-    → flying.begun ≡ Some io
-    → io.id ≡ id
-    → IsFlying history flying
-    → IsFlying (grown history (End worker id outcome)) (record { flight = flying.flight; begun = None })
-flying_end_begun h worker id outcome io flying is same was =
-    record { all = ended_flies_no_more h worker id outcome ∙ taken; begins = tt }
+pub flying_end_begun : (plan : Plan) (history : List Event) (worker id : ℕ) (outcome : Outcome) (ended : Ended) (flying : Flying)
+    → flying.begun ≡ Some ended
+    → ended.io.id ≡ id
+    → IsFlying plan history flying
+    → IsFlying plan (grown history (End worker id outcome)) (record { flight = flying.flight; begun = None })
+flying_end_begun plan h worker id outcome ended flying is same was =
+    record { all = ended_flies_no_more plan h worker id outcome ∙ taken; begins = tt }
   where
-    begins : CanBegin flying.flight io
-    begins = subst (λ (o : Option Io). IfSome o (CanBegin flying.flight)) is was.begins
+    begins : CanBegin flying.flight ended
+    begins = subst (λ (o : Option Ended). IfSome o (CanBegin flying.flight)) is was.begins
 
-    taken : remove_entry (is_at (nat_cmp id)) (flight_of h) ≡ flying.flight
+    taken : remove_entry (is_at (nat_cmp id)) (flight_of plan h) ≡ flying.flight
     taken =
-        ap (remove_entry (is_at (nat_cmp id))) (was.all ∙ ap (λ (o : Option Io). with_begun o flying.flight) is)
-        ∙ ap (λ (n : ℕ). remove_entry (is_at (nat_cmp n)) (insert_entry nat_cmp flying.flight io.id io)) (sym same)
-        ∙ remove-insert_entry nat_cmp_total io.id io flying.flight begins.new
+        ap (remove_entry (is_at (nat_cmp id))) (was.all ∙ ap (λ (o : Option Ended). with_begun o flying.flight) is)
+        ∙ ap (λ (n : ℕ). remove_entry (is_at (nat_cmp n)) (insert_entry nat_cmp flying.flight ended.io.id ended)) (sym same)
+        ∙ remove-insert_entry nat_cmp_total ended.io.id ended flying.flight begins.new
 
 -- an I/O that can begin can begin when another ended
-still_begins : (id : ℕ) (es : List (ℕ × Io)) (io : Io) → CanBegin es io → CanBegin (remove_entry (is_at (nat_cmp id)) es) io
-still_begins id es io can =
-    record {
-      new = absent_still (is_at (nat_cmp io.id)) (is_at (nat_cmp id)) es can.new;
-      clear = none_passes_still (λ (entry : ℕ × Io). conflicts io.dir io.piece entry.1) (is_at (nat_cmp id)) es can.clear;
-      fits = can.fits;
-    }
+still_begins : (id : ℕ) (es : List (ℕ × Ended)) (ended : Ended) → CanBegin es ended → CanBegin (remove_entry (is_at (nat_cmp id)) es) ended
+still_begins id es ended can =
+    record { new = absent_still (is_at (nat_cmp ended.io.id)) (is_at (nat_cmp id)) es can.new; fits = can.fits }
 
 -- entries of other numbers are passed over
 other_number : (id n : ℕ) → (n ≡ id → ⊥) → is_at (nat_cmp id) n ≡ false
@@ -178,29 +149,83 @@ other_number id n apart = by (nat_lt id n)
     by true = refl
     by false = ap (λ (b : Bool). is_eq (cond b Equal Greater)) (ne_eqb id n (λ same. apart (sym same)))
 
+own_number : (n : ℕ) → is_at (nat_cmp n) n ≡ true
+own_number n =
+    ap (λ (b : Bool). is_eq (cond b Less (cond (n == n) Equal Greater))) (le-ltb n n (omega arith))
+    ∙ ap (λ (b : Bool). is_eq (cond b Equal Greater)) (eq-eqb n n refl)
+
 -- the end of another
-pub flying_end_other : (history : List Event) (worker id : ℕ) (outcome : Outcome) (flying : Flying)
-    → ((io : Io) → flying.begun ≡ Some io → io.id ≡ id → ⊥)
-    → IsFlying history flying
-    → IsFlying (grown history (End worker id outcome))
+pub flying_end_other : (plan : Plan) (history : List Event) (worker id : ℕ) (outcome : Outcome) (flying : Flying)
+    → ((ended : Ended) → flying.begun ≡ Some ended → ended.io.id ≡ id → ⊥)
+    → IsFlying plan history flying
+    → IsFlying plan (grown history (End worker id outcome))
     (record { flight = remove_entry (is_at (nat_cmp id)) flying.flight; begun = flying.begun })
-flying_end_other h worker id outcome flying apart was = by flying.begun apart was.all was.begins
+flying_end_other plan h worker id outcome flying apart was = by flying.begun apart was.all was.begins
   where
-    by : (o : Option Io)
-        → ((io : Io) → o ≡ Some io → io.id ≡ id → ⊥)
-        → flight_of h ≡ with_begun o flying.flight
+    by : (o : Option Ended)
+        → ((ended : Ended) → o ≡ Some ended → ended.io.id ≡ id → ⊥)
+        → flight_of plan h ≡ with_begun o flying.flight
         → IfSome o (CanBegin flying.flight)
-        → IsFlying (grown h (End worker id outcome)) (record { flight = remove_entry (is_at (nat_cmp id)) flying.flight; begun = o })
+        → IsFlying plan (grown h (End worker id outcome)) (record { flight = remove_entry (is_at (nat_cmp id)) flying.flight; begun = o })
     by None other all begins =
-        record { all = ended_flies_no_more h worker id outcome ∙ ap (remove_entry (is_at (nat_cmp id))) all; begins = tt }
-    by (Some io) other all begins =
+        record { all = ended_flies_no_more plan h worker id outcome ∙ ap (remove_entry (is_at (nat_cmp id))) all; begins = tt }
+    by (Some ended) other all begins =
         record {
-          all = ended_flies_no_more h worker id outcome
+          all = ended_flies_no_more plan h worker id outcome
               ∙ ap (remove_entry (is_at (nat_cmp id))) all
-              ∙ remove_beside nat_cmp io.id io id (other_number id io.id (other io refl)) flying.flight
-              (subst (λ (es : List (ℕ × Io)). IsStrictlySortedBy nat_cmp (keys_of es)) all (flight_in_order h)) begins.new;
-          begins = still_begins id flying.flight io begins;
+              ∙ remove_beside nat_cmp ended.io.id ended id (other_number id ended.io.id (other ended refl)) flying.flight
+              (subst (λ (es : List (ℕ × Ended)). IsStrictlySortedBy nat_cmp (keys_of es)) all (flight_in_order plan h)) begins.new;
+          begins = still_begins id flying.flight ended begins;
         }
+
+-- what is in flight has raced so far just where it has after the history
+raced_in_flight : (plan : Plan) (history : List Event) (id : ℕ) → flies history id ≡ true
+    → raced_so_far (flying_io id (flight_of plan history)) ≡ has_raced history id
+raced_in_flight plan h id flying =
+    let parts = and_parts (nat_lt id (length (started h))) (is_none (outcome_of h id)) flying in
+    let found = item_at (started h) id (ltb-true id (length (started h)) parts.0) in
+    ap raced_so_far
+    (flying_is_started plan h id
+    ∙ ap (λ (b : Bool). cond b (option_map (entry_of plan h id) (slice_get (started h) id)) None) flying
+    ∙ ap (option_map (entry_of plan h id)) found.1)
+
+-- of what began last
+pub raced_begun : (plan : Plan) (history : List Event) (id : ℕ) (ended : Ended) (flying : Flying)
+    → flying.begun ≡ Some ended
+    → ended.io.id ≡ id
+    → IsFlying plan history flying
+    → flies history id ≡ true
+    → ended.raced ≡ has_raced history id
+raced_begun plan h id ended flying is same was flying_now =
+    sym (ap raced_so_far (ap (flying_io id) (was.all ∙ ap (λ (o : Option Ended). with_begun o flying.flight) is) ∙ found))
+    ∙ raced_in_flight plan h id flying_now
+  where
+    begins : CanBegin flying.flight ended
+    begins = subst (λ (o : Option Ended). IfSome o (CanBegin flying.flight)) is was.begins
+
+    found : flying_io id (insert_entry nat_cmp flying.flight ended.io.id ended) ≡ Some ended
+    found =
+        subst (λ (n : ℕ). flying_io n (insert_entry nat_cmp flying.flight ended.io.id ended) ≡ Some ended) same
+        (put_at nat_cmp ended.io.id ended (own_number ended.io.id) flying.flight begins.new)
+
+-- and of the others
+pub raced_other_flying : (plan : Plan) (history : List Event) (id : ℕ) (flying : Flying)
+    → ((ended : Ended) → flying.begun ≡ Some ended → ended.io.id ≡ id → ⊥)
+    → IsFlying plan history flying
+    → flies history id ≡ true
+    → raced_so_far (flying_io id flying.flight) ≡ has_raced history id
+raced_other_flying plan h id flying apart was flying_now = by flying.begun apart was.all was.begins
+  where
+    by : (o : Option Ended)
+        → ((ended : Ended) → o ≡ Some ended → ended.io.id ≡ id → ⊥)
+        → flight_of plan h ≡ with_begun o flying.flight
+        → IfSome o (CanBegin flying.flight)
+        → raced_so_far (flying_io id flying.flight) ≡ has_raced h id
+    by None other all begins = sym (ap (λ (es : List (ℕ × Ended)). raced_so_far (flying_io id es)) all) ∙ raced_in_flight plan h id flying_now
+    by (Some ended) other all begins =
+        ap raced_so_far (sym (put_elsewhere nat_cmp ended.io.id ended id (other_number id ended.io.id (other ended refl)) flying.flight begins.new))
+        ∙ sym (ap (λ (es : List (ℕ × Ended)). raced_so_far (flying_io id es)) all)
+        ∙ raced_in_flight plan h id flying_now
 
 -- the log
 
@@ -235,10 +260,10 @@ log_verdict plan history worker id verdict next =
 module _ (plan : Plan) (history : List Event) (ticket : Ticket) (outcome : Outcome)
     (next : IsNext plan history (End ticket.worker ticket.id outcome)) (own : IsOwn plan history ticket)
     (log : List (WriteId × Logged)) (is : log ≡ log_of_run plan history) where
-  -- the whole end of a write
+  -- the whole end of a write that didn't race
   pub log_whole : (expected : Expected)
       → is_write ticket.kind ≡ true
-      → ended_whole (Some outcome) ≡ true
+      → (ended_whole (Some outcome) && not (has_raced history ticket.id)) ≡ true
       → expected ≡ ticket_expected ticket
       → settled log ticket.write ticket.piece expected ≡ log_of_run plan (grown history (End ticket.worker ticket.id outcome))
   log_whole expected kind whole right =
@@ -252,7 +277,7 @@ module _ (plan : Plan) (history : List Event) (ticket : Ticket) (outcome : Outco
 
   -- another end of a write
   pub log_broken : is_write ticket.kind ≡ true
-      → ended_whole (Some outcome) ≡ false
+      → (ended_whole (Some outcome) && not (has_raced history ticket.id)) ≡ false
       → unsettled log ticket.piece ≡ log_of_run plan (grown history (End ticket.worker ticket.id outcome))
   log_broken kind broken =
       let out = own_started plan history ticket own in

@@ -15,14 +15,15 @@ use Rattle.jr_model.specs.declared.tickets.Ticket.{Ticket}
 use Rattle.jr_model.specs.History.{started, started_by, flies, outcome_of, is_judged, is_judged_kind, ended_whole}
 use Rattle.jr_model.specs.Judgement.{verdict_of}
 use Rattle.jr_model.specs.Legal.{is_legal, may_happen, outcome_fits, end_fits, verdict_fits, job_says}
-use Rattle.jr_model.specs.Machine.{Appends, is_skip}
+use Rattle.jr_model.specs.Machine.{Appends, is_skip, said_of}
+use Rattle.jr_model.specs.Races.{has_raced}
 use Rattle.jr_model.specs.declared.contents.Expected.{Expected}
 use Rattle.jr_model.specs.declared.contents.Method.{Method}
 use Rattle.jr_model.specs.declared.events.Verdict.{Verdict as GivenVerdict}
 use Rattle.std.proofs.lemmas.List.Elements.{filter_map-append}
 use Rattle.jr_model.specs.Plan.{Plan, SubJob, IsNumbered, clone_of}
 use Rattle.jr_model.proofs.LegalLaws.{is_legal-more, choice_may_happen}
-use Rattle.jr_model.proofs.MachineLaws.{job_says_fits}
+use Rattle.jr_model.proofs.MachineLaws.{job_says_fits, is_said, said_fits}
 use Rattle.jr_model.specs.PlanFacts.{IsPlanned}
 use Rattle.jr_laws_steps.proofs.CountLaws.{numbered_of}
 use Rattle.jr_laws_steps.proofs.DrawnLaws.{started_fit-law}
@@ -127,8 +128,8 @@ may_end plan history t outcome own unended fits =
     (and_from (io.0.worker == t.worker) (outcome_fits outcome io.0.piece.len) (eq-eqb io.0.worker t.worker worker)
     (subst (λ (n : ℕ). outcome_fits outcome n ≡ true) (sym len) fits)))
 
-pub may_judge : (plan : Plan) (history : List Event) (t : Ticket) (by : ℕ) (bytes : List ℕ) → IsPlanned plan → is_legal plan history ≡ true → IsOwn plan history t → is_judged history t.id ≡ false → ended_whole (outcome_of history t.id) ≡ true → is_judged_kind t.kind ≡ true → length bytes ≤ t.piece.len → may_happen plan history (Verdict by t.id (verdict_of t.method t.write t.piece t.expected bytes)) ≡ true
-may_judge plan history t by bytes planned legal own unjudged whole judged short =
+pub may_judge : (plan : Plan) (history : List Event) (t : Ticket) (by : ℕ) (bytes : List ℕ) (raced : Bool) → raced ≡ has_raced history t.id → IsPlanned plan → is_legal plan history ≡ true → IsOwn plan history t → is_judged history t.id ≡ false → ended_whole (outcome_of history t.id) ≡ true → is_judged_kind t.kind ≡ true → length bytes ≤ t.piece.len → may_happen plan history (Verdict by t.id (said_of raced (verdict_of t.method t.write t.piece t.expected bytes))) ≡ true
+may_judge plan history t by bytes raced race planned legal own unjudged whole judged short =
     let io = own_started plan history t own in
     let fits = started_fit-law plan history t.id io.0 planned legal io.1 in
     let job = fits.0 in
@@ -148,8 +149,11 @@ may_judge plan history t by bytes planned legal own unjudged whole judged short 
     (ap (λ (x : Expected). verdict_of job.method s.write s.piece x bytes) expects ∙ ap (λ (m : Method). verdict_of m s.write s.piece t.expected bytes) method
     ∙ ap (λ (w : WriteId). verdict_of t.method w s.piece t.expected bytes) write ∙ ap (λ (p : Piece). verdict_of t.method t.write p t.expected bytes) piece)
     (job_says_fits (Some job) job s seed bytes refl is_check (omega (arith, short, len))) in
-    and_from (ended_whole (outcome_of history t.id) && not (is_judged history t.id)) (verdict_fits plan said (slice_get (started history) t.id))
+    let given = said_of raced said in
+    and_from (ended_whole (outcome_of history t.id) && not (is_judged history t.id)) (verdict_fits plan (has_raced history t.id) given (slice_get (started history) t.id))
     (and_from (ended_whole (outcome_of history t.id)) (not (is_judged history t.id)) whole (ap not unjudged))
-    (subst (λ (o : Option Started). verdict_fits plan said o ≡ true) (sym io.1)
-    (and_from (is_judged_kind s.kind) (job_says (clone_of plan s.write.clone) s.kind s.piece.len said) is_check
-    (subst (λ (o : Option SubJob). job_says o s.kind s.piece.len said ≡ true) (sym fits.1.planned) says)))
+    (subst (λ (r : Bool). verdict_fits plan r given (slice_get (started history) t.id) ≡ true) race
+    (subst (λ (o : Option Started). verdict_fits plan raced given o ≡ true) (sym io.1)
+    (and_from (is_judged_kind s.kind) (is_said plan raced given s) is_check
+    (said_fits plan raced s said
+    (subst (λ (o : Option SubJob). job_says o s.kind s.piece.len said ≡ true) (sym fits.1.planned) says)))))

@@ -66,23 +66,23 @@ untaken_unsettled : (h : List Event) (w : WriteId) → list_any (takes_up w) h �
 untaken_unsettled h w new =
     false_from_ne_true (is_settled h w) (λ settled. both_ways (list_any (takes_up w) h) new (settled_taken h w settled))
 
-never_taken : (job : SubJob) (h : List Event) (w : WriteId) → w.clone ≡ job.clone → TakeIn job h w → list_any (takes_up w) h ≡ false
-never_taken job h w own take =
-    let can = can_take h (pass_of job w.pass) take.draw take.may in
+never_taken : (plan : Plan) (job : SubJob) (h : List Event) (w : WriteId) → w.clone ≡ job.clone → TakeIn plan job h w → list_any (takes_up w) h ≡ false
+never_taken plan job h w own take =
+    let can = can_take plan h (pass_of job w.pass) take.draw take.may in
     subst (λ (x : WriteId). list_any (takes_up x) h ≡ false) (named job w take.draw own take.drawn)
     (not-true (list_any (takes_up (write_id (pass_of job w.pass) take.draw)) h) can.new)
 
 -- what may be checked or skipped is such a write
-pub left_where_taken : (job : SubJob) (h : List Event) (w : WriteId) → w.clone ≡ job.clone → TakeIn job h w → IsLeft job h w
-left_where_taken job h w own take =
-    let can = can_take h (pass_of job w.pass) take.draw take.may in
+pub left_where_taken : (plan : Plan) (job : SubJob) (h : List Event) (w : WriteId) → w.clone ≡ job.clone → TakeIn plan job h w → IsLeft job h w
+left_where_taken plan job h w own take =
+    let can = can_take plan h (pass_of job w.pass) take.draw take.may in
     record {
       draw = take.draw;
       drawn = take.drawn;
       writes = can.writes;
       rounds = can.rounds;
       full = (open_parts h (pass_of job w.pass) (group_index (pass_of job w.pass) take.draw.number) can.opened).full;
-      unsettled = untaken_unsettled h w (never_taken job h w own take);
+      unsettled = untaken_unsettled h w (never_taken plan job h w own take);
     }
 
 -- the current round still has it to check
@@ -105,29 +105,29 @@ left_to_check plan h job w round own left =
 
 module _ (plan : Plan) (planned : IsPlanned plan) (job : SubJob) (there : clone_of plan job.clone ≡ Some job) where
   -- what may be taken up is of the pass that the clone is in, and was issued
-  pub taken_in_pass : (h : List Event) (w : WriteId) (p : ℕ) → TakeIn job h w → IsInPass h job p → w.pass ≡ p
+  pub taken_in_pass : (h : List Event) (w : WriteId) (p : ℕ) → TakeIn plan job h w → IsInPass h job p → w.pass ≡ p
   taken_in_pass h w p take in_pass =
       elim (cases_order w.pass p) [
         | inl same ↦ same
         | inr other ↦
             elim other [
               | inl earlier ↦
-                  absurd (both_ways (may_take_up h (pass_of job w.pass) take.draw)
-                  (none_taken h job w.pass w.number take.draw take.drawn
+                  absurd (both_ways (may_take_up plan h (pass_of job w.pass) take.draw)
+                  (none_taken plan h job w.pass w.number take.draw take.drawn
                   (done_parts h (pass_of job w.pass) (finished_before h job p w.pass in_pass earlier)).closed)
                   take.may)
               | inr later ↦
-                  absurd (both_ways (may_take_up h (pass_of job w.pass) take.draw)
-                  (unbegun_not_taken h job w.pass w.number take.draw take.drawn (in_pass.after w.pass later))
+                  absurd (both_ways (may_take_up plan h (pass_of job w.pass) take.draw)
+                  (unbegun_not_taken plan h job w.pass w.number take.draw take.drawn (in_pass.after w.pass later))
                   take.may)
             ]
       ]
 
-  pub taken_was_issued : (h : List Event) (w : WriteId) → TakeIn job h w → w.number < issued_count h (pass_of job w.pass)
+  pub taken_was_issued : (h : List Event) (w : WriteId) → TakeIn plan job h w → w.number < issued_count h (pass_of job w.pass)
   taken_was_issued h w take =
       let pass = pass_of job w.pass in
       let g = group_index pass take.draw.number in
-      let can = can_take h pass take.draw take.may in
+      let can = can_take plan h pass take.draw take.may in
       let inside = in_own_group job w.pass take.draw.number take.draw (at_number job w.pass w.number take.draw take.drawn) can.writes in
       let issued = full_issued h job w.pass g take.draw (open_parts h pass g can.opened).full inside.0 inside.1 in
       omega (arith, issued, number_is job w.pass w.number take.draw take.drawn)
@@ -176,7 +176,7 @@ module _ (plan : Plan) (planned : IsPlanned plan) (job : SubJob) (there : clone_
       let same : write ≡ w = ap (λ (x : Started). x.write) (same_some s io starts) ∙ its_write in
       let clone : write.clone ≡ job.clone = ap (λ (x : WriteId). x.clone) same ∙ own in
       subst (λ (x : WriteId). IsLeft job h x) same
-      (left_where_taken job h write clone (take_in plan planned job there h write (may_probe_of plan h worker write piece may).0 clone))
+      (left_where_taken plan job h write clone (take_in plan planned job there h write (may_probe_of plan h worker write piece may).0 clone))
   left_where_probed h (Skip worker write) w io may own starts check = cc
   left_where_probed h (End worker id outcome) w io may own starts check = cc
   left_where_probed h (Verdict worker id verdict) w io may own starts check = cc
@@ -201,7 +201,7 @@ module _ (plan : Plan) (planned : IsPlanned plan) (job : SubJob) (there : clone_
       let check = and_parts (is_probe f.io.kind) (same_write f.io.write w) f.passes in
       let same : write ≡ w = eq_write write w hit in
       let clone : write.clone ≡ job.clone = ap (λ (x : WriteId). x.clone) same ∙ own in
-      let new = never_taken job h write clone (take_in plan planned job there h write (may_skip_of plan h worker write may) clone) in
+      let new = never_taken plan job h write clone (take_in plan planned job there h write (may_skip_of plan h worker write may) clone) in
       let at : slice_get (started h) f.id ≡ Some f.io =
       subst (λ (ios : List Started). slice_get ios f.id ≡ Some f.io) (started-other h e refl) f.at in
       let taken : list_any (takes_up w) h ≡ true =

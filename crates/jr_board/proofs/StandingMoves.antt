@@ -198,7 +198,7 @@ module _ (plan : Plan) (h : List Event) (job : SubJob) (s : Standing) (now : IsS
   here_of : (w : WriteId)
       → IsPlanned plan
       → clone_of plan job.clone ≡ Some job
-      → TakeIn job h w
+      → TakeIn plan job h w
       → (w.pass ≡ s.pass) × (w.number < length s.issued.items)
   here_of w planned there take =
       let pass = taken_in_pass plan planned job there h w s.pass take now.in_pass in
@@ -210,7 +210,7 @@ module _ (plan : Plan) (h : List Event) (job : SubJob) (s : Standing) (now : IsS
   taken_in_probe : (worker : ℕ) (write : WriteId) (piece : Piece)
       → IsNext plan h (Probe worker write piece)
       → clone_of plan write.clone ≡ Some job
-      → TakeIn job h write
+      → TakeIn plan job h write
   taken_in_probe worker write piece next at =
       take_in plan next.planned job (clone_there plan write.clone job next.planned at) h write
       (may_probe_of plan h worker write piece next.may).0 (clone_is plan write.clone job next.planned at)
@@ -218,7 +218,7 @@ module _ (plan : Plan) (h : List Event) (job : SubJob) (s : Standing) (now : IsS
   taken_in_skip : (worker : ℕ) (write : WriteId)
       → IsNext plan h (Skip worker write)
       → clone_of plan write.clone ≡ Some job
-      → TakeIn job h write
+      → TakeIn plan job h write
   taken_in_skip worker write next at =
       take_in plan next.planned job (clone_there plan write.clone job next.planned at) h write
       (may_skip_of plan h worker write next.may) (clone_is plan write.clone job next.planned at)
@@ -270,10 +270,10 @@ module _ (plan : Plan) (h : List Event) (job : SubJob) (s : Standing) (now : IsS
       let own = clone_is plan write.clone job next.planned at in
       let there = clone_there plan write.clone job next.planned at in
       let take = taken_in_skip worker write next at in
-      let can = can_take h (pass_of job write.pass) take.draw take.may in
+      let can = can_take plan h (pass_of job write.pass) take.draw take.may in
       left_here write next.planned next.legal there own (skipped_here worker write next at).0
       (not-true (is_halted h job) can.going) settled
-      (left_where_taken job h write own take)
+      (left_where_taken plan job h write own take)
 
   flying : (id : ℕ) → flies h id ≡ true → outcome_of h id ≡ None
   flying id going = none_is (outcome_of h id) (and_parts (nat_lt id (length (started h))) (is_none (outcome_of h id)) going).1

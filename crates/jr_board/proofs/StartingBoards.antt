@@ -46,7 +46,7 @@ pub board_grows : (plan : Plan) (before after : Board) (event : Event)
     → may_happen plan before.history.items event ≡ true
     → after.history.items ≡ grown before.history.items event
     → IsHanded plan (grown before.history.items event) after.tickets
-    → IsFlying (grown before.history.items event) after.flying
+    → IsFlying plan (grown before.history.items event) after.flying
     → after.log ≡ log_of_run plan (grown before.history.items event)
     → IsTallied plan (grown before.history.items event) after.tallies
     → AreStanding plan (grown before.history.items event) after.standings.items
@@ -58,7 +58,7 @@ board_grows plan before after event is may history handed flying log tallies sta
       legal =
           subst (λ (h : List Event). is_legal plan h ≡ true) same (is_legal-more plan before.history.items event is.legal may);
       tickets = subst (λ (h : List Event). IsHanded plan h after.tickets) same handed;
-      flying = subst (λ (h : List Event). IsFlying h after.flying) same flying;
+      flying = subst (λ (h : List Event). IsFlying plan h after.flying) same flying;
       log = subst (λ (h : List Event). after.log ≡ log_of_run plan h) same log;
       tallies = subst (λ (h : List Event). IsTallied plan h after.tallies) same tallies;
       standings = subst (λ (h : List Event). AreStanding plan h after.standings.items) same standings;

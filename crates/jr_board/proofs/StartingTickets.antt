@@ -23,7 +23,7 @@ use Rattle.jr_model.specs.History.{kind_for}
 use Rattle.jr_model.specs.LastWrite.{is_intact}
 use Rattle.jr_model.specs.Legal.{may_happen, may_issue, may_take_up, is_this_probe, step_of, step_of_draw, step_of_clone}
 use Rattle.jr_model.specs.Machine.{seed_of_draw}
-use Rattle.jr_model.specs.Plan.{Plan, SubJob, clone_of, issued_as}
+use Rattle.jr_model.specs.Plan.{Plan, SubJob, clone_of, issued_as, declines_of}
 use Rattle.jr_model.specs.Rounds.{pass_of, write_id}
 use Rattle.jr_writes.specs.declared.logs.Logged.{Logged}
 use Rattle.jr_writes.specs.LoggedWrites.{logged}
@@ -171,14 +171,21 @@ issue_ticket plan n worker dir kind write piece id seed method job planned kinds
     (sym (nothing_expected dir (method_of (clone_of plan write.clone)) io (seed_of plan io)))
 
 -- and what flies of it
-pub issue_io : (n worker : ℕ) (dir : IssueKind) (way : Dir) (write : WriteId) (piece : Piece) (id : ℕ) (io : Io)
-    → io ≡ record { id = id; clone = write.clone; piece = piece; dir = way }
-    → way ≡ dir_of (kind_for dir)
+pub issue_io : (plan : Plan) (n worker : ℕ) (kind : TicketKind) (way : Dir) (declines : Bool) (write : WriteId) (piece : Piece) (id : ℕ) (io : Io)
+    → io ≡ record { id = id; clone = write.clone; piece = piece; dir = way; declines = declines }
+    → way ≡ dir_of kind
+    → declines ≡ declines_of (clone_of plan write.clone)
     → id ≡ n
-    → io ≡ io_of n (start_of worker (kind_for dir) write piece)
-issue_io n worker dir way write piece id io is ways same =
-    let made : ℕ → Dir → Io = λ (i : ℕ). λ (d : Dir). record { id = i; clone = write.clone; piece = piece; dir = d } in
-    is ∙ ap (λ (i : ℕ). made i way) same ∙ ap (made n) ways
+    → io ≡ io_of plan n (start_of worker kind write piece)
+issue_io plan n worker kind way declines write piece id io is ways waits same =
+    let made : ℕ → Dir → Bool → Io =
+    λ (i : ℕ). λ (d : Dir). λ (b : Bool). record { id = i; clone = write.clone; piece = piece; dir = d; declines = b } in
+    is ∙ ap (λ (i : ℕ). made i way declines) same ∙ ap (λ (d : Dir). made n d declines) ways ∙ ap (made n (dir_of kind)) waits
+
+-- whether a planned clone declines
+pub declines_planned : (plan : Plan) (c : ℕ) (job : SubJob) (declines : Bool) → clone_of plan c ≡ Some job → declines ≡ job.declines
+    → declines ≡ declines_of (clone_of plan c)
+declines_planned plan c job declines planned is = is ∙ sym (ap declines_of planned)
 
 -- a write that is checked is intact
 
@@ -202,7 +209,7 @@ probe_intact plan history worker write piece job draw named may =
     sym (ap (λ (o : Option SubJob). is_this_probe write piece (step_of_clone plan history worker write o)) named.planned
     ∙ ap (λ (o : Option Draw). is_this_probe write piece (step_of_draw plan history worker pass o)) named.drawn) ∙ may in
     subst (λ (x : WriteId). is_intact history x draw.piece ≡ true) named.name
-    (intact_if (is_intact history w draw.piece) (may_take_up history pass draw) (may_issue plan history pass draw)
+    (intact_if (is_intact history w draw.piece) (may_take_up plan history pass draw) (may_issue plan history pass draw)
     worker (issued_as job draw.dir) w write draw.piece piece step)
 
 -- what an entry of the log is judged by, if there is one

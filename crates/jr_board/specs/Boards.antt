@@ -16,7 +16,7 @@ pub record IsBoard (plan : Plan) (board : Board) : Type 0 where
   pub planned : IsPlanned plan
   pub legal : is_legal plan board.history.items ≡ true
   pub tickets : IsHanded plan board.history.items board.tickets
-  pub flying : IsFlying board.history.items board.flying
+  pub flying : IsFlying plan board.history.items board.flying
   pub log : board.log ≡ log_of_run plan board.history.items
   pub tallies : IsTallied plan board.history.items board.tallies
   pub standings : AreStanding plan board.history.items board.standings.items

@@ -4,23 +4,23 @@ use Rattle.std.specs.BTreeMap.{insert_entry}
 use Rattle.std.specs.Ordering.{nat_cmp}
 use Rattle.jr_model.specs.declared.events.Event.{Event}
 use Rattle.jr_model.specs.Tickets.{piece_fits}
-use Rattle.jr_flight.specs.declared.ios.Io.{Io}
-use Rattle.jr_flight.specs.Flights.{flying_io, is_clear}
+use Rattle.jr_model.specs.Plan.{Plan}
+use Rattle.jr_flight.specs.declared.ios.Ended.{Ended}
+use Rattle.jr_flight.specs.Flights.{flying_io}
 use Rattle.jr_laws_log.specs.Flying.{flight_of}
 use Rattle.jr_board.specs.declared.flying.Flying.{Flying}
 
 -- with this I/O, if there is one
-abbrev pub with_begun : Option Io → List (ℕ × Io) → List (ℕ × Io)
+abbrev pub with_begun : Option Ended → List (ℕ × Ended) → List (ℕ × Ended)
 with_begun None entries = entries
-with_begun (Some io) entries = insert_entry nat_cmp entries io.id io
+with_begun (Some ended) entries = insert_entry nat_cmp entries ended.io.id ended
 
--- the I/O can be put to what is in flight: its number is new, nothing bars it, and it is a piece of whole blocks
-pub record CanBegin (entries : List (ℕ × Io)) (io : Io) : Type 0 where
-  pub new : flying_io io.id entries ≡ None
-  pub clear : is_clear io.dir io.piece entries ≡ true
-  pub fits : piece_fits io.piece ≡ true
+-- the I/O can be put to what is in flight: its number is new, and it is a piece of whole blocks
+pub record CanBegin (entries : List (ℕ × Ended)) (ended : Ended) : Type 0 where
+  pub new : flying_io ended.io.id entries ≡ None
+  pub fits : piece_fits ended.io.piece ≡ true
 
 -- these are in flight after the history
-pub record IsFlying (history : List Event) (flying : Flying) : Type 0 where
-  pub all : flight_of history ≡ with_begun flying.begun flying.flight
+pub record IsFlying (plan : Plan) (history : List Event) (flying : Flying) : Type 0 where
+  pub all : flight_of plan history ≡ with_begun flying.begun flying.flight
   pub begins : IfSome flying.begun (CanBegin flying.flight)

@@ -54,7 +54,7 @@ fn step_of_clone(plan: &Plan, board: &Board, phase: u32, clone: usize, worker: u
         if counts.issues > 0 {
             return None;
         }
-        return round_step(plan, board, standing, worker);
+        return round_step(plan, board, standing, worker, job.declines());
     }
     if job.phase() > phase {
         return None;
@@ -63,19 +63,25 @@ fn step_of_clone(plan: &Plan, board: &Board, phase: u32, clone: usize, worker: u
 }
 
 // The check or skip of the first write of a clone's round that nothing bars and that wasn't taken up.
-fn round_step(plan: &Plan, board: &Board, standing: &Standing, worker: u32) -> Option<Event>
+fn round_step(
+    plan: &Plan,
+    board: &Board,
+    standing: &Standing,
+    worker: u32,
+    declines: bool,
+) -> Option<Event>
     requires board { IsBoard plan.now board.now }
     requires ready { IsReady plan.now board.now }
     requires settled { is_settled standing.now.rounds ≡ true }
     ensures { (clone : ℕ) (job : Clone) → clone_of plan.now clone ≡ Some job
         → slice_get board.now.standings.items clone ≡ Some standing.now
-        → has_rounds job ≡ true → is_halted board.now.history.items job ≡ false
+        → has_rounds job ≡ true → declines ≡ job.declines → is_halted board.now.history.items job ≡ false
         → is_under_way (current_round job board.now.history.items) ≡ true
-        → result ≡ first_given (take_up_write board.now.history.items worker job) (current_round job board.now.history.items).to_check }
+        → result ≡ first_given (take_up_write plan.now board.now.history.items worker job) (current_round job board.now.history.items).to_check }
 {
     let mut next = standing.rounds.next_check();
     while let Some(write) = next {
-        let step = take_up(plan, board, standing, worker, write);
+        let step = take_up(plan, board, standing, worker, declines, write);
         if step.is_some() {
             return step;
         }
@@ -90,22 +96,23 @@ fn take_up(
     board: &Board,
     standing: &Standing,
     worker: u32,
+    declines: bool,
     write: WriteId,
 ) -> Option<Event>
     requires board { IsBoard plan.now board.now }
     requires ready { IsReady plan.now board.now }
     ensures { (clone : ℕ) (job : Clone) → clone_of plan.now clone ≡ Some job
         → slice_get board.now.standings.items clone ≡ Some standing.now
-        → has_rounds job ≡ true → is_halted board.now.history.items job ≡ false
+        → has_rounds job ≡ true → declines ≡ job.declines → is_halted board.now.history.items job ≡ false
         → list_any (same_write write) (current_round job board.now.history.items).to_check ≡ true
-        → result ≡ take_up_write board.now.history.items worker job write }
+        → result ≡ take_up_write plan.now board.now.history.items worker job write }
 {
     let issued = *standing.issued.get(write.number as usize)?;
     if issued.is_taken_up {
         return None;
     }
     let piece = board.tickets.piece(issued.id)?;
-    if !board.flying.is_clear(&piece, Dir::Read) {
+    if !board.flying.is_clear(&piece, Dir::Read, declines) {
         return None;
     }
     if board.log.intact(&write) {
@@ -170,12 +177,13 @@ fn issue_of(
         → result ≡ issue_of plan.now board.now.history.items worker (pass_of job pass) draw }
 {
     let draw = draw?;
-    if !board.flying.is_clear(&draw.piece, draw.dir) {
+    let job = plan.clone_at(clone as usize);
+    if !board.flying.is_clear(&draw.piece, draw.dir, job.declines()) {
         return None;
     }
     Some(Event::Issue {
         worker,
-        kind: plan.clone_at(clone as usize).issued_as(draw.dir),
+        kind: job.issued_as(draw.dir),
         write: WriteId {
             clone,
             pass,

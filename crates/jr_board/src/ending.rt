@@ -40,7 +40,8 @@ pub fn end(
     let clone = ticket.write.clone as usize;
     board.history.reserve(1)?;
     board.standings[clone].rounds.settle()?;
-    log_end(&mut board.log, ticket, outcome, expected)?;
+    let raced = board.flying.has_raced(ticket.id);
+    log_end(&mut board.log, ticket, outcome, raced, expected)?;
     board.history.push_reserved(Event::End {
         worker: ticket.worker,
         io: ticket.id,
@@ -48,7 +49,7 @@ pub fn end(
     });
     let is_halted = board.tallies.counts[clone].is_halted;
     check_off(&mut board.standings[clone], ticket, outcome, is_halted);
-    board.tickets.end(ticket.id, outcome);
+    board.tickets.end(ticket.id, outcome, raced);
     board.flying.end(ticket.id);
     board
         .tallies

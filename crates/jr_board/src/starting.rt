@@ -78,6 +78,7 @@ pub(crate) fn issue(
         clone: write.clone,
         piece,
         dir: dir_for(kind),
+        declines: job.declines(),
     });
     board.tallies.issued(clone);
     ticket
@@ -103,6 +104,7 @@ pub(crate) fn probe(
 {
     plan.facts();
     let clone = write.clone as usize;
+    let job = plan.clone_at(clone);
     let id = board.tickets.count() as u32;
     let ticket = Ticket {
         id,
@@ -111,7 +113,7 @@ pub(crate) fn probe(
         write,
         piece,
         seed: seed_of(board, write),
-        method: plan.clone_at(clone).method(),
+        method: job.method(),
         expected: board
             .log
             .expected(&write)
@@ -129,6 +131,7 @@ pub(crate) fn probe(
         clone: write.clone,
         piece,
         dir: Dir::Read,
+        declines: job.declines(),
     });
     board.tallies.probed(clone);
     board.standings[clone].take_up(write.number);

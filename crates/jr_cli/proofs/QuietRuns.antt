@@ -14,12 +14,13 @@ use Rattle.jr_model.specs.declared.totals.Totals.{Totals}
 use Rattle.jr_model.specs.History.{started, flies, outcome_of, is_judged, ended_whole, is_of_clone}
 use Rattle.jr_model.specs.Legal.{is_legal, is_complete, is_io_of, is_fault, is_bad, end_fits, verdict_fits}
 use Rattle.jr_model.specs.Plan.{Plan, SubJob}
+use Rattle.jr_model.specs.Races.{has_raced}
 use Rattle.jr_model.specs.Report.{all_totals}
 use Rattle.jr_model.specs.Totals.{is_verdict_of, is_fault_of, totals_of}
 use Rattle.jr_model.proofs.LegalLaws.{started_planned}
 use Rattle.jr_model.specs.PlanFacts.{IsPlanned}
-use Rattle.jr_laws_quiet.specs.Quiet.{is_calm, is_quiet}
-use Rattle.jr_laws_quiet.proofs.Reports.{quiet_run}
+use Rattle.jr_laws_quiet.specs.Quiet.{NothingRaced, is_calm, is_quiet}
+use Rattle.jr_laws_quiet.proofs.Reports.{quiet_run_unraced}
 use Rattle.jr_laws_steps.proofs.StartedLemmas.{started_stays, middle_may_happen}
 use Rattle.jr_cli.specs.Executed.{IsReported, IsQuietlyReported}
 use Rattle.jr_cli.specs.Status.{is_unclean, status_of}
@@ -29,9 +30,9 @@ ended_there : (worker : ℕ) (outcome : Outcome) (io : Option Started) → end_f
 ended_there worker outcome None h = cc
 ended_there worker outcome (Some s) h = (s, refl)
 
-judged_there : (plan : Plan) (verdict : GivenVerdict) (io : Option Started) → verdict_fits plan verdict io ≡ true → (s : Started) × (io ≡ Some s)
-judged_there plan verdict None h = cc
-judged_there plan verdict (Some s) h = (s, refl)
+judged_there : (plan : Plan) (raced : Bool) (verdict : GivenVerdict) (io : Option Started) → verdict_fits plan raced verdict io ≡ true → (s : Started) × (io ≡ Some s)
+judged_there plan raced verdict None h = cc
+judged_there plan raced verdict (Some s) h = (s, refl)
 
 no_one : (b : Bool) → ◌≡◌ {A = ℕ} (cond b 1 0) 0 → b ≡ false
 no_one true h = cc
@@ -102,8 +103,8 @@ module _ (plan : Plan) (history : List Event) (planned : IsPlanned plan) (legal 
     calm_at (Verdict worker io verdict) split =
         let e = Verdict worker io verdict in
         let may = middle_may_happen plan [] before after e (subst (λ (all : List Event). is_legal plan all ≡ true) split legal) in
-        let fits = and_parts (ended_whole (outcome_of before io) && not (is_judged before io)) (verdict_fits plan verdict (slice_get (started before) io)) may in
-        let s = judged_there plan verdict (slice_get (started before) io) fits.1 in
+        let fits = and_parts (ended_whole (outcome_of before io) && not (is_judged before io)) (verdict_fits plan (has_raced before io) verdict (slice_get (started before) io)) may in
+        let s = judged_there plan (has_raced before io) verdict (slice_get (started before) io) fits.1 in
         let c = s.0.write.clone in
         let there = in_all e io s.0 split s.1 in
         let parts = or_parts (nat_lt 0 (totals_of history c).bad) (nat_lt 0 (totals_of history c).faults) (clean_clone io s.0 there) in
@@ -136,7 +137,7 @@ reported_on found plan kept history blank written status same_plan same_history 
     (subst (λ (p : Plan). IsReported p kept blank written status) same_plan reported)
 
 -- so what is reported is the quiet report
-pub quietly_reported : (plan : Plan) (history : List Event) (blank written : Option (List ℕ)) (status : ℕ) → IsPlanned plan → is_legal plan history ≡ true → is_complete plan history ≡ true → IsReported plan history blank written status → IsQuietlyReported plan blank written status
-quietly_reported plan history blank written status planned legal complete reported apart clean =
+pub quietly_reported : (plan : Plan) (history : List Event) (blank written : Option (List ℕ)) (status : ℕ) → IsPlanned plan → NothingRaced history → is_legal plan history ≡ true → is_complete plan history ≡ true → IsReported plan history blank written status → IsQuietlyReported plan blank written status
+quietly_reported plan history blank written status planned raceless legal complete reported apart clean =
     let quiet = quiet_status plan history planned legal (sym reported.ends ∙ clean) in
-    subst (λ (text : List ℕ). Appends blank written text) (quiet_run plan history planned apart legal complete quiet) reported.report
+    subst (λ (text : List ℕ). Appends blank written text) (quiet_run_unraced plan history planned raceless apart legal complete quiet) reported.report

@@ -1,10 +1,11 @@
-ghost use Rattle.std.specs.Prelude.{◌≡◌, ◌⊎◌, ◌<◌, ◌≤◌, ◌^◌, [], false, not, map, None, Err, IfOk, IfErr, IfSome, IsOkAnd, OnOk};
+ghost use Rattle.std.specs.Prelude.{◌≡◌, ◌⊎◌, ◌<◌, ◌≤◌, ◌^◌, [], true, false, not, map, None, Err, IfOk, IfErr, IfSome, IsOkAnd, OnOk};
 ghost use Rattle.std.specs.List.{list_any};
 ghost use Rattle.std.specs.Option.{option_copied};
 ghost use Rattle.std.specs.Io.KnownBytes.{Appends};
 ghost use Rattle.jr_model.specs.Legal.{is_complete};
 ghost use Rattle.jr_model.specs.Report.{totals_lines};
 ghost use Rattle.jr_model.specs.Serial.{serial_history};
+ghost use Rattle.jr_laws_quiet.specs.Quiet.{none_declines};
 ghost use Rattle.jr_laws_bytes.specs.Clean.{has_bad};
 ghost use Rattle.jr_crew.specs.Runs.{IsFresh};
 ghost use Rattle.jr_faults.specs.Faults.{AreFaultsOf};
@@ -119,9 +120,10 @@ pub fn execute<R: Threads + Wait + Sync, W: Write, V: Write>(
         × IsDeskOf plan history ended.desk)) }
     ensures unasked { watch.entry.stop ≡ None → IfOk result (λ ended. ended.is_interrupted ≡ false) }
 
-    // So the report is the same for every schedule, where the clones have files of their own and nothing goes wrong.
+    // So the report is the same for every schedule, where no clone declines that overlapping I/O waits, the clones have files of
+    // their own, and nothing goes wrong.
     ensures quiet { IfOk result (λ ended. ended.is_interrupted ≡ false
-        → IsQuietlyReported plan (V.contents out.old) (V.contents out.new) ended.found) }
+        → none_declines plan ≡ true → IsQuietlyReported plan (V.contents out.old) (V.contents out.new) ended.found) }
     ensures none { engines.items ≡ [] → result ≡ Err (CliFault.Run RunFault.NoEngine) }
     ensures no_engine { IfErr result (λ fault. fault ≡ CliFault.Run RunFault.NoEngine → engines.items ≡ []) }
     ensures thread { IfErr result (λ fault. fault ≡ CliFault.Run RunFault.Thread → 0 < plan.verifiers) }

@@ -19,6 +19,7 @@ use Rattle.jr_model.specs.Legal.{is_legal, may_happen}
 use Rattle.jr_model.specs.Plan.{Plan}
 use Rattle.jr_model.specs.Replies.{EngineState}
 use Rattle.jr_model.proofs.LegalLaws.{is_legal-more}
+use Rattle.jr_model.proofs.RaceLaws.{raced_other}
 use Rattle.jr_model.proofs.SerialLaws.{first_given-append, any-append}
 use Rattle.jr_model.specs.PlanFacts.{IsPlanned}
 use Rattle.jr_engines.specs.Answers.{AnswerParts, Answers}
@@ -32,6 +33,7 @@ use Rattle.jr_desk.proofs.Refusing.{judged_probe}
 use Rattle.jr_crew.specs.Turns.{ended_by, AreSettled}
 use Rattle.jr_crew.proofs.Chosen.{chosen_unended, chosen_unjudged, chosen_own}
 use Rattle.jr_crew.proofs.Settling.{settled_next}
+use Rattle.jr_crew.proofs.Unraced.{chosen_unraced}
 
 -- the ticket of what is started next
 abbrev pub next_of : Plan → List Event → Started → Ticket
@@ -48,6 +50,12 @@ judged_with t outcome bytes =
 
 abbrev pub ended_with : Ticket → Outcome → List ℕ → List Event
 ended_with t outcome bytes = End t.worker t.id outcome ∷ judged_with t outcome bytes
+
+-- which starts nothing
+pub ended_starts_none : (t : Ticket) (outcome : Outcome) (bytes : List ℕ) → started (ended_with t outcome bytes) ≡ []
+ended_starts_none t outcome bytes =
+    cond_both (is_whole_check t.kind outcome) (Verdict 0 t.id (verdict_of t.method t.write t.piece t.expected bytes) ∷ []) []
+    (λ (events : List Event). started events ≡ []) (λ h. refl) (λ h. refl)
 
 pub ended_by-with : (old new : EngineState) (t : Ticket) (buffer : List ℕ) (answer : AnswerParts) → Answers old t buffer answer new → ended_by answer ≡ ended_with t answer.outcome answer.bytes
 ended_by-with old new t buffer answer asked = ap (λ (x : Ticket). ended_with x answer.outcome answer.bytes) asked.ticket
@@ -101,39 +109,36 @@ module _ (plan : Plan) (history begun : List Event) (io : Started) (engine next 
       (may_end plan begun t answer.outcome (chosen_own plan 0 history begun io planned legal chosen)
       (ap is_none (chosen_unended plan 0 history begun io planned legal chosen)) asked.fits)
 
-  verdict_legal : is_whole_check io.kind answer.outcome ≡ true → may_happen plan (begun ++ End io.worker (length (started history)) answer.outcome ∷ []) (Verdict 0 (length (started history)) (verdict_of (next_of plan history io).method (next_of plan history io).write (next_of plan history io).piece (next_of plan history io).expected answer.bytes)) ≡ true
-  verdict_legal whole =
+  verdict_legal : AreSettled history → is_whole_check io.kind answer.outcome ≡ true → may_happen plan (begun ++ End io.worker (length (started history)) answer.outcome ∷ []) (Verdict 0 (length (started history)) (verdict_of (next_of plan history io).method (next_of plan history io).write (next_of plan history io).piece (next_of plan history io).expected answer.bytes)) ≡ true
+  verdict_legal settled whole =
       let t = next_of plan history io in
       let ended = begun ++ End t.worker t.id answer.outcome ∷ [] in
       let judged : is_judged_kind io.kind ≡ true = judged_probe io.kind answer.outcome whole in
       let room : length answer.bytes ≡ t.piece.len = asked.room ∙ judged_room io.kind t io.piece.len judged in
-      may_judge plan ended t 0 answer.bytes planned ended_legal
+      may_judge plan ended t 0 answer.bytes false (sym (raced_other begun (End t.worker t.id answer.outcome) t.id refl ∙ chosen_unraced plan 0 history begun io chosen settled)) planned ended_legal
       (own_then plan begun t t.worker t.id answer.outcome (chosen_own plan 0 history begun io planned legal chosen))
       (unjudged_then begun t.worker t.id t.id answer.outcome (chosen_unjudged plan 0 history begun io planned legal chosen))
       (ap ended_whole (outcome_then begun t.worker t.id answer.outcome [] (chosen_unended plan 0 history begun io planned legal chosen)) ∙ whole_ended io.kind answer.outcome whole)
       judged (omega (arith, room))
 
   -- the longer history is legal
-  pub turn_legal : is_legal plan (begun ++ ended_with (next_of plan history io) answer.outcome answer.bytes) ≡ true
-  turn_legal =
+  pub turn_legal : AreSettled history → is_legal plan (begun ++ ended_with (next_of plan history io) answer.outcome answer.bytes) ≡ true
+  turn_legal settled =
       let t = next_of plan history io in
       let e = End t.worker t.id answer.outcome in
       let said = Verdict 0 t.id (verdict_of t.method t.write t.piece t.expected answer.bytes) in
       cond_both (is_whole_check io.kind answer.outcome) (said ∷ []) [] (λ (events : List Event). is_legal plan (begun ++ e ∷ events) ≡ true)
       (λ (whole : is_whole_check io.kind answer.outcome ≡ true).
       subst (λ (all : List Event). is_legal plan all ≡ true) (append_assoc begun (e ∷ []) (said ∷ []))
-      (is_legal-more plan (begun ++ e ∷ []) said ended_legal (verdict_legal whole)))
+      (is_legal-more plan (begun ++ e ∷ []) said ended_legal (verdict_legal settled whole)))
       (λ h. ended_legal)
 
   -- one more was started
   pub turn_started : started (begun ++ ended_with (next_of plan history io) answer.outcome answer.bytes) ≡ started history ++ io ∷ []
   turn_started =
       let t = next_of plan history io in
-      let nothing : started (judged_with t answer.outcome answer.bytes) ≡ [] =
-      cond_both (is_whole_check io.kind answer.outcome) (Verdict 0 t.id (verdict_of t.method t.write t.piece t.expected answer.bytes) ∷ []) []
-      (λ (events : List Event). started events ≡ []) (λ h. refl) (λ h. refl) in
       started-append begun (ended_with t answer.outcome answer.bytes)
-      ∙ ap (λ (ios : List Started). started begun ++ ios) nothing
+      ∙ ap (λ (ios : List Started). started begun ++ ios) (ended_starts_none t answer.outcome answer.bytes)
       ∙ append-nil (started begun)
       ∙ chosen_started plan 0 history begun (Some io) chosen
 

@@ -9,6 +9,7 @@ use Rattle.jr_model.specs.History.{started, started_by}
 use Rattle.jr_model.specs.Legal.{is_legal}
 use Rattle.jr_model.specs.Machine.{Appends, is_skip}
 use Rattle.jr_model.specs.Plan.{Plan}
+use Rattle.jr_model.specs.Races.{has_raced}
 use Rattle.jr_model.specs.Replies.{FileBytes}
 use Rattle.jr_model.specs.Serial.{carried_out, followed_by, goes_on, memory_after, serial_after, serial_history}
 use Rattle.jr_model.proofs.LegalLaws.{is_legal-more, choice_may_happen}
@@ -130,7 +131,7 @@ holds_appends plan before (e ∷ events) memory planned legal appends holds =
     let numbered = numbered_of plan planned in
     let harmless = harmless_choice plan before 0 e numbered appends.0 in
     let next : HoldsLastWrites plan (before ++ e ∷ []) memory =
-    holds_on plan before memory e legal (λ file block last. harmless.keeps (started before) file block last) holds in
+    holds_on plan before memory e legal (λ file block last. harmless.keeps (has_raced before) (started before) file block last) holds in
     by_is_skip e (Appends plan 0 (before ++ e ∷ []) events) (events ≡ []) (HoldsLastWrites plan (before ++ e ∷ events) memory) appends.1
     (λ (skip : is_skip e ≡ true) (more : Appends plan 0 (before ++ e ∷ []) events).
     subst (λ (h : List Event). HoldsLastWrites plan h memory) (append_assoc before (e ∷ []) events)

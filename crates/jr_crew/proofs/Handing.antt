@@ -1,6 +1,7 @@
 -- What a take hands to a worker that waits for nobody: an open ticket, and never a wait.
 use Rattle.std.proofs.Common.{◌≡◌, List, length, Bool, true, false, sym, ◌∙◌, ap, subst, append-nil}
 use Rattle.std.specs.Prelude.{Option, Some, None}
+use Rattle.jr_model.specs.Races.{has_raced}
 use Rattle.jr_model.specs.declared.events.Event.{Event}
 use Rattle.jr_model.specs.declared.events.Started.{Started}
 use Rattle.jr_model.specs.declared.tickets.Ticket.{Ticket}
@@ -19,6 +20,7 @@ use Rattle.jr_board.specs.Takes.{IsChosen, IsTaken, WaitsRightly, handing, answe
 use Rattle.jr_board.proofs.Keeping.{chosen_started}
 use Rattle.jr_crew.specs.Turns.{AreSettled, IsBetweenTurns, IsOpen}
 use Rattle.jr_crew.proofs.Chosen.{chosen_unended, chosen_unjudged, chosen_own}
+use Rattle.jr_crew.proofs.Unraced.{chosen_unraced}
 use Rattle.jr_crew.proofs.Settling.{settled_still, settled_rests, settled_judged}
 
 no_wait : (kind : TicketKind) (t : Ticket) → take.Wait ≡ handing kind t → ⊥
@@ -93,5 +95,8 @@ handed_open desk after t between handed plan stop fits expects =
       unjudged =
           ap (λ (x : Ticket). is_judged after.history x.id) is
           ∙ chosen_unjudged desk.plan 0 desk.history after.history io between.planned between.legal chosen;
+      unraced =
+          ap (λ (x : Ticket). has_raced after.history x.id) is
+          ∙ chosen_unraced desk.plan 0 desk.history after.history io chosen between.settled;
       going = stop ∙ between.going;
     }

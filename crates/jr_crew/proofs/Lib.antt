@@ -18,3 +18,4 @@ pub mod Stopping
 pub mod Turning
 pub mod Tying
 pub mod Worked
+mod Unraced

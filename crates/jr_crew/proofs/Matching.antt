@@ -16,7 +16,7 @@ use Rattle.jr_model.specs.declared.tickets.TicketKind.TheVariants as ticket
 use Rattle.jr_model.specs.declared.workloads.Draw.{Draw}
 use Rattle.jr_model.specs.History.{started, end_of, outcome_of, ended_whole, is_judged, flies}
 use Rattle.jr_model.specs.Judgement.{verdict_of}
-use Rattle.jr_model.specs.Legal.{is_legal, legal_after, may_happen, end_fits, outcome_fits}
+use Rattle.jr_model.specs.Legal.{is_legal, is_void, legal_after, may_happen, end_fits, outcome_fits}
 use Rattle.jr_model.specs.Machine.{verdict_on, bytes_read}
 use Rattle.jr_model.specs.Plan.{Plan, SubJob}
 use Rattle.jr_model.specs.Replies.{EngineState, FileBytes, covers, asked, next_reply}
@@ -45,10 +45,10 @@ use Rattle.jr_crew.proofs.Calling.{IsCall, is_call}
 use Rattle.jr_crew.proofs.Turning.{asked_room_for}
 use Rattle.jr_crew.proofs.Tying.{IsNextCall}
 
--- where workers judge, each verdict on what this worker has ended is that on the bytes that were kept
+-- where workers judge, each verdict on what this worker has ended, where it didn't race, is that on the bytes that were kept
 abbrev pub AreSaidOn : Plan → Bool → List Event → ℕ → List Event → List (ℕ × List ℕ) → Type 0
 AreSaidOn plan inline history worker before kept =
-    inline ≡ true → (io : ℕ) (s : Started) (v : GivenVerdict) → slice_get (started history) io ≡ Some s → s.worker ≡ worker → ended_whole (outcome_of before io) ≡ true → verdict_in history io ≡ Some v → verdict_on plan s (bytes_read kept io) ≡ v
+    inline ≡ true → (io : ℕ) (s : Started) (v : GivenVerdict) → slice_get (started history) io ≡ Some s → s.worker ≡ worker → ended_whole (outcome_of before io) ≡ true → verdict_in history io ≡ Some v → is_void v ≡ false → verdict_on plan s (bytes_read kept io) ≡ v
 
 or_nothing : {X : Type 0} (o : Option X) → option_or o None ≡ o
 or_nothing None = refl
@@ -62,8 +62,8 @@ outcome_other before e io none =
     ∙ or_nothing (outcome_of before io)
 
 said_other : (plan : Plan) (inline : Bool) (history : List Event) (worker : ℕ) (before : List Event) (e : Event) (kept : List (ℕ × List ℕ)) → ((io : ℕ) → end_of io e ≡ None) → AreSaidOn plan inline history worker before kept → AreSaidOn plan inline history worker (before ++ e ∷ []) kept
-said_other plan inline history worker before e kept none said so io s v at by ended given =
-    said so io s v at by (ap ended_whole (sym (outcome_other before e io (none io))) ∙ ended) given
+said_other plan inline history worker before e kept none said so io s v at by ended given plain =
+    said so io s v at by (ap ended_whole (sym (outcome_other before e io (none io))) ∙ ended) given plain
 
 -- what has no verdict has none
 unjudged_none : (before : List Event) (io : ℕ) → is_judged before io ≡ false → verdict_in before io ≡ None
@@ -121,6 +121,10 @@ ended_front before w id io outcome other ended =
 differs : (a b : ℕ) → (a == b) ≡ false → a ≡ b → ⊥
 differs a b other same = let so = eq-eqb a b same in cc
 
+not_true : (b : Bool) → not b ≡ true → b ≡ false
+not_true false h = refl
+not_true true h = cc
+
 -- where it is so
 only_if : (b : Bool) (A : Type 0) → (b ≡ true → A) → MatchBool b A (Unit {0})
 only_if true A f = f refl
@@ -149,8 +153,10 @@ module _ (plan : Plan) (inline : Bool) (history : List Event) (worker : ℕ) (pl
       ∙ ap (λ (b : Bool). option_or (cond b (Some v) None) (verdict_in events io)) (eq-eqb io io refl) in (
         s.0,
         s.1,
-        only_if (s.0.worker == worker) (verdict_on plan s.0 (bytes_read kept io) ≡ v)
-            (λ (mine : (s.0.worker == worker) ≡ true). said so io s.0 v s.1 (eqb-true s.0.worker worker mine) whole given),
+        only_if (s.0.worker == worker && not (is_void v)) (verdict_on plan s.0 (bytes_read kept io) ≡ v)
+            (λ (mine : (s.0.worker == worker && not (is_void v)) ≡ true).
+            let parts = and_parts (s.0.worker == worker) (not (is_void v)) mine in
+            said so io s.0 v s.1 (eqb-true s.0.worker worker parts.0) whole given (not_true (is_void v) parts.1)),
       )
 
   -- one call of this worker's engine
@@ -186,20 +192,21 @@ module _ (plan : Plan) (inline : Bool) (history : List Event) (worker : ℕ) (pl
     next_kept = (called plan (known_engine engine kept) io s.kind s).engine.read_back
 
     -- its verdict is that on the bytes that it gave
-    said_here : inline ≡ true → (v : GivenVerdict) → verdict_in history io ≡ Some v → verdict_on plan s (bytes_read next_kept io) ≡ v
-    said_here so v given =
+    said_here : inline ≡ true → (v : GivenVerdict) → verdict_in history io ≡ Some v → is_void v ≡ false → verdict_on plan s (bytes_read next_kept io) ≡ v
+    said_here so v given plain =
         let job = drawn in
-        let noted : verdict_in history io ≡ cond (is_to_judge call.answer) (Some (answer_verdict call.answer)) None =
-        subst (λ (b : Bool). cond b (verdict_in history io) None ≡ cond (b && is_to_judge call.answer) (Some (answer_verdict call.answer)) None) so call.verdict in
-        let so = judged_so (is_to_judge call.answer) (answer_verdict call.answer) v (sym given ∙ noted) in
+        let noted : verdict_in history io ≡ cond (is_to_judge call.answer) (Some call.verdict.said) None =
+        subst (λ (b : Bool). cond b (verdict_in history io) None ≡ cond (b && is_to_judge call.answer) (Some call.verdict.said) None) so call.verdict.is in
+        let so = judged_so (is_to_judge call.answer) call.verdict.said v (sym given ∙ noted) in
         let whole : is_whole_check s.kind call.answer.outcome ≡ true = ap (λ (t : Ticket). is_whole_check t.kind call.answer.outcome) (sym call.asked.ticket) ∙ so.0 in
         ap (verdict_on plan s) (is.bytes whole)
         ∙ verdict_is plan s job.0 call.answer.bytes job.2.planned
         ∙ ap (λ (t : Ticket). verdict_of t.method t.write t.piece t.expected call.answer.bytes) (sym call.asked.ticket)
+        ∙ sym (call.verdict.true_of (ap is_void so.1 ∙ plain))
         ∙ so.1
 
     next_said : (w : ℕ) → AreSaidOn plan inline history worker (before ++ End w io outcome ∷ []) next_kept
-    next_said w so id x v there by ended given = on (io == id) refl
+    next_said w so id x v there by ended given plain = on (io == id) refl
       where
         on : (b : Bool) → (io == id) ≡ b → verdict_on plan x (bytes_read next_kept id) ≡ v
         on true same =
@@ -207,10 +214,10 @@ module _ (plan : Plan) (inline : Bool) (history : List Event) (worker : ℕ) (pl
             let who : s ≡ x = same_some s x (sym at ∙ ap (slice_get (started history)) (sym one) ∙ there) in
             ap (λ (y : Started). verdict_on plan y (bytes_read next_kept id)) (sym who)
             ∙ ap (λ (n : ℕ). verdict_on plan s (bytes_read next_kept n)) one
-            ∙ said_here so v (ap (verdict_in history) (sym one) ∙ given)
+            ∙ said_here so v (ap (verdict_in history) (sym one) ∙ given) plain
         on false other =
             ap (verdict_on plan x) (kept_other plan engine kept io id s.kind s other)
-            ∙ said so id x v there by (ended_front before w io id outcome other ended) given
+            ∙ said so id x v there by (ended_front before w io id outcome other ended) given plain
 
     pub call_goes : (w : ℕ) → AreCallsFor inline middle (filter_map (done_by plan inline history worker) events) final → Goes (before ++ End w io outcome ∷ []) events final middle next_kept → (read_back : List (ℕ × List ℕ)) × IsNextCall plan (started history) (known_engine engine kept) io outcome (λ (e : KnownEngine). TiedAlong plan inline worker (started history) e events (known_engine final read_back))
     call_goes w calls next =
@@ -237,16 +244,17 @@ module _ (plan : Plan) (inline : Bool) (history : List Event) (worker : ℕ) (pl
       (next all.0 (next_kept before events io s outcome engine all.0 final kept at all.1 known covered said))
   end_goes before events w io outcome s engine final kept at by known covered said false other calls next =
       next engine kept known covered
-      (λ so id x v there mine ended given.
-      not_here so (io == id) id refl x v there mine ended given)
+      (λ so id x v there mine ended given plain.
+      not_here so (io == id) id refl x v there mine ended given plain)
       calls
     where
-      not_here : inline ≡ true → (b : Bool) (id : ℕ) → (io == id) ≡ b → (x : Started) (v : GivenVerdict) → slice_get (started history) id ≡ Some x → x.worker ≡ worker → ended_whole (outcome_of (before ++ End w io outcome ∷ []) id) ≡ true → verdict_in history id ≡ Some v → verdict_on plan x (bytes_read kept id) ≡ v
-      not_here so true id same x v there mine ended given =
+      not_here : inline ≡ true → (b : Bool) (id : ℕ) → (io == id) ≡ b → (x : Started) (v : GivenVerdict) → slice_get (started history) id ≡ Some x → x.worker ≡ worker → ended_whole (outcome_of (before ++ End w io outcome ∷ []) id) ≡ true → verdict_in history id ≡ Some v → is_void v ≡ false → verdict_on plan x (bytes_read kept id) ≡ v
+      not_here so true id same x v there mine ended given plain =
           let one : io ≡ id = eqb-true io id same in
           let who : s ≡ x = same_some s x (sym at ∙ ap (slice_get (started history)) one ∙ there) in
           absurd (differs w worker other (sym by ∙ ap (λ (y : Started). y.worker) who ∙ mine))
-      not_here so false id different x v there mine ended given = said so id x v there mine (ended_front before w io id outcome different ended) given
+      not_here so false id different x v there mine ended given plain =
+          said so id x v there mine (ended_front before w io id outcome different ended) given plain
 
   -- what starts, and is in the history
   ends_started : (before events : List Event) (w io : ℕ) (outcome : Outcome) → before ++ End w io outcome ∷ events ≡ history → may_happen plan before (End w io outcome) ≡ true → (s : Started) × (slice_get (started history) io ≡ Some s) × (s.worker ≡ w)

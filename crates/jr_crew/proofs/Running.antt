@@ -23,6 +23,7 @@ first_sofar plan history engine none =
       legal = refl;
       settled = none_settled;
       alone = refl;
+      unraced = λ io. refl;
       ends = refl;
       calls = omega arith;
       failures = omega arith;
@@ -72,6 +73,7 @@ ended_run plan history old engine sofar = record {
   legal = sofar.legal;
   settled = record { flown = settled_rests history sofar.settled; judged = settled_judged history sofar.settled };
   alone = sofar.alone;
+  unraced = sofar.unraced;
   calls = sofar.calls;
   failures = sofar.failures;
   tied = λ covering. let tied = sofar.tied covering in (tied.read_back, tied.tied);
@@ -83,6 +85,7 @@ whole_run plan history old engine ended complete = record {
   legal = ended.legal;
   complete = complete;
   alone = ended.alone;
+  unraced = ended.unraced;
   calls = ended.calls;
   failures = ended.failures;
   tied = ended.tied;

@@ -35,13 +35,14 @@ use Rattle.jr_board.specs.Takes.{IsChosen}
 use Rattle.jr_board.proofs.Keeping.{chosen_at}
 use Rattle.jr_board.proofs.Serving.{content_is, verdict_is}
 use Rattle.jr_crew.specs.Runs.{IsFresh}
-use Rattle.jr_crew.specs.Turns.{IsTurn, IsLastTurn}
+use Rattle.jr_crew.specs.Turns.{AreSettled, IsTurn, IsLastTurn}
 use Rattle.jr_crew.proofs.Chosen.{chosen_worker, chosen_unended}
 use Rattle.jr_crew.proofs.Carrying.{next_of, buffer_for, ended_with, ended_by-with, begun_legal, ended_legal}
 use Rattle.jr_crew.proofs.Calling.{data_for}
 use Rattle.jr_crew.proofs.Going.{IsAhead, ahead_none, ahead_some, ahead_ends, none_left, holds_appends}
 use Rattle.jr_crew.proofs.Remembering.{memory_appends, memory_ended}
 use Rattle.jr_crew.proofs.Turning.{asked_room_for}
+use Rattle.jr_crew.proofs.Unraced.{chosen_unraced}
 
 -- a run over such a memory so far
 pub record IsSerialSoFar (plan : Plan) (history : List Event) (engine : EngineState) : Type 0 where
@@ -137,7 +138,7 @@ tail_is plan memory id io ticket.Probe said good stored = ap (λ (v : GivenVerdi
 tail_is plan memory id io ticket.ReadCheck said good stored = ap (λ (v : GivenVerdict). End 0 id Whole ∷ Verdict 0 id v ∷ []) (stored refl)
 
 -- a turn of worker 0
-module _ (plan : Plan) (history begun : List Event) (io : Started) (engine next : EngineState) (answer : AnswerParts) (planned : IsPlanned plan) (legal : is_legal plan history ≡ true) (chosen : IsChosen plan 0 history begun (Some io)) (asked_so : Answers engine (next_of plan history io) (buffer_for (next_of plan history io)) answer next) (sofar : IsSerialSoFar plan history engine) where
+module _ (plan : Plan) (history begun : List Event) (io : Started) (engine next : EngineState) (answer : AnswerParts) (planned : IsPlanned plan) (legal : is_legal plan history ≡ true) (chosen : IsChosen plan 0 history begun (Some io)) (asked_so : Answers engine (next_of plan history io) (buffer_for (next_of plan history io)) answer next) (sofar : IsSerialSoFar plan history engine) (settled : AreSettled history) where
   here : slice_get (started begun) (length (started history)) ≡ Some io
   here = chosen_at plan 0 history begun io chosen
 
@@ -191,7 +192,8 @@ module _ (plan : Plan) (history begun : List Event) (io : Started) (engine next 
       let id = length (started history) in
       on_stored (probe_judged io.kind probe)
       ∙ ap (verdict_on plan io)
-      (stored_check plan begun engine.memory id io planned legal_so sofar.covers holds_so here probe (chosen_unended plan 0 history begun io planned legal chosen))
+      (stored_check plan begun engine.memory id io planned legal_so sofar.covers holds_so here probe (chosen_unended plan 0 history begun io planned legal chosen)
+      (chosen_unraced plan 0 history begun io chosen settled))
       ∙ good_on_own plan begun id io planned legal_so here probe
     where
       probe_judged : (kind : TicketKind) → is_probe kind ≡ true → is_judged_kind kind ≡ true
@@ -255,14 +257,14 @@ module _ (plan : Plan) (history begun : List Event) (io : Started) (engine next 
   }
 
 -- each turn goes on so
-pub serial_turn : (plan own : Plan) (history after : List Event) (engine next : EngineState) → IsPlanned plan → own ≡ plan → is_legal plan history ≡ true → IsTurn own history after engine next → IsSerialSoFar plan history engine → IsSerialSoFar plan after next
-serial_turn plan own history after engine next planned same legal turn sofar =
+pub serial_turn : (plan own : Plan) (history after : List Event) (engine next : EngineState) → IsPlanned plan → own ≡ plan → is_legal plan history ≡ true → IsTurn own history after engine next → IsSerialSoFar plan history engine → AreSettled history → IsSerialSoFar plan after next
+serial_turn plan own history after engine next planned same legal turn sofar settled =
     let this : IsTurn plan history after engine next = subst (λ (p : Plan). IsTurn p history after engine next) same turn in
     let answer = this.carried.answer in
     let t = next_of plan history this.io in
     subst (λ (h : List Event). IsSerialSoFar plan h next) (sym this.carried.history)
     (subst (λ (xs : List Event). IsSerialSoFar plan (this.begun ++ xs) next) (sym (ended_by-with engine next t (buffer_for t) answer this.carried.asked))
-    (turn_serial plan history this.begun this.io engine next answer planned legal this.chosen this.carried.asked sofar))
+    (turn_serial plan history this.begun this.io engine next answer planned legal this.chosen this.carried.asked sofar settled))
 
 -- and the last one leaves the serial history
 pub serial_last : (plan own : Plan) (history after : List Event) (engine next : EngineState) → IsPlanned plan → own ≡ plan → IsLastTurn own history after engine next → IsSerialSoFar plan history engine → after ≡ serial_history plan

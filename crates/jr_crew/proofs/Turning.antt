@@ -1,5 +1,5 @@
 -- What holds between two turns of a run, and how each turn keeps it.
-use Rattle.std.proofs.Common.{◌≡◌, ℕ, ◌+◌, ◌-◌, List, [], ◌∷◌, ◌++◌, length, replicate, Bool, true, false, cond, refl, sym, ◌∙◌, ap, subst, arith, append_assoc, append-nil, length-append}
+use Rattle.std.proofs.Common.{◌≡◌, ℕ, ◌+◌, ◌-◌, List, [], ◌∷◌, ◌++◌, length, replicate, Bool, true, false, cond, not, ◌&&◌, refl, sym, ◌∙◌, ap, subst, arith, append_assoc, append-nil, length-append}
 use Rattle.std.specs.Prelude.{Some, None, slice_get, ◌==◌, IsTrue}
 use Rattle.std.specs.Bool.{MatchBool}
 use Rattle.std.proofs.lemmas.Bool.{cond_both, eq-eqb}
@@ -13,9 +13,10 @@ use Rattle.jr_model.specs.declared.tickets.TicketKind.TheVariants as ticket
 use Rattle.jr_model.specs.declared.workloads.Draw.{Draw}
 use Rattle.jr_model.specs.History.{started}
 use Rattle.jr_model.specs.Judgement.{verdict_of}
-use Rattle.jr_model.specs.Legal.{is_legal}
+use Rattle.jr_model.specs.Legal.{is_legal, is_void}
 use Rattle.jr_model.specs.Machine.{bytes_read, verdict_on}
 use Rattle.jr_model.specs.Plan.{Plan, SubJob}
+use Rattle.jr_model.specs.Races.{has_raced}
 use Rattle.jr_model.specs.Replies.{EngineState, FileBytes, covers, asked, next_reply}
 use Rattle.jr_model.specs.Tied.{KnownEngine, called, TiedAlong, IsTied}
 use Rattle.jr_model.specs.PlanFacts.{IsPlanned}
@@ -38,8 +39,9 @@ use Rattle.jr_crew.proofs.Chosen.{IsStep, appends_by, chosen_worker, got_new}
 use Rattle.jr_crew.proofs.Counting.{chosen_ends, chosen_failed_ends, ended_ends, ended_failed_ends}
 use Rattle.jr_crew.proofs.Settling.{settled_still}
 use Rattle.jr_crew.proofs.Tying.{tied_more, tied_on, tied_step, IsNextCall}
-use Rattle.jr_crew.proofs.Carrying.{next_of, buffer_for, judged_with, ended_with, ended_by-with, turn_legal, turn_started, turn_settled, begun_legal}
+use Rattle.jr_crew.proofs.Carrying.{next_of, buffer_for, judged_with, ended_with, ended_starts_none, ended_by-with, turn_legal, turn_started, turn_settled, begun_legal}
 use Rattle.jr_crew.proofs.Calling.{IsCall, is_call}
+use Rattle.jr_crew.proofs.Unraced.{turn_unraced}
 
 -- a known engine, as far as the run came: its calls are what was completed, and its memory covers the plan's files
 pub record IsTiedSoFar (plan : Plan) (history : List Event) (old engine : EngineState) : Type 0 where
@@ -52,6 +54,7 @@ pub record IsSoFar (plan : Plan) (history : List Event) (old engine : EngineStat
   pub legal : is_legal plan history ≡ true
   pub settled : AreSettled history
   pub alone : IsAlone history
+  pub unraced : (io : ℕ) → has_raced history io ≡ false
   pub ends : ends_of history ≡ length (started history)
   pub calls : engine.calls ≡ old.calls + ends_of history
   pub failures : engine.failures ≡ old.failures + failed_ends_of history
@@ -61,6 +64,11 @@ pub record IsSoFar (plan : Plan) (history : List Event) (old engine : EngineStat
 
 match_true : (b : Bool) (A B : Type 0) → b ≡ true → A → MatchBool b A B
 match_true b A B is a = subst (λ (x : Bool). MatchBool x A B) (sym is) a
+
+-- what holds holds where it is asked for
+either_way : (b : Bool) (A : Type 0) → A → MatchBool b A (Unit {0})
+either_way true A a = a
+either_way false A a = tt
 
 one_failed : (failed : Bool) (before now old counted : ℕ) → now ≡ cond failed (before + 1) before → before ≡ old + counted → now ≡ old + cond failed (counted + 1) counted
 one_failed true before now old counted is was = omega (arith, is, was)
@@ -126,7 +134,7 @@ module _ (plan : Plan) (history begun : List Event) (io : Started) (old engine n
         (
           io,
           at,
-          match_true (io.worker == 0) (verdict_on plan io (bytes_read after_call.read_back id) ≡ said) (Unit {0}) by_worker
+          either_way (io.worker == 0 && not (is_void said)) (verdict_on plan io (bytes_read after_call.read_back id) ≡ said)
               (ap (verdict_on plan io) (call.bytes whole) ∙ verdict_is plan io job.0 answer.bytes job.2.planned),
         ),
         call.leaves,
@@ -203,10 +211,13 @@ module _ (plan : Plan) (history : List Event) (old engine next : EngineState) (p
       one_failed (is_failed answer.outcome) engine.failures next.failures old.failures (failed_ends_of history) asked_so.failures sofar.failures in
       record {
         legal = subst (λ (xs : List Event). is_legal plan (begun ++ xs) ≡ true) (sym same)
-            (turn_legal plan history begun io engine next answer planned sofar.legal chosen asked_so);
+            (turn_legal plan history begun io engine next answer planned sofar.legal chosen asked_so sofar.settled);
         settled = subst (λ (xs : List Event). AreSettled (begun ++ xs)) (sym same)
             (turn_settled plan history begun io engine next answer planned sofar.legal chosen asked_so sofar.settled);
         alone = ended_alone begun answer worker (chosen_alone plan history begun (Some io) planned chosen sofar.alone);
+        unraced =
+            subst (λ (xs : List Event). (id : ℕ) → has_raced (begun ++ xs) id ≡ false) (sym same)
+            (turn_unraced plan 0 history begun events (Some io) chosen sofar.settled (ended_starts_none t answer.outcome answer.bytes) sofar.unraced);
         ends = ends ∙ counted ∙ ap (λ (xs : List Event). length (started (begun ++ xs))) (sym same);
         calls = omega (arith, asked_so.calls, sofar.calls, ends);
         failures =
@@ -247,6 +258,9 @@ module _ (plan : Plan) (history : List Event) (old engine next : EngineState) (p
         legal = chosen_legal plan 0 history after None planned sofar.legal chosen;
         settled = settled_still history after chosen.0 sofar.settled chosen.1 more;
         alone = chosen_alone plan history after None planned chosen sofar.alone;
+        unraced = λ id.
+            ap (λ (h : List Event). has_raced h id) (sym (append-nil after))
+            ∙ turn_unraced plan 0 history after [] None chosen sofar.settled refl sofar.unraced id;
         ends = ends ∙ sofar.ends ∙ ap length (sym more);
         calls = sofar.calls ∙ ap (λ (n : ℕ). old.calls + n) (sym ends);
         failures = sofar.failures ∙ ap (λ (n : ℕ). old.failures + n) (sym failed);

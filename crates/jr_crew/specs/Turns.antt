@@ -11,6 +11,7 @@ use Rattle.jr_model.specs.Plan.{Plan}
 use Rattle.jr_model.specs.Replies.{EngineState}
 use Rattle.jr_model.specs.Tickets.{ticket_fits}
 use Rattle.jr_model.specs.PlanFacts.{IsPlanned}
+use Rattle.jr_model.specs.Races.{has_raced}
 use Rattle.jr_engines.specs.Answers.{AnswerParts, Answers}
 use Rattle.jr_header.specs.Served.{ExpectsOwn, asked_with, is_whole_check, is_to_judge, answer_verdict}
 use Rattle.jr_tickets.specs.Kept.{IsOwn}
@@ -35,13 +36,14 @@ pub record IsBetweenTurns (desk : DeskState) : Type 0 where
   pub settled : AreSettled desk.history
   pub going : IsFalse desk.is_stopped
 
--- the ticket was handed out by the desk, can be carried out, and has neither ended nor its verdict
+-- the ticket was handed out by the desk, can be carried out, has neither ended nor its verdict, and didn't race
 pub record IsOpen (desk : DeskState) (ticket : Ticket) : Type 0 where
   pub own : IsOwn desk.plan desk.history ticket
   pub fits : ticket_fits ticket ≡ true
   pub expects : ExpectsOwn ticket
   pub unended : outcome_of desk.history ticket.id ≡ None
   pub unjudged : is_judged desk.history ticket.id ≡ false
+  pub unraced : has_raced desk.history ticket.id ≡ false
   pub going : IsFalse desk.is_stopped
 
 -- the ticket of what a take by worker 0 started; where it started nothing, the run is complete

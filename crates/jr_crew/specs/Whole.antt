@@ -1,9 +1,10 @@
 -- Believed: what a run that answers a desk has done, with one worker and with several, whole or asked to stop (of this project).
-use Rattle.std.specs.Prelude.{◌≡◌, ℕ, ◌+◌, true, List, length, slice_get, Some}
+use Rattle.std.specs.Prelude.{◌≡◌, ℕ, ◌+◌, true, false, List, length, slice_get, Some}
 use Rattle.std.specs.List.{list_all}
 use Rattle.jr_model.specs.declared.events.Event.{Event}
 use Rattle.jr_model.specs.Legal.{is_legal, is_complete}
 use Rattle.jr_model.specs.Plan.{Plan}
+use Rattle.jr_model.specs.Races.{has_raced}
 use Rattle.jr_model.specs.Replies.{EngineState}
 use Rattle.jr_tickets.specs.Kept.{tickets_of}
 use Rattle.jr_books.specs.declared.books.Done.{Done}
@@ -14,11 +15,12 @@ use Rattle.jr_crew.specs.Ends.{ends_of, failed_ends_of}
 use Rattle.jr_crew.specs.Runs.{IsCovering, IsTiedRun}
 
 -- the history is that of a run of one worker over an engine that was so before, and is so after: whole and legal, each event by
--- worker 0, with a call for each end, and where the engine's memory is known these calls are what was completed
+-- worker 0, one I/O after another, with a call for each end, and where the engine's memory is known these calls are what was completed
 pub record IsRun (plan : Plan) (history : List Event) (before after : EngineState) : Type 0 where
   pub legal : is_legal plan history ≡ true
   pub complete : is_complete plan history ≡ true
   pub alone : list_all (is_numbered 1 0) history ≡ true
+  pub unraced : (io : ℕ) → has_raced history io ≡ false
   pub calls : after.calls ≡ before.calls + ends_of history
   pub failures : after.failures ≡ before.failures + failed_ends_of history
   pub tied : IsCovering plan before → IsTiedRun plan history before after
@@ -41,6 +43,7 @@ pub record IsEndedRun (plan : Plan) (history : List Event) (before after : Engin
   pub legal : is_legal plan history ≡ true
   pub settled : HasSettled history
   pub alone : list_all (is_numbered 1 0) history ≡ true
+  pub unraced : (io : ℕ) → has_raced history io ≡ false
   pub calls : after.calls ≡ before.calls + ends_of history
   pub failures : after.failures ≡ before.failures + failed_ends_of history
   pub tied : IsCovering plan before → IsTiedRun plan history before after

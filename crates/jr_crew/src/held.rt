@@ -1,4 +1,7 @@
-ghost use Rattle.std.specs.Prelude.{◌≡◌, ◌++◌, ◌∷◌, [], true, Some, IfOk, IfErr, IfSome, OnOk, OnErr};
+ghost use Rattle.std.specs.Prelude.{◌≡◌, ◌++◌, ◌∷◌, [], true, false, Some, IfOk, IfErr, IfSome, OnOk, OnErr};
+ghost use Rattle.jr_model.specs.Legal.{is_void};
+ghost use Rattle.jr_model.specs.Machine.{said_of};
+ghost use Rattle.jr_model.specs.Races.{has_raced};
 ghost use Rattle.jr_model.specs.Tickets.{ticket_fits};
 ghost use Rattle.jr_header.specs.Served.{ExpectsOwn, answer_verdict};
 ghost use Rattle.jr_board.specs.Takes.{HandsOutOwn, is_fitting};
@@ -9,7 +12,7 @@ use crate::progress::{note_start, note_verdict};
 use crate::watch::{Watch, is_asked};
 use jr_desk::{Desk, DeskFault, Take};
 use jr_header::{Ruling, Served};
-use jr_model::{Event, Ticket};
+use jr_model::{Event, Ticket, Verdict};
 use std::marker::{Brand, PhantomData};
 use std::sync::{Condvar, Mutex, MutexGuard, Wait};
 use std::thread;
@@ -55,12 +58,16 @@ impl<P: Naming> Held<P> {
         self.desk.end(served)
     }
 
-    fn judge(&mut self, by: u32, ruling: &Ruling<'_>) -> Result<(), DeskFault>
-        ensures ok { OnOk result (self.new.desk.history
-            ≡ self.old.desk.history ++ Event.Verdict by ruling.now.ticket.id (answer_verdict ruling.now) ∷ []) }
+    // What was taken in: the ruling's verdict, unless the check raced.
+    fn judge(&mut self, by: u32, ruling: &Ruling<'_>) -> Result<Verdict, DeskFault>
+        ensures ok { OnOk result (self.new.desk.history ≡ self.old.desk.history ++ Event.Verdict by ruling.now.ticket.id
+            (said_of (has_raced self.old.desk.history ruling.now.ticket.id) (answer_verdict ruling.now)) ∷ []) }
+        ensures says { IfOk result (λ said. is_void said ≡ false → said ≡ answer_verdict ruling.now) }
         ensures err { OnErr result ((self.new.desk ≡ self.old.desk) × (self.new.halt ≡ self.old.halt)) }
     {
-        self.desk.judge(by, ruling)
+        let said = self.desk.said_of(ruling);
+        self.desk.judge(by, ruling)?;
+        Ok(said)
     }
 
     fn stop(&mut self, halt: Halt)
@@ -196,32 +203,51 @@ impl<'p, P: Naming> Shared<'p, P> {
         Ok(())
     }
 
-    // Takes in how a worker's ticket ended, and its verdict where there is one already; and gives what is next for the worker. The
-    // lock is taken once for all of it.
+    // Takes in how a worker's ticket ended, and gives what is next for the worker. The lock is taken once for all of it.
     pub fn next_after<R: Wait>(
         &self,
         rt: &R,
         worker: u32,
         served: &Served,
-        ruling: Option<&Ruling<'_>>,
     ) -> Result<Option<Ticket>, Halt>
         ensures fits { IfOk result (λ ticket. IfSome ticket (λ t. ticket_fits t ≡ true)) }
         ensures own { IfOk result (λ ticket. IfSome ticket ExpectsOwn) }
     {
         let mut held = self.enter(rt);
         held.end(served)?;
-        if let Some(ruling) = ruling {
-            held.judge(worker, ruling)?;
-            note_verdict(self.watch.progress, ruling);
-        }
         self.changed.notify_all();
         self.next_under(rt, worker, held)
     }
 
+    // The same of a check that its worker has judged, with what the desk says of it.
+    pub fn next_after_judged<R: Wait>(
+        &self,
+        rt: &R,
+        worker: u32,
+        served: &Served,
+        ruling: &Ruling<'_>,
+    ) -> Result<(Verdict, Option<Ticket>), Halt>
+        ensures says { IfOk result (λ both. is_void both.0 ≡ false → both.0 ≡ answer_verdict ruling.now) }
+        ensures fits { IfOk result (λ both. IfSome both.1 (λ t. ticket_fits t ≡ true)) }
+        ensures own { IfOk result (λ both. IfSome both.1 ExpectsOwn) }
+    {
+        let mut held = self.enter(rt);
+        held.end(served)?;
+        let said = held.judge(worker, ruling)?;
+        note_verdict(self.watch.progress, served.ticket().piece.len, said);
+        self.changed.notify_all();
+        let next = self.next_under(rt, worker, held)?;
+        Ok((said, next))
+    }
+
     // Takes in a verdict.
     pub fn judge<R: Wait>(&self, rt: &R, by: u32, ruling: &Ruling<'_>) -> Result<(), Halt> {
-        self.enter(rt).judge(by, ruling)?;
-        note_verdict(self.watch.progress, ruling);
+        let said = self.enter(rt).judge(by, ruling)?;
+        note_verdict(
+            self.watch.progress,
+            ruling.served().ticket().piece.len,
+            said,
+        );
         self.changed.notify_all();
         Ok(())
     }

@@ -1,4 +1,3 @@
-use jr_header::Ruling;
 use jr_model::{Ticket, Verdict};
 use std::sync::atomic::{AtomicU64, Ordering};
 
@@ -58,11 +57,10 @@ impl Progress {
     }
 
     // A check is judged.
-    fn judge(&self, ruling: &Ruling<'_>) {
+    fn judge(&self, bytes: u32, said: Verdict) {
         self.checks.fetch_add(1, Ordering::Relaxed);
-        let bytes = ruling.served().ticket().piece.len;
         self.checked.fetch_add(u64::from(bytes), Ordering::Relaxed);
-        if let Verdict::Bad(_) = ruling.verdict() {
+        if let Verdict::Bad(_) = said {
             self.bad.fetch_add(1, Ordering::Relaxed);
         }
     }
@@ -75,9 +73,9 @@ pub(crate) fn note_start(progress: Option<&Progress>, ticket: &Ticket) {
     }
 }
 
-// Notes that a check is judged, where anybody wants to know.
-pub(crate) fn note_verdict(progress: Option<&Progress>, ruling: &Ruling<'_>) {
+// Notes what is said of a check of so many bytes, where anybody wants to know.
+pub(crate) fn note_verdict(progress: Option<&Progress>, bytes: u32, said: Verdict) {
     if let Some(progress) = progress {
-        progress.judge(ruling);
+        progress.judge(bytes, said);
     }
 }

@@ -2,6 +2,7 @@ ghost use Rattle.std.specs.Prelude.{◌≡◌, ◌-◌, ◌^◌, ◌<◌, ◌≤
 ghost use Rattle.std.specs.Bool.{MatchBool};
 ghost use Rattle.jr_model.specs.History.{outcome_of, is_judged};
 ghost use Rattle.jr_model.specs.Legal.{is_complete};
+ghost use Rattle.jr_model.specs.Races.{has_raced};
 ghost use Rattle.jr_model.specs.Serial.{serial_history};
 ghost use Rattle.jr_tickets.specs.Kept.{IsOwn};
 ghost use Rattle.jr_crew.specs.Runs.{IsFresh};
@@ -148,6 +149,7 @@ fn end(desk: &mut Desk, served: &Served) -> Result<(), RunFault>
 fn judge(desk: &mut Desk, served: &Served, progress: Option<&Progress>) -> Result<(), RunFault>
     requires own { IsOwn desk.old.plan desk.old.history served.now.ticket }
     requires unjudged { is_judged desk.old.history served.now.ticket.id ≡ false }
+    requires unraced { has_raced desk.old.history served.now.ticket.id ≡ false }
     requires ended { outcome_of desk.old.history served.now.ticket.id ≡ Some served.now.outcome }
     requires going { IsFalse desk.old.is_stopped }
     ensures ok { OnOk result (desk.new ≡ record desk.old { history = desk.old.history ++ judged_by served.now }) }
@@ -160,7 +162,7 @@ fn judge(desk: &mut Desk, served: &Served, progress: Option<&Progress>) -> Resul
     let ruling = rule(served);
     match desk.judge(0, &ruling) {
         Ok(()) => {
-            note_verdict(progress, &ruling);
+            note_verdict(progress, served.ticket().piece.len, ruling.verdict());
             Ok(())
         }
         Err(_) => Err(RunFault::Memory),

@@ -1,8 +1,8 @@
 ghost use Rattle.std.specs.Prelude.{◌≡◌, ◌&&◌, true, replicate, vec_len, IfOk, IfSome, OnOk, Some, None, IfErr, if◌then◌else◌};
 ghost use Rattle.jr_model.specs.Tickets.{ticket_fits};
 ghost use Rattle.jr_handover.specs.Passes.{pass_state};
-ghost use Rattle.jr_header.specs.Served.{ExpectsOwn, is_to_judge, answer_verdict};
-ghost use Rattle.jr_crew.specs.Working.{IsCalledFor, AreCallsFor, handed_on};
+ghost use Rattle.jr_header.specs.Served.{ExpectsOwn, is_to_judge};
+ghost use Rattle.jr_crew.specs.Working.{IsSaidOf, IsCalledFor, AreCallsFor, handed_on};
 
 use crate::channels::ChannelEnd;
 use crate::halts::Halt;
@@ -136,14 +136,13 @@ fn settle<P: Naming, R: Wait>(
     channel: &mut ChannelEnd<'_>,
     served: Served,
 ) -> Result<Settled, Halt>
-    ensures said { IfOk result (λ settled. settled.verdict
-        ≡ (if post.now.inline && is_to_judge served then Some (answer_verdict served) else None)) }
+    ensures said { IfOk result (λ settled. IsSaidOf post.now.inline served settled.verdict) }
     ensures fits { IfOk result (λ settled. IfSome settled.next (λ t. ticket_fits t ≡ true)) }
     ensures own { IfOk result (λ settled. IfSome settled.next ExpectsOwn) }
     ensures handed { OnOk result (pass_state channel.new.pass ≡ handed_on post.now.inline served (pass_state channel.old.pass)) }
 {
     if !served.to_judge() {
-        let next = post.shared.next_after(rt, post.number, &served, None)?;
+        let next = post.shared.next_after(rt, post.number, &served)?;
         return Ok(Settled {
             verdict: None,
             next,
@@ -166,17 +165,16 @@ fn settle<P: Naming, R: Wait>(
 // Judges a check that ended whole, and tells the desk both at once.
 fn judge<P: Naming, R: Wait>(rt: &R, post: &Post<'_, P>, served: Served) -> Result<Settled, Halt>
     requires { is_to_judge served ≡ true }
-    ensures said { IfOk result (λ settled. settled.verdict ≡ Some (answer_verdict served)) }
+    ensures said { IfOk result (λ settled. IsSaidOf true served settled.verdict) }
     ensures fits { IfOk result (λ settled. IfSome settled.next (λ t. ticket_fits t ≡ true)) }
     ensures own { IfOk result (λ settled. IfSome settled.next ExpectsOwn) }
 {
     let ruling = rule(&served);
-    let verdict = ruling.verdict();
-    let next = post
+    let (said, next) = post
         .shared
-        .next_after(rt, post.number, &served, Some(&ruling))?;
+        .next_after_judged(rt, post.number, &served, &ruling)?;
     Ok(Settled {
-        verdict: Some(verdict),
+        verdict: Some(said),
         next,
         buffer: served.into_buf(),
     })

@@ -17,11 +17,12 @@ use Rattle.jr_model.specs.declared.steps.StepReply.TheVariants as answer
 use Rattle.jr_model.specs.declared.tickets.Ticket.{Ticket}
 use Rattle.jr_model.specs.History.{started, kind_for, outcome_of, is_judged, is_judged_kind, is_verdict_on, ended_whole}
 use Rattle.jr_model.specs.Legal.{is_legal, is_complete}
-use Rattle.jr_model.specs.Machine.{State, Stepped, taken as taken_by, take_answer, machine_take, end_refusal, judge_refusal, is_judgeable, machine_judge, machine_judge_by, bytes_read, verdict_on}
+use Rattle.jr_model.specs.Machine.{State, Stepped, said_of, taken as taken_by, take_answer, machine_take, end_refusal, judge_refusal, is_judgeable, machine_judge, machine_judge_by, bytes_read, verdict_on}
 use Rattle.jr_model.specs.Plan.{Plan}
 use Rattle.jr_model.specs.Tickets.{ticket_fits}
 use Rattle.jr_engines.specs.Answers.{AnswerParts}
 use Rattle.jr_header.specs.Served.{answer_verdict, is_to_judge, is_whole_check}
+use Rattle.jr_model.specs.Races.{has_raced}
 use Rattle.jr_laws_steps.proofs.CountLaws.{numbered_of, appends_same, taken_all}
 use Rattle.jr_laws_steps.proofs.DrawnLaws.{started_fit-law}
 use Rattle.jr_laws_steps.proofs.PlaceLemmas.{any_found, item_at}
@@ -291,11 +292,11 @@ module _ (player : Player) (by : ℕ) (check : AnswerParts) (ready : IsReady pla
   judged_by (Some fault) = record { answer = refl; state = refl; plan = refl; calls = omega arith; covers = ready.covers; reads = ready.reads }
   judged_by None = record {
     answer = refl;
-    state = ap (λ (v : GivenVerdict). record (state_of player) { history = history ++ Verdict by id v ∷ [] }) same_verdict;
+    state = ap (λ (v : GivenVerdict). record (state_of player) { history = history ++ Verdict by id (said_of (has_raced history id) v) ∷ [] }) same_verdict;
     plan = refl;
     calls = omega arith;
     covers = ready.covers;
-    reads = keeps_on plan history (Verdict by id (answer_verdict check) ∷ []) player.reads.items ready.legal (λ io. refl) ready.reads;
+    reads = keeps_on plan history (Verdict by id (said_of (has_raced history id) (answer_verdict check)) ∷ []) player.reads.items ready.legal (λ io. refl) ready.reads;
   }
 
   judges_on : GoesOn player (machine_judge plan (state_of player) by id) (judge_reply (judge_fault player.desk id true)) (record player { desk = judged_desk player.desk by check (judge_fault player.desk id true) })

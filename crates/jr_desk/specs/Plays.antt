@@ -14,6 +14,8 @@ use Rattle.jr_model.specs.Machine.{State, Stepped}
 use Rattle.jr_model.specs.Plan.{Plan}
 use Rattle.jr_model.specs.PlanFacts.{IsPlanned}
 use Rattle.jr_engines.specs.Answers.{AnswerParts}
+use Rattle.jr_model.specs.Machine.{said_of}
+use Rattle.jr_model.specs.Races.{has_raced}
 use Rattle.jr_header.specs.Served.{answer_verdict, is_to_judge}
 use Rattle.jr_laws_bytes.specs.Memory.{CoversFiles}
 use Rattle.jr_desk.specs.declared.plays.Player.{Player}
@@ -37,7 +39,9 @@ judge_reply (Some fault) = answer.Refused fault
 -- and the desk after it
 abbrev pub judged_desk : DeskState → ℕ → AnswerParts → Option DeskFault → DeskState
 judged_desk desk by check None =
-    record desk { history = desk.history ++ Verdict by check.ticket.id (answer_verdict check) ∷ [] }
+    record desk {
+      history = desk.history ++ Verdict by check.ticket.id (said_of (has_raced desk.history check.ticket.id) (answer_verdict check)) ∷ [];
+    }
 judged_desk desk by check (Some fault) = desk
 
 -- the answers to reads and checks are kept

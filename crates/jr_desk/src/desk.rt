@@ -1,7 +1,9 @@
 ghost use Rattle.std.specs.Prelude.{◌≡◌, ◌++◌, ◌∷◌, [], ◌||◌, Bool, true, false, IfOk, IfErr, IfSome, OnOk, OnErr, IsTrue};
 ghost use Rattle.std.specs.Prelude.{IsFalse, Ok, Err, None, map, slice_get, is_some};
 ghost use Rattle.jr_model.specs.History.{started, outcome_of, ended_whole, is_judged};
-ghost use Rattle.jr_model.specs.Legal.{is_legal, is_complete};
+ghost use Rattle.jr_model.specs.Legal.{is_legal, is_complete, is_void};
+ghost use Rattle.jr_model.specs.Machine.{said_of};
+ghost use Rattle.jr_model.specs.Races.{has_raced};
 ghost use Rattle.jr_model.specs.Report.{all_totals, miscompares};
 ghost use Rattle.jr_header.specs.Served.{answer_verdict};
 ghost use Rattle.jr_tickets.specs.Handing.{IsHanded};
@@ -12,7 +14,7 @@ ghost use Rattle.jr_tallies.specs.Tallying.{miscompare_of};
 
 use jr_board::{Board, Take, answer_to, end, is_complete, judge, new_board, prepare, start_next};
 use jr_header::{Ruling, Served};
-use jr_model::{DeskFault, Event, Ticket, Totals, is_same};
+use jr_model::{DeskFault, Event, Ticket, Totals, Verdict, is_same};
 use jr_plan::Plan;
 use jr_tallies::Bad;
 use jr_tickets::TicketTable;
@@ -115,7 +117,8 @@ impl Desk {
         Ok(())
     }
 
-    /// Takes in the verdict on a check that ended whole; `by` is the worker or verifier that judged.
+    /// Takes in the verdict on a check that ended whole; `by` is the worker or verifier that judged. Where the check raced its verdict
+    /// is `Void`, whatever the ruling says.
     pub fn judge(&mut self, by: u32, ruling: &Ruling<'_>) -> Result<(), DeskFault>
         // Refused as the machine refuses it, and else only for want of memory.
         ensures refused { (own : Bool) → Owns self.old ruling.now.ticket own
@@ -123,7 +126,10 @@ impl Desk {
         ensures taken_in { Owns self.old ruling.now.ticket true → judge_fault self.old ruling.now.ticket.id true ≡ None
             → IfErr result (λ fault. fault ≡ DeskFault.Memory) }
         ensures ok { OnOk result (self.new
-            ≡ record self.old { history = self.old.history ++ Event.Verdict by ruling.now.ticket.id (answer_verdict ruling.now) ∷ [] }) }
+            ≡ record self.old {
+              history = self.old.history ++ Event.Verdict by ruling.now.ticket.id
+                  (said_of (has_raced self.old.history ruling.now.ticket.id) (answer_verdict ruling.now)) ∷ [];
+            }) }
         ensures err { OnErr result (self.new ≡ self.old) }
     {
         let ticket = *ruling.served().ticket();
@@ -134,8 +140,23 @@ impl Desk {
         if !self.has_ended_whole(ticket.id) {
             return Err(DeskFault::WrongKind);
         }
-        judge(&self.plan, &mut self.board, by, &ticket, ruling.verdict())?;
+        let verdict = self.said_of(ruling);
+        judge(&self.plan, &mut self.board, by, &ticket, verdict)?;
         Ok(())
+    }
+
+    /// What `judge` takes in by this ruling, where the check ended whole and has no verdict: `Void` where it raced, and else the
+    /// ruling's verdict.
+    pub fn said_of(&self, ruling: &Ruling<'_>) -> Verdict
+        ensures verdict { ended_whole (outcome_of self.now.history ruling.now.ticket.id) ≡ true → is_judged self.now.history ruling.now.ticket.id ≡ false
+            → result ≡ said_of (has_raced self.now.history ruling.now.ticket.id) (answer_verdict ruling.now) }
+        ensures says { is_void result ≡ false → result ≡ answer_verdict ruling.now }
+    {
+        if self.board.tickets.has_raced(ruling.served().ticket().id) {
+            Verdict::Void
+        } else {
+            ruling.verdict()
+        }
     }
 
     /// Nothing more is handed out or taken in.

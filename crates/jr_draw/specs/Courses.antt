@@ -28,6 +28,7 @@ job_of a = record {
   checks_writes = false;
   backlog = 0;
   is_fatal = false;
+  declines = false;
 }
 
 abbrev pub progress_of : Inside → PassProgress

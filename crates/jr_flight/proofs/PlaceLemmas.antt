@@ -9,18 +9,18 @@ use Rattle.std.specs.declared.cmp.Ordering.{Ordering}
 use Rattle.std.specs.declared.ops.Bound.TheVariants.{Included, Excluded}
 use Rattle.std.specs.BTreeMap.{BTreeMap, get, IsOrdered}
 use Rattle.std.specs.BTreeMap.Range.{range_contains}
-use Rattle.std.proofs.lemmas.Bool.{and_parts, and_from, eqb-true, ltb-true, not-true, both_ways, false_from_ne_true}
+use Rattle.std.proofs.lemmas.Bool.{and_parts, and_from, eqb-true, eq-eqb, ltb-true, lt-ltb, not-true, both_ways, false_from_ne_true}
 use Rattle.std.proofs.lemmas.Cmp.{nat_cmp_total, then_total, on_total}
 use Rattle.std.proofs.lemmas.Bool.Decides.{nat_tests}
 use Rattle.std.proofs.lemmas.List.Folds.{Any-from_list_any, list_any-from_Any}
 use Rattle.std.proofs.lemmas.Map.Lookups.{CmpEqualImpliesEq, exact_unsigned}
 use Rattle.std.proofs.lemmas.Map.Views.{All-found, Contains-from_lookup, tells_apart}
-use Rattle.jr_model.specs.declared.blocks.Dir.{Dir}
+use Rattle.std.proofs.lemmas.Option.{cond_some, same_Some}
 use Rattle.jr_model.specs.declared.blocks.Piece.{Piece}
 use Rattle.jr_model.specs.Pieces.{piece_end, pieces_overlap}
+use Rattle.jr_flight.specs.declared.ios.Ended.{Ended}
 use Rattle.jr_flight.specs.declared.ios.Io.{Io}
-use Rattle.jr_flight.specs.Flights.{conflicts, writes}
-use Rattle.jr_flight.specs.Places.{Place, place_of, place_cmp, if_standing, IsMeasured, IsIndexed}
+use Rattle.jr_flight.specs.Places.{Place, place_of, place_cmp, near_from, near_end, near_piece, if_standing, IsMeasured, IsIndexed}
 
 pub place_cmp_total : IsTotalOrder place_cmp
 place_cmp_total =
@@ -95,19 +95,19 @@ same_truth false true there back = back refl
 same_truth false false there back = refl
 
 -- what stands at a place flies under its number
-stood : (at : Place) (o : Option Io) (io : Io) → if_standing at o ≡ Some io → o ≡ Some io
+stood : (at : Place) (o : Option Ended) (io : Io) → if_standing at o ≡ Some io → (ended : Ended) × (o ≡ Some ended) × (ended.io ≡ io)
 stood at None io e = cc
-stood at (Some x) io e = grind (arith, nat_tests)
+stood at (Some x) io e =
+    (x, refl, (cond_some ((x.io.piece.file == at.0) && (x.io.piece.offset == at.1)) x.io io e).1)
 
 -- an I/O stands at its own place
-standing : (io : Io) → if_standing (place_of io) (Some io) ≡ Some io
-standing io = grind (arith, nat_tests)
+standing : (ended : Ended) → if_standing (place_of ended.io) (Some ended) ≡ Some ended.io
+standing ended = grind (arith, nat_tests)
 
 -- the places from `longest` bytes before a piece up to its end
 abbrev is_near : Piece → ℕ → Place → Bool
 is_near piece longest at =
-    range_contains place_cmp (Included (piece.file, piece.offset - longest, 0))
-    (Excluded (piece.file, piece_end piece, 0)) at
+    range_contains place_cmp (Included (near_from piece longest)) (Excluded (near_end piece)) at
 
 -- what overlaps the piece and is no longer than that stands there
 overlap_is_near : (piece other : Piece) (longest id : ℕ) → other.len ≤ longest → pieces_overlap other piece ≡ true
@@ -122,43 +122,45 @@ overlap_is_near piece other longest id short shared =
     let high = before_end piece.file (piece_end piece) other.offset id (omega arith) in
     subst (λ (f : ℕ). is_near piece longest (f, other.offset, id) ≡ true) (sym same) (and_from _ _ low (ap not high))
 
-module _ (dir : Dir) (piece : Piece) (longest : ℕ) (ids : BTreeMap ℕ Io) (places : BTreeMap Place Io)
-    (kept : IsIndexed ids places longest) where
-  -- an I/O that conflicts with the piece: by number, by place, and by a place near the piece
-  abbrev flying : ℕ × Io → Bool
-  flying e = conflicts dir piece e.1
+-- what passes a test overlaps the piece; so it is found near the piece, whether it passes by its number or by its place
+module _ (passes : ℕ → Io → Bool) (piece : Piece)
+    (within : (id : ℕ) (io : Io) → passes id io ≡ true → pieces_overlap io.piece piece ≡ true)
+    (longest : ℕ) (ids : BTreeMap ℕ Ended) (places : BTreeMap Place Io) (kept : IsIndexed ids places longest) where
+  abbrev flying : ℕ × Ended → Bool
+  flying e = passes e.0 e.1.io
 
   abbrev standing_there : Place × Io → Bool
-  standing_there e = conflicts dir piece e.1
+  standing_there e = passes e.0.2 e.1
 
   abbrev standing_near : Place × Io → Bool
   standing_near e = is_near piece longest e.0 && standing_there e
 
   flies_there : Finds (get place_cmp places) standing_near → Finds (get nat_cmp ids) flying
-  flies_there f = record {
-    key = f.key.2;
-    value = f.value;
-    there = stood f.key (get nat_cmp ids f.key.2) f.value (sym (kept.placed f.key) ∙ f.there);
-    pass = (and_parts (is_near piece longest f.key) (conflicts dir piece f.value) f.pass).1;
-  }
+  flies_there f =
+      let here = stood f.key (get nat_cmp ids f.key.2) f.value (sym (kept.placed f.key) ∙ f.there) in
+      record {
+        key = f.key.2;
+        value = here.0;
+        there = here.1;
+        pass = ap (passes f.key.2) here.2 ∙ (and_parts (is_near piece longest f.key) (passes f.key.2 f.value) f.pass).1;
+      }
 
   stands_near : Finds (get nat_cmp ids) flying → Finds (get place_cmp places) standing_near
   stands_near f =
-      let io = f.value in
-      let measured = subst (λ (o : Option Io). IfSome o (IsMeasured longest f.key)) f.there (kept.measured f.key) in
-      let flies = subst (λ (id : ℕ). get nat_cmp ids id ≡ Some io) (sym measured.own) f.there in
-      let overlap = (and_parts (writes dir || writes io.dir) (pieces_overlap io.piece piece) f.pass).1 in
-      let near = overlap_is_near piece io.piece longest io.id measured.short overlap in
+      let io = f.value.io in
+      let measured = subst (λ (o : Option Ended). IfSome o (IsMeasured longest f.key)) f.there (kept.measured f.key) in
+      let flies = subst (λ (id : ℕ). get nat_cmp ids id ≡ Some f.value) (sym measured.own) f.there in
+      let pass = subst (λ (id : ℕ). passes id io ≡ true) (sym measured.own) f.pass in
+      let near = overlap_is_near piece io.piece longest io.id measured.short (within io.id io pass) in
       record {
         key = place_of io;
         value = io;
-        there = kept.placed (place_of io) ∙ ap (if_standing (place_of io)) flies ∙ standing io;
-        pass = and_from _ _ near f.pass;
+        there = kept.placed (place_of io) ∙ ap (if_standing (place_of io)) flies ∙ standing f.value;
+        pass = and_from _ _ near pass;
       }
 
   -- what is found near the piece is what is found among all
-  pub any_near : list_any standing_there (filter (λ (e : Place × Io). is_near piece longest e.0) places.entries)
-      ≡ list_any flying ids.entries
+  pub any_near : list_any standing_there (near_piece piece longest places.entries) ≡ list_any flying ids.entries
   any_near =
       let near = list_any standing_near places.entries in
       let all = list_any flying ids.entries in
@@ -170,20 +172,48 @@ module _ (dir : Dir) (piece : Piece) (longest : ℕ) (ids : BTreeMap ℕ Io) (pl
       (λ found. entry_found place_cmp_exact places standing_near (back found))
 
 -- a test that is false of what is there
-if_there : (p : Io → Bool) (o : Option Io) → ((io : Io) → o ≡ Some io → p io ≡ false) → IfSome o (λ io. p io ≡ false)
+if_there : {X : Type 0} (p : X → Bool) (o : Option X) → ((x : X) → o ≡ Some x → p x ≡ false) → IfSome o (λ x. p x ≡ false)
 if_there p None below = tt
-if_there p (Some io) below = below io refl
+if_there p (Some x) below = below x refl
 
 -- no entry passes exactly if nothing passes under any number
-pub none_passes : (p : Io → Bool) (ids : BTreeMap ℕ Io) → IsOrdered nat_cmp ids
-    → IsTrue (not (list_any (λ (e : ℕ × Io). p e.1) ids.entries)) ↔ ((id : ℕ) → IfSome (get nat_cmp ids id) (λ io. p io ≡ false))
-none_passes p ids ordered =
-    let test : ℕ × Io → Bool = λ (e : ℕ × Io). p e.1 in (
-      (λ none id. if_there p (get nat_cmp ids id) (λ io there.
-          false_from_ne_true (p io) (λ pass.
+pub none_passes : {X : Type 0} (p : X → Bool) (ids : BTreeMap ℕ X) → IsOrdered nat_cmp ids
+    → IsTrue (not (list_any (λ (e : ℕ × X). p e.1) ids.entries)) ↔ ((id : ℕ) → IfSome (get nat_cmp ids id) (λ x. p x ≡ false))
+none_passes {X} p ids ordered =
+    let test : ℕ × X → Bool = λ (e : ℕ × X). p e.1 in (
+      (λ none id. if_there p (get nat_cmp ids id) (λ x there.
+          false_from_ne_true (p x) (λ pass.
           both_ways (list_any test ids.entries) (not-true (list_any test ids.entries) none)
-          (entry_found exact_unsigned ids test (record { key = id; value = io; there = there; pass = pass }))))),
+          (entry_found exact_unsigned ids test (record { key = id; value = x; there = there; pass = pass }))))),
       (λ below. ap not (false_from_ne_true (list_any test ids.entries) (λ found.
           let f = finds_entry nat_cmp_total ids ordered test found in
-          both_ways (p f.value) (subst (λ (o : Option Io). IfSome o (λ io. p io ≡ false)) f.there (below f.key)) f.pass))),
+          both_ways (p f.value) (subst (λ (o : Option X). IfSome o (λ x. p x ≡ false)) f.there (below f.key)) f.pass))),
     )
+
+-- the one entry of a number passes exactly if it is found to
+pub one_passes : {X : Type 0} (p : ℕ × X → Bool) (ids : BTreeMap ℕ X) → IsOrdered nat_cmp ids
+    → (id : ℕ) (x : X) → get nat_cmp ids id ≡ Some x
+    → list_any (λ (e : ℕ × X). p e && (id == e.0)) ids.entries ≡ p (id, x)
+one_passes {X} p ids ordered id x here =
+    let test : ℕ × X → Bool = λ (e : ℕ × X). p e && (id == e.0) in
+    same_truth (list_any test ids.entries) (p (id, x))
+    (λ found.
+    let f = finds_entry nat_cmp_total ids ordered test found in
+    let parts = and_parts (p (f.key, f.value)) (id == f.key) f.pass in
+    let own : id ≡ f.key = eqb-true id f.key parts.1 in
+    let at : get nat_cmp ids id ≡ Some f.value = subst (λ (k : ℕ). get nat_cmp ids k ≡ Some f.value) (sym own) f.there in
+    let value : x ≡ f.value = same_Some x f.value (sym here ∙ at) in
+    subst (λ (v : X). p (id, v) ≡ true) (sym value) (subst (λ (k : ℕ). p (k, f.value) ≡ true) (sym own) parts.0))
+    (λ passes. entry_found exact_unsigned ids test
+    (record { key = id; value = x; there = here; pass = and_from (p (id, x)) (id == id) passes (eq-eqb id id refl) }))
+
+-- which of two pieces is named first is all one
+pub overlap_turned : (a b : Piece) → pieces_overlap a b ≡ true → pieces_overlap b a ≡ true
+overlap_turned a b shared =
+    let start = max a.offset b.offset in
+    let end = min (piece_end a) (piece_end b) in
+    let parts = and_parts (a.file == b.file) (nat_lt start end) shared in
+    let same : a.file ≡ b.file = eqb-true a.file b.file parts.0 in
+    let common : start < end = ltb-true start end parts.1 in
+    and_from _ _ (eq-eqb b.file a.file (sym same))
+    (lt-ltb (max b.offset a.offset) (min (piece_end b) (piece_end a)) (omega arith))

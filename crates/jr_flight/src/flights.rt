@@ -5,10 +5,11 @@ ghost use Rattle.std.specs.BTreeMap.{insert_entry, is_at};
 ghost use Rattle.std.specs.Map.{remove_entry};
 ghost use Rattle.std.specs.Ordering.{nat_cmp};
 ghost use Rattle.jr_model.specs.Pieces.{piece_end};
-ghost use Rattle.jr_flight.specs.Flights.{flying_io, conflicts, is_clear};
-ghost use Rattle.jr_flight.specs.Places.{place_of};
+ghost use Rattle.jr_flight.specs.Flights.{flying_io, raced_so_far, conflicts, waits_for, is_clear};
+ghost use Rattle.jr_flight.specs.Flights.{writes_over, is_raced, marked};
+ghost use Rattle.jr_flight.specs.Places.{place_of, near_from, near_end, near_piece, raced_under, raced_at};
 
-use crate::ios::{FlightFault, Io};
+use crate::ios::{Ended, FlightFault, Io};
 use jr_model::{Dir, IoId, LARGEST_BLOCK, LARGEST_END, Memory, Piece, overlaps};
 use std::alloc::Global;
 use std::collections::BTreeMap;
@@ -17,21 +18,21 @@ use std::marker::Model;
 // Where an I/O stands among those in flight: by file, then by offset, then by its number.
 type Place = (u32, u64, IoId);
 
-/// The I/Os in flight. Contracts see the entries of the map from their numbers, in order.
+/// The I/Os in flight, and which of them raced. Contracts see the entries of the map from their numbers, in order.
 #[derive(Debug, Drop)]
 pub struct Flight {
-    ids: BTreeMap<IoId, Io>,
+    ids: BTreeMap<IoId, Ended>,
     places: BTreeMap<Place, Io>,
-    // No piece in flight is longer: that of the longest I/O begun so far.
+    // No piece in flight is longer: that of the longest I/O put in so far.
     longest: u32,
 }
 
 impl Model for Flight {
     ghost use Rattle.std.specs.Prelude.{ℕ, List};
-    ghost use Rattle.jr_flight.specs.declared.ios.Io.{Io};
+    ghost use Rattle.jr_flight.specs.declared.ios.Ended.{Ended};
     ghost use Rattle.jr_flight.specs.Places.{IsIndexed};
 
-    ghost Value = { List (ℕ × Io) };
+    ghost Value = { List (ℕ × Ended) };
 
     ghost view = { λ f. f.ids.entries };
 
@@ -39,7 +40,7 @@ impl Model for Flight {
 }
 
 impl Flight {
-    /// With nothing in flight. What begins takes its memory from `alloc`.
+    /// With nothing in flight. What is put in takes its memory from `alloc`.
     pub fn new(alloc: Global) -> Result<Flight, Memory>
         ensures { IfOk result (λ flight. flight ≡ []) }
     {
@@ -57,60 +58,150 @@ impl Flight {
         self.ids.contains_key(&id)
     }
 
-    /// Whether nothing in flight overlaps the piece where one of the two writes.
-    pub fn clear(&self, piece: &Piece, dir: Dir) -> bool
+    /// Whether what flies under this number has raced so far.
+    pub fn raced(&self, id: IoId) -> bool
+        ensures { result ≡ raced_so_far (flying_io id self.now) }
+    {
+        match self.ids.get(&id) {
+            None => false,
+            Some(ended) => ended.raced,
+        }
+    }
+
+    /// Whether nothing in flight overlaps the piece where one of the two writes and neither's clone declines to wait.
+    pub fn clear(&self, piece: &Piece, dir: Dir, declines: bool) -> bool
         requires some { 1 ≤ piece.now.len }
         requires largest { piece.now.len ≤ LARGEST_BLOCK }
         requires within { piece_end piece.now ≤ LARGEST_END }
-        ensures value { result ≡ is_clear dir piece.now self.now }
-        ensures at_each { IsTrue result ↔ ((id : ℕ) → IfSome (flying_io id self.now) (λ io. conflicts dir piece.now io ≡ false)) }
+        ensures value { result ≡ is_clear declines dir piece.now self.now }
+        ensures at_each { IsTrue result
+            ↔ ((id : ℕ) → IfSome (flying_io id self.now) (λ ended. waits_for declines dir piece.now ended.io ≡ false)) }
     {
-        let first = piece.offset.saturating_sub(u64::from(self.longest));
-        let end = piece.offset + u64::from(piece.len);
+        let (first, end) = near(piece, self.longest);
         !self
             .places
-            .range((piece.file, first, 0)..(piece.file, end, 0))
-            .any(|(_, io)| conflicts(io, piece, dir))
+            .range(first..end)
+            .any(|(_, io)| waits_for(io, piece, dir, declines))
     }
 
-    /// Puts an I/O into flight.
-    pub fn begin(&mut self, io: Io) -> Result<(), Memory>
-        requires some { 1 ≤ io.piece.len }
-        requires largest { io.piece.len ≤ LARGEST_BLOCK }
-        requires within { piece_end io.piece ≤ LARGEST_END }
-        requires clear { IsTrue (is_clear io.dir io.piece self.old) }
-        requires new { flying_io io.id self.old ≡ None }
-        ensures entries { OnOk result (self.new ≡ insert_entry nat_cmp self.old io.id io) }
-        ensures at_each { OnOk result ((id : ℕ) → flying_io id self.new ≡ (if io.id == id then Some io else flying_io id self.old)) }
+    /// Marks as raced what else is in flight where the I/O writes over it, and says whether one of them writes over the I/O.
+    pub fn mark(&mut self, io: &Io) -> bool
+        requires some { 1 ≤ io.now.piece.len }
+        requires largest { io.now.piece.len ≤ LARGEST_BLOCK }
+        requires within { piece_end io.now.piece ≤ LARGEST_END }
+        ensures value { result ≡ is_raced io.now self.old }
+        ensures entries { self.new ≡ marked io.now self.old }
+    {
+        let raced = self.is_raced(io);
+        self.mark_others(io);
+        raced
+    }
+
+    /// Puts an I/O into flight that was marked already.
+    pub fn put(&mut self, ended: Ended) -> Result<(), Memory>
+        requires some { 1 ≤ ended.io.piece.len }
+        requires largest { ended.io.piece.len ≤ LARGEST_BLOCK }
+        requires within { piece_end ended.io.piece ≤ LARGEST_END }
+        requires new { flying_io ended.io.id self.old ≡ None }
+        ensures entries { OnOk result (self.new ≡ insert_entry nat_cmp self.old ended.io.id ended) }
+        ensures at_each { OnOk result
+            ((id : ℕ) → flying_io id self.new ≡ (if ended.io.id == id then Some ended else flying_io id self.old)) }
         ensures err { OnErr result (self.new ≡ self.old) }
     {
-        let place = place_of(&io);
-        self.places.insert(place, io)?;
-        match self.ids.insert(io.id, io) {
+        let place = place_of(&ended.io);
+        self.places.insert(place, ended.io)?;
+        match self.ids.insert(ended.io.id, ended) {
             Err(_) => {
                 self.places.remove(&place);
                 Err(Memory)
             }
             Ok(_) => {
-                self.longest = self.longest.max(io.piece.len);
+                self.longest = self.longest.max(ended.io.piece.len);
                 Ok(())
             }
         }
     }
 
-    /// Takes the I/O of this number out of flight.
-    pub fn end(&mut self, id: IoId) -> Result<Io, FlightFault>
+    /// Puts an I/O into flight and marks what races.
+    pub fn begin(&mut self, io: Io) -> Result<(), Memory>
+        requires some { 1 ≤ io.piece.len }
+        requires largest { io.piece.len ≤ LARGEST_BLOCK }
+        requires within { piece_end io.piece ≤ LARGEST_END }
+        requires new { flying_io io.id self.old ≡ None }
+        ensures entries { OnOk result
+            (self.new ≡ insert_entry nat_cmp (marked io self.old) io.id (record { io = io; raced = is_raced io self.old })) }
+        ensures at_each { OnOk result
+            ((id : ℕ) → flying_io id self.new
+            ≡ (if io.id == id then Some (record { io = io; raced = is_raced io self.old }) else flying_io id (marked io self.old))) }
+        ensures err { OnErr result (self.new ≡ self.old) }
+    {
+        let raced = self.is_raced(&io);
+        self.put(Ended { io, raced })?;
+        self.mark_others(&io);
+        Ok(())
+    }
+
+    /// Takes the I/O of this number out of flight, and says whether it raced.
+    pub fn end(&mut self, id: IoId) -> Result<Ended, FlightFault>
         ensures value { result ≡ ok_or (flying_io id self.old) FlightFault.Stranger }
-        ensures own { IfOk result (λ io. io.id ≡ id) }
+        ensures own { IfOk result (λ ended. ended.io.id ≡ id) }
         ensures entries { self.new ≡ remove_entry (is_at (nat_cmp id)) self.old }
         ensures at_each { (other : ℕ) → flying_io other self.new ≡ (if id == other then None else flying_io other self.old) }
         ensures err { OnErr result (self.new ≡ self.old) }
     {
-        let Some(io) = self.ids.remove(&id) else {
+        let Some(ended) = self.ids.remove(&id) else {
             return Err(FlightFault::Stranger);
         };
-        self.places.remove(&place_of(&io));
-        Ok(io)
+        self.places.remove(&place_of(&ended.io));
+        Ok(ended)
+    }
+
+    // Whether another one in flight writes over the I/O.
+    fn is_raced(&self, io: &Io) -> bool
+        requires some { 1 ≤ io.now.piece.len }
+        requires largest { io.now.piece.len ≤ LARGEST_BLOCK }
+        requires within { piece_end io.now.piece ≤ LARGEST_END }
+        ensures { result ≡ is_raced io.now self.now }
+    {
+        let (first, end) = near(&io.piece, self.longest);
+        self.places.range(first..end).any(|(at, other)| at.2 != io.id
+            && writes_over(other, &io.piece))
+    }
+
+    // Marks as raced what else is in flight where the I/O writes over it.
+    fn mark_others(&mut self, io: &Io)
+        requires some { 1 ≤ io.now.piece.len }
+        requires largest { io.now.piece.len ≤ LARGEST_BLOCK }
+        requires within { piece_end io.now.piece ≤ LARGEST_END }
+        ensures { self.new ≡ marked io.now self.old }
+    {
+        if io.dir == Dir::Write {
+            mark_near(&mut self.ids, &self.places, self.longest, io);
+        }
+    }
+}
+
+// Marks as raced what stands near the I/O where that writes over it, but for what has its number.
+fn mark_near(ids: &mut BTreeMap<IoId, Ended>, places: &BTreeMap<Place, Io>, longest: u32, io: &Io)
+    requires some { 1 ≤ io.now.piece.len }
+    requires largest { io.now.piece.len ≤ LARGEST_BLOCK }
+    requires within { piece_end io.now.piece ≤ LARGEST_END }
+    ensures { ids.new.entries ≡ raced_at io.now (near_piece io.now.piece longest places.now.entries) ids.old.entries }
+{
+    let (first, end) = near(&io.piece, longest);
+    for (at, other) in places.range(first..end) {
+        if at.2 != io.id && writes_over(io, &other.piece) {
+            set_raced(ids, at.2);
+        }
+    }
+}
+
+// Marks as raced what flies under this number.
+fn set_raced(ids: &mut BTreeMap<IoId, Ended>, id: IoId)
+    ensures { ids.new.entries ≡ raced_under id ids.old.entries }
+{
+    if let Some(ended) = ids.get_mut(&id) {
+        ended.raced = true;
     }
 }
 
@@ -121,9 +212,33 @@ fn place_of(io: &Io) -> Place
     (io.piece.file, io.piece.offset, io.id)
 }
 
+// Between which places what overlaps the piece stands, where none is longer than `longest`.
+fn near(piece: &Piece, longest: u32) -> (Place, Place)
+    requires { piece_end piece.now ≤ LARGEST_END }
+    ensures { result ≡ (near_from piece.now longest, near_end piece.now) }
+{
+    let first = piece.offset.saturating_sub(u64::from(longest));
+    let end = piece.offset + u64::from(piece.len);
+    ((piece.file, first, 0), (piece.file, end, 0))
+}
+
+// Whether the two conflict and neither declines to wait.
+fn waits_for(io: &Io, piece: &Piece, dir: Dir, declines: bool) -> bool
+    ensures { result ≡ waits_for declines dir piece.now io.now }
+{
+    !(declines || io.declines) && conflicts(io, piece, dir)
+}
+
 // Whether the two overlap and one of them writes.
 fn conflicts(io: &Io, piece: &Piece, dir: Dir) -> bool
     ensures { result ≡ conflicts dir piece.now io.now }
 {
     (dir == Dir::Write || io.dir == Dir::Write) && overlaps(&io.piece, piece)
+}
+
+// Whether the I/O writes where the piece lies.
+fn writes_over(io: &Io, piece: &Piece) -> bool
+    ensures { result ≡ writes_over piece.now io.now }
+{
+    io.dir == Dir::Write && overlaps(&io.piece, piece)
 }

@@ -10,6 +10,15 @@ pub struct Io {
     pub clone: u32,
     pub piece: Piece,
     pub dir: Dir,
+    /// Whether its clone declines to wait (`serialize_overlap=0`).
+    pub declines: bool,
+}
+
+/// An I/O out of flight (or in it), and whether a write overlapped it meanwhile.
+#[derive(Clone, Copy, Debug, PartialEq, Eq)]
+pub struct Ended {
+    pub io: Io,
+    pub raced: bool,
 }
 
 /// Why nothing ended.

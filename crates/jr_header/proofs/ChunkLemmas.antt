@@ -1,4 +1,4 @@
--- Blocks that are cut into chunks: their lengths, what stands in each, and what is said of the first that isn't good.
+-- Blocks that are cut into chunks: their lengths, what stands in each, and what is said of the first bad one.
 use Rattle.std.proofs.Common.{◌≡◌, ℕ, zero, suc, ◌+◌, ◌-◌, ◌*◌, ◌%◌, ◌<◌, ◌≤◌, List, [], ◌∷◌, ◌++◌, length, map, take, drop, flat_map, true, false, ◌&&◌, inl, inr, refl, sym, ap, ◌∙◌, arith, zero-add, append_assoc, append-nil, length-append, length-take, length-drop}
 use Rattle.std.proofs.lemmas.Grind.{flat_map-append}
 use borrow.Rule.Slice.PartMut.{put_mid, post_of, mid_len, same_len_mid}
@@ -10,11 +10,12 @@ use Rattle.std.proofs.lemmas.List.{take_at, drop_at, take-append-drop, drop-drop
 use Rattle.jr_model.specs.declared.limits.TheConstants.{SECTOR, LARGEST_BLOCK, LARGEST_END}
 use Rattle.jr_model.specs.declared.blocks.Piece.{Piece}
 use Rattle.jr_model.specs.declared.events.Verdict.{Verdict}
-use Rattle.jr_model.specs.declared.events.Verdict.TheVariants.{Good, Bad}
+use Rattle.jr_model.specs.declared.events.Verdict.TheVariants.{Good, Bad, Void}
 use Rattle.jr_model.specs.declared.events.What.{What}
 use Rattle.jr_model.specs.declared.events.What.TheVariants.{Header, Digest, DataArea, Byte, Chunk}
 use Rattle.jr_model.specs.Content.{chunks_in}
 use Rattle.jr_model.specs.Judgement.{cuts_whole, first_bad, in_chunk}
+use Rattle.jr_model.specs.Legal.{is_void}
 use Rattle.jr_model.specs.Tickets.{piece_fits, has_whole_chunks}
 use Rattle.jr_header.specs.Chunks.{IsInChunks}
 
@@ -135,26 +136,41 @@ flat_by_parts f v from (suc n) xs size each =
     ∙ ap f (let e : from + suc i ≡ from + 1 + i = omega arith in e)) in
     sym (take-append-drop v xs) ∙ ap (λ (ys : List ℕ). ys ++ drop v xs) first ∙ ap (λ (ys : List ℕ). f from ++ ys) rest
 
--- what is said of the first that isn't good
+-- what is said of the first bad one
 
-first_good : (v : Verdict) (vs : List Verdict) → v ≡ Good → first_bad (v ∷ vs) ≡ first_bad vs
-first_good v vs good = ap (λ (w : Verdict). first_bad (w ∷ vs)) good
+abbrev pub IsNotBad : Verdict → Type 0
+IsNotBad v = (what : What) → v ≡ Bad what → ⊥
+
+good_is_not_bad : (v : Verdict) → v ≡ Good → IsNotBad v
+good_is_not_bad v good what bad =
+    let wrong : Good ≡ Bad what = sym good ∙ bad in
+    cc
+
+next_bad : (v : Verdict) (vs : List Verdict) → IsNotBad v → first_bad (v ∷ vs) ≡ first_bad vs
+next_bad Good vs other = refl
+next_bad (Bad what) vs other = absurd (other what refl)
+next_bad Void vs other = refl
+
+-- where none is bad
+pub none_bad : (f : ℕ → Verdict) (from n : ℕ) → ((i : ℕ) → from ≤ i → i < from + n → IsNotBad (f i)) → first_bad (map f (range_with_len from n)) ≡ Good
+none_bad f from zero each = refl
+none_bad f from (suc n) each =
+    next_bad (f from) (map f (range_with_len (from + 1) n)) (each from (omega arith) (omega arith))
+    ∙ none_bad f (from + 1) n (λ (i : ℕ) (least : from + 1 ≤ i) (below : i < from + 1 + n). each i (omega (arith, least)) (omega (arith, below)))
 
 -- where all are good
 pub all_good : (f : ℕ → Verdict) (from n : ℕ) → ((i : ℕ) → from ≤ i → i < from + n → f i ≡ Good) → first_bad (map f (range_with_len from n)) ≡ Good
-all_good f from zero each = refl
-all_good f from (suc n) each =
-    first_good (f from) (map f (range_with_len (from + 1) n)) (each from (omega arith) (omega arith))
-    ∙ all_good f (from + 1) n (λ (i : ℕ) (least : from + 1 ≤ i) (below : i < from + 1 + n). each i (omega (arith, least)) (omega (arith, below)))
+all_good f from n each =
+    none_bad f from n (λ (i : ℕ) (least : from ≤ i) (below : i < from + n). good_is_not_bad (f i) (each i least below))
 
--- where the first that isn't good is this one
-pub bad_at : (f : ℕ → Verdict) (from n i : ℕ) (what : What) → from ≤ i → i < from + n → ((k : ℕ) → from ≤ k → k < i → f k ≡ Good) → f i ≡ Bad what → first_bad (map f (range_with_len from n)) ≡ Bad what
+-- where the first bad one is this
+pub bad_at : (f : ℕ → Verdict) (from n i : ℕ) (what : What) → from ≤ i → i < from + n → ((k : ℕ) → from ≤ k → k < i → IsNotBad (f k)) → f i ≡ Bad what → first_bad (map f (range_with_len from n)) ≡ Bad what
 bad_at f from zero i what least below before bad = absurd (omega (arith, least, below))
 bad_at f from (suc n) i what least below before bad =
     elim (cases_lt from i) [
       | inl more ↦
           let next : from + 1 ≤ i = omega (arith, more) in
-          first_good (f from) (map f (range_with_len (from + 1) n)) (before from (omega arith) more)
+          next_bad (f from) (map f (range_with_len (from + 1) n)) (before from (omega arith) more)
           ∙ bad_at f (from + 1) n i what next (omega (arith, below))
           (λ (k : ℕ) (low : from + 1 ≤ k) (high : k < i). before k (omega (arith, low)) high) bad
       | inr most ↦
@@ -162,10 +178,10 @@ bad_at f from (suc n) i what least below before bad =
           ap (λ (w : Verdict). first_bad (w ∷ map f (range_with_len (from + 1) n))) (ap f here ∙ bad)
     ]
 
--- where none was found, all are good
-pub good_each : (f : ℕ → Verdict) (from n i : ℕ) → first_bad (map f (range_with_len from n)) ≡ Good → i < n → f (from + i) ≡ Good
-good_each f from zero i good below = absurd (omega (arith, below))
-good_each f from (suc n) i good below = at (f from) refl good i below (λ k rest less. good_each f (from + 1) n k rest less)
+-- where none was found, all are good that say something
+pub good_each : (f : ℕ → Verdict) (from n i : ℕ) → ((k : ℕ) → is_void (f k) ≡ false) → first_bad (map f (range_with_len from n)) ≡ Good → i < n → f (from + i) ≡ Good
+good_each f from zero i speaks good below = absurd (omega (arith, below))
+good_each f from (suc n) i speaks good below = at (f from) refl good i below (λ k rest less. good_each f (from + 1) n k speaks rest less)
   where
     at : (v : Verdict) → f from ≡ v → first_bad (v ∷ map f (range_with_len (from + 1) n)) ≡ Good → (k : ℕ) → k < suc n
         → ((k : ℕ) → first_bad (map f (range_with_len (from + 1) n)) ≡ Good → k < n → f (from + 1 + k) ≡ Good) → f (from + k) ≡ Good
@@ -173,6 +189,9 @@ good_each f from (suc n) i good below = at (f from) refl good i below (λ k rest
     at Good is rest (suc k) less more =
         ap f (let e : from + suc k ≡ from + 1 + k = omega arith in e) ∙ more k rest (omega (arith, less))
     at (Bad what) is rest k less more = absurd (cc)
+    at Void is rest k less more =
+        let wrong : true ≡ false = sym (ap is_void is) ∙ speaks from in
+        absurd (cc)
 
 -- a good chunk is good by its header
 pub good_in_chunk : (i : ℕ) (v : Verdict) → in_chunk i v ≡ Good → v ≡ Good
@@ -182,3 +201,4 @@ good_in_chunk i (Bad Digest) h = absurd (cc)
 good_in_chunk i (Bad DataArea) h = absurd (cc)
 good_in_chunk i (Bad (Byte n)) h = absurd (cc)
 good_in_chunk i (Bad (Chunk n found)) h = absurd (cc)
+good_in_chunk i Void h = absurd (cc)

@@ -22,7 +22,7 @@ use Rattle.jr_header.proofs.Lengths.{length-chunk}
 use Rattle.jr_header.proofs.Differences.{none_differs, same_from-first_difference}
 use Rattle.jr_header.proofs.Headers.{length-header_front, length-header_back}
 use Rattle.jr_header.proofs.Patterns.{length-pattern_bytes}
-use Rattle.jr_header.proofs.Verdicts.{all_same, digest-header_back}
+use Rattle.jr_header.proofs.Verdicts.{all_same, digest-header_back, chunk_speaks}
 
 -- the same list twice
 same_twice : (xs ys : List ℕ) → xs ≡ ys → same_bytes xs ys ≡ true
@@ -190,7 +190,7 @@ chunks_other method write piece seed bytes some chunks size apart good =
     (λ (i : ℕ) (below : i < chunks_in method.interval piece).
     let at : chunk_verdict method write piece seed bytes i ≡ Good =
     ap (chunk_verdict method write piece seed bytes) (sym (zero-add i))
-    ∙ good_each (chunk_verdict method write piece seed bytes) 0 (chunks_in method.interval piece) i good below in
+    ∙ good_each (chunk_verdict method write piece seed bytes) 0 (chunks_in method.interval piece) i (chunk_speaks method write piece seed bytes) good below in
     headed_other chunk_version method write (chunk_at method.interval piece i) (chunk_seed seed i) (bytes_of_chunk method.interval i bytes)
     (told method.kind (drop 64 (bytes_of_chunk method.interval i bytes)) (data_area method (chunk_at method.interval piece i) (chunk_seed seed i)) some (apart i below))
     (good_in_chunk i (header_verdict method.kind (chunk_header method write piece seed i) (bytes_of_chunk method.interval i bytes)) at)

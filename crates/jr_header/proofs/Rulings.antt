@@ -18,11 +18,13 @@ use Rattle.jr_model.specs.declared.limits.TheConstants.{MOST_PASSES}
 use Rattle.jr_model.specs.declared.tickets.Ticket.{Ticket}
 use Rattle.jr_model.specs.Content.{block_version, header_of, expected_of, expected_pattern}
 use Rattle.jr_model.specs.Judgement.{verdict_of, AreasToldApart, is_checked}
+use Rattle.jr_model.specs.Legal.{is_void}
 use Rattle.jr_model.specs.Plan.{is_verified}
 use Rattle.jr_model.specs.Tickets.{piece_fits, has_pattern, is_nothing, is_pattern, interval_fits, chunks_fit, suits_method, suits_kind, expected_fits, ticket_fits}
 use Rattle.jr_engines.specs.Answers.{AnswerParts}
 use Rattle.jr_header.specs.Served.{ticket_content, ticket_expected, is_whole_check, is_to_judge, IsRuled}
 use Rattle.jr_header.proofs.Laws.{good_on_content, good_on_no_other}
+use Rattle.jr_header.proofs.Verdicts.{verdict_speaks}
 
 -- a check is of a method that checks
 patterned : (pattern : Option (List ℕ)) (e : Expected) → is_pattern pattern e ≡ true → is_some pattern ≡ true
@@ -102,6 +104,12 @@ checks_of answer fits whole expects =
       | inl probe ↦ check_of answer.ticket fits probe
       | inr read ↦ absurd (no_read_check answer.ticket fits read expects)
     ]
+
+-- the verdict is good or bad
+pub ruled_speaks : (answer : AnswerParts) (said : Verdict) → IsRuled answer said → is_void said ≡ false
+ruled_speaks answer said ruled =
+    let t = answer.ticket in
+    ap is_void ruled.verdict ∙ verdict_speaks t.method t.write t.piece t.expected answer.bytes ruled.room
 
 -- on what its write put there the verdict is good
 pub ruled_good : (answer : AnswerParts) (said : Verdict) → IsRuled answer said → answer.ticket.expected ≡ ticket_expected answer.ticket

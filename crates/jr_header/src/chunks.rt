@@ -117,6 +117,6 @@ pub(crate) fn in_chunk(i: u32, verdict: Verdict) -> Verdict
         Verdict::Bad(What::Header) => Verdict::Bad(What::Chunk(i, Part::Header)),
         Verdict::Bad(What::Digest) => Verdict::Bad(What::Chunk(i, Part::Digest)),
         Verdict::Bad(What::DataArea) => Verdict::Bad(What::Chunk(i, Part::DataArea)),
-        Verdict::Good | Verdict::Bad(What::Byte(_) | What::Chunk(_, _)) => verdict,
+        Verdict::Good | Verdict::Void | Verdict::Bad(What::Byte(_) | What::Chunk(_, _)) => verdict,
     }
 }

@@ -1,6 +1,7 @@
-ghost use Rattle.std.specs.Prelude.{◌≡◌, true, length};
+ghost use Rattle.std.specs.Prelude.{◌≡◌, true, false, length};
 ghost use Rattle.jr_model.specs.declared.events.Verdict.TheVariants.{Good};
 ghost use Rattle.jr_model.specs.Judgement.{AreasToldApart};
+ghost use Rattle.jr_model.specs.Legal.{is_void};
 ghost use Rattle.jr_header.specs.Served.{ticket_content, ticket_expected, is_to_judge, answer_verdict};
 
 use crate::judgement::verdict;
@@ -37,9 +38,10 @@ impl<'a> Ruling<'a> {
         self.served
     }
 
-    /// What is said of its bytes.
+    /// What is said of its bytes: they are good or bad.
     pub fn verdict(&self) -> Verdict
         ensures value { result ≡ answer_verdict self.now }
+        ensures speaks { is_void result ≡ false }
 
         // Where the ticket expects what its write put there, these bytes are good, and no others are.
         ensures good { self.now.ticket.expected ≡ ticket_expected self.now.ticket

@@ -160,7 +160,7 @@ same_write_end ios s (Probe worker probed piece) ended judged = refl
 same_write_end ios s (Skip worker skipped) ended judged = refl
 same_write_end ios s (Verdict worker io verdict) ended judged = refl
 same_write_end ios s (End worker io outcome) ended judged =
-    ap (λ (o : Option Started). if_write o (ended_whole (Some outcome))) (ended_apart ios s io worker outcome ended)
+    ap (λ (o : Option Started). if_write io o (ended_whole (Some outcome))) (ended_apart ios s io worker outcome ended)
 
 -- with one more I/O
 pub marked_started : (ios : List Started) (s : Started) (events : List Event) (marks : Marks) → IsMarked ios events marks → is_named marks (length ios) ≡ false → IsMarked (ios ++ s ∷ []) events marks

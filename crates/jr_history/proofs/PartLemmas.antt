@@ -39,17 +39,17 @@ not_over file block end false is apart = refl
 not_over file block end true is apart = let here = over_part file block end is in cc
 
 -- so a block's last write is the same by the ends over its part
-pub last_over_part : (file block : ℕ) (last : Option WriteId) (ends : List WriteEnd) → fold (last_by file block) last (filter (is_over_part file (part_of block)) ends) ≡ fold (last_by file block) last ends
-last_over_part file block last [] = refl
-last_over_part file block last (end ∷ ends) =
-    by_test (is_over_part file (part_of block) end) refl (λ (before : Option WriteId). last_over_part file block before ends)
+pub last_over_part : (raced : ℕ → Bool) (file block : ℕ) (last : Option WriteId) (ends : List WriteEnd) → fold (last_by raced file block) last (filter (is_over_part file (part_of block)) ends) ≡ fold (last_by raced file block) last ends
+last_over_part raced file block last [] = refl
+last_over_part raced file block last (end ∷ ends) =
+    by_test (is_over_part file (part_of block) end) refl (λ (before : Option WriteId). last_over_part raced file block before ends)
   where
     rest : List WriteEnd
     rest = filter (is_over_part file (part_of block)) ends
 
-    by_test : (over : Bool) → is_over_part file (part_of block) end ≡ over → ((before : Option WriteId) → fold (last_by file block) before rest ≡ fold (last_by file block) before ends) → fold (last_by file block) last (cond over (end ∷ rest) rest) ≡ fold (last_by file block) (last_by file block last end) ends
-    by_test true is others = others (last_by file block last end)
+    by_test : (over : Bool) → is_over_part file (part_of block) end ≡ over → ((before : Option WriteId) → fold (last_by raced file block) before rest ≡ fold (last_by raced file block) before ends) → fold (last_by raced file block) last (cond over (end ∷ rest) rest) ≡ fold (last_by raced file block) (last_by raced file block last end) ends
+    by_test true is others = others (last_by raced file block last end)
     by_test false is others =
         others last
-        ∙ ap (λ (o : Option WriteId). fold (last_by file block) o ends)
-        (sym (ap (λ (b : Bool). cond b (if_whole end) last) (not_over file block end (is_over_block file block end) refl is)))
+        ∙ ap (λ (o : Option WriteId). fold (last_by raced file block) o ends)
+        (sym (ap (λ (b : Bool). cond b (if_whole raced end) last) (not_over file block end (is_over_block file block end) refl is)))

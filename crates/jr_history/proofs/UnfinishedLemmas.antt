@@ -40,7 +40,7 @@ enumerate_more {X} n (y ∷ ys) x =
     ∙ ap (λ (k : ℕ). (n, y) ∷ (enumerate_from (n + 1) ys ++ (k, x) ∷ [])) same
 
 -- ---- one I/O
-none_left : {X : Type 0} (a b : Option X) → (is_some a || is_some b) ≡ false → a ≡ None
+pub none_left : {X : Type 0} (a b : Option X) → (is_some a || is_some b) ≡ false → a ≡ None
 none_left None b h = refl
 none_left (Some x) b h = cc
 

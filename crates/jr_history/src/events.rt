@@ -2,7 +2,7 @@ ghost use Rattle.std.specs.Prelude.{◌≡◌, IfOk};
 ghost use Rattle.std.specs.List.{list_any};
 ghost use Rattle.jr_model.specs.History.{started_by, started, end_of, outcome_of, kind_for, is_verdict_on, is_judged, is_probe};
 ghost use Rattle.jr_model.specs.History.{is_judged_kind, is_write, is_of_clone, ended_whole};
-ghost use Rattle.jr_model.specs.Legal.{is_io_of, is_fault, is_bad};
+ghost use Rattle.jr_model.specs.Legal.{is_io_of, is_fault, is_bad, is_void};
 
 use jr_model::{Event, IssueKind, Memory, Outcome, Started, TicketKind, Verdict};
 use std::alloc::Global;
@@ -142,7 +142,14 @@ pub fn is_fault(outcome: Outcome) -> bool
 pub fn is_bad(verdict: Verdict) -> bool
     ensures { result ≡ is_bad verdict }
 {
-    verdict != Verdict::Good
+    matches!(verdict, Verdict::Bad(_))
+}
+
+/// Whether a verdict says nothing of the bytes.
+pub fn is_void(verdict: Verdict) -> bool
+    ensures { result ≡ is_void verdict }
+{
+    verdict == Verdict::Void
 }
 
 /// Whether an I/O is of this clone.

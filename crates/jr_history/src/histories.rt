@@ -1,12 +1,15 @@
 ghost use Rattle.std.specs.Prelude.{◌≡◌, ◌∷◌, [], ◌++◌, IfOk, filter, filter_map, slice_get};
-ghost use Rattle.std.specs.List.{enumerate_from};
 ghost use Rattle.jr_model.specs.History.{started, flies, in_flight, awaiting, if_flying, if_awaiting};
+ghost use Rattle.jr_model.specs.Races.{has_raced};
+ghost use Rattle.jr_history.specs.Raced.{AreRaced};
 ghost use Rattle.jr_history.specs.Unfinished.{is_unfinished, unfinished};
 
 use crate::events::{ended_whole, is_judged_kind, started_by};
 use crate::ledgers::Ledger;
+use crate::races::mark_raced;
 use jr_model::{Event, Memory, Started};
 use std::alloc::Global;
+use std::collections::HashSet;
 use std::marker::Model;
 
 /// A history, with what many questions about it need worked out. Contracts see the list of its
@@ -18,6 +21,8 @@ pub struct Past {
     pending: Vec<(usize, Started)>,
     flying: Vec<Started>,
     waiting: Vec<Started>,
+    // The numbers of those that raced.
+    raced: HashSet<usize>,
 }
 
 impl Model for Past {
@@ -29,7 +34,7 @@ impl Model for Past {
 
     ghost view = { λ p. p.ledger };
 
-    ghost invariant = { λ p. IsWorkedOut p.ledger p.pending.items p.flying.items p.waiting.items };
+    ghost invariant = { λ p. IsWorkedOut p.ledger p.pending.items p.flying.items p.waiting.items p.raced };
 }
 
 impl Past {
@@ -37,9 +42,11 @@ impl Past {
     pub fn new(alloc: Global, events: &[Event]) -> Result<Past, Memory>
         ensures { IfOk result (λ past. past ≡ events.now) }
     {
-        let ledger = Ledger::new(alloc, Vec::from_slice(alloc, events)?)?;
-        let all = numbered(alloc, ledger.started())?;
-        over(alloc, ledger, all.as_slice())
+        let mut past = nothing(alloc)?;
+        for event in events {
+            past = past.followed_by(alloc, *event)?;
+        }
+        Ok(past)
     }
 
     /// The history with one more event, from what was worked out of the one before.
@@ -49,14 +56,24 @@ impl Past {
         let Past {
             ledger,
             mut pending,
+            flying,
+            mut raced,
             ..
         } = self;
-        match started_by(&event) {
+        let new = started_by(&event);
+        mark_raced(
+            &mut raced,
+            &ledger,
+            pending.as_slice(),
+            flying.as_slice(),
+            new,
+        )?;
+        match new {
             None => {}
             Some(io) => pending.push((ledger.started().len(), io))?,
         }
         let ledger = ledger.followed_by(alloc, event)?;
-        over(alloc, ledger, pending.as_slice())
+        over(alloc, ledger, pending.as_slice(), raced)
     }
 
     /// What its events say, to be looked up.
@@ -107,11 +124,32 @@ impl Past {
     {
         io < self.started().len() && self.ledger.outcome_of(io).is_none()
     }
+
+    /// Whether a write overlapped the I/O or check of this number while both were in flight.
+    pub fn has_raced(&self, io: usize) -> bool
+        ensures { result ≡ has_raced self.now io }
+    {
+        self.raced.contains(&io)
+    }
 }
 
-// A history, where the unfinished among these are all that it has.
-fn over(alloc: Global, ledger: Ledger, among: &[(usize, Started)]) -> Result<Past, Memory>
-    requires { filter (is_unfinished ledger) among.now ≡ unfinished ledger }
+// The history in which nothing happened.
+fn nothing(alloc: Global) -> Result<Past, Memory>
+    ensures { IfOk result (λ past. past ≡ []) }
+{
+    let ledger = Ledger::new(alloc, Vec::new(alloc))?;
+    over(alloc, ledger, &[], HashSet::new(alloc))
+}
+
+// A history, where the unfinished among these are all that it has, and these raced.
+fn over(
+    alloc: Global,
+    ledger: Ledger,
+    among: &[(usize, Started)],
+    raced: HashSet<usize>,
+) -> Result<Past, Memory>
+    requires unfinished { filter (is_unfinished ledger) among.now ≡ unfinished ledger }
+    requires raced { AreRaced ledger raced }
     ensures { IfOk result (λ past. past ≡ ledger) }
 {
     let pending = unfinished_among(alloc, &ledger, among)?;
@@ -122,19 +160,8 @@ fn over(alloc: Global, ledger: Ledger, among: &[(usize, Started)]) -> Result<Pas
         pending,
         flying,
         waiting,
+        raced,
     })
-}
-
-// These I/Os with their numbers.
-fn numbered(alloc: Global, ios: &[Started]) -> Result<Vec<(usize, Started)>, Memory>
-    ensures { IfOk result (λ v. v.items ≡ enumerate_from 0 ios.now) }
-{
-    let all: Vec<(usize, Started)> = ios
-        .iter()
-        .enumerate()
-        .map(|(io, started)| (io, *started))
-        .collect(alloc)?;
-    Ok(all)
 }
 
 // Those of these I/Os that are in flight or await their verdicts.

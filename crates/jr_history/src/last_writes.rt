@@ -1,5 +1,6 @@
 ghost use Rattle.std.specs.Prelude.{◌≡◌, None, fold};
 ghost use Rattle.jr_model.specs.LastWrite.{covers_block, last_write, is_this_write, is_intact};
+ghost use Rattle.jr_model.specs.Races.{has_raced};
 ghost use Rattle.jr_history.specs.WriteEnds.{if_whole, is_over_block, last_by};
 
 use crate::histories::Past;
@@ -23,33 +24,37 @@ fn is_over_block(file: u32, block: u64, end: &WriteEnd) -> bool
     covers_block(&end.piece, file, block)
 }
 
-// The write, where it ended whole.
-fn if_whole(end: &WriteEnd) -> Option<WriteId>
-    ensures { result ≡ if_whole end.now }
+// The write, where it ended whole and didn't race.
+fn if_whole(past: &Past, end: &WriteEnd) -> Option<WriteId>
+    ensures { result ≡ if_whole (has_raced past.now) end.now }
 {
-    if end.whole { Some(end.write) } else { None }
+    if end.whole && !past.has_raced(end.io) {
+        Some(end.write)
+    } else {
+        None
+    }
 }
 
 // The block's last write by these ends of writes.
-fn last_by(ends: &[WriteEnd], file: u32, block: u64) -> Option<WriteId>
-    ensures { result ≡ fold (last_by file block) None ends.now }
+fn last_by(past: &Past, ends: &[WriteEnd], file: u32, block: u64) -> Option<WriteId>
+    ensures { result ≡ fold (last_by (has_raced past.now) file block) None ends.now }
 {
     let mut left = ends;
     while let Some((end, before)) = left.split_last() {
         if is_over_block(file, block, end) {
-            return if_whole(end);
+            return if_whole(past, end);
         }
         left = before;
     }
     None
 }
 
-/// The write that ended last of all that cover this 512-byte block of a file, if it ended whole.
+/// The write that ended last of all that cover this 512-byte block of a file, if it ended whole and didn't race.
 pub fn last_write(past: &Past, file: u32, block: u64) -> Option<WriteId>
     ensures { result ≡ last_write past.now file block }
 {
     let ends = past.ledger().ends_over(file, part_of(block));
-    last_by(ends, file, block)
+    last_by(past, ends, file, block)
 }
 
 // Whether the last write is this one.

@@ -9,10 +9,11 @@ mod ledgers;
 mod marking;
 mod marks;
 mod parts;
+mod races;
 
 pub use events::{
     end_of, ended_whole, is_bad, is_fault, is_io_of, is_judged, is_judged_kind, is_of_clone,
-    is_probe, is_verdict_on, is_write, outcome_of, started, started_by,
+    is_probe, is_verdict_on, is_void, is_write, outcome_of, started, started_by,
 };
 pub use histories::Past;
 pub use last_writes::{is_intact, last_write};

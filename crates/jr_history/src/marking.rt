@@ -184,14 +184,15 @@ fn mark_condemned(
     Ok(())
 }
 
-// The end of this I/O, where it is a write.
-fn if_write(io: Option<Started>, whole: bool) -> Option<WriteEnd>
-    ensures { result ≡ if_write io whole }
+// The end of the I/O of this number, where it is a write.
+fn if_write(io: usize, started: Option<Started>, whole: bool) -> Option<WriteEnd>
+    ensures { result ≡ if_write io started whole }
 {
-    match io {
-        Some(io) if is_write(io.kind) => Some(WriteEnd {
-            write: io.write,
-            piece: io.piece,
+    match started {
+        Some(started) if is_write(started.kind) => Some(WriteEnd {
+            io,
+            write: started.write,
+            piece: started.piece,
             whole,
         }),
         _ => None,
@@ -204,7 +205,8 @@ fn write_end(ios: &[Started], event: &Event) -> Option<WriteEnd>
 {
     match *event {
         Event::End { io, outcome, .. } => {
-            if_write(ios.get(io as usize).copied(), ended_whole(Some(outcome)))
+            let io = io as usize;
+            if_write(io, ios.get(io).copied(), ended_whole(Some(outcome)))
         }
         _ => None,
     }

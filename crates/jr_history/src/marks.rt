@@ -9,6 +9,8 @@ use std::collections::{HashMap, HashSet};
 /// The end of a write.
 #[derive(Clone, Copy)]
 pub struct WriteEnd {
+    /// Its number among all that was started.
+    pub io: usize,
     pub write: WriteId,
     pub piece: Piece,
     /// Whether all its bytes were moved.

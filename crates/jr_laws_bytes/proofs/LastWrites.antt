@@ -1,9 +1,10 @@
 -- The last write of a block along a legal history, and why a check in flight stays intact.
-use Rattle.std.proofs.Common.{◌≡◌, ℕ, zero, suc, ◌+◌, ◌*◌, ◌/◌, ◌<◌, ◌≤◌, List, [], ◌∷◌, ◌++◌, length, Bool, true, false, cond, ◌&&◌, ◌||◌, refl, sym, ◌∙◌, ap, subst, arith, inl, inr, append_assoc, append-nil}
+use Rattle.std.proofs.Common.{◌≡◌, ℕ, zero, suc, ◌+◌, ◌*◌, ◌/◌, ◌<◌, ◌≤◌, List, [], ◌∷◌, ◌++◌, length, Bool, true, false, cond, ◌&&◌, ◌||◌, not, refl, sym, ◌∙◌, ap, subst, arith, inl, inr, append_assoc, append-nil}
 use Rattle.std.specs.Prelude.{◌⊎◌, Option, Some, None, slice_get, is_none, nat_lt, ◌==◌, fold, max, min}
 use Rattle.std.specs.Option.{option_or}
-use Rattle.std.specs.List.{list_all, cons_option, range_with_len}
-use Rattle.std.proofs.lemmas.Bool.{and_parts, and_from, false≢true, eq-eqb, lt-ltb, cases_eq}
+use Rattle.std.specs.List.{list_any, list_all, cons_option, range_with_len}
+use Rattle.std.proofs.lemmas.Bool.{and_parts, and_from, or_parts, false≢true, eq-eqb, ne_eqb, lt-ltb, cases_eq}
+use Rattle.std.proofs.lemmas.Option.{slice_get_within}
 use Rattle.std.proofs.lemmas.List.Elements.{filter_map-append}
 use Rattle.jr_model.specs.declared.blocks.Piece.{Piece}
 use Rattle.jr_model.specs.declared.events.Event.{Event}
@@ -13,20 +14,21 @@ use Rattle.jr_model.specs.declared.events.Started.{Started}
 use Rattle.jr_model.specs.declared.events.WriteId.{WriteId}
 use Rattle.jr_model.specs.declared.tickets.TicketKind.TheVariants as ticket
 use Rattle.jr_model.specs.declared.workloads.Draw.{Draw}
-use Rattle.jr_model.specs.History.{started, started_by, end_of, first_given, outcome_of, flies, is_probe, is_write, ended_whole, kind_for}
+use Rattle.jr_model.specs.History.{started, started_by, end_of, first_given, outcome_of, flies, in_flight, is_probe, is_write, ended_whole}
 use Rattle.jr_model.specs.LastWrite.{covers_block, last_after_end, last_after, last_write, is_this_write, is_intact}
-use Rattle.jr_model.specs.Legal.{may_happen, legal_after, is_legal, end_fits, conflicts}
+use Rattle.jr_model.specs.Legal.{may_happen, legal_after, is_legal, end_fits}
 use Rattle.jr_model.specs.Pieces.{piece_end, pieces_overlap}
 use Rattle.jr_model.specs.declared.events.IssueKind.{IssueKind}
 use Rattle.jr_model.specs.declared.events.IssueKind.TheVariants.{Read, Write, ReadCheck}
 use Rattle.jr_model.specs.Plan.{Plan, SubJob, issued_as}
-use Rattle.jr_laws_quiet.proofs.Steps.{write_kind}
-use Rattle.jr_model.specs.Rounds.{is_write_draw}
+use Rattle.jr_laws_quiet.proofs.Races.{last_write_push}
+use Rattle.jr_model.proofs.RaceLaws.{raced_push}
+use Rattle.jr_model.specs.Races.{writes_over, writes_over_io, races_by, has_raced}
 use Rattle.jr_model.proofs.LegalLaws.{is_legal-more, same_write_refl}
 use Rattle.jr_model.proofs.SerialLaws.{EndsWereStarted, first_given-append, ends-more}
 use Rattle.jr_model.proofs.Equality.{eq_write}
 use Rattle.jr_model.specs.PlanFacts.{IsPlanned}
-use Rattle.jr_laws_bytes.proofs.Starts.{some_same, checkable, issuable, clear_of, probe_event, draw_started}
+use Rattle.jr_laws_bytes.proofs.Starts.{some_same, checkable, none_of_flying, probe_event, draw_started}
 use Rattle.jr_laws_bytes.proofs.Contents.{IsWholeBlocks, block_of, covers_from, lies_in_file}
 
 -- what holds at first, and after each event that may happen where it held before, holds after each legal history
@@ -49,11 +51,6 @@ ends_were_started plan history legal =
     none_ended io o h = cc
 
 -- one event more
-
-got_same : (xs ys : List Started) (i : ℕ) → i < length xs → slice_get (xs ++ ys) i ≡ slice_get xs i
-got_same [] ys i h = absurd (omega arith)
-got_same (x ∷ xs) ys zero h = refl
-got_same (x ∷ xs) ys (suc i) h = got_same xs ys i (omega arith)
 
 got_cases : (xs : List Started) (o : Option Started) (i : ℕ) (s : Started) → slice_get (xs ++ cons_option o []) i ≡ Some s → (slice_get xs i ≡ Some s) ⊎ ((i ≡ length xs) × (o ≡ Some s))
 got_cases [] None i s h = inl h
@@ -78,47 +75,9 @@ pub unended_before : (history : List Event) (e : Event) (i : ℕ) → outcome_of
 unended_before history e i h =
     neither (outcome_of history i) (end_of i e) (sym (first_given-append (end_of i) history (e ∷ [])) ∙ h)
 
-later_given : (a b : Option Outcome) (o : Outcome) → b ≡ Some o → (p : Outcome) × (option_or a b ≡ Some p)
-later_given None b o h = (o, h)
-later_given (Some p) b o h = (p, refl)
-
-fold-append : {X Y : Type 0} (f : Y → X → Y) (y : Y) (xs zs : List X) → fold f y (xs ++ zs) ≡ fold f (fold f y xs) zs
-fold-append f y [] zs = refl
-fold-append f y (x ∷ xs) zs = fold-append f (f y x) xs zs
-
--- I/Os that are started later make nothing of what ended
-module _ (ios more : List Started) (file block : ℕ) where
-  same_fold : (last : Option WriteId) (xs : List Event) → ((io : ℕ) (o : Outcome) → first_given (end_of io) xs ≡ Some o → io < length ios) → fold (last_after (ios ++ more) file block) last xs ≡ fold (last_after ios file block) last xs
-  same_fold last [] ended = refl
-  same_fold last (Issue worker dir write piece ∷ xs) ended = same_fold last xs (λ io o h. ended io o h)
-  same_fold last (Probe worker write piece ∷ xs) ended = same_fold last xs (λ io o h. ended io o h)
-  same_fold last (Skip worker write ∷ xs) ended = same_fold last xs (λ io o h. ended io o h)
-  same_fold last (Verdict worker id verdict ∷ xs) ended = same_fold last xs (λ io o h. ended io o h)
-  same_fold last (End worker id outcome ∷ xs) ended =
-      let here : id < length ios = ended id outcome (ap (λ (b : Bool). option_or (cond b (Some outcome) None) (first_given (end_of id) xs)) (eq-eqb id id refl)) in
-      same_fold (last_after_end (slice_get (ios ++ more) id) outcome file block last) xs
-      (λ io o h. let given = later_given (end_of io (End worker id outcome)) (first_given (end_of io) xs) o h in ended io given.0 given.1)
-      ∙ ap (λ (s : Option Started). fold (last_after ios file block) (last_after_end s outcome file block last) xs) (got_same ios more id here)
-
-  last_step : (last : Option WriteId) (e : Event) → more ≡ started (e ∷ []) → last_after (ios ++ more) file block last e ≡ last_after ios file block last e
-  last_step last (Issue worker dir write piece) is = refl
-  last_step last (Probe worker write piece) is = refl
-  last_step last (Skip worker write) is = refl
-  last_step last (Verdict worker id verdict) is = refl
-  last_step last (End worker id outcome) is =
-      ap (λ (xs : List Started). last_after_end (slice_get xs id) outcome file block last)
-      (ap (λ (ys : List Started). ios ++ ys) is ∙ append-nil ios)
-
 -- the last write after one event more
-pub last_write-more : (plan : Plan) (history : List Event) (e : Event) (file block : ℕ) → is_legal plan history ≡ true → last_write (history ++ e ∷ []) file block ≡ last_after (started history) file block (last_write history file block) e
-last_write-more plan history e file block legal =
-    let ios : List Started = started history in
-    let more : List Started = started (e ∷ []) in
-    ap (λ (xs : List Started). fold (last_after xs file block) None (history ++ e ∷ [])) (filter_map-append started_by history (e ∷ []))
-    ∙ fold-append (last_after (ios ++ more) file block) None history (e ∷ [])
-    ∙ ap (λ (last : Option WriteId). last_after (ios ++ more) file block last e)
-    (same_fold ios more file block None history (ends_were_started plan history legal))
-    ∙ last_step ios more file block (last_write history file block) e refl
+pub last_write-more : (plan : Plan) (history : List Event) (e : Event) (file block : ℕ) → is_legal plan history ≡ true → last_write (history ++ e ∷ []) file block ≡ last_after (has_raced history) (started history) file block (last_write history file block) e
+last_write-more plan history e file block legal = last_write_push plan history legal e file block
 
 -- intact writes
 
@@ -157,60 +116,63 @@ shared_block a b file block in_a in_b =
     (eq-eqb a.file b.file (of_a.here ∙ sym of_b.here))
     (lt-ltb (max a.offset b.offset) (min (piece_end a) (piece_end b)) (omega (arith, low, below)))
 
+-- unless it has raced
 abbrev pub ChecksAreClear : List Event → Type 0
 ChecksAreClear history =
     (i j : ℕ) (a b : Started) (file block : ℕ)
     → slice_get (started history) i ≡ Some a → slice_get (started history) j ≡ Some b
     → outcome_of history i ≡ None → outcome_of history j ≡ None
     → is_write a.kind ≡ true → is_probe b.kind ≡ true
+    → has_raced history j ≡ false
     → covers_block a.piece file block ≡ true → covers_block b.piece file block ≡ true → ⊥
 
-no_conflict : (writes : Bool) (piece : Piece) (io : Started) (file block : ℕ) → (writes || is_write io.kind) ≡ true → conflicts writes piece io ≡ false → covers_block io.piece file block ≡ true → covers_block piece file block ≡ true → ⊥
-no_conflict writes piece io file block one none in_io in_piece =
+-- a check is started clear of the writes in flight, or races
+clear_check : (history : List Event) (e : Event) (i : ℕ) (a b : Started) (file block : ℕ) → started_by e ≡ Some b → races_by history (length (started history)) (started_by e) ≡ false → slice_get (started history) i ≡ Some a → outcome_of history i ≡ None → is_write a.kind ≡ true → covers_block a.piece file block ≡ true → covers_block b.piece file block ≡ true → ⊥
+clear_check history e i a b file block starts unraced at unended write in_a in_b =
+    let n = length (started history) in
+    let none : list_any (writes_over b.piece) (in_flight history) ≡ false =
+    sym (ap (λ (c : Bool). cond c (list_any (writes_over b.piece) (in_flight history)) (writes_over_io (slice_get (started history) n) b && flies history n)) (eq-eqb n n refl))
+    ∙ ap (races_by history n) (sym starts)
+    ∙ unraced in
     false≢true
-    (sym none
-    ∙ and_from (writes || is_write io.kind) (pieces_overlap io.piece piece) one (shared_block io.piece piece file block in_io in_piece))
+    (sym (none_of_flying history (writes_over b.piece) i a none at unended)
+    ∙ and_from (is_write a.kind) (pieces_overlap a.piece b.piece) write (shared_block a.piece b.piece file block in_a in_b))
 
--- a draw that is issued as a write is one
-write_draw : (job : SubJob) (draw : Draw) → issued_as job draw.dir ≡ Write → is_write_draw draw ≡ true
-write_draw job draw way = sym (write_kind job draw) ∙ ap (λ (k : IssueKind). is_write (kind_for k)) way
-
--- a check is started clear of the writes in flight
-clear_check : (plan : Plan) (history : List Event) (e : Event) (i : ℕ) (a b : Started) (file block : ℕ) → may_happen plan history e ≡ true → started_by e ≡ Some b → is_probe b.kind ≡ true → slice_get (started history) i ≡ Some a → outcome_of history i ≡ None → is_write a.kind ≡ true → covers_block a.piece file block ≡ true → covers_block b.piece file block ≡ true → ⊥
-clear_check plan history e i a b file block may starts probe at unended write in_a in_b =
-    let check = checkable plan history b.worker b.write b.piece (subst (λ (x : Event). may_happen plan history x ≡ true) (probe_event e b starts probe) may) in
-    no_conflict false b.piece a file block write (clear_of history false b.piece i a check.clear at unended) in_a in_b
-
--- a write is started clear of all that is in flight
-clear_write : (plan : Plan) (history : List Event) (e : Event) (j : ℕ) (a b : Started) (file block : ℕ) → may_happen plan history e ≡ true → started_by e ≡ Some a → is_write a.kind ≡ true → slice_get (started history) j ≡ Some b → outcome_of history j ≡ None → covers_block a.piece file block ≡ true → covers_block b.piece file block ≡ true → ⊥
-clear_write plan history (Issue worker Write write piece) j a b file block may starts writes at unended in_a in_b =
-    let issue = issuable plan history worker Write write piece may in
-    let same : piece ≡ a.piece = ap (λ (x : Started). x.piece) (some_same (record { worker = worker; kind = ticket.Write; write = write; piece = piece }) a starts) in
-    let clear = subst (λ (w : Bool). conflicts w piece b ≡ false) (write_draw issue.job issue.draw issue.way) (clear_of history (is_write_draw issue.draw) piece j b issue.clear at unended) in
-    no_conflict true piece b file block refl clear in_b (subst (λ (p : Piece). covers_block p file block ≡ true) (sym same) in_a)
-clear_write plan history (Issue worker Read write piece) j a b file block may starts writes at unended in_a in_b =
-    false≢true (ap (λ (x : Started). is_write x.kind) (some_same (record { worker = worker; kind = ticket.Read; write = write; piece = piece }) a starts) ∙ writes)
-clear_write plan history (Issue worker ReadCheck write piece) j a b file block may starts writes at unended in_a in_b =
-    false≢true (ap (λ (x : Started). is_write x.kind) (some_same (record { worker = worker; kind = ticket.ReadCheck; write = write; piece = piece }) a starts) ∙ writes)
-clear_write plan history (Probe worker write piece) j a b file block may starts writes at unended in_a in_b =
-    false≢true (ap (λ (x : Started). is_write x.kind) (some_same (record { worker = worker; kind = ticket.Probe; write = write; piece = piece }) a starts) ∙ writes)
-clear_write plan history (Skip worker write) j a b file block may starts writes at unended in_a in_b = cc
-clear_write plan history (End worker io outcome) j a b file block may starts writes at unended in_a in_b = cc
-clear_write plan history (Verdict worker io verdict) j a b file block may starts writes at unended in_a in_b = cc
+-- and a write is started clear of the checks in flight, or they race
+clear_write : (history : List Event) (e : Event) (j : ℕ) (a b : Started) (file block : ℕ) → started_by e ≡ Some a → races_by history j (started_by e) ≡ false → slice_get (started history) j ≡ Some b → outcome_of history j ≡ None → is_write a.kind ≡ true → covers_block a.piece file block ≡ true → covers_block b.piece file block ≡ true → ⊥
+clear_write history e j a b file block starts unraced at unended write in_a in_b =
+    let n = length (started history) in
+    let below : j < n = slice_get_within (started history) j b at in
+    let flies_j : flies history j ≡ true =
+    and_from (nat_lt j n) (is_none (outcome_of history j)) (lt-ltb j n below) (ap is_none unended) in
+    let over : (writes_over_io (slice_get (started history) j) a && flies history j) ≡ true =
+    and_from (writes_over_io (slice_get (started history) j) a) (flies history j)
+    (ap (λ (o : Option Started). writes_over_io o a) at
+    ∙ and_from (is_write a.kind) (pieces_overlap a.piece b.piece) write (shared_block a.piece b.piece file block in_a in_b))
+    flies_j in
+    false≢true
+    (sym unraced
+    ∙ ap (races_by history j) starts
+    ∙ ap (λ (c : Bool). cond c (list_any (writes_over a.piece) (in_flight history)) (writes_over_io (slice_get (started history) j) a && flies history j))
+    (ne_eqb n j (λ same. omega (arith, same, below)))
+    ∙ over)
 
 checks_clear-more : (plan : Plan) (history : List Event) (e : Event) → may_happen plan history e ≡ true → ChecksAreClear history → ChecksAreClear (history ++ e ∷ [])
-checks_clear-more plan history e may clear i j a b file block at_i at_j open_i open_j writes probes in_a in_b =
+checks_clear-more plan history e may clear i j a b file block at_i at_j open_i open_j writes probes unraced in_a in_b =
     let free_i = unended_before history e i open_i in
     let free_j = unended_before history e j open_j in
+    let races = or_parts (has_raced history j) (races_by history j (started_by e)) (sym (raced_push history e j) ∙ unraced) in
     elim (started_cases history e i a at_i) [
       | inl old_i ↦
           elim (started_cases history e j b at_j) [
-            | inl old_j ↦ clear i j a b file block old_i old_j free_i.0 free_j.0 writes probes in_a in_b
-            | inr new_j ↦ clear_check plan history e i a b file block may new_j.1 probes old_i free_i.0 writes in_a in_b
+            | inl old_j ↦ clear i j a b file block old_i old_j free_i.0 free_j.0 writes probes races.0 in_a in_b
+            | inr new_j ↦
+                clear_check history e i a b file block new_j.1
+                (subst (λ (n : ℕ). races_by history n (started_by e) ≡ false) new_j.0 races.1) old_i free_i.0 writes in_a in_b
           ]
       | inr new_i ↦
           elim (started_cases history e j b at_j) [
-            | inl old_j ↦ clear_write plan history e j a b file block may new_i.1 writes old_j free_j.0 in_a in_b
+            | inl old_j ↦ clear_write history e j a b file block new_i.1 races.1 old_j free_j.0 writes in_a in_b
             | inr new_j ↦
                 let same : a ≡ b = some_same a b (sym new_i.1 ∙ new_j.1) in
                 not_both b.kind (subst (λ (x : Started). is_write x.kind ≡ true) same writes) probes
@@ -225,7 +187,7 @@ checks_clear-more plan history e may clear i j a b file block at_i at_j open_i o
 
 pub checks_are_clear : (plan : Plan) (history : List Event) → is_legal plan history ≡ true → ChecksAreClear history
 checks_are_clear plan history legal =
-    after_legal plan (λ (all : List Event). ChecksAreClear all) (λ i j a b file block at_i at_j open_i open_j writes probes in_a in_b. none_started i a at_i)
+    after_legal plan (λ (all : List Event). ChecksAreClear all) (λ i j a b file block at_i at_j open_i open_j writes probes unraced in_a in_b. none_started i a at_i)
     (λ (before : List Event) (e : Event) legal_before may clear. checks_clear-more plan before e may clear) history legal
   where
     none_started : (i : ℕ) (a : Started) → slice_get {X = Started} [] i ≡ Some a → ⊥
@@ -236,7 +198,7 @@ checks_are_clear plan history legal =
 abbrev pub ChecksAreIntact : List Event → Type 0
 ChecksAreIntact history =
     (i : ℕ) (s : Started) (block : ℕ)
-    → slice_get (started history) i ≡ Some s → outcome_of history i ≡ None → is_probe s.kind ≡ true
+    → slice_get (started history) i ≡ Some s → outcome_of history i ≡ None → is_probe s.kind ≡ true → has_raced history i ≡ false
     → covers_block s.piece s.piece.file block ≡ true → last_write history s.piece.file block ≡ Some s.write
 
 not_taken : (b : Bool) (x y : Option WriteId) → (b ≡ true → ⊥) → cond b x y ≡ y
@@ -248,43 +210,44 @@ none_from None h = refl
 none_from (Some o) h = absurd (false≢true h)
 
 -- no I/O that ends under a check in flight writes any of its blocks
-end_keeps : (plan : Plan) (history : List Event) (worker id : ℕ) (outcome : Outcome) (i : ℕ) (s : Started) (block : ℕ) (last : Option WriteId) (o : Option Started) → is_legal plan history ≡ true → may_happen plan history (End worker id outcome) ≡ true → slice_get (started history) i ≡ Some s → outcome_of history i ≡ None → is_probe s.kind ≡ true → covers_block s.piece s.piece.file block ≡ true → slice_get (started history) id ≡ o → last_after_end o outcome s.piece.file block last ≡ last
-end_keeps plan history worker id outcome i s block last None legal may at unended probe covered other = refl
-end_keeps plan history worker id outcome i s block last (Some io) legal may at unended probe covered other =
+end_keeps : (plan : Plan) (history : List Event) (worker id : ℕ) (outcome : Outcome) (i : ℕ) (s : Started) (block : ℕ) (last : Option WriteId) (o : Option Started) → is_legal plan history ≡ true → may_happen plan history (End worker id outcome) ≡ true → slice_get (started history) i ≡ Some s → outcome_of history i ≡ None → is_probe s.kind ≡ true → has_raced history i ≡ false → covers_block s.piece s.piece.file block ≡ true → slice_get (started history) id ≡ o → last_after_end (has_raced history id) o outcome s.piece.file block last ≡ last
+end_keeps plan history worker id outcome i s block last None legal may at unended probe unraced covered other = refl
+end_keeps plan history worker id outcome i s block last (Some io) legal may at unended probe unraced covered other =
     let flying = (and_parts (flies history id) (end_fits worker outcome (slice_get (started history) id)) may).0 in
     let open_id = none_from (outcome_of history id) (and_parts (nat_lt id (length (started history))) (is_none (outcome_of history id)) flying).1 in
-    not_taken (is_write io.kind && covers_block io.piece s.piece.file block) (cond (ended_whole (Some outcome)) (Some io.write) None) last
+    not_taken (is_write io.kind && covers_block io.piece s.piece.file block) (cond (ended_whole (Some outcome) && not (has_raced history id)) (Some io.write) None) last
     (λ (taken : (is_write io.kind && covers_block io.piece s.piece.file block) ≡ true).
     let parts = and_parts (is_write io.kind) (covers_block io.piece s.piece.file block) taken in
-    checks_are_clear plan history legal id i io s s.piece.file block other at open_id unended parts.0 probe parts.1 covered)
+    checks_are_clear plan history legal id i io s s.piece.file block other at open_id unended parts.0 probe unraced parts.1 covered)
 
-kept_by : (plan : Plan) (history : List Event) (e : Event) (i : ℕ) (s : Started) (block : ℕ) (last : Option WriteId) → is_legal plan history ≡ true → may_happen plan history e ≡ true → slice_get (started history) i ≡ Some s → outcome_of history i ≡ None → is_probe s.kind ≡ true → covers_block s.piece s.piece.file block ≡ true → last_after (started history) s.piece.file block last e ≡ last
-kept_by plan history (Issue worker dir write piece) i s block last legal may at unended probe covered = refl
-kept_by plan history (Probe worker write piece) i s block last legal may at unended probe covered = refl
-kept_by plan history (Skip worker write) i s block last legal may at unended probe covered = refl
-kept_by plan history (Verdict worker io verdict) i s block last legal may at unended probe covered = refl
-kept_by plan history (End worker id outcome) i s block last legal may at unended probe covered =
-    end_keeps plan history worker id outcome i s block last (slice_get (started history) id) legal may at unended probe covered refl
+kept_by : (plan : Plan) (history : List Event) (e : Event) (i : ℕ) (s : Started) (block : ℕ) (last : Option WriteId) → is_legal plan history ≡ true → may_happen plan history e ≡ true → slice_get (started history) i ≡ Some s → outcome_of history i ≡ None → is_probe s.kind ≡ true → has_raced history i ≡ false → covers_block s.piece s.piece.file block ≡ true → last_after (has_raced history) (started history) s.piece.file block last e ≡ last
+kept_by plan history (Issue worker dir write piece) i s block last legal may at unended probe unraced covered = refl
+kept_by plan history (Probe worker write piece) i s block last legal may at unended probe unraced covered = refl
+kept_by plan history (Skip worker write) i s block last legal may at unended probe unraced covered = refl
+kept_by plan history (Verdict worker io verdict) i s block last legal may at unended probe unraced covered = refl
+kept_by plan history (End worker id outcome) i s block last legal may at unended probe unraced covered =
+    end_keeps plan history worker id outcome i s block last (slice_get (started history) id) legal may at unended probe unraced covered refl
 
 intact-more : (plan : Plan) (history : List Event) (e : Event) → IsPlanned plan → is_legal plan history ≡ true → may_happen plan history e ≡ true → ChecksAreIntact history → ChecksAreIntact (history ++ e ∷ [])
-intact-more plan history e planned legal may intact i s block at unended probe covered =
+intact-more plan history e planned legal may intact i s block at unended probe unraced covered =
+    let races = or_parts (has_raced history i) (races_by history i (started_by e)) (sym (raced_push history e i) ∙ unraced) in
     last_write-more plan history e s.piece.file block legal
     ∙ elim (started_cases history e i s at) [
       | inl old ↦
           let free = unended_before history e i unended in
-          kept_by plan history e i s block (last_write history s.piece.file block) legal may old free.0 probe covered
-          ∙ intact i s block old free.0 probe covered
+          kept_by plan history e i s block (last_write history s.piece.file block) legal may old free.0 probe races.0 covered
+          ∙ intact i s block old free.0 probe races.0 covered
       | inr new ↦
           let is = probe_event e s new.1 probe in
           let check = checkable plan history s.worker s.write s.piece (subst (λ (x : Event). may_happen plan history x ≡ true) is may) in
-          ap (last_after (started history) s.piece.file block (last_write history s.piece.file block)) is
+          ap (last_after (has_raced history) (started history) s.piece.file block (last_write history s.piece.file block)) is
           ∙ intact_block history s.write s.piece block (lies_in_file plan s.write s.piece check.job check.draw planned check.names).blocks check.intact covered
     ]
 
 -- from its start until it ends, a check's write is the last one of each of its blocks
 pub checks_are_intact : (plan : Plan) (history : List Event) → IsPlanned plan → is_legal plan history ≡ true → ChecksAreIntact history
 checks_are_intact plan history planned legal =
-    after_legal plan (λ (all : List Event). ChecksAreIntact all) (λ i s block at unended probe covered. none_started i s at)
+    after_legal plan (λ (all : List Event). ChecksAreIntact all) (λ i s block at unended probe unraced covered. none_started i s at)
     (λ (before : List Event) (e : Event) legal_before may intact. intact-more plan before e planned legal_before may intact) history legal
   where
     none_started : {P : Type 0} (i : ℕ) (a : Started) → slice_get {X = Started} [] i ≡ Some a → P
@@ -300,8 +263,8 @@ is_this : (write : WriteId) (last : Option WriteId) → last ≡ Some write → 
 is_this write last h = ap (is_this_write write) h ∙ same_write_refl write
 
 -- so it is intact
-pub check_stays_intact : (plan : Plan) (history : List Event) (io : ℕ) (s : Started) → IsPlanned plan → is_legal plan history ≡ true → slice_get (started history) io ≡ Some s → is_probe s.kind ≡ true → flies history io ≡ true → is_intact history s.write s.piece ≡ true
-check_stays_intact plan history io s planned legal at probe flying =
+pub check_stays_intact : (plan : Plan) (history : List Event) (io : ℕ) (s : Started) → IsPlanned plan → is_legal plan history ≡ true → slice_get (started history) io ≡ Some s → is_probe s.kind ≡ true → flies history io ≡ true → has_raced history io ≡ false → is_intact history s.write s.piece ≡ true
+check_stays_intact plan history io s planned legal at probe flying unraced =
     let piece = s.piece in
     let unended = none_from (outcome_of history io) (and_parts (nat_lt io (length (started history))) (is_none (outcome_of history io)) flying).1 in
     let drawn = draw_started plan history io s legal at in
@@ -311,4 +274,4 @@ check_stays_intact plan history io s planned legal at probe flying =
     let from : piece.offset ≤ k * 512 = omega (arith, low, blocks.start) in
     let within : k * 512 < piece.offset + piece.len = omega (arith, below, blocks.start, blocks.size) in
     is_this s.write (last_write history piece.file k)
-    (checks_are_intact plan history planned legal io s k at unended probe (covers_from piece piece.file k refl from within)))
+    (checks_are_intact plan history planned legal io s k at unended probe unraced (covers_from piece piece.file k refl from within)))

@@ -1,5 +1,5 @@
 -- A memory of files: what a write into it leaves, that it goes on to hold the last writes, and what a check reads there.
-use Rattle.std.proofs.Common.{◌≡◌, ℕ, zero, suc, ◌+◌, ◌-◌, ◌*◌, ◌%◌, ◌≤◌, List, [], ◌∷◌, ◌++◌, length, take, drop, Bool, true, false, cond, ◌&&◌, refl, sym, ◌∙◌, ap, subst, arith, inl, inr}
+use Rattle.std.proofs.Common.{◌≡◌, ℕ, zero, suc, ◌+◌, ◌-◌, ◌*◌, ◌%◌, ◌≤◌, List, [], ◌∷◌, ◌++◌, length, take, drop, Bool, true, false, cond, ◌&&◌, refl, sym, ◌∙◌, ap, subst, arith, inl, inr, not}
 use Rattle.std.specs.Prelude.{◌⊎◌, Option, Some, None, slice_get, nat_le, ◌==◌}
 use Rattle.std.specs.Option.{option_map}
 use Rattle.std.proofs.lemmas.Bool.{and_parts, and_from, false≢true, eqb-true, eq-eqb, leb-true, le-leb, cases_Bool, cases_eq, cases_lt}
@@ -20,6 +20,7 @@ use Rattle.jr_model.specs.Plan.{Plan, FileSpec}
 use Rattle.jr_model.specs.Replies.{FileBytes, covered_in, covers, stored_in, stored, placed, file_with, memory_with, fresh_file, fresh_memory}
 use Rattle.jr_model.specs.PlanFacts.{IsPlanned}
 use Rattle.jr_laws_bytes.specs.Memory.{CoversFiles, HoldsLastWrites}
+use Rattle.jr_model.specs.Races.{has_raced}
 use Rattle.jr_laws_bytes.proofs.Blocks.{part_of_take, length-placed, before-placed, behind-placed, within-placed}
 use Rattle.jr_laws_bytes.proofs.Starts.{some_same, draw_started}
 use Rattle.jr_laws_bytes.proofs.Contents.{LiesInFile, lies_in_file, length-content_of_io, written_in-content, block_of, covers_from, same_by_blocks}
@@ -205,14 +206,15 @@ holds_write plan history memory worker id outcome s new planned legal at writes 
     let whole_piece = covers_piece plan memory piece covered lies in
     let within = covers_part memory piece.file piece.offset piece.len piece.offset (length new) whole_piece (omega arith) (omega (arith, short)) in
     let before : Option WriteId = last_write history file block in
-    let now : cond (covers_block piece file block) (cond (ended_whole (Some outcome)) (Some s.write) None) before ≡ Some write =
-    ap (λ (w : Bool). cond (w && covers_block piece file block) (cond (ended_whole (Some outcome)) (Some s.write) None) before) (sym writes)
-    ∙ ap (λ (o : Option Started). last_after_end o outcome file block before) (sym at)
+    let whole = ended_whole (Some outcome) && not (has_raced history id) in
+    let now : cond (covers_block piece file block) (cond whole (Some s.write) None) before ≡ Some write =
+    ap (λ (w : Bool). cond (w && covers_block piece file block) (cond whole (Some s.write) None) before) (sym writes)
+    ∙ ap (λ (o : Option Started). last_after_end (has_raced history id) o outcome file block before) (sym at)
     ∙ sym (last_write-more plan history (End worker id outcome) file block legal) ∙ last in
     elim (cases_Bool (covers_block piece file block)) [
       | inl inside ↦
-          let ended = after_write (covers_block piece file block) (ended_whole (Some outcome)) s.write write before now inside in
-          let own : new ≡ content_of_io plan s = content ended.0 in
+          let ended = after_write (covers_block piece file block) whole s.write write before now inside in
+          let own : new ≡ content_of_io plan s = content (and_parts (ended_whole (Some outcome)) (not (has_raced history id)) ended.0).0 in
           let size : length new ≡ piece.len = ap length own ∙ length-content_of_io plan s drawn.0 drawn.1 planned drawn.2 in
           let here = block_of piece file block inside in
           let high : block * 512 + 512 ≤ piece.offset + piece.len = omega (arith, here.below, lies.blocks.start, lies.blocks.size) in
@@ -227,7 +229,7 @@ holds_write plan history memory worker id outcome s new planned legal at writes 
                 ∙ ap (λ (w : WriteId). written_in plan w block) ended.1,
           )
       | inr outside ↦
-          let held = holds file block write (past_write (covers_block piece file block) (cond (ended_whole (Some outcome)) (Some s.write) None) before write now outside) in (
+          let held = holds file block write (past_write (covers_block piece file block) (cond whole (Some s.write) None) before write now outside) in (
             covers-memory_with memory piece.file piece.offset new within file (block * 512) 512 held.0,
             elim (cases_eq file piece.file) [
               | inl same ↦
@@ -245,7 +247,7 @@ holds_write plan history memory worker id outcome s new planned legal at writes 
     ]
 
 -- an event that changes no last write leaves a memory that holds them
-pub holds_on : (plan : Plan) (history : List Event) (memory : List FileBytes) (e : Event) → is_legal plan history ≡ true → ((file block : ℕ) (last : Option WriteId) → last_after (started history) file block last e ≡ last) → HoldsLastWrites plan history memory → HoldsLastWrites plan (history ++ e ∷ []) memory
+pub holds_on : (plan : Plan) (history : List Event) (memory : List FileBytes) (e : Event) → is_legal plan history ≡ true → ((file block : ℕ) (last : Option WriteId) → last_after (has_raced history) (started history) file block last e ≡ last) → HoldsLastWrites plan history memory → HoldsLastWrites plan (history ++ e ∷ []) memory
 holds_on plan history memory e legal same holds file block write last =
     holds file block write (sym (same file block (last_write history file block)) ∙ sym (last_write-more plan history e file block legal) ∙ last)
 
@@ -254,8 +256,8 @@ pub holds_read : (plan : Plan) (history : List Event) (memory : List FileBytes) 
 holds_read plan history memory worker id outcome s legal at reads holds =
     holds_on plan history memory (End worker id outcome) legal
     (λ file block last.
-    ap (λ (o : Option Started). last_after_end o outcome file block last) at
-    ∙ ap (λ (w : Bool). cond (w && covers_block s.piece file block) (cond (ended_whole (Some outcome)) (Some s.write) None) last) reads)
+    ap (λ (o : Option Started). last_after_end (has_raced history id) o outcome file block last) at
+    ∙ ap (λ (w : Bool). cond (w && covers_block s.piece file block) (cond (ended_whole (Some outcome) && not (has_raced history id)) (Some s.write) None) last) reads)
     holds
 
 -- nothing was written
@@ -263,8 +265,8 @@ pub holds_none : (plan : Plan) (memory : List FileBytes) → HoldsLastWrites pla
 holds_none plan memory file block write last = cc
 
 -- while a check is in flight, its piece of a memory that holds the last writes is what its write put there
-pub stored_check : (plan : Plan) (history : List Event) (memory : List FileBytes) (io : ℕ) (s : Started) → IsPlanned plan → is_legal plan history ≡ true → CoversFiles plan memory → HoldsLastWrites plan history memory → slice_get (started history) io ≡ Some s → is_probe s.kind ≡ true → outcome_of history io ≡ None → stored memory s.piece.file s.piece.offset s.piece.len ≡ content_of_io plan s
-stored_check plan history memory io s planned legal covered holds at probe unended =
+pub stored_check : (plan : Plan) (history : List Event) (memory : List FileBytes) (io : ℕ) (s : Started) → IsPlanned plan → is_legal plan history ≡ true → CoversFiles plan memory → HoldsLastWrites plan history memory → slice_get (started history) io ≡ Some s → is_probe s.kind ≡ true → outcome_of history io ≡ None → has_raced history io ≡ false → stored memory s.piece.file s.piece.offset s.piece.len ≡ content_of_io plan s
+stored_check plan history memory io s planned legal covered holds at probe unended unraced =
     let piece = s.piece in
     let drawn = draw_started plan history io s legal at in
     let lies = lies_in_file plan s.write piece drawn.0 drawn.1 planned drawn.2 in
@@ -282,7 +284,7 @@ stored_check plan history memory io s planned legal covered holds at probe unend
     let here = block_of piece piece.file block inside in
     let fits_in : block * 512 - piece.offset + 512 ≤ piece.len = omega (arith, here.low, here.below, lies.blocks.start, lies.blocks.size) in
     let sum : piece.offset - found.low + (block * 512 - piece.offset) ≡ block * 512 - found.low = omega (arith, here.low, range.low) in
-    let held = holds piece.file block s.write (checks_are_intact plan history planned legal io s block at unended probe inside) in
+    let held = holds piece.file block s.write (checks_are_intact plan history planned legal io s block at unended probe unraced inside) in
     ap (block_bytes piece block) is
     ∙ part_of_take 512 (block * 512 - piece.offset) piece.len (drop (piece.offset - found.low) found.bytes) fits_in
     ∙ ap (take 512) (drop_more (piece.offset - found.low) (block * 512 - piece.offset) found.bytes ∙ ap (λ (j : ℕ). drop j found.bytes) sum)

@@ -18,11 +18,12 @@ use Rattle.jr_model.specs.declared.tickets.TicketKind.{TicketKind}
 use Rattle.jr_model.specs.declared.tickets.TicketKind.TheVariants as ticket
 use Rattle.jr_model.specs.Choice.{choice}
 use Rattle.jr_model.specs.History.{started, outcome_of, is_judged, is_judged_kind, is_probe, is_write, ended_whole}
-use Rattle.jr_model.specs.Machine.{State, Stepped, taken, take_answer, work_of, content_of_io, read_of, bytes_read, first_state, end_refusal, judge_refusal, is_judgeable, verdict_on, ends_by, machine_end_by, machine_judge_by, machine_take, machine_step, machine_run}
+use Rattle.jr_model.specs.Machine.{State, Stepped, taken, take_answer, work_of, content_of_io, read_of, bytes_read, first_state, end_refusal, judge_refusal, is_judgeable, said_of, verdict_on, ends_by, machine_end_by, machine_judge_by, machine_take, machine_step, machine_run}
 use Rattle.jr_model.specs.Plan.{Plan}
 use Rattle.jr_model.specs.Replies.{outcome_for, stored, reply_to_write}
 use Rattle.jr_model.proofs.MachineLaws.{IsSound, three_conds, four_conds, sound_step, none_kept}
 use Rattle.jr_model.specs.PlanFacts.{IsPlanned}
+use Rattle.jr_model.specs.Races.{has_raced}
 use Rattle.jr_laws_bytes.specs.Checks.{has_miscompare, keeps_bytes, is_quiet_step}
 use Rattle.jr_laws_bytes.specs.Memory.{HoldsLastWrites}
 use Rattle.jr_laws_bytes.proofs.Starts.{draw_started}
@@ -51,19 +52,19 @@ quiet_ends_by : (plan : Plan) (s : State) (id : ℕ) (given : Reply) (kind : Tic
 quiet_ends_by plan s id given ticket.Read io planned keeps state sound free at is =
     let read = read_of s.memory given io in
     quiet_read plan s.history s.memory s.read_back id (outcome_for read.count io.piece.len) io read.buffer sound.legal at (ap is_write is)
-    (unended_from s id free) (λ probe whole. absurd (false≢true (sym (ap is_probe is) ∙ probe))) state.quiet
+    (unended_from s id free) (λ probe whole unraced. absurd (false≢true (sym (ap is_probe is) ∙ probe))) state.quiet
 quiet_ends_by plan s id given ticket.ReadCheck io planned keeps state sound free at is =
     let read = read_of s.memory given io in
     quiet_read plan s.history s.memory s.read_back id (outcome_for read.count io.piece.len) io read.buffer sound.legal at (ap is_write is)
-    (unended_from s id free) (λ probe whole. absurd (false≢true (sym (ap is_probe is) ∙ probe))) state.quiet
+    (unended_from s id free) (λ probe whole unraced. absurd (false≢true (sym (ap is_probe is) ∙ probe))) state.quiet
 quiet_ends_by plan s id given ticket.Probe io planned keeps state sound free at is =
     let read = read_of s.memory given io in
     let unended = unended_from s id free in
-    let own = stored_check plan s.history s.memory id io planned state.quiet.legal state.quiet.covered state.quiet.holds at (ap is_probe is) unended in
     let drawn = draw_started plan s.history id io state.quiet.legal at in
-    let size = ap length own ∙ length-content_of_io plan io drawn.0 drawn.1 planned drawn.2 in
     quiet_read plan s.history s.memory s.read_back id (outcome_for read.count io.piece.len) io read.buffer sound.legal at (ap is_write is) unended
-    (λ probe whole.
+    (λ probe whole unraced.
+    let own = stored_check plan s.history s.memory id io planned state.quiet.legal state.quiet.covered state.quiet.holds at (ap is_probe is) unended unraced in
+    let size = ap length own ∙ length-content_of_io plan io drawn.0 drawn.1 planned drawn.2 in
     given_by_read given (stored s.memory io.piece.file io.piece.offset io.piece.len) (replicate io.piece.len 0) io.piece.len keeps size
     (length-replicate io.piece.len 0) whole
     ∙ own)
@@ -87,7 +88,7 @@ quiet_judge_by : (plan : Plan) (s : State) (by id : ℕ) (refused : Option DeskF
 quiet_judge_by plan s by id (Some fault) io planned state sound free at = state
 quiet_judge_by plan s by id None None planned state sound free at = state
 quiet_judge_by plan s by id None (Some io) planned state sound free at =
-    let verdict = verdict_on plan io (bytes_read s.read_back id) in
+    let verdict = said_of (has_raced s.history id) (verdict_on plan io (bytes_read s.read_back id)) in
     let open_to = four_conds s.is_stopped (nat_lt id (length (started s.history))) (is_judged s.history id) (is_judgeable s.history id (slice_get (started s.history) id)) Stopped Twice WrongKind Stranger free in
     let check = and_parts (is_judged_kind io.kind) (ended_whole (outcome_of s.history id))
     (subst (λ (o : Option Started). is_judgeable s.history id o ≡ true) at open_to.1) in record {

@@ -3,25 +3,28 @@ use Rattle.std.proofs.Common.{◌≡◌, ℕ, zero, suc, ◌<◌, ◌≤◌, Lis
 use Rattle.std.specs.Prelude.{Option, Some, None, slice_get, ◌==◌}
 use Rattle.std.specs.Option.{option_or}
 use Rattle.std.specs.List.{list_any}
-use Rattle.std.proofs.lemmas.Bool.{and_left, and_right, cases_Bool, ltb-true, or_from, false≢true, cond_both, cases_eq, eq-eqb, ne_eqb}
+use Rattle.std.proofs.lemmas.Bool.{and_left, and_right, cases_Bool, ltb-true, or_from, or_parts, false≢true, cond_both, cases_eq, eq-eqb, ne_eqb}
 use Rattle.jr_model.specs.declared.events.Event.{Event}
 use Rattle.jr_model.specs.declared.events.Event.TheVariants.{Issue, Probe, Skip, End, Verdict}
 use Rattle.jr_model.specs.declared.events.Outcome.{Outcome}
 use Rattle.jr_model.specs.declared.events.Started.{Started}
+use Rattle.jr_model.specs.declared.events.Verdict.{Verdict as GivenVerdict}
 use Rattle.jr_model.specs.declared.events.WriteId.{WriteId}
 use Rattle.jr_model.specs.declared.tickets.TicketKind.TheVariants as ticket
 use Rattle.jr_model.specs.Choice.{choice}
-use Rattle.jr_model.specs.History.{started, end_of, outcome_of, is_probe, is_write, ended_whole}
+use Rattle.jr_model.specs.History.{started, started_by, end_of, outcome_of, is_probe, is_write, ended_whole}
 use Rattle.jr_model.specs.Honest.{IsWholeCheck}
 use Rattle.jr_model.specs.LastWrite.{last_after}
 use Rattle.jr_model.specs.Legal.{is_legal, is_bad}
-use Rattle.jr_model.specs.Machine.{is_skip, choices_after, content_of_io, bytes_read, verdict_on}
+use Rattle.jr_model.specs.Machine.{is_skip, choices_after, content_of_io, bytes_read, said_of, verdict_on}
 use Rattle.jr_model.specs.Plan.{Plan, IsNumbered}
 use Rattle.jr_model.specs.Replies.{FileBytes, memory_with}
 use Rattle.jr_model.specs.Rounds.{pass_of}
 use Rattle.jr_model.proofs.LegalLaws.{legal_front, is_legal-more, choice_may_happen, choice_is_step, cases_step_of}
 use Rattle.jr_model.proofs.SerialLaws.{first_given-append, whole_some}
+use Rattle.jr_model.proofs.RaceLaws.{raced_push, raced_other}
 use Rattle.jr_model.specs.PlanFacts.{IsPlanned}
+use Rattle.jr_model.specs.Races.{races_by, has_raced}
 use Rattle.jr_laws_bytes.specs.Checks.{is_check, is_miscompare, has_miscompare}
 use Rattle.jr_laws_bytes.specs.Memory.{CoversFiles, HoldsLastWrites}
 use Rattle.jr_laws_steps.proofs.Grown.{is_known, got_longer, found-more}
@@ -64,8 +67,9 @@ whole_before : (plan : Plan) (history : List Event) (e : Event) (io : ℕ) (s : 
 whole_before plan history e io s legal other check =
     let whole : ended_whole (outcome_of history io) ≡ true = ap ended_whole (sym (same_outcome history e io other)) ∙ check.2 in
     let below : io < length (started history) = ends_were_started plan history legal io _ (whole_some (outcome_of history io) whole) in
+    let unraced = (or_parts (has_raced history io) (races_by history io (started_by e)) (sym (raced_push history e io) ∙ check.3)).0 in
     elim (started_cases history e io s check.0) [
-      | inl old ↦ (old, check.1, whole)
+      | inl old ↦ (old, check.1, whole, unraced)
       | inr new ↦ absurd (omega (arith, below, new.0))
     ]
 
@@ -86,14 +90,14 @@ no_worse plan history e legal good fine =
 -- an event that ends nothing and finds no check bad, where these I/Os are started
 pub record IsHarmless (ios : List Started) (e : Event) : Type 0 where
   pub ends : (io : ℕ) → end_of io e ≡ None
-  pub keeps : (all : List Started) (file block : ℕ) (last : Option WriteId) → last_after all file block last e ≡ last
+  pub keeps : (raced : ℕ → Bool) (all : List Started) (file block : ℕ) (last : Option WriteId) → last_after raced all file block last e ≡ last
   pub fine : is_miscompare ios e ≡ false
 
 pub quiet-more : (plan : Plan) (history : List Event) (e : Event) (memory : List FileBytes) (read : ℕ → List ℕ) → is_legal plan (history ++ e ∷ []) ≡ true → IsHarmless (started history) e → IsQuiet plan history memory read → IsQuiet plan (history ++ e ∷ []) memory read
 quiet-more plan history e memory read legal harmless quiet = record {
   legal = legal;
   covered = quiet.covered;
-  holds = holds_on plan history memory e quiet.legal (λ file block last. harmless.keeps (started history) file block last) quiet.holds;
+  holds = holds_on plan history memory e quiet.legal (λ file block last. harmless.keeps (has_raced history) (started history) file block last) quiet.holds;
   own = λ io s check. quiet.own io s (whole_before plan history e io s quiet.legal (harmless.ends io) check);
   good = no_worse plan history e legal quiet.good harmless.fine;
 }
@@ -103,11 +107,11 @@ pub harmless_choice : (plan : Plan) (history : List Event) (worker : ℕ) (e : E
 harmless_choice plan history worker e numbered chosen =
     let found = choice_is_step plan history worker e numbered chosen in
     elim (cases_step_of plan history worker (pass_of found.0 found.1) found.2 e found.3) [
-      | inl probe ↦ subst (λ (x : Event). IsHarmless (started history) x) (sym probe) (record { ends = λ io. refl; keeps = λ ios file block last. refl; fine = refl })
+      | inl probe ↦ subst (λ (x : Event). IsHarmless (started history) x) (sym probe) (record { ends = λ io. refl; keeps = λ raced ios file block last. refl; fine = refl })
       | inr other ↦
           elim other [
-            | inl skip ↦ subst (λ (x : Event). IsHarmless (started history) x) (sym skip) (record { ends = λ io. refl; keeps = λ ios file block last. refl; fine = refl })
-            | inr issue ↦ subst (λ (x : Event). IsHarmless (started history) x) (sym issue) (record { ends = λ io. refl; keeps = λ ios file block last. refl; fine = refl })
+            | inl skip ↦ subst (λ (x : Event). IsHarmless (started history) x) (sym skip) (record { ends = λ io. refl; keeps = λ raced ios file block last. refl; fine = refl })
+            | inr issue ↦ subst (λ (x : Event). IsHarmless (started history) x) (sym issue) (record { ends = λ io. refl; keeps = λ raced ios file block last. refl; fine = refl })
           ]
     ]
 
@@ -129,18 +133,28 @@ quiet_choices (suc limit) plan worker history memory read (Some e) numbered same
     (λ begun. longer)
 
 -- the verdict on the bytes of a check or checked read that ended whole is harmless
-pub harmless_verdict : (plan : Plan) (history : List Event) (memory : List FileBytes) (read : ℕ → List ℕ) (by io : ℕ) (s : Started) → IsPlanned plan → IsQuiet plan history memory read → slice_get (started history) io ≡ Some s → ended_whole (outcome_of history io) ≡ true → IsHarmless (started history) (Verdict by io (verdict_on plan s (read io)))
+pub harmless_verdict : (plan : Plan) (history : List Event) (memory : List FileBytes) (read : ℕ → List ℕ) (by io : ℕ) (s : Started) → IsPlanned plan → IsQuiet plan history memory read → slice_get (started history) io ≡ Some s → ended_whole (outcome_of history io) ≡ true → IsHarmless (started history) (Verdict by io (said_of (has_raced history io) (verdict_on plan s (read io))))
 harmless_verdict plan history memory read by io s planned quiet at whole = record {
   ends = λ n. refl;
-  keeps = λ ios file block last. refl;
-  fine = ap (λ (o : Option Started). is_bad (verdict_on plan s (read io)) && is_check o) at
+  keeps = λ raced ios file block last. refl;
+  fine = ap (λ (o : Option Started). is_bad said && is_check o) at
       ∙ elim (cases_Bool (is_probe s.kind)) [
-        | inl probe ↦
-            and_left (is_bad (verdict_on plan s (read io))) (is_probe s.kind)
-            (ap is_bad (ap (verdict_on plan s) (quiet.own io s (at, probe, whole)) ∙ good_on_own plan history io s planned quiet.legal at probe))
-        | inr other ↦ and_right (is_bad (verdict_on plan s (read io))) (is_probe s.kind) other
+        | inl probe ↦ and_left (is_bad said) (is_probe s.kind) (not_bad probe)
+        | inr other ↦ and_right (is_bad said) (is_probe s.kind) other
       ];
 }
+  where
+    said : GivenVerdict
+    said = said_of (has_raced history io) (verdict_on plan s (read io))
+
+    not_bad : is_probe s.kind ≡ true → is_bad said ≡ false
+    not_bad probe =
+        elim (cases_Bool (has_raced history io)) [
+          | inl raced ↦ ap (λ (r : Bool). is_bad (said_of r (verdict_on plan s (read io)))) raced
+          | inr unraced ↦
+              ap (λ (r : Bool). is_bad (said_of r (verdict_on plan s (read io)))) unraced
+              ∙ ap is_bad (ap (verdict_on plan s) (quiet.own io s (at, probe, whole, unraced)) ∙ good_on_own plan history io s planned quiet.legal at probe)
+        ]
 
 -- at first nothing happened, and a memory that covers the plan's files holds all that was written
 pub quiet_first : (plan : Plan) (memory : List FileBytes) (read : ℕ → List ℕ) → CoversFiles plan memory → IsQuiet plan [] memory read
@@ -181,7 +195,7 @@ whole_now history worker id outcome unended whole =
     ∙ whole
 
 -- a read or check ends; where it is a check that ends whole it gave what its write put there
-pub quiet_read : (plan : Plan) (history : List Event) (memory : List FileBytes) (kept : List (ℕ × List ℕ)) (id : ℕ) (outcome : Outcome) (io : Started) (bytes : List ℕ) → is_legal plan (history ++ End io.worker id outcome ∷ []) ≡ true → slice_get (started history) id ≡ Some io → is_write io.kind ≡ false → outcome_of history id ≡ None → (is_probe io.kind ≡ true → ended_whole (Some outcome) ≡ true → bytes ≡ content_of_io plan io) → IsQuiet plan history memory (bytes_read kept) → IsQuiet plan (history ++ End io.worker id outcome ∷ []) memory (bytes_read ((id, bytes) ∷ kept))
+pub quiet_read : (plan : Plan) (history : List Event) (memory : List FileBytes) (kept : List (ℕ × List ℕ)) (id : ℕ) (outcome : Outcome) (io : Started) (bytes : List ℕ) → is_legal plan (history ++ End io.worker id outcome ∷ []) ≡ true → slice_get (started history) id ≡ Some io → is_write io.kind ≡ false → outcome_of history id ≡ None → (is_probe io.kind ≡ true → ended_whole (Some outcome) ≡ true → has_raced history id ≡ false → bytes ≡ content_of_io plan io) → IsQuiet plan history memory (bytes_read kept) → IsQuiet plan (history ++ End io.worker id outcome ∷ []) memory (bytes_read ((id, bytes) ∷ kept))
 quiet_read plan history memory kept id outcome io bytes legal at reads unended given quiet =
     let e = End io.worker id outcome in record {
       legal = legal;
@@ -194,6 +208,7 @@ quiet_read plan history memory kept id outcome io bytes legal at reads unended g
                 let is : io ≡ s = ended_now history io.worker id outcome io s at here.0 in
                 ap (λ (b : Bool). cond b bytes (bytes_read kept n)) (eq-eqb id n same)
                 ∙ given (subst (λ (x : Started). is_probe x.kind ≡ true) (sym is) here.1) (whole_now history io.worker id outcome unended here.2)
+                (sym (raced_other history e id refl) ∙ here.3)
                 ∙ ap (content_of_io plan) is
             | inr other ↦
                 ap (λ (b : Bool). cond b bytes (bytes_read kept n)) (ne_eqb id n other)

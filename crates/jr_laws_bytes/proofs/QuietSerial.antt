@@ -1,4 +1,4 @@
--- In the history of one worker over a right memory nothing goes wrong, so its report is the one of the draws.
+-- In the history of one worker over a right memory nothing goes wrong and nothing races, so its report is the one of the draws.
 use Rattle.std.proofs.Common.{◌≡◌, Bool, true, false, not, ◌&&◌, ◌||◌, List, [], ◌∷◌, refl}
 use Rattle.jr_model.specs.declared.events.Event.{Event}
 use Rattle.jr_model.specs.declared.events.Event.TheVariants.{Issue, Probe, Skip, End, Verdict}
@@ -7,11 +7,11 @@ use Rattle.jr_model.specs.Plan.{Plan}
 use Rattle.jr_model.specs.Quiet.{quiet_report}
 use Rattle.jr_model.specs.Report.{report_of}
 use Rattle.jr_model.specs.Serial.{serial_history}
-use Rattle.jr_model.proofs.SerialLaws.{legal_serial}
+use Rattle.jr_model.proofs.SerialLaws.{rested_serial}
 use Rattle.jr_plan.specs.Files.{are_apart}
 use Rattle.jr_model.specs.PlanFacts.{IsPlanned}
 use Rattle.jr_laws_quiet.specs.Quiet.{is_calm, is_quiet}
-use Rattle.jr_laws_quiet.proofs.Reports.{quiet_run}
+use Rattle.jr_laws_quiet.proofs.Reports.{quiet_run_unraced}
 use Rattle.jr_laws_bytes.specs.Clean.{is_faulty_end, has_fault, is_bad_verdict, has_bad}
 use Rattle.jr_laws_bytes.proofs.CleanLaws.{serial_clean}
 use Rattle.jr_laws_steps.proofs.CountLaws.{serial_stops_all}
@@ -51,6 +51,6 @@ pub serial_quiet : (plan : Plan) → IsPlanned plan → are_apart plan.clones �
 serial_quiet plan planned apart good =
     let clean = serial_clean plan in
     let quiet = quiet_of (serial_history plan) clean.0 good in
-    let legal = legal_serial plan (numbered_of plan planned) in
+    let rested = rested_serial plan (numbered_of plan planned) in
     let complete = serial_complete plan planned (serial_stops_all plan planned) in
-    (quiet, quiet_run plan (serial_history plan) planned apart legal complete quiet)
+    (quiet, quiet_run_unraced plan (serial_history plan) planned rested.unraced apart rested.well.legal complete quiet)

@@ -123,22 +123,20 @@ pub record IsDrawOf (plan : Plan) (write : WriteId) (piece : Piece) (job : SubJo
   pub drawn : slice_get (draws_of_job job write.pass) write.number ≡ Some draw
   pub lies : draw.piece ≡ piece
 
--- a check was started: for a write of a clone with rounds, that was intact, with no write in flight over it
+-- a check was started: for a write of a clone with rounds, that was intact
 pub record IsCheckable (plan : Plan) (before : List Event) (write : WriteId) (piece : Piece) : Type 0 where
   pub job : SubJob
   pub draw : Draw
   pub names : IsDrawOf plan write piece job draw
   pub rounds : has_rounds job ≡ true
   pub intact : is_intact before write piece ≡ true
-  pub clear : is_clear before false piece ≡ true
 
--- an I/O was issued: a draw, with nothing in flight over it that it conflicts with
+-- an I/O was issued: a draw
 pub record IsIssuable (plan : Plan) (before : List Event) (dir : IssueKind) (write : WriteId) (piece : Piece) : Type 0 where
   pub job : SubJob
   pub draw : Draw
   pub names : IsDrawOf plan write piece job draw
   pub way : issued_as job draw.dir ≡ dir
-  pub clear : is_clear before (is_write_draw draw) piece ≡ true
 
 found_draw : (plan : Plan) (before : List Event) (worker : ℕ) (pass : Pass) (test : Option Event → Bool) → test None ≡ false → (o : Option Draw) → test (step_of_draw plan before worker pass o) ≡ true → (draw : Draw) × (o ≡ Some draw) × (test (step_of plan before worker pass draw) ≡ true)
 found_draw plan before worker pass test none None h = absurd (false≢true (sym none ∙ h))
@@ -175,12 +173,12 @@ checkable plan before worker write piece may =
     let job = found.0 in
     let draw = found.1 in
     let pass = pass_of job write.pass in
-    let here = checked write piece (may_take_up before pass draw) (is_intact before (write_id pass draw) draw.piece) (may_issue plan before pass draw) (write_id pass draw) draw.piece worker (issued_as job draw.dir) found.4 in
+    let here = checked write piece (may_take_up plan before pass draw) (is_intact before (write_id pass draw) draw.piece) (may_issue plan before pass draw) (write_id pass draw) draw.piece worker (issued_as job draw.dir) found.4 in
     let rounds = has_rounds job in
     let fresh = not (list_any (takes_up (write_id pass draw)) before) in
     let going = not (is_halted before job) in
     let room = has_room before job in
-    let clear = is_clear before false draw.piece in
+    let clear = is_clear plan before job false draw.piece in
     let opened = is_open before pass (group_index pass draw.number) in
     let six = and_parts (is_write_draw draw && rounds && fresh && going && room && clear) opened here.0 in
     let five = and_parts (is_write_draw draw && rounds && fresh && going && room) clear six.0 in
@@ -193,7 +191,6 @@ checkable plan before worker write piece may =
       names = record { planned = found.2; drawn = found.3; lies = here.3 };
       rounds = one.1;
       intact = subst (λ (w : WriteId). is_intact before w piece ≡ true) here.2 (subst (λ (p : Piece). is_intact before (write_id pass draw) p ≡ true) here.3 here.1);
-      clear = subst (λ (p : Piece). is_clear before false p ≡ true) here.3 five.1;
     }
 
 pub issuable : (plan : Plan) (before : List Event) (worker : ℕ) (dir : IssueKind) (write : WriteId) (piece : Piece) → may_happen plan before (Issue worker dir write piece) ≡ true → IsIssuable plan before dir write piece
@@ -202,11 +199,11 @@ issuable plan before worker dir write piece may =
     let job = found.0 in
     let draw = found.1 in
     let pass = pass_of job write.pass in
-    let here = issued dir write piece (may_take_up before pass draw) (is_intact before (write_id pass draw) draw.piece) (may_issue plan before pass draw) (write_id pass draw) draw.piece worker (issued_as job draw.dir) found.4 in
+    let here = issued dir write piece (may_take_up plan before pass draw) (is_intact before (write_id pass draw) draw.piece) (may_issue plan before pass draw) (write_id pass draw) draw.piece worker (issued_as job draw.dir) found.4 in
     let next = draw.number == issued_count before pass in
     let going = not (is_halted before job) in
     let room = has_room before job in
-    let clear = is_clear before (is_write_draw draw) draw.piece in
+    let clear = is_clear plan before job (is_write_draw draw) draw.piece in
     let current = is_current before pass in
     let free = not (waits_for_round before pass) in
     let six = and_parts (next && going && room && clear && current && free) (phase_is_open plan before job) here.0 in
@@ -217,7 +214,6 @@ issuable plan before worker dir write piece may =
       draw = draw;
       names = record { planned = found.2; drawn = found.3; lies = here.3 };
       way = here.1;
-      clear = subst (λ (p : Piece). is_clear before (is_write_draw draw) p ≡ true) here.3 three.1;
     }
 
 -- what started an I/O of a legal history
@@ -264,7 +260,7 @@ draw_started plan history io s legal at =
     drawn_for plan before (End worker io outcome) s starts may = cc
     drawn_for plan before (Verdict worker io verdict) s starts may = cc
 
--- what was clear
+-- what flies
 
 any_rest : {X : Type 0} (f : X → Bool) (o : Option X) (xs : List X) → list_any f (cons_option o xs) ≡ false → list_any f xs ≡ false
 any_rest f None xs h = h
@@ -283,12 +279,11 @@ none_flies_from f history n (x ∷ xs) (suc k) s at unended none =
     none_flies_from f history (n + 1) xs k s at (subst (λ (i : ℕ). outcome_of history i ≡ None) (sym next) unended)
     (any_rest f (if_flying history (n, x)) (filter_map (if_flying history) (enumerate_from (n + 1) xs)) none)
 
--- what flies doesn't conflict with a clear piece
-pub clear_of : (history : List Event) (writes : Bool) (piece : Piece) (io : ℕ) (s : Started) → is_clear history writes piece ≡ true → slice_get (started history) io ≡ Some s → outcome_of history io ≡ None → conflicts writes piece s ≡ false
-clear_of history writes piece io s clear at unended =
-    none_flies_from (conflicts writes piece) history 0 (started history) io s at
-    (subst (λ (i : ℕ). outcome_of history i ≡ None) (sym (zero_more io)) unended)
-    (not-true (list_any (conflicts writes piece) (in_flight history)) clear)
+-- what flies doesn't pass a test that nothing in flight passes
+pub none_of_flying : (history : List Event) (test : Started → Bool) (io : ℕ) (s : Started) → list_any test (in_flight history) ≡ false → slice_get (started history) io ≡ Some s → outcome_of history io ≡ None → test s ≡ false
+none_of_flying history test io s none at unended =
+    none_flies_from test history 0 (started history) io s at
+    (subst (λ (i : ℕ). outcome_of history i ≡ None) (sym (zero_more io)) unended) none
   where
     zero_more : (n : ℕ) → 0 + n ≡ n
     zero_more n = omega arith

@@ -1,5 +1,5 @@
 -- The verdicts of a legal history: good where the bytes read are the write's, and bad where they aren't.
-use Rattle.std.proofs.Common.{◌≡◌, ℕ, zero, suc, ◌<◌, List, [], ◌∷◌, ◌++◌, length, take, drop, get_or, true, false, ◌&&◌, not, refl, sym, ◌∙◌, ap, subst, inl, inr}
+use Rattle.std.proofs.Common.{◌≡◌, ℕ, zero, suc, ◌<◌, List, [], ◌∷◌, ◌++◌, length, take, drop, get_or, true, false, ◌&&◌, not, refl, sym, ◌∙◌, ap, subst, inl, inr, Bool, cond}
 use Rattle.std.specs.Prelude.{◌≢◌, ◌↔◌, Option, Some, None, slice_get}
 use Rattle.std.specs.Option.{option_or}
 use Rattle.std.proofs.lemmas.Bool.{and_left, and_parts, and_right, cases_Bool, false≢true, true_from_ne_false}
@@ -13,7 +13,7 @@ use Rattle.jr_model.specs.declared.events.Event.TheVariants.{Issue, Probe, Skip,
 use Rattle.jr_model.specs.declared.events.Outcome.{Outcome}
 use Rattle.jr_model.specs.declared.events.Started.{Started}
 use Rattle.jr_model.specs.declared.events.Verdict.{Verdict as GivenVerdict}
-use Rattle.jr_model.specs.declared.events.Verdict.TheVariants.{Good, Bad}
+use Rattle.jr_model.specs.declared.events.Verdict.TheVariants.{Good, Bad, Void}
 use Rattle.jr_model.specs.Draws.{draws_of}
 use Rattle.jr_model.specs.History.{started, started_by, outcome_of, end_of, first_given, is_judged, is_judged_kind, is_probe, ended_whole}
 use Rattle.jr_model.specs.Honest.{before_start, IsWholeCheck, IsHonest, IsJudgedBy}
@@ -22,14 +22,15 @@ use Rattle.jr_model.specs.Content.{expected_of}
 use Rattle.jr_model.specs.declared.tickets.TicketKind.{TicketKind}
 use Rattle.jr_model.specs.declared.tickets.TicketKind.TheVariants as ticket
 use Rattle.jr_model.specs.LastWrite.{covers_block}
-use Rattle.jr_model.specs.Legal.{may_happen, is_legal, verdict_fits, job_says, is_bad}
-use Rattle.jr_model.specs.Machine.{expected_by, content_of_io, content_in_job, seed_of_draw, verdict_in_job, verdict_on}
+use Rattle.jr_model.specs.Legal.{may_happen, is_legal, verdict_fits, job_says, is_bad, is_void}
+use Rattle.jr_model.specs.Machine.{expected_by, content_of_io, content_in_job, seed_of_draw, said_of, verdict_in_job, verdict_on}
 use Rattle.jr_model.specs.Plan.{Plan, SubJob, clone_of, is_verified}
 use Rattle.jr_model.specs.Tickets.{piece_fits, has_pattern, interval_fits}
 use Rattle.jr_laws_steps.proofs.DrawnLaws.{started_fit-law}
 use Rattle.jr_model.proofs.MachineLaws.{got_front}
 use Rattle.jr_model.proofs.SerialLaws.{first_given-append}
 use Rattle.jr_model.specs.PlanFacts.{IsPlanned}
+use Rattle.jr_model.specs.Races.{has_raced}
 use Rattle.jr_header.proofs.Laws.{good_on_content, good_on_no_other}
 use Rattle.jr_laws_bytes.specs.Checks.{is_check, is_miscompare, has_miscompare, GivesWholePieces, AreToldApart, IsToldApart}
 use Rattle.jr_laws_bytes.proofs.Starts.{legal_at, some_same, IsCheckable, check_started}
@@ -96,10 +97,10 @@ whole_more : (a b : Option Outcome) → ended_whole a ≡ true → ended_whole (
 whole_more None b h = absurd (false≢true h)
 whole_more (Some o) b h = h
 
-fitting : (plan : Plan) (verdict : GivenVerdict) (o : Option Started) → verdict_fits plan verdict o ≡ true → (s : Started) × (o ≡ Some s) × (is_judged_kind s.kind ≡ true)
-fitting plan verdict None h = absurd (false≢true h)
-fitting plan verdict (Some s) h =
-    (s, refl, (and_parts (is_judged_kind s.kind) (job_says (clone_of plan s.write.clone) s.kind s.piece.len verdict) h).0)
+fitting : (plan : Plan) (raced : Bool) (verdict : GivenVerdict) (o : Option Started) → verdict_fits plan raced verdict o ≡ true → (s : Started) × (o ≡ Some s) × (is_judged_kind s.kind ≡ true)
+fitting plan raced verdict None h = absurd (false≢true h)
+fitting plan raced verdict (Some s) h =
+    (s, refl, (and_parts (is_judged_kind s.kind) (cond raced (is_void verdict) (job_says (clone_of plan s.write.clone) s.kind s.piece.len verdict)) h).0)
 
 -- what has a verdict in a legal history ended whole, and is what gets one
 pub judged_check : (plan : Plan) (history : List Event) (place by io : ℕ) (verdict : GivenVerdict) → is_legal plan history ≡ true → slice_get history place ≡ Some (Verdict by io verdict) → (s : Started) × (slice_get (started history) io ≡ Some s) × (is_judged_kind s.kind ≡ true) × (ended_whole (outcome_of history io) ≡ true)
@@ -110,9 +111,9 @@ judged_check plan history place by io verdict legal at =
     let split : history ≡ front ++ rest = split_at history place e at in
     let may : may_happen plan front e ≡ true =
     legal_at plan [] front e (drop (suc place) history) (subst (λ (all : List Event). is_legal plan all ≡ true) split legal) in
-    let parts = and_parts (ended_whole (outcome_of front io) && not (is_judged front io)) (verdict_fits plan verdict (slice_get (started front) io)) may in
+    let parts = and_parts (ended_whole (outcome_of front io) && not (is_judged front io)) (verdict_fits plan (has_raced front io) verdict (slice_get (started front) io)) may in
     let whole = (and_parts (ended_whole (outcome_of front io)) (not (is_judged front io)) parts.0).0 in
-    let check = fitting plan verdict (slice_get (started front) io) parts.1 in
+    let check = fitting plan (has_raced front io) verdict (slice_get (started front) io) parts.1 in
     let there : slice_get (started history) io ≡ Some check.0 =
     ap (λ (all : List Event). slice_get (started all) io) split
     ∙ ap (λ (ios : List Started). slice_get ios io) (filter_map-append started_by front rest)
@@ -123,16 +124,24 @@ judged_check plan history place by io verdict legal at =
     ∙ whole_more (outcome_of front io) (first_given (end_of io) rest) whole in
     (check.0, there, check.2, ended)
 
-good_from_not_bad : (verdict : GivenVerdict) → is_bad verdict ≡ false → verdict ≡ Good
-good_from_not_bad Good h = refl
-good_from_not_bad (Bad what) h = absurd (false≢true (sym h))
+good_from_not_bad : (verdict : GivenVerdict) → is_bad verdict ≡ false → is_void verdict ≡ false → verdict ≡ Good
+good_from_not_bad Good h said = refl
+good_from_not_bad (Bad what) h said = absurd (false≢true (sym h))
+good_from_not_bad Void h said = absurd (false≢true (sym said))
+
+-- what isn't void hasn't raced
+not_void : (raced : Bool) (verdict on : GivenVerdict) → verdict ≡ said_of raced on → is_void verdict ≡ false → raced ≡ false
+not_void false verdict on is said = refl
+not_void true verdict on is said = absurd (false≢true (sym said ∙ ap is_void is))
 
 -- a verdict is bad exactly where the bytes that its check read aren't the write's
-pub bad_exactly : (plan : Plan) (history : List Event) (read : ℕ → List ℕ) (place by io : ℕ) (verdict : GivenVerdict) (s : Started) → IsPlanned plan → is_legal plan history ≡ true → GivesWholePieces history read → IsJudgedBy plan history read → slice_get history place ≡ Some (Verdict by io verdict) → slice_get (started history) io ≡ Some s → is_probe s.kind ≡ true → IsToldApart plan s (read io) → (is_bad verdict ≡ true) ↔ (read io ≢ content_of_io plan s)
-bad_exactly plan history read place by io verdict s planned legal whole judged at there probe apart =
+pub bad_exactly : (plan : Plan) (history : List Event) (read : ℕ → List ℕ) (place by io : ℕ) (verdict : GivenVerdict) (s : Started) → IsPlanned plan → is_legal plan history ≡ true → GivesWholePieces history read → IsJudgedBy plan history read → slice_get history place ≡ Some (Verdict by io verdict) → slice_get (started history) io ≡ Some s → is_probe s.kind ≡ true → is_void verdict ≡ false → IsToldApart plan s (read io) → (is_bad verdict ≡ true) ↔ (read io ≢ content_of_io plan s)
+bad_exactly plan history read place by io verdict s planned legal whole judged at there probe unvoid apart =
     let found = judged_check plan history place by io verdict legal at in
-    let check : IsWholeCheck history io s = (there, probe, found.3) in
-    let said : verdict ≡ verdict_on plan s (read io) = judged place by io verdict s at there in (
+    let is = judged place by io verdict s at there in
+    let unraced = not_void (has_raced history io) verdict (verdict_on plan s (read io)) is unvoid in
+    let check : IsWholeCheck history io s = (there, probe, found.3, unraced) in
+    let said : verdict ≡ verdict_on plan s (read io) = is ∙ ap (λ (r : Bool). said_of r (verdict_on plan s (read io))) unraced in (
       λ (bad : is_bad verdict ≡ true) (own : read io ≡ content_of_io plan s).
           false≢true (sym (ap is_bad (said ∙ ap (verdict_on plan s) own ∙ good_on_own plan history io s planned legal there probe)) ∙ bad),
       λ (other : read io ≢ content_of_io plan s).
@@ -140,7 +149,7 @@ bad_exactly plan history read place by io verdict s planned legal whole judged a
           (λ (fine : is_bad verdict ≡ false).
           other
           (own_from_good plan (before_start history io) s (read io) planned probe (check_started plan history io s legal there check.1)
-          (whole io s check) apart (sym said ∙ good_from_not_bad verdict fine))),
+          (whole io s check) apart (sym said ∙ good_from_not_bad verdict fine unvoid))),
     )
 
 -- where reads are honest a check gave what its write put there
@@ -162,12 +171,17 @@ honest_event plan history read place (Verdict by io verdict) planned legal whole
     ap (λ (o : Option Started). is_bad verdict && is_check o) found.1
     ∙ elim (cases_Bool (is_probe s.kind)) [
       | inl probe ↦
-          let check : IsWholeCheck history io s = (found.1, probe, found.3) in
           and_left (is_bad verdict) (is_probe s.kind)
-          (ap is_bad
-          (judged place by io verdict s at found.1
-          ∙ ap (verdict_on plan s) (honest_bytes plan history read io s planned legal whole honest check)
-          ∙ good_on_own plan history io s planned legal found.1 probe))
+          (ap is_bad (judged place by io verdict s at found.1)
+          ∙ elim (cases_Bool (has_raced history io)) [
+            | inl raced ↦ ap (λ (r : Bool). is_bad (said_of r (verdict_on plan s (read io)))) raced
+            | inr unraced ↦
+                let check : IsWholeCheck history io s = (found.1, probe, found.3, unraced) in
+                ap (λ (r : Bool). is_bad (said_of r (verdict_on plan s (read io)))) unraced
+                ∙ ap is_bad
+                (ap (verdict_on plan s) (honest_bytes plan history read io s planned legal whole honest check)
+                ∙ good_on_own plan history io s planned legal found.1 probe)
+          ])
       | inr other ↦ and_right (is_bad verdict) (is_probe s.kind) other
     ]
 honest_event plan history read place (Issue worker dir write piece) planned legal whole judged honest at = refl

@@ -14,10 +14,11 @@ use Rattle.jr_model.specs.History.{started, flies, is_probe}
 use Rattle.jr_model.specs.Honest.{IsWholeCheck, IsHonest, IsJudgedBy}
 use Rattle.jr_model.specs.Judgement.{AreasToldApart}
 use Rattle.jr_model.specs.LastWrite.{is_intact}
-use Rattle.jr_model.specs.Legal.{is_legal, is_bad}
+use Rattle.jr_model.specs.Legal.{is_legal, is_bad, is_void}
 use Rattle.jr_model.specs.Machine.{content_of_io, seed_of_draw, first_state, machine_run}
 use Rattle.jr_model.specs.Plan.{Plan, SubJob, clone_of}
 use Rattle.jr_model.specs.PlanFacts.{IsPlanned}
+use Rattle.jr_model.specs.Races.{has_raced}
 use Rattle.jr_laws_bytes.specs.Memory.{HoldsLastWrites}
 
 -- it is the check of a write
@@ -64,7 +65,7 @@ abbrev pub IsToldApart : Plan → Started → List ℕ → Type 0
 IsToldApart plan s bytes =
     AreToldApart (clone_of plan s.write.clone) s (seed_of_draw (slice_get (draws_of plan s.write.clone s.write.pass) s.write.number)) bytes
 
--- where verdicts are those of the bytes read, a verdict on a check is Bad exactly where these bytes aren't what the write of
+-- where verdicts are those of the bytes read, a verdict on a check that isn't void is Bad exactly where these bytes aren't what the write of
 -- the check put there
 abbrev pub MiscomparesExactly : Type 0
 MiscomparesExactly =
@@ -76,10 +77,11 @@ MiscomparesExactly =
     → slice_get history place ≡ Some (Verdict by io verdict)
     → slice_get (started history) io ≡ Some s
     → is_probe s.kind ≡ true
+    → is_void verdict ≡ false
     → IsToldApart plan s (read io)
     → (is_bad verdict ≡ true) ↔ (read io ≢ content_of_io plan s)
 
--- while a check is in flight its write is the last one of each of its blocks
+-- while a check is in flight, and hasn't raced, its write is the last one of each of its blocks
 abbrev pub ChecksStayIntact : Type 0
 ChecksStayIntact =
     (plan : Plan) (history : List Event) (io : ℕ) (s : Started)
@@ -88,6 +90,7 @@ ChecksStayIntact =
     → slice_get (started history) io ≡ Some s
     → is_probe s.kind ≡ true
     → flies history io ≡ true
+    → has_raced history io ≡ false
     → is_intact history s.write s.piece ≡ true
 
 -- the reply stores and gives no bytes but those that it is to, though it may move fewer of them or fail

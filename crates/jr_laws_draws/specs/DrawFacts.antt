@@ -64,6 +64,7 @@ part_of job = record {
   checks_writes = false;
   backlog = 0;
   is_fatal = false;
+  declines = false;
 }
 
 -- these m cells from cell x on are free, where there is a map

@@ -1,5 +1,5 @@
 -- The log has a draw of the plan just where it is intact, whether it was issued or not; what the log is of unstarted writes.
-use Rattle.std.proofs.Common.{◌≡◌, ℕ, ◌+◌, ◌/◌, ◌<◌, List, [], ◌∷◌, Bool, true, cond, refl, sym, ◌∙◌, ap, subst, inl, inr}
+use Rattle.std.proofs.Common.{◌≡◌, ℕ, ◌+◌, ◌/◌, ◌<◌, List, [], ◌∷◌, Bool, true, cond, refl, sym, ◌∙◌, ap, subst, inl, inr, not, ◌&&◌}
 use Rattle.std.specs.Prelude.{Option, Some, None, slice_get, filter_map}
 use Rattle.std.specs.List.{cons_option}
 use Rattle.std.proofs.lemmas.Bool.{cases_Bool}
@@ -18,6 +18,7 @@ use Rattle.jr_model.specs.LastWrite.{last_write, is_intact}
 use Rattle.jr_model.specs.Legal.{is_legal}
 use Rattle.jr_model.specs.Plan.{Plan, SubJob, clone_of, issued_as}
 use Rattle.jr_model.specs.PlanFacts.{IsPlanned}
+use Rattle.jr_model.specs.Races.{has_raced}
 use Rattle.jr_writes.specs.declared.logs.Logged.{Logged}
 use Rattle.jr_writes.specs.LoggedWrites.{logged}
 use Rattle.jr_writes.specs.LogSteps.{LogStep, settle, unsettle, log_of, step_of, step_at_end}
@@ -34,40 +35,40 @@ step_by io expected write whole =
     cond write (Some (cond whole (settle io.write io.piece expected) (unsettle io.piece))) None
 
 -- one step by two ways to check a content
-same_end : (one other : WriteId → Piece → Expected) (o : Option Started) (outcome : Outcome)
+same_end : (one other : WriteId → Piece → Expected) (raced : Bool) (o : Option Started) (outcome : Outcome)
     → ((io : Started) → o ≡ Some io → is_write io.kind ≡ true → one io.write io.piece ≡ other io.write io.piece)
-    → step_at_end one o outcome ≡ step_at_end other o outcome
-same_end one other None outcome same = refl
-same_end one other (Some io) outcome same =
+    → step_at_end one raced o outcome ≡ step_at_end other raced o outcome
+same_end one other raced None outcome same = refl
+same_end one other raced (Some io) outcome same =
     elim (cases_Bool (is_write io.kind)) [
-      | inl kind ↦ ap (λ (x : Expected). step_by io x (is_write io.kind) (ended_whole (Some outcome))) (same io refl kind)
+      | inl kind ↦ ap (λ (x : Expected). step_by io x (is_write io.kind) (ended_whole (Some outcome) && not raced)) (same io refl kind)
       | inr kind ↦
-          ap (λ (b : Bool). step_by io (one io.write io.piece) b (ended_whole (Some outcome))) kind
-          ∙ sym (ap (λ (b : Bool). step_by io (other io.write io.piece) b (ended_whole (Some outcome))) kind)
+          ap (λ (b : Bool). step_by io (one io.write io.piece) b (ended_whole (Some outcome) && not raced)) kind
+          ∙ sym (ap (λ (b : Bool). step_by io (other io.write io.piece) b (ended_whole (Some outcome) && not raced)) kind)
     ]
 
-module _ (one other : WriteId → Piece → Expected) (ios : List Started)
+module _ (one other : WriteId → Piece → Expected) (raced : ℕ → Bool) (ios : List Started)
     (same : (id : ℕ) (io : Started) → slice_get ios id ≡ Some io → is_write io.kind ≡ true
     → one io.write io.piece ≡ other io.write io.piece) where
-  same_step : (e : Event) → step_of one ios e ≡ step_of other ios e
-  same_step (End worker id outcome) = same_end one other (slice_get ios id) outcome (λ io at kind. same id io at kind)
+  same_step : (e : Event) → step_of one raced ios e ≡ step_of other raced ios e
+  same_step (End worker id outcome) = same_end one other (raced id) (slice_get ios id) outcome (λ io at kind. same id io at kind)
   same_step (Issue worker dir write piece) = refl
   same_step (Probe worker write piece) = refl
   same_step (Skip worker write) = refl
   same_step (Verdict worker id verdict) = refl
 
-  same_steps : (events : List Event) → filter_map (step_of one ios) events ≡ filter_map (step_of other ios) events
+  same_steps : (events : List Event) → filter_map (step_of one raced ios) events ≡ filter_map (step_of other raced ios) events
   same_steps [] = refl
   same_steps (e ∷ events) =
-      ap (λ (o : Option LogStep). cons_option o (filter_map (step_of one ios) events)) (same_step e)
-      ∙ ap (cons_option (step_of other ios e)) (same_steps events)
+      ap (λ (o : Option LogStep). cons_option o (filter_map (step_of one raced ios) events)) (same_step e)
+      ∙ ap (cons_option (step_of other raced ios e)) (same_steps events)
 
 -- what is said of a write that was not started makes no difference
 pub log_is_by_started : (history : List Event) (one other : WriteId → Piece → Expected)
     → ((id : ℕ) (io : Started) → slice_get (started history) id ≡ Some io → is_write io.kind ≡ true
     → one io.write io.piece ≡ other io.write io.piece)
     → log_after one history ≡ log_after other history
-log_is_by_started history one other same = ap log_of (same_steps one other (started history) same history)
+log_is_by_started history one other same = ap log_of (same_steps one other (has_raced history) (started history) same history)
 
 -- a draw of a pass of a planned clone has blocks
 blocks_of_draw : (plan : Plan) (write : WriteId) (job : SubJob) (draw : Draw)

@@ -2,7 +2,7 @@
 use Rattle.std.proofs.Common.{◌≡◌, ℕ, ◌+◌, ◌/◌, ◌<◌, ◌≤◌, List, [], ◌∷◌, ◌++◌, length, Bool, true, false, cond, ◌&&◌, not, refl, sym, ◌∙◌, ap, subst, arith, inl, inr}
 use Rattle.std.specs.Prelude.{Option, Some, None, slice_get}
 use Rattle.std.specs.List.{cons_option}
-use Rattle.std.proofs.lemmas.Bool.{and_left, and_right, cases_Bool, cases_eq, cases_lt, both_ways, false_from_ne_true}
+use Rattle.std.proofs.lemmas.Bool.{and_from, and_left, and_right, cases_Bool, cases_eq, cases_lt, both_ways, false_from_ne_true}
 use Rattle.std.proofs.lemmas.Option.{none-some, cond_some}
 use Rattle.jr_model.specs.declared.limits.TheConstants.{SECTOR}
 use Rattle.jr_model.specs.declared.blocks.Piece.{Piece}
@@ -18,6 +18,8 @@ use Rattle.jr_model.specs.LastWrite.{covers_block, last_after, last_after_end, l
 use Rattle.jr_model.specs.Legal.{is_legal, may_happen}
 use Rattle.jr_model.specs.Pieces.{pieces_overlap}
 use Rattle.jr_model.specs.Plan.{Plan}
+use Rattle.jr_model.specs.Races.{has_raced}
+use Rattle.jr_model.proofs.RaceLaws.{raced_other}
 use Rattle.jr_model.proofs.LegalLaws.{is_legal-more, same_write_refl}
 use Rattle.jr_model.proofs.Equality.{eq_write}
 use Rattle.jr_model.specs.PlanFacts.{IsPlanned}
@@ -28,11 +30,12 @@ use Rattle.jr_writes.proofs.LogLemmas.{logged-settled, logged-unsettled}
 use Rattle.jr_writes.proofs.Overlaps.{overlap_back}
 use Rattle.jr_laws_quiet.proofs.LastWrites.{overlap_from}
 use Rattle.jr_laws_quiet.proofs.Latest.{common_block}
+use Rattle.jr_laws_quiet.proofs.Races.{last_write_push}
 use Rattle.jr_laws_quiet.proofs.Steps.{started_push, got_within}
 use Rattle.jr_laws_steps.proofs.StartedLemmas.{same_some, by_events, started_stays, started_below, started-other}
 use Rattle.jr_laws_log.specs.Intact.{log_after, WasStarted, IsOfIntact}
 use Rattle.jr_laws_log.proofs.LogGrowth.{log-same, log-whole, log-failed}
-use Rattle.jr_laws_log.proofs.LastBlocks.{last_law, last_write_push, flying_of, outcome_now, HasBlocks, intact_same, intact_all, intact_not, one_place, blocks_at, unlanded}
+use Rattle.jr_laws_log.proofs.LastBlocks.{last_law, flying_of, outcome_now, HasBlocks, intact_same, intact_all, intact_not, one_place, blocks_at, unlanded}
 use Rattle.jr_laws_log.proofs.OrderLemmas.{ordered_log}
 
 -- what the log has of a started write
@@ -90,8 +93,8 @@ module _ (plan : Plan) (planned : IsPlanned plan) (checked_by : WriteId → Piec
   had write = logged (log_after checked_by h) write
 
   -- an event that leaves the log and all last writes
-  module _ (e : Event) (may : may_happen plan h e ≡ true) (no_step : step_of checked_by (started h) e ≡ None)
-      (keeps : (f b : ℕ) (o : Option WriteId) → last_after (started h) f b o e ≡ o) where
+  module _ (e : Event) (may : may_happen plan h e ≡ true) (no_step : step_of checked_by (has_raced h) (started h) e ≡ None)
+      (keeps : (f b : ℕ) (o : Option WriteId) → last_after (has_raced h) (started h) f b o e ≡ o) where
     abbrev next : List Event
     next = h ++ e ∷ []
 
@@ -99,7 +102,7 @@ module _ (plan : Plan) (planned : IsPlanned plan) (checked_by : WriteId → Piec
     legal_next = is_legal-more plan h e legal may
 
     same_last : (f b : ℕ) → last_write next f b ≡ last_write h f b
-    same_last f b = last_write_push plan h e f b legal may ∙ keeps f b (last_write h f b)
+    same_last f b = last_write_push plan h legal e f b ∙ keeps f b (last_write h f b)
 
     same_logged : (write : WriteId) → logged (log_after checked_by next) write ≡ had write
     same_logged write = ap (λ (es : List (WriteId × Logged)). logged es write) (log-same plan h checked_by legal e may no_step)
@@ -168,13 +171,17 @@ module _ (plan : Plan) (planned : IsPlanned plan) (checked_by : WriteId → Piec
     fresh : had io0.write ≡ None
     fresh =
         kept.equal id0 io0 at0 kind0
-        ∙ ap (shown checked_by io0) (unlanded plan h planned legal id0 io0 at0 kind0 (λ ended. none-some Whole (sym unended ∙ ended)))
+        ∙ ap (shown checked_by io0) (unlanded plan h planned legal id0 io0 at0 kind0 (λ ended unraced. none-some Whole (sym unended ∙ ended)))
+
+    -- it ended whole, and didn't race
+    abbrev lands : Bool
+    lands = ended_whole (Some outcome) && not (has_raced h id0)
 
     -- what a look-up finds after it
     abbrev looked : Bool → WriteId → Option Logged
     looked own other = cond own (Some (entry_of checked_by io0)) (if_apart io0.piece (had other))
 
-    looked_by : (whole : Bool) → ended_whole (Some outcome) ≡ whole → (other : WriteId)
+    looked_by : (whole : Bool) → lands ≡ whole → (other : WriteId)
         → logged (log_after checked_by later) other
         ≡ looked (whole && same_write io0.write other) other
     looked_by true is other =
@@ -189,17 +196,17 @@ module _ (plan : Plan) (planned : IsPlanned plan) (checked_by : WriteId → Piec
     abbrev given : Bool → Option WriteId
     given whole = cond whole (Some io0.write) None
 
-    last_by : (whole : Bool) → ended_whole (Some outcome) ≡ whole → (f b : ℕ)
+    last_by : (whole : Bool) → lands ≡ whole → (f b : ℕ)
         → last_write later f b
         ≡ cond (covers_block io0.piece f b) (given whole) (last_write h f b)
     last_by whole is f b =
-        last_write_push plan h (End worker id0 outcome) f b legal may
-        ∙ ap (λ (o : Option Started). last_after_end o outcome f b (last_write h f b)) at0
-        ∙ ap (λ (k : Bool). cond (k && covers_block io0.piece f b) (given (ended_whole (Some outcome))) (last_write h f b)) kind0
+        last_write_push plan h legal (End worker id0 outcome) f b
+        ∙ ap (λ (o : Option Started). last_after_end (has_raced h id0) o outcome f b (last_write h f b)) at0
+        ∙ ap (λ (k : Bool). cond (k && covers_block io0.piece f b) (given lands) (last_write h f b)) kind0
         ∙ ap (λ (w : Bool). cond (covers_block io0.piece f b) (given w) (last_write h f b)) is
 
     -- of the write that ends
-    equal_own : (whole : Bool) → ended_whole (Some outcome) ≡ whole
+    equal_own : (whole : Bool) → lands ≡ whole
         → IsShown checked_by later io0
     equal_own true is =
         let now : is_intact later io0.write io0.piece ≡ true =
@@ -214,12 +221,15 @@ module _ (plan : Plan) (planned : IsPlanned plan) (checked_by : WriteId → Piec
         let ended : outcome_of later id0 ≡ Some outcome = outcome_now h worker id0 outcome unended in
         let broken : is_intact later io0.write io0.piece ≡ false =
         unlanded plan later planned legal_later id0 io0 (stays id0 io0 at0) kind0
-        (λ whole. both_ways (ended_whole (Some outcome)) is (ap ended_whole (sym ended ∙ whole))) in
+        (λ whole unraced.
+        both_ways lands is
+        (and_from (ended_whole (Some outcome)) (not (has_raced h id0)) (ap ended_whole (sym ended ∙ whole))
+        (ap not (sym (raced_other h (End worker id0 outcome) id0 refl) ∙ unraced)))) in
         looked_by false is io0.write ∙ ap (if_apart io0.piece) fresh ∙ ap (shown checked_by io0) (sym broken)
 
     -- of another one
     module _ (id : ℕ) (io : Started) (at : slice_get (started h) id ≡ Some io) (kind : is_write io.kind ≡ true)
-        (apart : id ≡ id0 → ⊥) (whole : Bool) (is : ended_whole (Some outcome) ≡ whole) where
+        (apart : id ≡ id0 → ⊥) (whole : Bool) (is : lands ≡ whole) where
       other_name : io0.write ≡ io.write → ⊥
       other_name same = apart (one_place plan h planned legal id id0 io io0 at at0 kind kind0 (sym same))
 
@@ -283,14 +293,14 @@ module _ (plan : Plan) (planned : IsPlanned plan) (checked_by : WriteId → Piec
         elim (cases_eq id id0) [
           | inl same ↦
               let one : io0 ≡ io = same_some io0 io (sym at0 ∙ ap (slice_get (started h)) (sym same) ∙ at) in
-              subst (IsShown checked_by later) one (equal_own (ended_whole (Some outcome)) refl)
-          | inr apart ↦ equal_other id io at kind apart (ended_whole (Some outcome)) refl (pieces_overlap io0.piece io.piece) refl
+              subst (IsShown checked_by later) one (equal_own lands refl)
+          | inr apart ↦ equal_other id io at kind apart lands refl (pieces_overlap io0.piece io.piece) refl
         ]
 
     kept_ended : IsKept checked_by later
     kept_ended = record {
       known = λ write entry is.
-          let whole = ended_whole (Some outcome) in
+          let whole = lands in
           let was = known_ended whole write entry (same_write io0.write write) refl (sym (looked_by whole refl write) ∙ is) in
           record { id = was.id; io = was.io; at = stays was.id was.io was.at; kind = was.kind; named = was.named };
       equal = λ id io at kind. equal_ended id io (sym (ap (λ (ios : List Started). slice_get ios id) same_started) ∙ at) kind;
@@ -306,19 +316,19 @@ module _ (plan : Plan) (planned : IsPlanned plan) (checked_by : WriteId → Piec
         | inl kind ↦ kept_ended worker id outcome may flying.io flying.at kind flying.unended
         | inr other ↦
             kept_same (End worker id outcome) may
-            (ap (λ (o : Option Started). step_at_end checked_by o outcome) flying.at ∙ no_step flying.io other)
-            (λ f b o. ap (λ (s : Option Started). last_after_end s outcome f b o) flying.at ∙ keeps flying.io other f b o)
+            (ap (λ (o : Option Started). step_at_end checked_by (has_raced h id) o outcome) flying.at ∙ no_step flying.io other)
+            (λ f b o. ap (λ (s : Option Started). last_after_end (has_raced h id) s outcome f b o) flying.at ∙ keeps flying.io other f b o)
       ]
     where
-      no_step : (io : Started) → is_write io.kind ≡ false → step_at_end checked_by (Some io) outcome ≡ None
+      no_step : (io : Started) → is_write io.kind ≡ false → step_at_end checked_by (has_raced h id) (Some io) outcome ≡ None
       no_step io other =
           let step : Bool → LogStep =
           λ whole. cond whole (settle io.write io.piece (checked_by io.write io.piece)) (unsettle io.piece) in
-          ap (λ (k : Bool). cond k (Some (step (ended_whole (Some outcome)))) None) other
+          ap (λ (k : Bool). cond k (Some (step (ended_whole (Some outcome) && not (has_raced h id)))) None) other
 
-      keeps : (io : Started) → is_write io.kind ≡ false → (f b : ℕ) (o : Option WriteId) → last_after_end (Some io) outcome f b o ≡ o
+      keeps : (io : Started) → is_write io.kind ≡ false → (f b : ℕ) (o : Option WriteId) → last_after_end (has_raced h id) (Some io) outcome f b o ≡ o
       keeps io other f b o =
-          ap (λ (k : Bool). cond k (cond (ended_whole (Some outcome)) (Some io.write) None) o)
+          ap (λ (k : Bool). cond k (cond (ended_whole (Some outcome) && not (has_raced h id)) (Some io.write) None) o)
           (and_left (is_write io.kind) (covers_block io.piece f b) other)
 
 -- the log of each legal history
@@ -364,13 +374,15 @@ pub unended_is_unlogged : (plan : Plan) (history : List Event) (checked_by : Wri
     → is_legal plan history ≡ true
     → slice_get (started history) id ≡ Some io
     → is_write io.kind ≡ true
-    → ended_whole (outcome_of history id) ≡ false
+    → (ended_whole (outcome_of history id) && not (has_raced history id)) ≡ false
     → logged (log_after checked_by history) io.write ≡ None
 unended_is_unlogged plan history checked_by id io planned legal at kind unended =
     (kept_law plan checked_by history planned legal).equal id io at kind
     ∙ ap (shown checked_by io)
     (unlanded plan history planned legal id io at kind
-    (λ ended. both_ways (ended_whole (outcome_of history id)) unended (ap ended_whole ended)))
+    (λ ended unraced.
+    both_ways (ended_whole (outcome_of history id) && not (has_raced history id)) unended
+    (and_from (ended_whole (outcome_of history id)) (not (has_raced history id)) (ap ended_whole ended) (ap not unraced))))
 
 pub logged_is_intact : (plan : Plan) (history : List Event) (checked_by : WriteId → Piece → Expected) (write : WriteId) (entry : Logged)
     → IsPlanned plan
@@ -398,4 +410,4 @@ pub fresh_at_end : (plan : Plan) (history : List Event) (checked_by : WriteId �
     → logged (log_after checked_by history) io.write ≡ None
 fresh_at_end plan history checked_by worker id outcome io planned legal may at kind =
     unended_is_unlogged plan history checked_by id io planned legal at kind
-    (ap ended_whole (flying_of plan history worker id outcome may).unended)
+    (ap (λ (o : Option Outcome). ended_whole o && not (has_raced history id)) (flying_of plan history worker id outcome may).unended)

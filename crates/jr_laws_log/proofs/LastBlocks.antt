@@ -1,5 +1,5 @@
 -- The last write of a block after one more event; when a piece is intact, block by block.
-use Rattle.std.proofs.Common.{◌≡◌, ℕ, suc, ◌+◌, ◌/◌, ◌%◌, ◌<◌, List, [], ◌∷◌, ◌++◌, length, Bool, true, false, cond, ◌&&◌, refl, sym, ◌∙◌, ap, subst, arith, inl, inr}
+use Rattle.std.proofs.Common.{◌≡◌, ℕ, suc, ◌+◌, ◌/◌, ◌%◌, ◌<◌, List, [], ◌∷◌, ◌++◌, length, Bool, true, false, cond, ◌&&◌, not, refl, sym, ◌∙◌, ap, subst, arith, inl, inr}
 use Rattle.std.specs.Prelude.{◌⊎◌, Option, Some, None, slice_get, nat_lt, nat_le, ◌==◌, is_none, fold}
 use Rattle.std.specs.Option.{option_or}
 use Rattle.std.specs.List.{list_all, cons_option}
@@ -19,32 +19,19 @@ use Rattle.jr_model.specs.History.{started, started_by, end_of, first_given, out
 use Rattle.jr_model.specs.LastWrite.{covers_block, last_after, last_after_end, last_write, is_this_write, blocks_of, is_intact}
 use Rattle.jr_model.specs.Legal.{is_legal, may_happen, end_fits}
 use Rattle.jr_model.specs.Plan.{Plan}
+use Rattle.jr_model.specs.Races.{has_raced}
+use Rattle.jr_model.proofs.RaceLaws.{raced_other, raced_for_good}
 use Rattle.jr_model.specs.Tickets.{piece_fits}
 use Rattle.jr_model.proofs.LegalLaws.{same_write_refl}
 use Rattle.jr_model.proofs.SerialLaws.{first_given-append}
 use Rattle.jr_model.proofs.Equality.{eq_write}
 use Rattle.jr_model.specs.PlanFacts.{IsPlanned}
-use Rattle.jr_laws_quiet.proofs.LastWrites.{last_after_agrees, fold_agrees}
+use Rattle.jr_laws_quiet.proofs.Races.{last_write_push}
 use Rattle.jr_laws_quiet.proofs.Latest.{InSectors, covers_own, not_all}
-use Rattle.jr_laws_quiet.proofs.Steps.{started_push}
 use Rattle.jr_laws_steps.proofs.OnceLaws.{started_once-law}
 use Rattle.jr_laws_steps.proofs.DrawnLaws.{started_fit-law}
 use Rattle.jr_laws_steps.proofs.PlaceLemmas.{item_at, all_from, got_ranged, ranged_at}
-use Rattle.jr_laws_steps.proofs.StartedLemmas.{same_some, by_events, started_stays}
-use Rattle.jr_laws_log.proofs.LogGrowth.{refers_now, all_refer}
-
--- an event makes of a block's last write what it says
-pub last_write_push : (plan : Plan) (h : List Event) (e : Event) (f b : ℕ)
-    → is_legal plan h ≡ true
-    → may_happen plan h e ≡ true
-    → last_write (h ++ e ∷ []) f b ≡ last_after (started h) f b (last_write h f b) e
-last_write_push plan h e f b legal may =
-    let ios = started h in
-    let more = cons_option (started_by e) [] in
-    ap (λ (all : List Started). fold (last_after all f b) None (h ++ e ∷ [])) (started_push h e)
-    ∙ fold_push (last_after (ios ++ more) f b) None h e
-    ∙ ap (λ (o : Option WriteId). last_after (ios ++ more) f b o e) (fold_agrees f b None ios more h (all_refer plan h legal))
-    ∙ last_after_agrees f b (last_write h f b) ios more e (refers_now plan h e legal may)
+use Rattle.jr_laws_steps.proofs.StartedLemmas.{same_some, by_events, started_stays, started_below}
 
 -- an I/O that may end was started, and has not ended
 pub record IsFlying (h : List Event) (id : ℕ) : Type 0 where
@@ -79,7 +66,7 @@ outcome_now h worker id o was =
     ∙ ap (λ (x : Option Outcome). option_or x (first_given (end_of id) (End worker id o ∷ []))) was
     ∙ ap (λ (b : Bool). option_or (cond b (Some o) None) None) (eq-eqb id id refl)
 
--- a started write of this name that ended whole and covers the block
+-- a started write of this name that ended whole, didn't race, and covers the block
 pub record LastIs (h : List Event) (f b : ℕ) (write : WriteId) : Type 0 where
   pub id : ℕ
   pub io : Started
@@ -88,10 +75,18 @@ pub record LastIs (h : List Event) (f b : ℕ) (write : WriteId) : Type 0 where
   pub named : io.write ≡ write
   pub covers : covers_block io.piece f b ≡ true
   pub ended : outcome_of h id ≡ Some Whole
+  pub unraced : has_raced h id ≡ false
 
 -- each last write is one
 abbrev LastLaw : List Event → Type 0
 LastLaw h = (f b : ℕ) (write : WriteId) → last_write h f b ≡ Some write → LastIs h f b write
+
+none_flies : (h : List Event) (id : ℕ) (o : Outcome) → outcome_of h id ≡ Some o → flies h id ≡ false
+none_flies h id o ended = ap (λ (x : Option Outcome). nat_lt id (length (started h)) && is_none x) ended ∙ and_none (nat_lt id (length (started h)))
+  where
+    and_none : (b : Bool) → (b && false) ≡ false
+    and_none true = refl
+    and_none false = refl
 
 module _ (plan : Plan) (h : List Event) (legal : is_legal plan h ≡ true) where
   last_kept : (e : Event) (f b : ℕ) (write : WriteId) → LastIs h f b write → LastIs (h ++ e ∷ []) f b write
@@ -103,24 +98,26 @@ module _ (plan : Plan) (h : List Event) (legal : is_legal plan h ≡ true) where
     named = was.named;
     covers = was.covers;
     ended = outcome_stays h e was.id Whole was.ended;
+    unraced = raced_for_good h e was.id (started_below h was.id was.io was.at) (none_flies h was.id Whole was.ended) ∙ was.unraced;
   }
 
   last_other : (e : Event)
       → may_happen plan h e ≡ true
-      → ((f b : ℕ) (o : Option WriteId) → last_after (started h) f b o e ≡ o)
+      → ((f b : ℕ) (o : Option WriteId) → last_after (has_raced h) (started h) f b o e ≡ o)
       → LastLaw h
       → LastLaw (h ++ e ∷ [])
   last_other e may keeps law f b write last =
-      last_kept e f b write (law f b write (sym (last_write_push plan h e f b legal may ∙ keeps f b (last_write h f b)) ∙ last))
+      last_kept e f b write (law f b write (sym (last_write_push plan h legal e f b ∙ keeps f b (last_write h f b)) ∙ last))
 
   -- what a whole write leaves is that write, and another end leaves none
-  end_gives : (outcome : Outcome) (io : Started) (hit : Bool) (last : Option WriteId) (write : WriteId)
-      → cond hit (cond (ended_whole (Some outcome)) (Some io.write) None) last ≡ Some write
-      → ((hit ≡ true) × (outcome ≡ Whole) × (io.write ≡ write)) ⊎ (last ≡ Some write)
-  end_gives Whole io true last write is = inl (refl, refl, same_some io.write write is)
-  end_gives Failed io true last write is = cc
-  end_gives (Short n) io true last write is = cc
-  end_gives outcome io false last write is = inr is
+  end_gives : (outcome : Outcome) (raced : Bool) (io : Started) (hit : Bool) (last : Option WriteId) (write : WriteId)
+      → cond hit (cond (ended_whole (Some outcome) && not raced) (Some io.write) None) last ≡ Some write
+      → ((hit ≡ true) × (outcome ≡ Whole) × (io.write ≡ write) × (raced ≡ false)) ⊎ (last ≡ Some write)
+  end_gives Whole false io true last write is = inl (refl, refl, same_some io.write write is, refl)
+  end_gives Whole true io true last write is = cc
+  end_gives Failed raced io true last write is = cc
+  end_gives (Short n) raced io true last write is = cc
+  end_gives outcome raced io false last write is = inr is
 
   last_ended : (worker id : ℕ) (outcome : Outcome)
       → may_happen plan h (End worker id outcome) ≡ true
@@ -130,10 +127,10 @@ module _ (plan : Plan) (h : List Event) (legal : is_legal plan h ≡ true) where
       let e = End worker id outcome in
       let flying = flying_of plan h worker id outcome may in
       let io = flying.io in
-      let now : last_write (h ++ e ∷ []) f b ≡ last_after_end (Some io) outcome f b (last_write h f b) =
-      last_write_push plan h e f b legal may
-      ∙ ap (λ (o : Option Started). last_after_end o outcome f b (last_write h f b)) flying.at in
-      elim (end_gives outcome io (is_write io.kind && covers_block io.piece f b) (last_write h f b) write (sym now ∙ last)) [
+      let now : last_write (h ++ e ∷ []) f b ≡ last_after_end (has_raced h id) (Some io) outcome f b (last_write h f b) =
+      last_write_push plan h legal e f b
+      ∙ ap (λ (o : Option Started). last_after_end (has_raced h id) o outcome f b (last_write h f b)) flying.at in
+      elim (end_gives outcome (has_raced h id) io (is_write io.kind && covers_block io.piece f b) (last_write h f b) write (sym now ∙ last)) [
         | inl this ↦
             let parts = and_parts (is_write io.kind) (covers_block io.piece f b) this.0 in
             record {
@@ -144,6 +141,7 @@ module _ (plan : Plan) (h : List Event) (legal : is_legal plan h ≡ true) where
               named = this.2;
               covers = parts.1;
               ended = outcome_now h worker id outcome flying.unended ∙ ap Some this.1;
+              unraced = raced_other h e id refl ∙ this.3;
             }
         | inr before ↦ last_kept e f b write (law f b write before)
       ]
@@ -277,11 +275,11 @@ module _ (plan : Plan) (h : List Event) (planned : IsPlanned plan) (legal : is_l
   pub blocks_at : (id : ℕ) (io : Started) → slice_get (started h) id ≡ Some io → HasBlocks io.piece
   blocks_at id io at = blocks_from_fits io.piece (started_fit-law plan h id io planned legal at).1.fits
 
-  -- a write that has not ended whole isn't intact
+  -- a write that has not ended whole, or raced, isn't intact
   pub unlanded : (id : ℕ) (io : Started)
       → slice_get (started h) id ≡ Some io
       → is_write io.kind ≡ true
-      → (outcome_of h id ≡ Some Whole → ⊥)
+      → (outcome_of h id ≡ Some Whole → has_raced h id ≡ false → ⊥)
       → is_intact h io.write io.piece ≡ false
   unlanded id io at kind unended =
       let blocks = blocks_at id io at in
@@ -289,4 +287,4 @@ module _ (plan : Plan) (h : List Event) (planned : IsPlanned plan) (legal : is_l
       (λ last.
       let was = last_law plan h legal io.piece.file (io.piece.offset / SECTOR + 0) io.write last in
       let same : was.id ≡ id = one_place was.id id was.io io was.at at was.kind kind was.named in
-      unended (subst (λ (n : ℕ). outcome_of h n ≡ Some Whole) same was.ended))
+      unended (subst (λ (n : ℕ). outcome_of h n ≡ Some Whole) same was.ended) (subst (λ (n : ℕ). has_raced h n ≡ false) same was.unraced))

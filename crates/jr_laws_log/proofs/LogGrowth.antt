@@ -1,5 +1,5 @@
 -- The log of a history with one more event, and what an event's I/O is in it.
-use Rattle.std.proofs.Common.{◌≡◌, ℕ, ◌<◌, ◌≤◌, List, [], ◌∷◌, ◌++◌, length, Bool, true, false, cond, ◌&&◌, not, refl, ◌∙◌, ap, arith, append-nil, length-append}
+use Rattle.std.proofs.Common.{◌≡◌, ℕ, suc, ◌<◌, ◌≤◌, List, [], ◌∷◌, ◌++◌, length, Bool, true, false, cond, ◌&&◌, not, refl, sym, ◌∙◌, ap, arith, append-nil, length-append}
 use Rattle.std.specs.Prelude.{Option, Some, None, slice_get, nat_lt, is_none, filter_map}
 use Rattle.std.specs.List.{list_all, cons_option}
 use Rattle.std.proofs.lemmas.Bool.{and_parts, and_from, lt-ltb, ltb-true}
@@ -17,10 +17,12 @@ use Rattle.jr_model.specs.declared.events.WriteId.{WriteId}
 use Rattle.jr_model.specs.History.{started, started_by, outcome_of, flies, is_judged, ended_whole, is_write}
 use Rattle.jr_model.specs.Legal.{is_legal, may_happen, end_fits, verdict_fits}
 use Rattle.jr_model.specs.Plan.{Plan}
+use Rattle.jr_model.specs.Races.{has_raced}
 use Rattle.jr_model.proofs.SerialLaws.{IsWell, well-more, whole_some}
 use Rattle.jr_writes.specs.LoggedWrites.{settled, unsettled}
 use Rattle.jr_writes.specs.LogSteps.{LogStep, settle, unsettle, after_step, log_of, step_of, step_at_end, steps_of}
-use Rattle.jr_laws_quiet.proofs.Steps.{refers, refers_more, all_weaker, started_push, got_within}
+use Rattle.jr_laws_quiet.proofs.Races.{stays_ended, stays_started}
+use Rattle.jr_laws_quiet.proofs.Steps.{refers, refers_more, all_weaker, started_push}
 use Rattle.jr_laws_steps.proofs.StartedLemmas.{by_events}
 use Rattle.jr_laws_log.specs.Intact.{log_after, after_if}
 
@@ -45,7 +47,7 @@ refers_now plan h (End worker io outcome) legal may =
     let flying = and_parts (flies h io) (end_fits worker outcome (slice_get (started h) io)) may in
     (and_parts (nat_lt io (length (started h))) (is_none (outcome_of h io)) flying.0).0
 refers_now plan h (Verdict worker io verdict) legal may =
-    let fits = verdict_fits plan verdict (slice_get (started h) io) in
+    let fits = verdict_fits plan (has_raced h io) verdict (slice_get (started h) io) in
     let parts = and_parts (ended_whole (outcome_of h io) && not (is_judged h io)) fits may in
     let ended = and_parts (ended_whole (outcome_of h io)) (not (is_judged h io)) parts.0 in
     lt-ltb io (length (started h)) ((well plan h legal).ends io Whole (whole_some (outcome_of h io) ended.0))
@@ -73,40 +75,44 @@ all_refer plan history legal = by_events plan (λ (h : List Event). list_all (re
         (and_from (refers m e) true (refers_more n m e le (refers_now plan h e legal_h may)) refl)
 
 -- the step that an event is doesn't depend on what is started later
-step_agrees : (checked_by : WriteId → Piece → Expected) (ios more : List Started) (e : Event)
-    → refers (length ios) e ≡ true
-    → step_of checked_by (ios ++ more) e ≡ step_of checked_by ios e
-step_agrees checked_by ios more (End worker io outcome) h =
-    ap (λ (o : Option Started). step_at_end checked_by o outcome) (got_within ios more io (ltb-true io (length ios) h))
-step_agrees checked_by ios more (Issue worker dir write piece) h = refl
-step_agrees checked_by ios more (Probe worker write piece) h = refl
-step_agrees checked_by ios more (Skip worker write) h = refl
-step_agrees checked_by ios more (Verdict worker io verdict) h = refl
+module _ (plan : Plan) (h : List Event) (e : Event) (checked_by : WriteId → Piece → Expected) (legal : is_legal plan h ≡ true) where
+  abbrev before : Event → Option LogStep
+  before x = step_of checked_by (has_raced h) (started h) x
 
-steps_agree : (checked_by : WriteId → Piece → Expected) (ios more : List Started) (events : List Event)
-    → list_all (refers (length ios)) events ≡ true
-    → filter_map (step_of checked_by (ios ++ more)) events ≡ filter_map (step_of checked_by ios) events
-steps_agree checked_by ios more [] h = refl
-steps_agree checked_by ios more (e ∷ events) h =
-    let parts = and_parts (refers (length ios) e) (list_all (refers (length ios)) events) h in
-    ap (λ (o : Option LogStep). cons_option o (filter_map (step_of checked_by (ios ++ more)) events))
-    (step_agrees checked_by ios more e parts.0)
-    ∙ ap (cons_option (step_of checked_by ios e)) (steps_agree checked_by ios more events parts.1)
+  abbrev after : Event → Option LogStep
+  after x = step_of checked_by (has_raced (h ++ e ∷ [])) (started (h ++ e ∷ [])) x
 
--- one more event is one more step, or none
-steps_more : (plan : Plan) (h : List Event) (e : Event) (checked_by : WriteId → Piece → Expected)
-    → is_legal plan h ≡ true
-    → may_happen plan h e ≡ true
-    → steps_of checked_by (h ++ e ∷ []) ≡ steps_of checked_by h ++ cons_option (step_of checked_by (started h) e) []
-steps_more plan h e checked_by legal may =
-    let ios = started h in
-    let more = cons_option (started_by e) [] in
-    ap (λ (all : List Started). filter_map (step_of checked_by all) (h ++ e ∷ [])) (started_push h e)
-    ∙ filter_map-append (step_of checked_by (ios ++ more)) h (e ∷ [])
-    ∙ ap (λ (steps : List LogStep). steps ++ cons_option (step_of checked_by (ios ++ more) e) [])
-    (steps_agree checked_by ios more h (all_refer plan h legal))
-    ∙ ap (λ (o : Option LogStep). steps_of checked_by h ++ cons_option o [])
-    (step_agrees checked_by ios more e (refers_now plan h e legal may))
+  at_end : (io : ℕ) (outcome : Outcome) → (has_raced (h ++ e ∷ []) io ≡ has_raced h io) × (slice_get (started (h ++ e ∷ [])) io ≡ slice_get (started h) io) → step_at_end checked_by (has_raced (h ++ e ∷ []) io) (slice_get (started (h ++ e ∷ [])) io) outcome ≡ step_at_end checked_by (has_raced h io) (slice_get (started h) io) outcome
+  at_end io outcome same =
+      ap (λ (r : Bool). step_at_end checked_by r (slice_get (started (h ++ e ∷ [])) io) outcome) same.0
+      ∙ ap (λ (o : Option Started). step_at_end checked_by (has_raced h io) o outcome) same.1
+
+  earlier_agrees : (k : ℕ) (x : Event) → slice_get h k ≡ Some x → after x ≡ before x
+  earlier_agrees k (End worker io outcome) at = at_end io outcome (stays_ended plan h legal e k worker io outcome at)
+  earlier_agrees k (Issue worker dir write piece) at = refl
+  earlier_agrees k (Probe worker write piece) at = refl
+  earlier_agrees k (Skip worker write) at = refl
+  earlier_agrees k (Verdict worker io verdict) at = refl
+
+  own_agrees : (x : Event) → x ≡ e → after x ≡ before x
+  own_agrees (End worker io outcome) is = at_end io outcome (stays_started plan h legal e io (ap started_by (sym is)))
+  own_agrees (Issue worker dir write piece) is = refl
+  own_agrees (Probe worker write piece) is = refl
+  own_agrees (Skip worker write) is = refl
+  own_agrees (Verdict worker io verdict) is = refl
+
+  same_steps : (events : List Event) → ((k : ℕ) (x : Event) → slice_get events k ≡ Some x → after x ≡ before x) → filter_map after events ≡ filter_map before events
+  same_steps [] agrees = refl
+  same_steps (x ∷ events) agrees =
+      ap (λ (o : Option LogStep). cons_option o (filter_map after events)) (agrees 0 x refl)
+      ∙ ap (cons_option (before x)) (same_steps events (λ k y at. agrees (suc k) y at))
+
+  -- one more event is one more step, or none
+  steps_more : steps_of checked_by (h ++ e ∷ []) ≡ steps_of checked_by h ++ cons_option (before e) []
+  steps_more =
+      filter_map-append after h (e ∷ [])
+      ∙ ap (λ (steps : List LogStep). steps ++ cons_option (after e) []) (same_steps h earlier_agrees)
+      ∙ ap (λ (o : Option LogStep). steps_of checked_by h ++ cons_option o []) (own_agrees e refl)
 
 log_append : (steps : List LogStep) (o : Option LogStep) → log_of (steps ++ cons_option o []) ≡ after_if o (log_of steps)
 log_append steps None = ap log_of (append-nil steps)
@@ -116,49 +122,49 @@ log_append steps (Some step) = fold_push after_step [] steps step
 pub log_grows : (plan : Plan) (history : List Event) (event : Event) (checked_by : WriteId → Piece → Expected)
     → is_legal plan history ≡ true
     → may_happen plan history event ≡ true
-    → log_after checked_by (history ++ event ∷ []) ≡ after_if (step_of checked_by (started history) event) (log_after checked_by history)
+    → log_after checked_by (history ++ event ∷ []) ≡ after_if (step_of checked_by (has_raced history) (started history) event) (log_after checked_by history)
 log_grows plan history event checked_by legal may =
-    ap log_of (steps_more plan history event checked_by legal may)
-    ∙ log_append (steps_of checked_by history) (step_of checked_by (started history) event)
+    ap log_of (steps_more plan history event checked_by legal)
+    ∙ log_append (steps_of checked_by history) (step_of checked_by (has_raced history) (started history) event)
 
 module _ (plan : Plan) (h : List Event) (checked_by : WriteId → Piece → Expected) (legal : is_legal plan h ≡ true) where
   -- an event that is no step
   pub log-same : (e : Event)
       → may_happen plan h e ≡ true
-      → step_of checked_by (started h) e ≡ None
+      → step_of checked_by (has_raced h) (started h) e ≡ None
       → log_after checked_by (h ++ e ∷ []) ≡ log_after checked_by h
   log-same e may none =
       log_grows plan h e checked_by legal may ∙ ap (λ (o : Option LogStep). after_if o (log_after checked_by h)) none
 
   module _ (worker id : ℕ) (outcome : Outcome) (io : Started)
       (may : may_happen plan h (End worker id outcome) ≡ true) (at : slice_get (started h) id ≡ Some io) where
-    -- the step by whether the I/O is a write, and whether it ended whole
+    -- the step by whether the I/O is a write, and whether it ended whole and didn't race
     abbrev step_by : Bool → Bool → Option LogStep
     step_by write whole = cond write (Some (cond whole (settle io.write io.piece (checked_by io.write io.piece)) (unsettle io.piece))) None
 
     log_end : (write whole : Bool)
         → is_write io.kind ≡ write
-        → ended_whole (Some outcome) ≡ whole
+        → (ended_whole (Some outcome) && not (has_raced h id)) ≡ whole
         → log_after checked_by (h ++ End worker id outcome ∷ []) ≡ after_if (step_by write whole) (log_after checked_by h)
     log_end write whole kind ended =
         log_grows plan h (End worker id outcome) checked_by legal may
-        ∙ ap (λ (o : Option Started). after_if (step_at_end checked_by o outcome) (log_after checked_by h)) at
-        ∙ ap (λ (b : Bool). after_if (step_by b (ended_whole (Some outcome))) (log_after checked_by h)) kind
+        ∙ ap (λ (o : Option Started). after_if (step_at_end checked_by (has_raced h id) o outcome) (log_after checked_by h)) at
+        ∙ ap (λ (b : Bool). after_if (step_by b (ended_whole (Some outcome) && not (has_raced h id))) (log_after checked_by h)) kind
         ∙ ap (λ (b : Bool). after_if (step_by write b) (log_after checked_by h)) ended
 
     -- the end of a read or a check
     pub log-read : is_write io.kind ≡ false → log_after checked_by (h ++ End worker id outcome ∷ []) ≡ log_after checked_by h
-    log-read other = log_end false (ended_whole (Some outcome)) other refl
+    log-read other = log_end false (ended_whole (Some outcome) && not (has_raced h id)) other refl
 
-    -- the whole end of a write
+    -- the whole end of a write that didn't race
     pub log-whole : is_write io.kind ≡ true
-        → ended_whole (Some outcome) ≡ true
+        → (ended_whole (Some outcome) && not (has_raced h id)) ≡ true
         → log_after checked_by (h ++ End worker id outcome ∷ [])
         ≡ settled (log_after checked_by h) io.write io.piece (checked_by io.write io.piece)
     log-whole write whole = log_end true true write whole
 
     -- another end of a write
     pub log-failed : is_write io.kind ≡ true
-        → ended_whole (Some outcome) ≡ false
+        → (ended_whole (Some outcome) && not (has_raced h id)) ≡ false
         → log_after checked_by (h ++ End worker id outcome ∷ []) ≡ unsettled (log_after checked_by h) io.piece
     log-failed write failed = log_end true false write failed

@@ -18,9 +18,11 @@ use Rattle.jr_model.specs.declared.tickets.TicketKind.{TicketKind}
 use Rattle.jr_model.specs.declared.tickets.TicketKind.TheVariants as ticket
 use Rattle.jr_model.specs.History.{started, started_by, outcome_of, flies}
 use Rattle.jr_model.specs.Legal.{is_legal, is_clear as is_clear_after}
-use Rattle.jr_model.specs.Plan.{Plan}
+use Rattle.jr_model.specs.Plan.{Plan, SubJob, clone_of, declines_of}
+use Rattle.jr_model.specs.Races.{has_raced}
+use Rattle.jr_flight.specs.declared.ios.Ended.{Ended}
 use Rattle.jr_flight.specs.declared.ios.Io.{Io}
-use Rattle.jr_flight.specs.Flights.{flying_io, is_clear, writes}
+use Rattle.jr_flight.specs.Flights.{flying_io, is_clear, is_raced, marked, writes}
 
 -- a check and a checked read are reads
 abbrev pub dir_of : TicketKind → Dir
@@ -30,56 +32,71 @@ dir_of ticket.Probe = direction.Read
 dir_of ticket.ReadCheck = direction.Read
 
 -- an I/O that was started under this number
-abbrev pub io_of : ℕ → Started → Io
-io_of id io = record { id = id; clone = io.write.clone; piece = io.piece; dir = dir_of io.kind }
+abbrev pub io_of : Plan → ℕ → Started → Io
+io_of plan id io = record {
+  id = id;
+  clone = io.write.clone;
+  piece = io.piece;
+  dir = dir_of io.kind;
+  declines = declines_of (clone_of plan io.write.clone);
+}
+
+-- and whether it has raced
+abbrev pub entry_of : Plan → List Event → ℕ → Started → Ended
+entry_of plan history id io = record { io = io_of plan id io; raced = has_raced history id }
 
 -- its entry, where it has not ended
-abbrev pub if_flying_entry : List Event → ℕ × Started → Option (ℕ × Io)
-if_flying_entry history numbered =
-    if is_none (outcome_of history numbered.0) then Some (numbered.0, io_of numbered.0 numbered.1) else None
+abbrev pub if_flying_entry : Plan → List Event → ℕ × Started → Option (ℕ × Ended)
+if_flying_entry plan history numbered =
+    if is_none (outcome_of history numbered.0) then Some (numbered.0, entry_of plan history numbered.0 numbered.1) else None
 
 -- all that is in flight, in the order of the numbers
-abbrev pub flight_of : List Event → List (ℕ × Io)
-flight_of history = filter_map (if_flying_entry history) (enumerate_from 0 (started history))
+abbrev pub flight_of : Plan → List Event → List (ℕ × Ended)
+flight_of plan history = filter_map (if_flying_entry plan history) (enumerate_from 0 (started history))
+
+-- what is in flight once this one begins: it stands under its number, and whatever races with it is marked
+abbrev pub begun : Io → List (ℕ × Ended) → List (ℕ × Ended)
+begun io entries = insert_entry nat_cmp (marked io entries) io.id (record { io = io; raced = is_raced io entries })
 
 -- under a number is the I/O that was started under it, where that flies, and else nothing
 abbrev pub FlyingIsStarted : Type 0
 FlyingIsStarted =
-    (history : List Event) (id : ℕ)
-    → flying_io id (flight_of history) ≡ (if flies history id then option_map (io_of id) (slice_get (started history) id) else None)
+    (plan : Plan) (history : List Event) (id : ℕ)
+    → flying_io id (flight_of plan history)
+    ≡ (if flies history id then option_map (entry_of plan history id) (slice_get (started history) id) else None)
 
 -- so something flies under a number just where that flies after the history
 abbrev pub FliesIsFlying : Type 0
-FliesIsFlying = (history : List Event) (id : ℕ) → is_some (flying_io id (flight_of history)) ≡ flies history id
+FliesIsFlying = (plan : Plan) (history : List Event) (id : ℕ) → is_some (flying_io id (flight_of plan history)) ≡ flies history id
 
--- a piece is clear of what is in flight just where it is after the history
+-- a clone's piece is clear of what is in flight just where it is after the history
 abbrev pub ClearIsClear : Type 0
 ClearIsClear =
-    (history : List Event) (dir : Dir) (piece : Piece)
-    → is_clear dir piece (flight_of history) ≡ is_clear_after history (writes dir) piece
+    (plan : Plan) (history : List Event) (job : SubJob) (dir : Dir) (piece : Piece)
+    → is_clear job.declines dir piece (flight_of plan history) ≡ is_clear_after plan history job (writes dir) piece
 
--- what is started flies under the next number
+-- what is started flies under the next number, and what it races with is marked
 abbrev pub NextFlies : Type 0
 NextFlies =
     (plan : Plan) (history : List Event) (event : Event) (io : Started)
     → is_legal plan history ≡ true
     → started_by event ≡ Some io
-    → flight_of (history ++ event ∷ [])
-    ≡ insert_entry nat_cmp (flight_of history) (length (started history)) (io_of (length (started history)) io)
+    → flight_of plan (history ++ event ∷ [])
+    ≡ begun (io_of plan (length (started history)) io) (flight_of plan history)
 
 -- nothing flies under the next number
 abbrev pub NextIsFree : Type 0
-NextIsFree = (history : List Event) → flying_io (length (started history)) (flight_of history) ≡ None
+NextIsFree = (plan : Plan) (history : List Event) → flying_io (length (started history)) (flight_of plan history) ≡ None
 
 -- what ends flies no more
 abbrev pub EndedFliesNoMore : Type 0
 EndedFliesNoMore =
-    (history : List Event) (worker id : ℕ) (outcome : Outcome)
-    → flight_of (history ++ End worker id outcome ∷ []) ≡ remove_entry (is_at (nat_cmp id)) (flight_of history)
+    (plan : Plan) (history : List Event) (worker id : ℕ) (outcome : Outcome)
+    → flight_of plan (history ++ End worker id outcome ∷ []) ≡ remove_entry (is_at (nat_cmp id)) (flight_of plan history)
 
 -- a skip and a verdict change nothing of it
 abbrev pub OthersFlyOn : Type 0
 OthersFlyOn =
-    (history : List Event) (worker id : ℕ) (write : WriteId) (verdict : Verdict)
-    → (flight_of (history ++ Skip worker write ∷ []) ≡ flight_of history)
-    × (flight_of (history ++ Judged worker id verdict ∷ []) ≡ flight_of history)
+    (plan : Plan) (history : List Event) (worker id : ℕ) (write : WriteId) (verdict : Verdict)
+    → (flight_of plan (history ++ Skip worker write ∷ []) ≡ flight_of plan history)
+    × (flight_of plan (history ++ Judged worker id verdict ∷ []) ≡ flight_of plan history)

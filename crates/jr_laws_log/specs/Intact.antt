@@ -1,5 +1,5 @@
 -- Believed: the write log of a history has its intact writes; what each event makes of the log; which writes it can't have yet.
-use Rattle.std.specs.Prelude.{◌≡◌, ◌<◌, ℕ, true, false, List, ◌∷◌, [], ◌++◌, Option, Some, None, slice_get, if◌then◌else◌}
+use Rattle.std.specs.Prelude.{◌≡◌, ◌<◌, ℕ, true, false, List, ◌∷◌, [], ◌++◌, Option, Some, None, slice_get, not, ◌&&◌, if◌then◌else◌}
 use Rattle.jr_model.specs.declared.blocks.Piece.{Piece}
 use Rattle.jr_model.specs.declared.contents.Expected.{Expected}
 use Rattle.jr_model.specs.declared.events.Event.{Event}
@@ -12,6 +12,7 @@ use Rattle.jr_model.specs.LastWrite.{is_intact}
 use Rattle.jr_model.specs.Legal.{is_legal, may_happen}
 use Rattle.jr_model.specs.Plan.{Plan, SubJob, clone_of}
 use Rattle.jr_model.specs.PlanFacts.{IsPlanned}
+use Rattle.jr_model.specs.Races.{has_raced}
 use Rattle.jr_writes.specs.declared.logs.Logged.{Logged}
 use Rattle.jr_writes.specs.LoggedWrites.{logged}
 use Rattle.jr_writes.specs.LogSteps.{log_of, steps_of, step_of, LogStep, after_step}
@@ -80,9 +81,9 @@ LogGrows =
     → is_legal plan history ≡ true
     → may_happen plan history event ≡ true
     → log_after checked_by (history ++ event ∷ [])
-    ≡ after_if (step_of checked_by (started history) event) (log_after checked_by history)
+    ≡ after_if (step_of checked_by (has_raced history) (started history) event) (log_after checked_by history)
 
--- a write that has not ended whole isn't in the log
+-- a write that has not ended whole, or raced, isn't in the log
 abbrev pub UnendedIsUnlogged : Type 0
 UnendedIsUnlogged =
     (plan : Plan) (history : List Event) (checked_by : WriteId → Piece → Expected) (id : ℕ) (io : Started)
@@ -90,7 +91,7 @@ UnendedIsUnlogged =
     → is_legal plan history ≡ true
     → slice_get (started history) id ≡ Some io
     → is_write io.kind ≡ true
-    → ended_whole (outcome_of history id) ≡ false
+    → (ended_whole (outcome_of history id) && not (has_raced history id)) ≡ false
     → logged (log_after checked_by history) io.write ≡ None
 
 -- what a write that was not started would be checked by makes no difference

@@ -11,12 +11,12 @@ pub fn flies_is_flying()
     ensures { FliesIsFlying }
 {}
 
-/// A piece is clear of what is in flight just where it is after the history.
+/// A clone's piece is clear of what is in flight just where it is after the history.
 pub fn clear_is_clear()
     ensures { ClearIsClear }
 {}
 
-/// What is started flies under the next number.
+/// What is started flies under the next number, and what it races with is marked.
 pub fn next_flies()
     ensures { NextFlies }
 {}

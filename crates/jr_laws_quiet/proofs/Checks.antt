@@ -19,7 +19,10 @@ use Rattle.jr_model.specs.Rounds.{pass_of, write_id, is_write_draw, issued_count
 use Rattle.jr_model.specs.Totals.{is_skip_of}
 use Rattle.jr_plan.specs.Files.{are_apart}
 use Rattle.jr_model.specs.PlanFacts.{IsPlanned}
-use Rattle.jr_laws_quiet.specs.Quiet.{is_quiet, stays_last}
+use Rattle.jr_laws_quiet.proofs.Races.{unraced, raced_before, quiet_is_fine}
+use Rattle.jr_model.specs.Races.{has_raced}
+use Rattle.jr_laws_quiet.specs.Quiet.{is_quiet, none_declines, NothingRaced, stays_last}
+use Rattle.jr_laws_quiet.proofs.Steps.{are_fine}
 use Rattle.jr_laws_quiet.proofs.Tallies.{total, marked, upto, total_push}
 use Rattle.jr_laws_quiet.proofs.Steps.{IsStep, along, IsNamed, IsTakeUp, probe_of, skip_of, no_probe}
 use Rattle.jr_laws_quiet.proofs.Ends.{or_false}
@@ -159,21 +162,21 @@ module _ (plan : Plan) (planned_all : IsPlanned plan) (apart : are_apart plan.cl
         | inr next ↦ next.may.below
       ]
 
-  begun_below : (history : List Event) → is_legal plan history ≡ true → is_quiet history ≡ true → (q : ℕ) → 0 < issued_count history (pass_of job q) → q < job.passes
+  begun_below : (history : List Event) → is_legal plan history ≡ true → are_fine history ≡ true → (q : ℕ) → 0 < issued_count history (pass_of job q) → q < job.passes
   begun_below history legal quiet =
       along plan (λ (h : List Event). (q : ℕ) → 0 < issued_count h (pass_of job q) → q < job.passes) (λ q some. absurd (omega (arith, some))) begun_step history legal quiet
 
-  pub takes_up_of : (h : List Event) (stays : Bool) (write : WriteId) → is_legal plan h ≡ true → is_quiet h ≡ true → write.clone ≡ c → IsTakeUp plan h stays write → TakesUp job h stays write
-  takes_up_of h stays write legal quiet same take =
+  pub takes_up_of : (h : List Event) (stays : Bool) (write : WriteId) → NothingRaced h → is_legal plan h ≡ true → are_fine h ≡ true → write.clone ≡ c → IsTakeUp plan h stays write → TakesUp job h stays write
+  takes_up_of h stays write raceless legal quiet same take =
       let one : take.job ≡ job = some_same take.job job (sym take.names.planned ∙ ap (clone_of plan) same ∙ planned) in
       of_job (subst (λ (j : SubJob). IsNamed plan write j take.draw) one take.names)
-      (subst (λ (j : SubJob). MayTakeUp h (pass_of j write.pass) take.draw) one (may_take_up_parts h (pass_of take.job write.pass) take.draw take.may))
+      (subst (λ (j : SubJob). MayTakeUp plan h (pass_of j write.pass) take.draw) one (may_take_up_parts plan h (pass_of take.job write.pass) take.draw take.may))
       (subst (λ (j : SubJob). is_intact h (write_id (pass_of j write.pass) take.draw) take.draw.piece ≡ stays) one take.intact_is)
     where
       some_same : (u v : SubJob) → Some u ≡ Some v → u ≡ v
       some_same u v g = cc
 
-      of_job : IsNamed plan write job take.draw → MayTakeUp h (pass_of job write.pass) take.draw → is_intact h (write_id (pass_of job write.pass) take.draw) take.draw.piece ≡ stays → TakesUp job h stays write
+      of_job : IsNamed plan write job take.draw → MayTakeUp plan h (pass_of job write.pass) take.draw → is_intact h (write_id (pass_of job write.pass) take.draw) take.draw.piece ≡ stays → TakesUp job h stays write
       of_job names may intact =
           let d = take.draw in
           let own = in_own_group job write.pass d.number d (ap (slice_get (draws_of_job job write.pass)) names.number ∙ names.drawn) may.writes in
@@ -186,7 +189,7 @@ module _ (plan : Plan) (planned_all : IsPlanned plan) (apart : are_apart plan.cl
             writes = may.writes;
             rounds = may.rounds;
             fresh = subst (λ (w : WriteId). list_any (takes_up w) h ≡ false) names.name may.fresh;
-            last = sym (intact_is_last plan planned_all apart c job planned h legal quiet write.pass write.number d names.drawn may) ∙ intact;
+            last = sym (intact_is_last plan planned_all apart c job planned h raceless legal quiet write.pass write.number d names.drawn may) ∙ intact;
           }
 
   module _ (worth : Event → ℕ) (test : ℕ → Draw → Bool) where
@@ -227,24 +230,24 @@ module _ (plan : Plan) (planned_all : IsPlanned plan) (apart : are_apart plan.cl
       and_left ((write.clone == c) && (write.pass == q)) (write.number == i) (and_left (write.clone == c) (write.pass == q) (ne_eqb write.clone c differs))
 
   -- checks
-  probes_step : (h : List Event) (e : Event) → IsStep plan h e → TakenTally (probe_worth c) (is_kept job) h → TakenTally (probe_worth c) (is_kept job) (h ++ e ∷ [])
-  probes_step h (Issue worker kind write piece) step so_far = tally_keeps (probe_worth c) (is_kept job) h (Issue worker kind write piece) refl (λ q i. refl) so_far
-  probes_step h (End worker io outcome) step so_far = tally_keeps (probe_worth c) (is_kept job) h (End worker io outcome) refl (λ q i. refl) so_far
-  probes_step h (Verdict worker io verdict) step so_far = tally_keeps (probe_worth c) (is_kept job) h (Verdict worker io verdict) refl (λ q i. refl) so_far
-  probes_step h (Probe worker write piece) step so_far =
+  probes_step : (h : List Event) (e : Event) → IsStep plan h e → NothingRaced h → TakenTally (probe_worth c) (is_kept job) h → TakenTally (probe_worth c) (is_kept job) (h ++ e ∷ [])
+  probes_step h (Issue worker kind write piece) step raceless so_far = tally_keeps (probe_worth c) (is_kept job) h (Issue worker kind write piece) refl (λ q i. refl) so_far
+  probes_step h (End worker io outcome) step raceless so_far = tally_keeps (probe_worth c) (is_kept job) h (End worker io outcome) refl (λ q i. refl) so_far
+  probes_step h (Verdict worker io verdict) step raceless so_far = tally_keeps (probe_worth c) (is_kept job) h (Verdict worker io verdict) refl (λ q i. refl) so_far
+  probes_step h (Probe worker write piece) step raceless so_far =
       elim (cases_eq write.clone c) [
         | inl same ↦
-            let takes = takes_up_of h true write step.legal step.quiet same (probe_of plan h worker write piece (numbers_of plan planned_all) step.may) in
+            let takes = takes_up_of h true write raceless step.legal step.quiet same (probe_of plan h worker write piece (numbers_of plan planned_all) step.may) in
             tally_takes (probe_worth c) (is_kept job) h (Probe worker write piece) write true (λ w. refl) same takes
             (ap {B = ℕ} (λ (b : Bool). cond b 1 0) (eq-eqb write.clone c same ∙ sym takes.last)) so_far
         | inr differs ↦
             tally_keeps (probe_worth c) (is_kept job) h (Probe worker write piece)
             (ap {B = ℕ} (λ (b : Bool). cond b 1 0) (ne_eqb write.clone c differs)) (other_name write differs) so_far
       ]
-  probes_step h (Skip worker write) step so_far =
+  probes_step h (Skip worker write) step raceless so_far =
       elim (cases_eq write.clone c) [
         | inl same ↦
-            let takes = takes_up_of h false write step.legal step.quiet same (skip_of plan h worker write (numbers_of plan planned_all) step.may) in
+            let takes = takes_up_of h false write raceless step.legal step.quiet same (skip_of plan h worker write (numbers_of plan planned_all) step.may) in
             tally_takes (probe_worth c) (is_kept job) h (Skip worker write) write false (λ w. refl) same takes
             (ap {B = ℕ} (λ (b : Bool). cond b 1 0) (sym takes.last)) so_far
         | inr differs ↦
@@ -252,23 +255,23 @@ module _ (plan : Plan) (planned_all : IsPlanned plan) (apart : are_apart plan.cl
       ]
 
   -- skips
-  skips_step : (h : List Event) (e : Event) → IsStep plan h e → TakenTally (skip_worth c) (is_overwritten job) h → TakenTally (skip_worth c) (is_overwritten job) (h ++ e ∷ [])
-  skips_step h (Issue worker kind write piece) step so_far = tally_keeps (skip_worth c) (is_overwritten job) h (Issue worker kind write piece) refl (λ q i. refl) so_far
-  skips_step h (End worker io outcome) step so_far = tally_keeps (skip_worth c) (is_overwritten job) h (End worker io outcome) refl (λ q i. refl) so_far
-  skips_step h (Verdict worker io verdict) step so_far = tally_keeps (skip_worth c) (is_overwritten job) h (Verdict worker io verdict) refl (λ q i. refl) so_far
-  skips_step h (Probe worker write piece) step so_far =
+  skips_step : (h : List Event) (e : Event) → IsStep plan h e → NothingRaced h → TakenTally (skip_worth c) (is_overwritten job) h → TakenTally (skip_worth c) (is_overwritten job) (h ++ e ∷ [])
+  skips_step h (Issue worker kind write piece) step raceless so_far = tally_keeps (skip_worth c) (is_overwritten job) h (Issue worker kind write piece) refl (λ q i. refl) so_far
+  skips_step h (End worker io outcome) step raceless so_far = tally_keeps (skip_worth c) (is_overwritten job) h (End worker io outcome) refl (λ q i. refl) so_far
+  skips_step h (Verdict worker io verdict) step raceless so_far = tally_keeps (skip_worth c) (is_overwritten job) h (Verdict worker io verdict) refl (λ q i. refl) so_far
+  skips_step h (Probe worker write piece) step raceless so_far =
       elim (cases_eq write.clone c) [
         | inl same ↦
-            let takes = takes_up_of h true write step.legal step.quiet same (probe_of plan h worker write piece (numbers_of plan planned_all) step.may) in
+            let takes = takes_up_of h true write raceless step.legal step.quiet same (probe_of plan h worker write piece (numbers_of plan planned_all) step.may) in
             tally_takes (skip_worth c) (is_overwritten job) h (Probe worker write piece) write true (λ w. refl) same takes
             (ap {B = ℕ} (λ (b : Bool). cond (not b) 1 0) (sym takes.last)) so_far
         | inr differs ↦
             tally_keeps (skip_worth c) (is_overwritten job) h (Probe worker write piece) refl (other_name write differs) so_far
       ]
-  skips_step h (Skip worker write) step so_far =
+  skips_step h (Skip worker write) step raceless so_far =
       elim (cases_eq write.clone c) [
         | inl same ↦
-            let takes = takes_up_of h false write step.legal step.quiet same (skip_of plan h worker write (numbers_of plan planned_all) step.may) in
+            let takes = takes_up_of h false write raceless step.legal step.quiet same (skip_of plan h worker write (numbers_of plan planned_all) step.may) in
             tally_takes (skip_worth c) (is_overwritten job) h (Skip worker write) write false (λ w. refl) same takes
             (ap {B = ℕ} (λ (b : Bool). cond b 1 0) (eq-eqb write.clone c same) ∙ ap {B = ℕ} (λ (b : Bool). cond (not b) 1 0) (sym takes.last)) so_far
         | inr differs ↦
@@ -277,7 +280,7 @@ module _ (plan : Plan) (planned_all : IsPlanned plan) (apart : are_apart plan.cl
       ]
 
   -- each write of a complete history was checked or skipped
-  all_taken : (history : List Event) → is_legal plan history ≡ true → is_quiet history ≡ true → is_complete plan history ≡ true → (p k : ℕ) (d : Draw) → p < job.passes → slice_get (draws_of_job job p) k ≡ Some d → is_write_draw d ≡ true → has_rounds job ≡ true → is_taken c history p k ≡ true
+  all_taken : (history : List Event) → is_legal plan history ≡ true → are_fine history ≡ true → is_complete plan history ≡ true → (p k : ℕ) (d : Draw) → p < job.passes → slice_get (draws_of_job job p) k ≡ Some d → is_write_draw d ≡ true → has_rounds job ≡ true → is_taken c history p k ≡ true
   all_taken history legal quiet complete p k d below at writes rounds =
       let pass = pass_of job p in
       let closed = (finished_parts history pass (finishes plan history c job planned quiet complete p below)).closed in
@@ -294,7 +297,7 @@ module _ (plan : Plan) (planned_all : IsPlanned plan) (apart : are_apart plan.cl
       second true b one h = h
       second false b one h = cc
 
-  counted_all : (test : ℕ → Draw → Bool) (history : List Event) → is_legal plan history ≡ true → is_quiet history ≡ true → is_complete plan history ≡ true → spread job (is_taken c history) (worth_where job test) job.passes ≡ upto (λ (p : ℕ). total (worth_where job test p) (draws_of_job job p)) job.passes
+  counted_all : (test : ℕ → Draw → Bool) (history : List Event) → is_legal plan history ≡ true → are_fine history ≡ true → is_complete plan history ≡ true → spread job (is_taken c history) (worth_where job test) job.passes ≡ upto (λ (p : ℕ). total (worth_where job test p) (draws_of_job job p)) job.passes
   counted_all test history legal quiet complete =
       spread_all job (is_taken c history) (worth_where job test) job.passes
       (λ (p k : ℕ) (d : Draw) (below : p < job.passes) (at : slice_get (draws_of_job job p) k ≡ Some d).
@@ -306,19 +309,21 @@ module _ (plan : Plan) (planned_all : IsPlanned plan) (apart : are_apart plan.cl
       ])
 
   -- how many were checked, and how many skipped
-  pub probes_counted : (history : List Event) → is_legal plan history ≡ true → is_quiet history ≡ true → is_complete plan history ≡ true → total (probe_worth c) history ≡ upto (λ (p : ℕ). total (worth_where job (is_kept job) p) (draws_of_job job p)) job.passes
-  probes_counted history legal quiet complete =
-      along plan (λ (h : List Event). TakenTally (probe_worth c) (is_kept job) h) (start_tally (probe_worth c) (is_kept job)) probes_step history legal quiet
+  pub probes_counted : (history : List Event) → NothingRaced history → is_legal plan history ≡ true → are_fine history ≡ true → is_complete plan history ≡ true → total (probe_worth c) history ≡ upto (λ (p : ℕ). total (worth_where job (is_kept job) p) (draws_of_job job p)) job.passes
+  probes_counted history raceless legal quiet complete =
+      along plan (λ (h : List Event). NothingRaced h → TakenTally (probe_worth c) (is_kept job) h) (λ none. start_tally (probe_worth c) (is_kept job))
+      (λ h e step so_far none. probes_step h e step (raced_before h e none) (so_far (raced_before h e none))) history legal quiet raceless
       ∙ counted_all (is_kept job) history legal quiet complete
 
-  pub skips_counted : (history : List Event) → is_legal plan history ≡ true → is_quiet history ≡ true → is_complete plan history ≡ true → total (skip_worth c) history ≡ upto (λ (p : ℕ). total (worth_where job (is_overwritten job) p) (draws_of_job job p)) job.passes
-  skips_counted history legal quiet complete =
-      along plan (λ (h : List Event). TakenTally (skip_worth c) (is_overwritten job) h) (start_tally (skip_worth c) (is_overwritten job)) skips_step history legal quiet
+  pub skips_counted : (history : List Event) → NothingRaced history → is_legal plan history ≡ true → are_fine history ≡ true → is_complete plan history ≡ true → total (skip_worth c) history ≡ upto (λ (p : ℕ). total (worth_where job (is_overwritten job) p) (draws_of_job job p)) job.passes
+  skips_counted history raceless legal quiet complete =
+      along plan (λ (h : List Event). NothingRaced h → TakenTally (skip_worth c) (is_overwritten job) h) (λ none. start_tally (skip_worth c) (is_overwritten job))
+      (λ h e step so_far none. skips_step h e step (raced_before h e none) (so_far (raced_before h e none))) history legal quiet raceless
       ∙ counted_all (is_overwritten job) history legal quiet complete
 
 -- what is checked stays last in its group, and what is skipped doesn't
-pub kept_or_not : (plan : Plan) (history : List Event) (worker : ℕ) (write : WriteId) (piece : Piece) (job : SubJob) (draw : Draw) → IsPlanned plan → are_apart plan.clones ≡ true → is_legal plan history ≡ true → is_quiet history ≡ true → clone_of plan write.clone ≡ Some job → slice_get (draws_of_job job write.pass) write.number ≡ Some draw → (may_happen plan history (Probe worker write piece) ≡ true → stays_last (pass_of job write.pass) draw ≡ true) × (may_happen plan history (Skip worker write) ≡ true → stays_last (pass_of job write.pass) draw ≡ false)
-kept_or_not plan history worker write piece job draw planned_all apart legal quiet planned drawn = (
+pub kept_or_not : (plan : Plan) (history : List Event) (worker : ℕ) (write : WriteId) (piece : Piece) (job : SubJob) (draw : Draw) → IsPlanned plan → none_declines plan ≡ true → are_apart plan.clones ≡ true → is_legal plan history ≡ true → is_quiet history ≡ true → clone_of plan write.clone ≡ Some job → slice_get (draws_of_job job write.pass) write.number ≡ Some draw → (may_happen plan history (Probe worker write piece) ≡ true → stays_last (pass_of job write.pass) draw ≡ true) × (may_happen plan history (Skip worker write) ≡ true → stays_last (pass_of job write.pass) draw ≡ false)
+kept_or_not plan history worker write piece job draw planned_all none files legal quiet planned drawn = (
   λ (may : may_happen plan history (Probe worker write piece) ≡ true). of_draw true (probe_of plan history worker write piece (numbers_of plan planned_all) may),
   λ (may : may_happen plan history (Skip worker write) ≡ true). of_draw false (skip_of plan history worker write (numbers_of plan planned_all) may),
 )
@@ -328,6 +333,7 @@ kept_or_not plan history worker write piece job draw planned_all apart legal qui
 
     of_draw : (stays : Bool) → IsTakeUp plan history stays write → stays_last (pass_of job write.pass) draw ≡ stays
     of_draw stays take =
-        let takes = takes_up_of plan planned_all apart write.clone job planned history stays write legal quiet refl take in
+        let raceless = unraced plan (numbers_of plan planned_all) none history legal in
+        let takes = takes_up_of plan planned_all files write.clone job planned history stays write raceless legal (quiet_is_fine plan history raceless legal quiet) refl take in
         let one : takes.draw ≡ draw = some_same takes.draw draw (sym takes.drawn ∙ drawn) in
         subst (λ (d : Draw). stays_last (pass_of job write.pass) d ≡ stays) one takes.last

@@ -15,7 +15,8 @@ use Rattle.jr_model.specs.History.{started, started_by, end_of, outcome_of, flie
 use Rattle.jr_model.specs.Legal.{is_legal, end_fits, verdict_fits, is_complete, is_over, is_fault}
 use Rattle.jr_model.specs.Plan.{Plan}
 use Rattle.jr_model.proofs.SerialLaws.{first_given-append, none_from, false_from}
-use Rattle.jr_laws_quiet.specs.Quiet.{is_calm, is_quiet}
+use Rattle.jr_model.specs.Races.{has_raced}
+use Rattle.jr_laws_quiet.proofs.Steps.{is_fine, are_fine}
 use Rattle.jr_laws_quiet.proofs.Tallies.{total, got, marked, total_push, marked_same, marked_push, marked_grows, marked_all}
 use Rattle.jr_laws_quiet.proofs.Steps.{IsStep, along, well_of, refers, refers_now, all_refer, started_push, got_within, Agrees}
 
@@ -86,11 +87,11 @@ some_if true y = refl
 some_if false y = refl
 
 -- what was not started has not ended and was not judged
-pub not_ended_yet : (plan : Plan) (h : List Event) → is_legal plan h ≡ true → is_quiet h ≡ true → (io : ℕ) → length (started h) ≤ io → has_ended h io ≡ false
+pub not_ended_yet : (plan : Plan) (h : List Event) → is_legal plan h ≡ true → are_fine h ≡ true → (io : ℕ) → length (started h) ≤ io → has_ended h io ≡ false
 not_ended_yet plan h legal quiet io le =
     ap is_some (none_from (outcome_of h io) (λ (o : Outcome) (at : outcome_of h io ≡ Some o). let below : io < length (started h) = (well_of plan h legal quiet).ends io o at in omega (arith, below, le)))
 
-pub not_judged_yet : (plan : Plan) (h : List Event) → is_legal plan h ≡ true → is_quiet h ≡ true → (io : ℕ) → length (started h) ≤ io → is_judged h io ≡ false
+pub not_judged_yet : (plan : Plan) (h : List Event) → is_legal plan h ≡ true → are_fine h ≡ true → (io : ℕ) → length (started h) ≤ io → is_judged h io ≡ false
 not_judged_yet plan h legal quiet io le =
     false_from (is_judged h io) (λ (at : is_judged h io ≡ true). let below : io < length (started h) = (well_of plan h legal quiet).judged io at in omega (arith, below, le))
 
@@ -178,7 +179,7 @@ module _ (plan : Plan) (f : Started → ℕ) where
   verdict_tallies : (h : List Event) (worker io : ℕ) (verdict : GivenVerdict) → IsStep plan h (Verdict worker io verdict) → VerdictsTally f h → VerdictsTally f (h ++ Verdict worker io verdict ∷ [])
   verdict_tallies h worker io verdict step so_far =
       let e = Verdict worker io verdict in
-      let fits = and_parts (ended_whole (outcome_of h io) && not (is_judged h io)) (verdict_fits plan verdict (slice_get (started h) io)) step.may in
+      let fits = and_parts (ended_whole (outcome_of h io) && not (is_judged h io)) (verdict_fits plan (has_raced h io) verdict (slice_get (started h) io)) step.may in
       let unjudged = not-true (is_judged h io) (and_parts (ended_whole (outcome_of h io)) (not (is_judged h io)) fits.0).1 in
       let found = some_within (started h) io (ltb-true io (length (started h)) (refers_now plan h e step)) in
       let same : started (h ++ e ∷ []) ≡ started h = started_push h e ∙ append-nil (started h) in
@@ -210,10 +211,10 @@ module _ (plan : Plan) (f : Started → ℕ) where
   verdicts_step h (Skip worker write) step so_far = verdicts_keep plan f h (Skip worker write) step refl (λ io. refl) so_far
   verdicts_step h (End worker io outcome) step so_far = verdicts_keep plan f h (End worker io outcome) step refl (λ i. refl) so_far
 
-  pub ends_tally : (history : List Event) → is_legal plan history ≡ true → is_quiet history ≡ true → EndsTally f history
+  pub ends_tally : (history : List Event) → is_legal plan history ≡ true → are_fine history ≡ true → EndsTally f history
   ends_tally history legal quiet = along plan (EndsTally f) refl ends_step history legal quiet
 
-  pub verdicts_tally : (history : List Event) → is_legal plan history ≡ true → is_quiet history ≡ true → VerdictsTally f history
+  pub verdicts_tally : (history : List Event) → is_legal plan history ≡ true → are_fine history ≡ true → VerdictsTally f history
   verdicts_tally history legal quiet = along plan (VerdictsTally f) refl verdicts_step history legal quiet
 
 -- where the list of those that pass is empty, none passes
@@ -250,10 +251,10 @@ all_ended history none k s at =
     by_case (Some o) h = refl
 
 -- all ends of a history in which nothing goes wrong are whole
-pub whole_ends : (history : List Event) (io : ℕ) → is_quiet history ≡ true → has_ended history io ≡ true → ended_whole (outcome_of history io) ≡ true
+pub whole_ends : (history : List Event) (io : ℕ) → are_fine history ≡ true → has_ended history io ≡ true → ended_whole (outcome_of history io) ≡ true
 whole_ends [] io quiet ended = cc
 whole_ends (End worker id outcome ∷ events) io quiet ended =
-    let calms = and_parts (not (is_fault outcome)) (is_quiet events) quiet in
+    let calms = and_parts (not (is_fault outcome)) (are_fine events) quiet in
     by_case (id == io) outcome calms.0 (whole_ends events io calms.1) ended
   where
     by_case : (b : Bool) (o : Outcome) → not (is_fault o) ≡ true → (has_ended events io ≡ true → ended_whole (outcome_of events io) ≡ true) → is_some (option_or (cond b (Some o) None) (outcome_of events io)) ≡ true → ended_whole (option_or (cond b (Some o) None) (outcome_of events io)) ≡ true
@@ -265,9 +266,9 @@ whole_ends (Issue worker kind write piece ∷ events) io quiet ended = whole_end
 whole_ends (Probe worker write piece ∷ events) io quiet ended = whole_ends events io quiet ended
 whole_ends (Skip worker write ∷ events) io quiet ended = whole_ends events io quiet ended
 whole_ends (Verdict worker id verdict ∷ events) io quiet ended =
-    whole_ends events io (and_parts (is_calm (Verdict worker id verdict)) (is_quiet events) quiet).1 ended
+    whole_ends events io (and_parts (is_fine (Verdict worker id verdict)) (are_fine events) quiet).1 ended
 
-pub all_judged : (history : List Event) → is_quiet history ≡ true → length (in_flight history) ≡ 0 → length (awaiting history) ≡ 0 → (k : ℕ) (s : Started) → slice_get (started history) k ≡ Some s → is_judged_kind s.kind ≡ true → is_judged history k ≡ true
+pub all_judged : (history : List Event) → are_fine history ≡ true → length (in_flight history) ≡ 0 → length (awaiting history) ≡ 0 → (k : ℕ) (s : Started) → slice_get (started history) k ≡ Some s → is_judged_kind s.kind ≡ true → is_judged history k ≡ true
 all_judged history quiet landed none k s at probe =
     let whole = whole_ends history k quiet (all_ended history landed k s at) in
     let not_awaiting = none_given (if_awaiting history) 0 k (started history) s none at in
@@ -280,7 +281,7 @@ all_judged history quiet landed none k s at probe =
     by_case false b d p q h = cc
 
 -- at the end of a complete history: sums over ends are sums over what was started
-pub ends_in_all : (plan : Plan) (history : List Event) (f : Started → ℕ) → is_legal plan history ≡ true → is_quiet history ≡ true → is_complete plan history ≡ true → total (end_worth f (started history)) history ≡ total f (started history)
+pub ends_in_all : (plan : Plan) (history : List Event) (f : Started → ℕ) → is_legal plan history ≡ true → are_fine history ≡ true → is_complete plan history ≡ true → total (end_worth f (started history)) history ≡ total f (started history)
 ends_in_all plan history f legal quiet complete =
     let landed = (completes plan history complete).0 in
     ends_tally plan f history legal quiet
@@ -288,7 +289,7 @@ ends_in_all plan history f legal quiet complete =
     (λ (k : ℕ) (s : Started) (at : slice_get (started history) k ≡ Some s). inl (subst (λ (i : ℕ). has_ended history i ≡ true) (sym (zero-add k)) (all_ended history landed k s at)))
 
 -- and sums over verdicts those over checks and checked reads
-pub verdicts_in_all : (plan : Plan) (history : List Event) (f : Started → ℕ) → ((s : Started) → (is_judged_kind s.kind ≡ true) ⊎ (f s ≡ 0)) → is_legal plan history ≡ true → is_quiet history ≡ true → is_complete plan history ≡ true → total (verdict_worth f (started history)) history ≡ total f (started history)
+pub verdicts_in_all : (plan : Plan) (history : List Event) (f : Started → ℕ) → ((s : Started) → (is_judged_kind s.kind ≡ true) ⊎ (f s ≡ 0)) → is_legal plan history ≡ true → are_fine history ≡ true → is_complete plan history ≡ true → total (verdict_worth f (started history)) history ≡ total f (started history)
 verdicts_in_all plan history f checks legal quiet complete =
     let done = completes plan history complete in
     verdicts_tally plan f history legal quiet

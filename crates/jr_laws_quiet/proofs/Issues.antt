@@ -12,6 +12,7 @@ use Rattle.jr_model.specs.declared.events.IssueKind.{IssueKind}
 use Rattle.jr_model.specs.declared.events.Outcome.{Outcome}
 use Rattle.jr_model.specs.declared.events.Outcome.TheVariants.{Whole, Failed, Short}
 use Rattle.jr_model.specs.declared.events.Started.{Started}
+use Rattle.jr_model.specs.declared.events.Verdict.TheVariants.{Good, Bad, Void}
 use Rattle.jr_model.specs.declared.events.WriteId.{WriteId}
 use Rattle.jr_model.specs.declared.tickets.TicketKind.{TicketKind}
 use Rattle.jr_model.specs.declared.tickets.TicketKind.TheVariants as ticket
@@ -22,7 +23,7 @@ use Rattle.jr_model.specs.Legal.{is_legal, is_complete, is_over, is_halted, halt
 use Rattle.jr_model.specs.Plan.{Plan, SubJob, IsNumbered, clone_of, issued_as}
 use Rattle.jr_model.specs.Rounds.{Pass, pass_of, passes_of, write_id, is_write_draw, issues_of, issued_count, all_issued, is_current, waits_for_round, pass_finished, clone_finished, nothing_flies_in, rounds_closed, has_rounds, is_open, group_index}
 use Rattle.jr_model.specs.Totals.{moved, moved_by, if_wanted}
-use Rattle.jr_laws_quiet.specs.Quiet.{is_calm, is_quiet}
+use Rattle.jr_laws_quiet.proofs.Steps.{is_fine, are_fine}
 use Rattle.jr_laws_quiet.proofs.Tallies.{total, got, marked, upto, total_push, total-filter_map, total_same, total-map, total_upto, marked_same, marked_grows, marked_all, upto_same_below, upto_grows, total-flat_map}
 use Rattle.jr_laws_quiet.proofs.Steps.{IsStep, along, IsNamed, issue_of}
 use Rattle.jr_laws_quiet.proofs.Ends.{end_worth, ends_in_all, completes}
@@ -58,7 +59,7 @@ spread_all job T f n all =
 -- what an issue of a draw rests on
 pub record MayIssue (plan : Plan) (h : List Event) (pass : Pass) (draw : Draw) : Type 0 where
   pub next : draw.number ≡ issued_count h pass
-  pub clear : is_clear h (is_write_draw draw) draw.piece ≡ true
+  pub clear : is_clear plan h pass.job (is_write_draw draw) draw.piece ≡ true
   pub below : pass.number < pass.job.passes
   pub earlier : list_all (pass_finished h) (take pass.number (passes_of pass.job)) ≡ true
   pub proceeds : waits_for_round h pass ≡ false
@@ -68,7 +69,7 @@ may_issue_parts plan h pass draw may =
     let a = draw.number == issued_count h pass in
     let b = not (is_halted h pass.job) in
     let c = has_room h pass.job in
-    let d = is_clear h (is_write_draw draw) draw.piece in
+    let d = is_clear plan h pass.job (is_write_draw draw) draw.piece in
     let e = is_current h pass in
     let f = not (waits_for_round h pass) in
     let p6 = and_parts (a && b && c && d && e && f) (phase_is_open plan h pass.job) may in
@@ -87,21 +88,21 @@ may_issue_parts plan h pass draw may =
     }
 
 -- what a check or a skip rests on
-pub record MayTakeUp (h : List Event) (pass : Pass) (draw : Draw) : Type 0 where
+pub record MayTakeUp (plan : Plan) (h : List Event) (pass : Pass) (draw : Draw) : Type 0 where
   pub writes : is_write_draw draw ≡ true
   pub rounds : has_rounds pass.job ≡ true
   pub fresh : list_any (takes_up (write_id pass draw)) h ≡ false
-  pub clear : is_clear h false draw.piece ≡ true
+  pub clear : is_clear plan h pass.job false draw.piece ≡ true
   pub opened : is_open h pass (group_index pass draw.number) ≡ true
 
-pub may_take_up_parts : (h : List Event) (pass : Pass) (draw : Draw) → may_take_up h pass draw ≡ true → MayTakeUp h pass draw
-may_take_up_parts h pass draw may =
+pub may_take_up_parts : (plan : Plan) (h : List Event) (pass : Pass) (draw : Draw) → may_take_up plan h pass draw ≡ true → MayTakeUp plan h pass draw
+may_take_up_parts plan h pass draw may =
     let a = is_write_draw draw in
     let b = has_rounds pass.job in
     let c = not (list_any (takes_up (write_id pass draw)) h) in
     let d = not (is_halted h pass.job) in
     let e = has_room h pass.job in
-    let f = is_clear h false draw.piece in
+    let f = is_clear plan h pass.job false draw.piece in
     let p6 = and_parts (a && b && c && d && e && f) (is_open h pass (group_index pass draw.number)) may in
     let p5 = and_parts (a && b && c && d && e) f p6.0 in
     let p4 = and_parts (a && b && c && d) e p5.0 in
@@ -265,31 +266,33 @@ module _ (plan : Plan) (numbered : IsNumbered plan) (c : ℕ) (job : SubJob) (pl
         zeros zero = refl
         zeros (suc n) = omega (arith, zeros n, no_marks n 0 (draws_of_job job n))
 
-    pub issue_tally : (history : List Event) → is_legal plan history ≡ true → is_quiet history ≡ true → total (issue_worth f c) history ≡ spread job (is_issued job history) (draw_worth job f) job.passes
+    pub issue_tally : (history : List Event) → is_legal plan history ≡ true → are_fine history ≡ true → total (issue_worth f c) history ≡ spread job (is_issued job history) (draw_worth job f) job.passes
     issue_tally history legal quiet = along plan IssueTally (sym none_marked) issues_step history legal quiet
 
 -- nothing halts a clone where nothing goes wrong
-pub never_halted : (history : List Event) (job : SubJob) → is_quiet history ≡ true → is_halted history job ≡ false
+pub never_halted : (history : List Event) (job : SubJob) → are_fine history ≡ true → is_halted history job ≡ false
 never_halted history job quiet = none (started history) history quiet
   where
     calm_end : (b : Bool) (o : Outcome) → not (is_fault o) ≡ true → (b && is_fault o) ≡ false
     calm_end b o calm = and_right b (is_fault o) (not-true (is_fault o) calm)
 
-    none : (ios : List Started) (events : List Event) → is_quiet events ≡ true → list_any (halts ios job) events ≡ false
+    none : (ios : List Started) (events : List Event) → are_fine events ≡ true → list_any (halts ios job) events ≡ false
     none ios [] calm = refl
     none ios (e ∷ events) calm =
-        let parts = and_parts (is_calm e) (is_quiet events) calm in
+        let parts = and_parts (is_fine e) (are_fine events) calm in
         both (halts ios job e) (list_any (halts ios job) events) (one ios e parts.0) (none ios events parts.1)
       where
         both : (a b : Bool) → a ≡ false → b ≡ false → (a || b) ≡ false
         both a b p q = or_from a b p q
 
-        one : (ios : List Started) (x : Event) → is_calm x ≡ true → halts ios job x ≡ false
+        one : (ios : List Started) (x : Event) → is_fine x ≡ true → halts ios job x ≡ false
         one ios (Issue worker kind write piece) g = refl
         one ios (Probe worker write piece) g = refl
         one ios (Skip worker write) g = refl
         one ios (End worker io outcome) g = and_right (is_io_of job.clone (slice_get ios io)) (is_fault outcome) (not-true (is_fault outcome) g)
-        one ios (Verdict worker io verdict) g = and_right (is_io_of job.clone (slice_get ios io) && job.is_fatal) (is_bad verdict) (not-true (is_bad verdict) g)
+        one ios (Verdict worker io Good) g = and_right (is_io_of job.clone (slice_get ios io) && job.is_fatal) false refl
+        one ios (Verdict worker io (Bad what)) g = cc
+        one ios (Verdict worker io Void) g = cc
 
 pub all_at : {X : Type 0} (p : X → Bool) (xs : List X) (k : ℕ) (x : X) → list_all p xs ≡ true → slice_get xs k ≡ Some x → p x ≡ true
 all_at p [] k x h at = cc
@@ -313,7 +316,7 @@ pub got_pass : (job : SubJob) (p : ℕ) → p < job.passes → slice_get (passes
 got_pass job p below = got_map (pass_of job) (range_with_len 0 job.passes) p p (got_range 0 job.passes p below ∙ ap Some (zero-add p))
 
 -- in a complete history in which nothing goes wrong each pass is finished
-pub finishes : (plan : Plan) (history : List Event) (c : ℕ) (job : SubJob) → clone_of plan c ≡ Some job → is_quiet history ≡ true → is_complete plan history ≡ true → (p : ℕ) → p < job.passes → pass_finished history (pass_of job p) ≡ true
+pub finishes : (plan : Plan) (history : List Event) (c : ℕ) (job : SubJob) → clone_of plan c ≡ Some job → are_fine history ≡ true → is_complete plan history ≡ true → (p : ℕ) → p < job.passes → pass_finished history (pass_of job p) ≡ true
 finishes plan history c job planned quiet complete p below =
     let over = all_at (is_over history) plan.clones c job (completes plan history complete).2 planned in
     let finished : clone_finished history job ≡ true = either (is_halted history job) (clone_finished history job) (never_halted history job quiet) over in
@@ -336,14 +339,14 @@ finished_parts h pass done =
     }
 
 -- the same at events that are calm
-pub total_calm : (f g : Event → ℕ) (events : List Event) → ((e : Event) → is_calm e ≡ true → f e ≡ g e) → is_quiet events ≡ true → total f events ≡ total g events
+pub total_calm : (f g : Event → ℕ) (events : List Event) → ((e : Event) → is_fine e ≡ true → f e ≡ g e) → are_fine events ≡ true → total f events ≡ total g events
 total_calm f g [] same calm = refl
 total_calm f g (e ∷ events) same calm =
-    let parts = and_parts (is_calm e) (is_quiet events) calm in
+    let parts = and_parts (is_fine e) (are_fine events) calm in
     omega (arith, same e parts.0, total_calm f g events same parts.1)
 
 -- in a complete history each draw was issued
-pub issues_in_all : (plan : Plan) (history : List Event) (numbered : IsNumbered plan) (c : ℕ) (job : SubJob) → clone_of plan c ≡ Some job → (f : IssueKind → Piece → ℕ) → is_legal plan history ≡ true → is_quiet history ≡ true → is_complete plan history ≡ true → total (issue_worth f c) history ≡ upto (λ (p : ℕ). total (draw_worth job f p) (draws_of_job job p)) job.passes
+pub issues_in_all : (plan : Plan) (history : List Event) (numbered : IsNumbered plan) (c : ℕ) (job : SubJob) → clone_of plan c ≡ Some job → (f : IssueKind → Piece → ℕ) → is_legal plan history ≡ true → are_fine history ≡ true → is_complete plan history ≡ true → total (issue_worth f c) history ≡ upto (λ (p : ℕ). total (draw_worth job f p) (draws_of_job job p)) job.passes
 issues_in_all plan history numbered c job planned f legal quiet complete =
     issue_tally plan numbered c job planned f history legal quiet
     ∙ spread_all job (is_issued job history) (draw_worth job f) job.passes
@@ -359,7 +362,7 @@ module _ (plan : Plan) (numbered : IsNumbered plan) (c : ℕ) (job : SubJob) (pl
   abbrev drawn_worth : IssueKind → Piece → ℕ
   drawn_worth kind piece = cond (test (kind_for kind)) (g piece) 0
 
-  moved_worth : (ios : List Started) (e : Event) → is_calm e ≡ true → got (λ (s : Started). g s.piece) (moved_by ios test c e) ≡ end_worth wanted_of ios e
+  moved_worth : (ios : List Started) (e : Event) → is_fine e ≡ true → got (λ (s : Started). g s.piece) (moved_by ios test c e) ≡ end_worth wanted_of ios e
   moved_worth ios (Issue worker kind write piece) calm = refl
   moved_worth ios (Probe worker write piece) calm = refl
   moved_worth ios (Skip worker write) calm = refl
@@ -389,7 +392,7 @@ module _ (plan : Plan) (numbered : IsNumbered plan) (c : ℕ) (job : SubJob) (pl
   started_worth (End worker io outcome) = refl
   started_worth (Verdict worker io verdict) = refl
 
-  pub moved_is_drawn : (history : List Event) → is_legal plan history ≡ true → is_quiet history ≡ true → is_complete plan history ≡ true → total (λ (s : Started). g s.piece) (moved history test c) ≡ upto (λ (p : ℕ). total (λ (d : Draw). cond (test (kind_for (issued_as job d.dir))) (g d.piece) 0) (draws_of_job job p)) job.passes
+  pub moved_is_drawn : (history : List Event) → is_legal plan history ≡ true → are_fine history ≡ true → is_complete plan history ≡ true → total (λ (s : Started). g s.piece) (moved history test c) ≡ upto (λ (p : ℕ). total (λ (d : Draw). cond (test (kind_for (issued_as job d.dir))) (g d.piece) 0) (draws_of_job job p)) job.passes
   moved_is_drawn history legal quiet complete =
       total-filter_map (λ (s : Started). g s.piece) (moved_by (started history) test c) history
       ∙ total_calm (λ (e : Event). got (λ (s : Started). g s.piece) (moved_by (started history) test c e)) (end_worth wanted_of (started history)) history (moved_worth (started history)) quiet

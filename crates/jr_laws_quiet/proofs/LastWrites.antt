@@ -1,5 +1,5 @@
--- A write waits for each earlier one that it overlaps, so where no write of a block is in flight, its last write is the one
--- that was issued last.
+-- Where nothing raced, a write started after each earlier one that it overlaps had ended, so where no write of a block is in
+-- flight, its last write is the one that was issued last.
 use Rattle.std.proofs.Common.{◌≡◌, ℕ, zero, suc, ◌+◌, ◌*◌, ◌<◌, ◌≤◌, List, [], ◌∷◌, ◌++◌, length, Bool, true, false, cond, ◌&&◌, ◌||◌, refl, sym, ◌∙◌, ap, subst, arith, inl, inr, append-nil, zero-add}
 use Rattle.std.specs.Prelude.{Option, Some, None, slice_get, nat_lt, nat_le, ◌==◌, is_none, is_some, fold, min, max, filter_map}
 use Rattle.std.specs.List.{list_any, list_all, cons_option, enumerate_from}
@@ -19,15 +19,20 @@ use Rattle.jr_model.specs.declared.events.WriteId.{WriteId}
 use Rattle.jr_model.specs.declared.tickets.TicketKind.TheVariants as ticket
 use Rattle.jr_model.specs.History.{started, started_by, kind_for, end_of, outcome_of, flies, is_write, in_flight, if_flying}
 use Rattle.jr_model.specs.LastWrite.{covers_block, last_after, last_after_end, last_write}
+use Rattle.jr_model.specs.Races.{has_raced}
 use Rattle.jr_model.specs.Legal.{is_legal, end_fits, conflicts, is_clear, may_happen}
 use Rattle.jr_model.specs.Pieces.{pieces_overlap}
-use Rattle.jr_model.specs.Plan.{Plan, IsNumbered}
+use Rattle.jr_model.specs.Plan.{Plan}
 use Rattle.jr_model.specs.Rounds.{is_write_draw, pass_of}
 use Rattle.jr_model.specs.PlanFacts.{IsPlanned}
-use Rattle.jr_laws_quiet.specs.Quiet.{is_quiet, issued_over, last_issued, writes_block}
+use Rattle.jr_laws_quiet.specs.Quiet.{is_quiet, none_declines, NothingRaced, issued_over, last_issued, writes_block}
+use Rattle.jr_laws_quiet.proofs.Steps.{are_fine}
 use Rattle.jr_laws_quiet.proofs.Steps.{IsStep, along, refers, all_refer, started_push, got_within, got_at_end, got_push, Agrees, issue_of, write_kind}
 use Rattle.jr_laws_quiet.proofs.Ends.{has_ended, has_ended_push, not_ended_yet, or_false, none_is_none, some_if, some_within}
 use Rattle.jr_laws_quiet.proofs.Issues.{may_issue_parts}
+pub use Rattle.jr_laws_quiet.proofs.Flights.{found_flying}
+use Rattle.jr_laws_quiet.proofs.Flights.{is_free, clear_is_free}
+use Rattle.jr_laws_quiet.proofs.Races.{unraced, raced_before, overlaps_none, quiet_is_fine, last_write_push}
 
 pub last_issued_push : (h : List Event) (e : Event) (f b : ℕ) → last_issued (h ++ e ∷ []) f b ≡ issued_over f b (last_issued h f b) e
 last_issued_push h e f b = fold_push (issued_over f b) None h e
@@ -61,41 +66,8 @@ overlap_from p q f b h k =
     (lt-ltb (max p.offset q.offset) (min (p.offset + p.len) (q.offset + q.len))
     (between (b * SECTOR) p.offset q.offset (p.offset + p.len) (q.offset + q.len) one.low two.low one.high two.high))
 
-pub any_given : {X Y : Type 0} (g : ℕ × X → Option Y) (p : Y → Bool) (n k : ℕ) (xs : List X) (x : X) (y : Y) → slice_get xs k ≡ Some x → g (n + k, x) ≡ Some y → p y ≡ true → list_any p (filter_map g (enumerate_from n xs)) ≡ true
-any_given g p n k [] x y at gives passes = cc
-any_given {X = X} {Y = Y} g p n zero (z ∷ xs) x y at gives passes =
-    let same : z ≡ x = cc in
-    let here : g (n, z) ≡ Some y = subst (λ (i : ℕ). g (i, z) ≡ Some y) (omega arith) (subst (λ (w : X). g (n + 0, w) ≡ Some y) (sym same) gives) in
-    first (g (n, z)) here
-  where
-    first : (o : Option Y) → o ≡ Some y → list_any p (cons_option o (filter_map g (enumerate_from (n + 1) xs))) ≡ true
-    first None h = cc
-    first (Some w) h =
-        let one : w ≡ y = cc in
-        or_left (p w) (list_any p (filter_map g (enumerate_from (n + 1) xs))) (subst (λ (v : Y). p v ≡ true) (sym one) passes)
-any_given {X = X} {Y = Y} g p n (suc k) (z ∷ xs) x y at gives passes =
-    rest (g (n, z)) (any_given g p (n + 1) k xs x y at (subst (λ (i : ℕ). g (i, x) ≡ Some y) (omega arith) gives) passes)
-  where
-    rest : (o : Option Y) → list_any p (filter_map g (enumerate_from (n + 1) xs)) ≡ true → list_any p (cons_option o (filter_map g (enumerate_from (n + 1) xs))) ≡ true
-    rest None h = h
-    rest (Some w) h = or_right (p w) (list_any p (filter_map g (enumerate_from (n + 1) xs))) h
-
--- what has not ended is in flight
-pub given_flying : (h : List Event) (id : ℕ) (s : Started) → has_ended h id ≡ false → if_flying h (id, s) ≡ Some s
-given_flying h id s flying = by_outcome (outcome_of h id) flying
-  where
-    by_outcome : (o : Option Outcome) → is_some o ≡ false → cond (is_none o) (Some s) None ≡ Some s
-    by_outcome None g = refl
-    by_outcome (Some o) g = cc
-
--- an I/O in flight is found among those in flight
-pub found_flying : (h : List Event) (p : Started → Bool) (id : ℕ) (s : Started) → slice_get (started h) id ≡ Some s → has_ended h id ≡ false → p s ≡ true → list_any p (in_flight h) ≡ true
-found_flying h p id s at flying passes =
-    any_given (if_flying h) p 0 id (started h) s s at
-    (subst (λ (i : ℕ). if_flying h (i, s) ≡ Some s) (sym (zero-add id)) (given_flying h id s flying)) passes
-
 -- a write in flight that covers a block bars every piece that covers it
-pub barred : (h : List Event) (writes : Bool) (piece : Piece) (id : ℕ) (s : Started) (f b : ℕ) → is_clear h writes piece ≡ true → slice_get (started h) id ≡ Some s → has_ended h id ≡ false → is_write s.kind ≡ true → covers_block s.piece f b ≡ true → covers_block piece f b ≡ true → ⊥
+pub barred : (h : List Event) (writes : Bool) (piece : Piece) (id : ℕ) (s : Started) (f b : ℕ) → is_free h writes piece ≡ true → slice_get (started h) id ≡ Some s → has_ended h id ≡ false → is_write s.kind ≡ true → covers_block s.piece f b ≡ true → covers_block piece f b ≡ true → ⊥
 barred h writes piece id s f b clear at flying kind covered covers =
     let hit : conflicts writes piece s ≡ true =
     and_from (writes || is_write s.kind) (pieces_overlap s.piece piece) (or_right writes (is_write s.kind) kind) (overlap_from s.piece piece f b covered covers) in
@@ -103,11 +75,12 @@ barred h writes piece id s f b clear at flying kind covered covers =
     (found_flying h (conflicts writes piece) id s at flying hit)
 
 -- a write is issued once all that it overlaps has ended
-pub waits_for_overlapped : (plan : Plan) (history : List Event) (worker : ℕ) (write : WriteId) (piece : Piece) (id : ℕ) (io : Started) → IsPlanned plan → may_happen plan history (Issue worker issue.Write write piece) ≡ true → slice_get (started history) id ≡ Some io → pieces_overlap io.piece piece ≡ true → has_ended history id ≡ true
-waits_for_overlapped plan history worker write piece id io planned_all may at overlap =
+pub waits_for_overlapped : (plan : Plan) (history : List Event) (worker : ℕ) (write : WriteId) (piece : Piece) (id : ℕ) (io : Started) → IsPlanned plan → none_declines plan ≡ true → may_happen plan history (Issue worker issue.Write write piece) ≡ true → slice_get (started history) id ≡ Some io → pieces_overlap io.piece piece ≡ true → has_ended history id ≡ true
+waits_for_overlapped plan history worker write piece id io planned_all none may at overlap =
     let issued = issue_of plan history worker issue.Write write piece (λ i job there. (planned_all.drafted.placed i job there).number) may in
     let draw = issued.draw in
-    let clear = (may_issue_parts plan history (pass_of issued.job write.pass) draw issued.may).clear in
+    let clear = clear_is_free plan history write.clone issued.job (is_write_draw draw) draw.piece none issued.names.planned
+    (may_issue_parts plan history (pass_of issued.job write.pass) draw issued.may).clear in
     let writes : is_write_draw draw ≡ true = sym (write_kind issued.job draw) ∙ ap (λ (kind : IssueKind). is_write (kind_for kind)) issued.kind_is in
     let hit : conflicts (is_write_draw draw) draw.piece io ≡ true =
     and_from (is_write_draw draw || is_write io.kind) (pieces_overlap io.piece draw.piece)
@@ -118,27 +91,6 @@ waits_for_overlapped plan history worker write piece id io planned_all may at ov
     both_ways (list_any (conflicts (is_write_draw draw) draw.piece) (in_flight history))
     (not-true (list_any (conflicts (is_write_draw draw) draw.piece) (in_flight history)) clear)
     (found_flying history (conflicts (is_write_draw draw) draw.piece) id io at flying hit))
-
-pub last_after_agrees : (f b : ℕ) (o : Option WriteId) → Agrees (λ (ios : List Started). λ (e : Event). last_after ios f b o e)
-last_after_agrees f b o ios more (End worker io outcome) h = ap (λ (s : Option Started). last_after_end s outcome f b o) (got_within ios more io (ltb-true io (length ios) h))
-last_after_agrees f b o ios more (Issue worker kind write piece) h = refl
-last_after_agrees f b o ios more (Probe worker write piece) h = refl
-last_after_agrees f b o ios more (Skip worker write) h = refl
-last_after_agrees f b o ios more (Verdict worker io verdict) h = refl
-
-pub fold_agrees : (f b : ℕ) (o : Option WriteId) (ios more : List Started) (events : List Event) → list_all (refers (length ios)) events ≡ true → fold (last_after (ios ++ more) f b) o events ≡ fold (last_after ios f b) o events
-fold_agrees f b o ios more [] h = refl
-fold_agrees f b o ios more (e ∷ events) h =
-    let parts = and_parts (refers (length ios) e) (list_all (refers (length ios)) events) h in
-    ap (λ (x : Option WriteId). fold (last_after (ios ++ more) f b) x events) (last_after_agrees f b o ios more e parts.0)
-    ∙ fold_agrees f b (last_after ios f b o e) ios more events parts.1
-
--- the last write after one more event
-pub last_write_push : (plan : Plan) (h : List Event) (e : Event) (f b : ℕ) → IsStep plan h e → last_write (h ++ e ∷ []) f b ≡ last_after (started (h ++ e ∷ [])) f b (last_write h f b) e
-last_write_push plan h e f b step =
-    fold_push (last_after (started (h ++ e ∷ [])) f b) None h e
-    ∙ ap (λ (o : Option WriteId). last_after (started (h ++ e ∷ [])) f b o e)
-    (ap (λ (ios : List Started). fold (last_after ios f b) None h) (started_push h e) ∙ fold_agrees f b None (started h) (cons_option (started_by e) []) h (all_refer plan h step.legal step.quiet))
 
 -- a write in flight covers the block
 pub record FliesOver (h : List Event) (f b id : ℕ) (s : Started) : Type 0 where
@@ -154,13 +106,13 @@ pub record LastLaw (h : List Event) (f b : ℕ) : Type 0 where
 
 module _ (plan : Plan) (f b : ℕ) (h : List Event) (e : Event) (step : IsStep plan h e) where
   -- an event that ends nothing and issues no write of the block
-  law_keeps : ((io : ℕ) → is_some (end_of io e) ≡ false) → ((ios : List Started) (o : Option WriteId) → last_after ios f b o e ≡ o) → ((o : Option WriteId) → issued_over f b o e ≡ o) → ((s : Started) → started_by e ≡ Some s → is_write s.kind ≡ true → covers_block s.piece f b ≡ true → ⊥) → LastLaw h f b → LastLaw (h ++ e ∷ []) f b
+  law_keeps : ((io : ℕ) → is_some (end_of io e) ≡ false) → ((o : Option WriteId) → last_after (has_raced h) (started h) f b o e ≡ o) → ((o : Option WriteId) → issued_over f b o e ≡ o) → ((s : Started) → started_by e ≡ Some s → is_write s.kind ≡ true → covers_block s.piece f b ≡ true → ⊥) → LastLaw h f b → LastLaw (h ++ e ∷ []) f b
   law_keeps no_end keeps_last keeps_issued starts law =
       let ended : (id : ℕ) → has_ended (h ++ e ∷ []) id ≡ has_ended h id = λ (id : ℕ). has_ended_push h e id ∙ ap (λ (x : Bool). has_ended h id || x) (no_end id) ∙ or_false (has_ended h id) in
       let issued : last_issued (h ++ e ∷ []) f b ≡ last_issued h f b = last_issued_push h e f b ∙ keeps_issued (last_issued h f b) in
       record {
         flying = λ (id : ℕ) (s : Started) (over : FliesOver (h ++ e ∷ []) f b id s). issued ∙ law.flying id s (before id s over (ended id) (started_by e) refl (subst (λ (ios : List Started). slice_get ios id ≡ Some s) (started_push h e) over.at));
-        landed = λ (none : (id : ℕ) (s : Started) → FliesOver (h ++ e ∷ []) f b id s → ⊥). last_write_push plan h e f b step ∙ keeps_last (started (h ++ e ∷ [])) (last_write h f b)
+        landed = λ (none : (id : ℕ) (s : Started) → FliesOver (h ++ e ∷ []) f b id s → ⊥). last_write_push plan h step.legal e f b ∙ keeps_last (last_write h f b)
             ∙ law.landed (λ (id : ℕ) (s : Started) (over : FliesOver h f b id s). none id s (after id s over (ended id))) ∙ sym issued;
       }
     where
@@ -185,15 +137,12 @@ module _ (plan : Plan) (f b : ℕ) (h : List Event) (e : Event) (step : IsStep p
         covers = over.covers;
       }
 
-module _ (plan : Plan) (numbered : IsNumbered plan) (f b : ℕ) where
+module _ (plan : Plan) (f b : ℕ) where
   -- a write of the block
-  law_issued : (h : List Event) (worker : ℕ) (kind : IssueKind) (write : WriteId) (piece : Piece) → IsStep plan h (Issue worker kind write piece) → is_write (kind_for kind) ≡ true → covers_block piece f b ≡ true → LastLaw h f b → LastLaw (h ++ Issue worker kind write piece ∷ []) f b
-  law_issued h worker kind write piece step writes covers law =
+  law_issued : (h : List Event) (worker : ℕ) (kind : IssueKind) (write : WriteId) (piece : Piece) → IsStep plan h (Issue worker kind write piece) → NothingRaced (h ++ Issue worker kind write piece ∷ []) → is_write (kind_for kind) ≡ true → covers_block piece f b ≡ true → LastLaw h f b → LastLaw (h ++ Issue worker kind write piece ∷ []) f b
+  law_issued h worker kind write piece step raceless writes covers law =
       let e = Issue worker kind write piece in
       let s0 : Started = record { worker = worker; kind = kind_for kind; write = write; piece = piece } in
-      let issue = issue_of plan h worker kind write piece numbered step.may in
-      let may = may_issue_parts plan h (pass_of issue.job write.pass) issue.draw issue.may in
-      let clear : is_clear h (is_write_draw issue.draw) piece ≡ true = subst (λ (p : Piece). is_clear h (is_write_draw issue.draw) p ≡ true) issue.piece_is may.clear in
       let now : last_issued (h ++ e ∷ []) f b ≡ Some write =
       last_issued_push h e f b ∙ ap (λ (x : Bool). cond x (Some write) (last_issued h f b)) (and_from (is_write (kind_for kind)) (covers_block piece f b) writes covers) in
       let not_yet : has_ended (h ++ e ∷ []) (length (started h)) ≡ false =
@@ -207,21 +156,21 @@ module _ (plan : Plan) (numbered : IsNumbered plan) (f b : ℕ) where
       record {
         flying = λ (id : ℕ) (s : Started) (over : FliesOver (h ++ e ∷ []) f b id s).
             elim (got_push (started h) s0 s id (subst (λ (ios : List Started). slice_get ios id ≡ Some s) (started_push h e) over.at)) [
-              | inl old ↦ absurd (barred h (is_write_draw issue.draw) piece id s f b clear old (sym (has_ended_push h e id ∙ or_false (has_ended h id)) ∙ over.flying) over.writes over.covers covers)
+              | inl old ↦ absurd (overlaps_none h e s0 id s refl raceless old (sym (has_ended_push h e id ∙ or_false (has_ended h id)) ∙ over.flying) over.writes (overlap_from s.piece piece f b over.covers covers))
               | inr last ↦ now ∙ ap (λ (x : Started). Some x.write) last.1
             ];
         landed = λ (none : (id : ℕ) (s : Started) → FliesOver (h ++ e ∷ []) f b id s → ⊥). absurd (none (length (started h)) s0 flies_now);
       }
 
-  law_ended : (h : List Event) (worker io : ℕ) (s0 : Started) → IsStep plan h (End worker io Whole) → slice_get (started h) io ≡ Some s0 → has_ended h io ≡ false → (covering : Bool) → (is_write s0.kind && covers_block s0.piece f b) ≡ covering → LastLaw h f b → LastLaw (h ++ End worker io Whole ∷ []) f b
-  law_ended h worker io s0 step at flying covering covers law =
+  law_ended : (h : List Event) (worker io : ℕ) (s0 : Started) → IsStep plan h (End worker io Whole) → has_raced h io ≡ false → slice_get (started h) io ≡ Some s0 → has_ended h io ≡ false → (covering : Bool) → (is_write s0.kind && covers_block s0.piece f b) ≡ covering → LastLaw h f b → LastLaw (h ++ End worker io Whole ∷ []) f b
+  law_ended h worker io s0 step raceless at flying covering covers law =
       let e = End worker io Whole in
       let same : started (h ++ e ∷ []) ≡ started h = started_push h e ∙ append-nil (started h) in
       let issued : last_issued (h ++ e ∷ []) f b ≡ last_issued h f b = last_issued_push h e f b in
       let written : last_write (h ++ e ∷ []) f b ≡ cond covering (Some s0.write) (last_write h f b) =
-      last_write_push plan h e f b step
-      ∙ ap (λ (ios : List Started). last_after_end (slice_get ios io) Whole f b (last_write h f b)) same
-      ∙ ap (λ (o : Option Started). last_after_end o Whole f b (last_write h f b)) at
+      last_write_push plan h step.legal e f b
+      ∙ ap (λ (r : Bool). last_after_end r (slice_get (started h) io) Whole f b (last_write h f b)) raceless
+      ∙ ap (λ (o : Option Started). last_after_end false o Whole f b (last_write h f b)) at
       ∙ ap (λ (x : Bool). cond x (Some s0.write) (last_write h f b)) covers in
       record {
         flying = λ (id : ℕ) (s : Started) (over : FliesOver (h ++ e ∷ []) f b id s). issued ∙ law.flying id s (record {
@@ -255,14 +204,14 @@ module _ (plan : Plan) (numbered : IsNumbered plan) (f b : ℕ) where
           some_same : (u v : Started) → Some u ≡ Some v → u ≡ v
           some_same u v g = cc
 
-  law_step : (h : List Event) (e : Event) → IsStep plan h e → LastLaw h f b → LastLaw (h ++ e ∷ []) f b
-  law_step h (Issue worker kind write piece) step law =
+  law_step : (h : List Event) (e : Event) → IsStep plan h e → NothingRaced (h ++ e ∷ []) → LastLaw h f b → LastLaw (h ++ e ∷ []) f b
+  law_step h (Issue worker kind write piece) step raceless law =
       elim (cases_Bool (is_write (kind_for kind) && covers_block piece f b)) [
         | inl hit ↦
             let parts = and_parts (is_write (kind_for kind)) (covers_block piece f b) hit in
-            law_issued h worker kind write piece step parts.0 parts.1 law
+            law_issued h worker kind write piece step raceless parts.0 parts.1 law
         | inr miss ↦
-            law_keeps plan f b h (Issue worker kind write piece) step (λ io. refl) (λ ios o. refl)
+            law_keeps plan f b h (Issue worker kind write piece) step (λ io. refl) (λ o. refl)
             (λ (o : Option WriteId). ap (λ (x : Bool). cond x (Some write) o) miss)
             (λ (s : Started) (starts : started_by (Issue worker kind write piece) ≡ Some s) (writes : is_write s.kind ≡ true) (covers : covers_block s.piece f b ≡ true).
             let one : record { worker = worker; kind = kind_for kind; write = write; piece = piece } ≡ s = some_same _ s starts in
@@ -273,8 +222,8 @@ module _ (plan : Plan) (numbered : IsNumbered plan) (f b : ℕ) where
     where
       some_same : (u v : Started) → Some u ≡ Some v → u ≡ v
       some_same u v g = cc
-  law_step h (Probe worker write piece) step law =
-      law_keeps plan f b h (Probe worker write piece) step (λ io. refl) (λ ios o. refl) (λ o. refl)
+  law_step h (Probe worker write piece) step raceless law =
+      law_keeps plan f b h (Probe worker write piece) step (λ io. refl) (λ o. refl) (λ o. refl)
       (λ (s : Started) (starts : started_by (Probe worker write piece) ≡ Some s) (writes : is_write s.kind ≡ true) (covers : covers_block s.piece f b ≡ true).
       let one : ticket.Probe ≡ s.kind = some_kind _ s starts in
       both_ways (is_write ticket.Probe) refl (ap is_write one ∙ writes))
@@ -282,17 +231,17 @@ module _ (plan : Plan) (numbered : IsNumbered plan) (f b : ℕ) where
     where
       some_kind : (u v : Started) → Some u ≡ Some v → u.kind ≡ v.kind
       some_kind u v g = let one : u ≡ v = cc in ap (λ (x : Started). x.kind) one
-  law_step h (Skip worker write) step law =
-      law_keeps plan f b h (Skip worker write) step (λ io. refl) (λ ios o. refl) (λ o. refl) (λ s starts writes covers. nothing s starts) law
+  law_step h (Skip worker write) step raceless law =
+      law_keeps plan f b h (Skip worker write) step (λ io. refl) (λ o. refl) (λ o. refl) (λ s starts writes covers. nothing s starts) law
     where
       nothing : (s : Started) → None ≡ Some s → ⊥
       nothing s g = cc
-  law_step h (Verdict worker io verdict) step law =
-      law_keeps plan f b h (Verdict worker io verdict) step (λ i. refl) (λ ios o. refl) (λ o. refl) (λ s starts writes covers. nothing s starts) law
+  law_step h (Verdict worker io verdict) step raceless law =
+      law_keeps plan f b h (Verdict worker io verdict) step (λ i. refl) (λ o. refl) (λ o. refl) (λ s starts writes covers. nothing s starts) law
     where
       nothing : (s : Started) → None ≡ Some s → ⊥
       nothing s g = cc
-  law_step h (End worker io outcome) step law = whole_end outcome step
+  law_step h (End worker io outcome) step raceless law = whole_end outcome step
     where
       whole_end : (o : Outcome) → IsStep plan h (End worker io o) → LastLaw (h ++ End worker io o ∷ []) f b
       whole_end Failed bad = absurd (cc (bad.calm))
@@ -300,19 +249,21 @@ module _ (plan : Plan) (numbered : IsNumbered plan) (f b : ℕ) where
       whole_end Whole good =
           let flying = and_parts (nat_lt io (length (started h))) (is_none (outcome_of h io)) (and_parts (flies h io) (end_fits worker Whole (slice_get (started h) io)) good.may).0 in
           let found = some_within (started h) io (ltb-true io (length (started h)) flying.0) in
-          law_ended h worker io found.0 good found.1 (none_is_none (outcome_of h io) flying.1) (is_write found.0.kind && covers_block found.0.piece f b) refl law
+          law_ended h worker io found.0 good (raced_before h (End worker io outcome) raceless io) found.1 (none_is_none (outcome_of h io) flying.1) (is_write found.0.kind && covers_block found.0.piece f b) refl law
 
-  pub last_law : (history : List Event) → is_legal plan history ≡ true → is_quiet history ≡ true → LastLaw history f b
-  last_law history legal quiet =
-      along plan (λ (h : List Event). LastLaw h f b) (record { flying = λ id s over. absurd (none_got id s over.at); landed = λ none. refl }) law_step history legal quiet
+  pub last_law : (history : List Event) → NothingRaced history → is_legal plan history ≡ true → are_fine history ≡ true → LastLaw history f b
+  last_law history raceless legal quiet =
+      along plan (λ (h : List Event). NothingRaced h → LastLaw h f b) (λ none. record { flying = λ id s over. absurd (none_got id s over.at); landed = λ none. refl })
+      (λ h e step so_far raceless_then. law_step h e step raceless_then (so_far (raced_before h e raceless_then))) history legal quiet raceless
     where
       none_got : (id : ℕ) (s : Started) → None ≡ Some s → ⊥
       none_got id s g = cc
 
 -- where no write of a block is in flight, its last write is the one that was issued last
-pub last_is_issued : (plan : Plan) (history : List Event) (file block : ℕ) → IsPlanned plan → is_legal plan history ≡ true → is_quiet history ≡ true → list_any (writes_block file block) (in_flight history) ≡ false → last_write history file block ≡ last_issued history file block
-last_is_issued plan history file block planned_all legal quiet none =
-    (last_law plan (λ i job at. (planned_all.drafted.placed i job at).number) file block history legal quiet).landed
+pub last_is_issued : (plan : Plan) (history : List Event) (file block : ℕ) → IsPlanned plan → none_declines plan ≡ true → is_legal plan history ≡ true → is_quiet history ≡ true → list_any (writes_block file block) (in_flight history) ≡ false → last_write history file block ≡ last_issued history file block
+last_is_issued plan history file block planned_all declined legal quiet none =
+    let raceless = unraced plan (λ i job at. (planned_all.drafted.placed i job at).number) declined history legal in
+    (last_law plan file block history raceless legal (quiet_is_fine plan history raceless legal quiet)).landed
     (λ (id : ℕ) (s : Started) (over : FliesOver history file block id s).
     both_ways (list_any (writes_block file block) (in_flight history)) none
     (found_flying history (writes_block file block) id s over.at over.flying (and_from (is_write s.kind) (covers_block s.piece file block) over.writes over.covers)))

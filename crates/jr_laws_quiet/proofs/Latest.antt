@@ -1,7 +1,7 @@
 -- While a group is open, a write of it is intact just where no later write of its group overlaps it.
-use Rattle.std.proofs.Common.{◌≡◌, ℕ, zero, suc, ◌+◌, ◌-◌, ◌*◌, ◌/◌, ◌%◌, ◌<◌, ◌≤◌, min, max, List, [], ◌∷◌, ◌++◌, Bool, true, false, cond, ◌&&◌, not, refl, sym, ◌∙◌, ap, subst, arith, inl, inr}
-use Rattle.std.specs.Prelude.{◌⊎◌, Some, slice_get, nat_lt, nat_le, ◌==◌, All}
-use Rattle.std.specs.List.{list_any, list_all, range_with_len}
+use Rattle.std.proofs.Common.{◌≡◌, ℕ, zero, suc, ◌+◌, ◌-◌, ◌*◌, ◌/◌, ◌%◌, ◌<◌, ◌≤◌, min, max, List, [], ◌∷◌, ◌++◌, Bool, true, false, cond, ◌&&◌, not, refl, sym, ◌∙◌, ap, subst, arith, inl, inr, append-nil}
+use Rattle.std.specs.Prelude.{◌⊎◌, Option, Some, None, slice_get, filter, nat_lt, nat_le, ◌==◌, All}
+use Rattle.std.specs.List.{list_any, list_all, cons_option, range_with_len}
 use Rattle.std.proofs.lemmas.Bool.{and_parts, and_from, and_left, and_right, eqb-true, eq-eqb, ne_eqb, lt-ltb, le-leb, ltb-true, cases_Bool, cases_lt, cases_order, not-true, not-false, or_left, or_right, or_cases, both_ways}
 use Rattle.std.proofs.lemmas.List.Elements.{All-get_or}
 use Rattle.std.proofs.lemmas.Option.{slice_get_within, get_or_from_slice_get}
@@ -12,25 +12,28 @@ use Rattle.jr_model.specs.declared.events.Event.TheVariants.{Issue, Probe, Skip,
 use Rattle.jr_model.specs.declared.events.IssueKind.{IssueKind}
 use Rattle.jr_model.specs.declared.events.Started.{Started}
 use Rattle.jr_model.specs.declared.events.WriteId.{WriteId}
+use Rattle.jr_model.specs.declared.tickets.TicketKind.{TicketKind}
+use Rattle.jr_model.specs.declared.tickets.TicketKind.TheVariants as ticket
 use Rattle.jr_model.specs.declared.workloads.Draw.{Draw}
 use Rattle.jr_model.specs.Draws.{draws_of_job}
-use Rattle.jr_model.specs.History.{kind_for, is_write}
+use Rattle.jr_model.specs.History.{started, started_by, kind_for, in_flight, is_of_clone, is_probe, is_write}
 use Rattle.jr_model.specs.LastWrite.{covers_block, last_write, is_this_write, blocks_of, is_intact}
-use Rattle.jr_model.specs.Legal.{is_legal}
+use Rattle.jr_model.specs.Legal.{is_legal, may_happen}
 use Rattle.jr_model.specs.Pieces.{pieces_overlap, piece_end}
 use Rattle.jr_model.specs.Plan.{Plan, SubJob, IsNumbered, clone_of, issued_as}
-use Rattle.jr_model.specs.Rounds.{pass_of, write_id, is_write_draw, issued_count, is_closed, group_of, group_count, group_index}
+use Rattle.jr_model.specs.Rounds.{pass_of, write_id, is_write_draw, issued_count, is_closed, no_issue_flies, group_of, group_count, group_index}
 use Rattle.jr_model.specs.Tickets.{piece_fits}
 use Rattle.jr_model.specs.Words.{pass_words}
 use Rattle.jr_plan.specs.Files.{are_apart}
 use Rattle.jr_model.specs.PlanFacts.{IsPlanned}
 use Rattle.jr_laws_draws.specs.PassLaw.{PassLaw, IsInRegion}
 use Rattle.jr_laws_draws.proofs.TheLaw.{pass_law, drawable_of}
-use Rattle.jr_laws_quiet.specs.Quiet.{is_quiet, last_issued, later_over, stays_last}
-use Rattle.jr_laws_quiet.proofs.Steps.{IsStep, along, issue_of, write_kind}
-use Rattle.jr_laws_quiet.proofs.Issues.{MayIssue, MayTakeUp, its_issue, its_marks, issued_same, got_range}
-use Rattle.jr_laws_quiet.proofs.LastWrites.{last_issued_push, covers_parts, overlap_from, barred, FliesOver, last_law}
-use Rattle.jr_laws_quiet.proofs.Groups.{number_is}
+use Rattle.jr_laws_quiet.specs.Quiet.{NothingRaced, last_issued, later_over, stays_last}
+use Rattle.jr_laws_quiet.proofs.Steps.{are_fine}
+use Rattle.jr_laws_quiet.proofs.Steps.{IsStep, along, each_legal, issue_of, probed_of, write_kind, started_push, got_push}
+use Rattle.jr_laws_quiet.proofs.Issues.{MayIssue, MayTakeUp, its_issue, its_marks, issued_same, got_range, all_at}
+use Rattle.jr_laws_quiet.proofs.LastWrites.{last_issued_push, covers_parts, overlap_from, found_flying, FliesOver, last_law}
+use Rattle.jr_laws_quiet.proofs.Groups.{number_is, got_filter}
 use Rattle.jr_laws_quiet.proofs.Members.{InGroup, in_own_group, member_is, full_issued, index_mono}
 use Rattle.jr_laws_quiet.proofs.Phases.{NextIssue, none_at, issue_cases, count_grows, passes_in_turn, groups_in_turn, no_later_pass, IsOpen, open_parts}
 
@@ -166,6 +169,70 @@ any_from {X = X} p (y ∷ xs) zero x at passes =
     or_left (p y) (list_any p xs) (ap p same ∙ passes)
 any_from p (y ∷ xs) (suc k) x at passes = or_right (p y) (list_any p xs) (any_from p xs k x at passes)
 
+-- what was started is of a draw of the plan
+pub record IsOfDraw (plan : Plan) (s : Started) : Type 0 where
+  pub job : SubJob
+  pub draw : Draw
+  pub planned : clone_of plan s.write.clone ≡ Some job
+  pub drawn : slice_get (draws_of_job job s.write.pass) s.write.number ≡ Some draw
+  pub piece : draw.piece ≡ s.piece
+
+module _ (plan : Plan) (numbered : IsNumbered plan) where
+  some_same : (u v : Started) → Some u ≡ Some v → u ≡ v
+  some_same u v g = cc
+
+  starts_of_draw : (h : List Event) (e : Event) (s : Started) → may_happen plan h e ≡ true → started_by e ≡ Some s → IsOfDraw plan s
+  starts_of_draw h (Issue worker kind write piece) s may is =
+      let issue = issue_of plan h worker kind write piece numbered may in
+      subst (IsOfDraw plan) (some_same (record { worker = worker; kind = kind_for kind; write = write; piece = piece }) s is)
+      (record { job = issue.job; draw = issue.draw; planned = issue.names.planned; drawn = issue.names.drawn; piece = issue.piece_is })
+  starts_of_draw h (Probe worker write piece) s may is =
+      let probe = probed_of plan h worker write piece numbered may in
+      subst (IsOfDraw plan) (some_same (record { worker = worker; kind = ticket.Probe; write = write; piece = piece }) s is)
+      (record { job = probe.take.job; draw = probe.take.draw; planned = probe.take.names.planned; drawn = probe.take.names.drawn; piece = probe.piece_is })
+  starts_of_draw h (Skip worker write) s may is = cc
+  starts_of_draw h (End worker io outcome) s may is = cc
+  starts_of_draw h (Verdict worker io verdict) s may is = cc
+
+  pub started_of_draw : (history : List Event) → is_legal plan history ≡ true → (id : ℕ) (s : Started) → slice_get (started history) id ≡ Some s → IsOfDraw plan s
+  started_of_draw history legal =
+      each_legal plan (λ (h : List Event). (id : ℕ) (s : Started) → slice_get (started h) id ≡ Some s → IsOfDraw plan s) (λ id s at. cc) step history legal
+    where
+      step : (h : List Event) (e : Event) → is_legal plan h ≡ true → may_happen plan h e ≡ true → ((id : ℕ) (s : Started) → slice_get (started h) id ≡ Some s → IsOfDraw plan s) → (id : ℕ) (s : Started) → slice_get (started (h ++ e ∷ [])) id ≡ Some s → IsOfDraw plan s
+      step h e so_far may before id s at = by_start (started_by e) refl (subst (λ (ios : List Started). slice_get ios id ≡ Some s) (started_push h e) at)
+        where
+          by_start : (o : Option Started) → started_by e ≡ o → slice_get (started h ++ cons_option o []) id ≡ Some s → IsOfDraw plan s
+          by_start None is there = before id s (subst (λ (ios : List Started). slice_get ios id ≡ Some s) (append-nil (started h)) there)
+          by_start (Some new) is there =
+              elim (got_push (started h) new s id there) [
+                | inl old ↦ before id s old
+                | inr last ↦ starts_of_draw h e s may (is ∙ ap Some last.1)
+              ]
+
+-- what writes is no check
+no_probe : (kind : TicketKind) → is_write kind ≡ true → is_probe kind ≡ true → ⊥
+no_probe ticket.Read writes probes = cc
+no_probe ticket.Write writes probes = cc
+no_probe ticket.Probe writes probes = cc
+no_probe ticket.ReadCheck writes probes = cc
+
+-- while no issue of the clone flies, no write of its file does
+pub none_over : (plan : Plan) → IsPlanned plan → are_apart plan.clones ≡ true → (c : ℕ) (job : SubJob) → clone_of plan c ≡ Some job → (h : List Event) → is_legal plan h ≡ true → no_issue_flies h job.clone ≡ true → (b id : ℕ) (s : Started) → FliesOver h job.file b id s → ⊥
+none_over plan planned_all apart c job planned h legal still b id s over =
+    let its = started_of_draw plan (numbers_of plan planned_all) h legal id s over.at in
+    let file : its.job.file ≡ job.file =
+    sym (file_of plan planned_all s.write.clone its.job its.planned s.write.pass s.write.number its.draw its.drawn)
+    ∙ ap (λ (p : Piece). p.file) its.piece
+    ∙ (covers_parts s.piece job.file b over.covers).file in
+    let own : s.write.clone ≡ job.clone =
+    one_file plan.clones s.write.clone c its.job job apart its.planned planned file ∙ sym (numbers_of plan planned_all c job planned) in
+    let writes : Started → Bool = λ (io : Started). is_of_clone job.clone io && is_write io.kind in
+    let found = any_at writes (in_flight h)
+    (found_flying h writes id s over.at over.flying (and_from (s.write.clone == job.clone) (is_write s.kind) (eq-eqb s.write.clone job.clone own) over.writes)) in
+    let parts = and_parts (is_of_clone job.clone found.1) (is_write found.1.kind) found.3 in
+    let place = got_filter (is_of_clone job.clone) (in_flight h) found.0 found.1 found.2 parts.0 in
+    no_probe found.1.kind parts.1 (all_at (λ (io : Started). is_probe io.kind) (filter (is_of_clone job.clone) (in_flight h)) place.0 found.1 still place.1)
+
 -- the write of the block that was issued last: it is draw k of pass p, or a later one
 pub record LatestIs (job : SubJob) (h : List Event) (f b p k : ℕ) : Type 0 where
   pub write : WriteId
@@ -294,12 +361,12 @@ module _ (plan : Plan) (planned_all : IsPlanned plan) (apart : are_apart plan.cl
   latest_step h (Verdict worker io verdict) step law f b p k d at now writes covers =
       latest_other h (Verdict worker io verdict) step law f b p k d at now writes covers (last_issued_push h (Verdict worker io verdict) f b) (λ (w : ℕ) (other : WriteId) (same : Verdict worker io verdict ≡ Issue w (issued_as job d.dir) other d.piece). cc)
 
-  pub latest_law : (history : List Event) → is_legal plan history ≡ true → is_quiet history ≡ true → LatestLaw job history
+  pub latest_law : (history : List Event) → is_legal plan history ≡ true → are_fine history ≡ true → LatestLaw job history
   latest_law history legal quiet =
       along plan (λ (h : List Event). LatestLaw job h) (λ f b p k d at now writes covers. absurd (omega (arith, now))) latest_step history legal quiet
 
   -- while its group is open: the latest write of a block of the draw's is of its group
-  module _ (h : List Event) (legal : is_legal plan h ≡ true) (quiet : is_quiet h ≡ true) (p k : ℕ) (draw : Draw) (drawn : slice_get (draws_of_job job p) k ≡ Some draw) (may : MayTakeUp h (pass_of job p) draw) where
+  module _ (h : List Event) (raceless : NothingRaced h) (legal : is_legal plan h ≡ true) (quiet : are_fine h ≡ true) (p k : ℕ) (draw : Draw) (drawn : slice_get (draws_of_job job p) k ≡ Some draw) (may : MayTakeUp plan h (pass_of job p) draw) where
     number : draw.number ≡ k
     number = number_is job p k draw drawn
 
@@ -309,15 +376,16 @@ module _ (plan : Plan) (planned_all : IsPlanned plan) (apart : are_apart plan.cl
     member : InGroup job p (group_index (pass_of job p) draw.number) draw × (group_index (pass_of job p) draw.number < group_count (pass_of job p))
     member = in_own_group job p draw.number draw (ap (slice_get (draws_of_job job p)) number ∙ drawn) may.writes
 
+    group_is_open : IsOpen h (pass_of job p) own
+    group_is_open = open_parts h (pass_of job p) own may.opened
+
     -- the block's last write is the one that was issued last
     landed : (b : ℕ) → covers_block draw.piece draw.piece.file b ≡ true → last_write h draw.piece.file b ≡ last_issued h draw.piece.file b
     landed b covers =
-        (last_law plan (numbers_of plan planned_all) draw.piece.file b h legal quiet).landed
+        (last_law plan draw.piece.file b h raceless legal quiet).landed
         (λ (id : ℕ) (s : Started) (over : FliesOver h draw.piece.file b id s).
-        barred h false draw.piece id s draw.piece.file b may.clear over.at over.flying over.writes over.covers covers)
-
-    group_is_open : IsOpen h (pass_of job p) own
-    group_is_open = open_parts h (pass_of job p) own may.opened
+        none_over plan planned_all apart c job planned h legal group_is_open.still b id s
+        (subst (λ (f : ℕ). FliesOver h f b id s) (file_of plan planned_all c job planned p k draw drawn) over))
 
     -- of an issued write of the block: its last write is this draw's or a later one's of the pass
     own_latest : (b i : ℕ) (d : Draw) → covers_block draw.piece draw.piece.file b ≡ true → slice_get (draws_of_job job p) i ≡ Some d → i < issued_count h (pass_of job p) → is_write_draw d ≡ true → covers_block d.piece draw.piece.file b ≡ true → OwnLatest job h draw.piece.file b p i

@@ -1,11 +1,13 @@
 pub mod Checks
 pub mod Ends
+pub mod Flights
 pub mod Groups
 pub mod Issues
 pub mod LastWrites
 pub mod Latest
 pub mod Members
 pub mod Phases
+pub mod Races
 pub mod Reports
 pub mod Steps
 pub mod Tallies

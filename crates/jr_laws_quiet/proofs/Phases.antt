@@ -18,7 +18,7 @@ use Rattle.jr_model.specs.History.{started, started_by}
 use Rattle.jr_model.specs.Legal.{is_legal}
 use Rattle.jr_model.specs.Plan.{Plan, SubJob, IsNumbered, clone_of, issued_as}
 use Rattle.jr_model.specs.Rounds.{Pass, pass_of, passes_of, write_id, issued_count, all_issued, issued_among, is_probe_of, settles, is_settled, is_full, is_closed, is_open, no_issue_flies, rounds_closed, pass_finished, has_rounds, group_of, group_count, group_index, writes_of}
-use Rattle.jr_laws_quiet.specs.Quiet.{is_quiet}
+use Rattle.jr_laws_quiet.proofs.Steps.{are_fine}
 use Rattle.jr_laws_quiet.proofs.Tallies.{count_by-total}
 use Rattle.jr_laws_quiet.proofs.Steps.{IsStep, along, refers, all_refer, started_push, got_within, Agrees, all_weaker}
 use Rattle.jr_laws_quiet.proofs.Issues.{MayIssue, issued_same, its_issue, its_marks, other_clone, all_at, got_pass, got_range, finished_parts}
@@ -188,7 +188,7 @@ module _ (plan : Plan) (numbered : IsNumbered plan) (c : ℕ) (job : SubJob) (pl
             past_more h e step p (record { issued = parts.issued; closed = parts.closed })
       ]
 
-  pub passes_in_turn : (history : List Event) → is_legal plan history ≡ true → is_quiet history ≡ true → PassesInTurn job history
+  pub passes_in_turn : (history : List Event) → is_legal plan history ≡ true → are_fine history ≡ true → PassesInTurn job history
   passes_in_turn history legal quiet =
       along plan (λ (h : List Event). PassesInTurn job h) (λ p q before some. absurd (omega (arith, some))) passes_step history legal quiet
 
@@ -214,12 +214,12 @@ module _ (plan : Plan) (numbered : IsNumbered plan) (c : ℕ) (job : SubJob) (pl
           second true b one g = g
           second false b one g = cc
 
-  pub groups_in_turn : (history : List Event) → is_legal plan history ≡ true → is_quiet history ≡ true → GroupsInTurn job history
+  pub groups_in_turn : (history : List Event) → is_legal plan history ≡ true → are_fine history ≡ true → GroupsInTurn job history
   groups_in_turn history legal quiet =
       along plan (λ (h : List Event). GroupsInTurn job h) (λ p k g rounds issued before. absurd (omega (arith, issued))) groups_step history legal quiet
 
   -- while a group of a pass isn't closed no later pass has begun
-  pub no_later_pass : (h : List Event) → is_legal plan h ≡ true → is_quiet h ≡ true → (p q g : ℕ) → has_rounds job ≡ true → g < group_count (pass_of job p) → is_closed h (pass_of job p) g ≡ false → p < q → 0 < issued_count h (pass_of job q) → ⊥
+  pub no_later_pass : (h : List Event) → is_legal plan h ≡ true → are_fine h ≡ true → (p q g : ℕ) → has_rounds job ≡ true → g < group_count (pass_of job p) → is_closed h (pass_of job p) g ≡ false → p < q → 0 < issued_count h (pass_of job q) → ⊥
   no_later_pass h legal quiet p q g rounds below not_closed later some =
       let past = passes_in_turn h legal quiet p q later some in
       elim (or_cases (not (has_rounds job)) (list_all (λ (i : ℕ). is_closed h (pass_of job p) i) (range_with_len 0 (group_count (pass_of job p)))) past.closed) [
@@ -234,9 +234,10 @@ module _ (plan : Plan) (numbered : IsNumbered plan) (c : ℕ) (job : SubJob) (pl
 pub record IsOpen (h : List Event) (pass : Pass) (g : ℕ) : Type 0 where
   pub full : is_full h pass g ≡ true
   pub not_closed : is_closed h pass g ≡ false
+  pub still : no_issue_flies h pass.job.clone ≡ true
 
 pub open_parts : (h : List Event) (pass : Pass) (g : ℕ) → is_open h pass g ≡ true → IsOpen h pass g
 open_parts h pass g opened =
     let parts = and_parts (is_full h pass g && not (is_closed h pass g)) (no_issue_flies h pass.job.clone) opened in
     let front = and_parts (is_full h pass g) (not (is_closed h pass g)) parts.0 in
-    record { full = front.0; not_closed = not-true (is_closed h pass g) front.1 }
+    record { full = front.0; not_closed = not-true (is_closed h pass g) front.1; still = parts.1 }

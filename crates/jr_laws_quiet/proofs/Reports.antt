@@ -1,5 +1,5 @@
 -- The report of a complete run in which nothing goes wrong is that of its draws.
-use Rattle.std.proofs.Common.{◌≡◌, ℕ, zero, suc, ◌+◌, ◌-◌, ◌<◌, List, [], ◌∷◌, ◌++◌, length, map, Bool, true, false, cond, ◌&&◌, not, refl, sym, ◌∙◌, ap, subst, arith, inl, inr, append-nil, add-zero}
+use Rattle.std.proofs.Common.{◌≡◌, ℕ, zero, suc, ◌+◌, ◌-◌, ◌<◌, List, [], ◌∷◌, ◌++◌, length, map, Bool, true, false, cond, ◌&&◌, ◌||◌, not, refl, sym, ◌∙◌, ap, subst, arith, inl, inr, append-nil, add-zero}
 use Rattle.std.specs.Prelude.{◌⊎◌, Option, Some, None, slice_get, ◌==◌, filter, filter_map, flat_map, sum, count_by}
 use Rattle.std.specs.List.{range_with_len, cons_option}
 use Rattle.std.proofs.lemmas.Bool.{and_parts, and_right, cases_Bool, not-true}
@@ -12,14 +12,14 @@ use Rattle.jr_model.specs.declared.events.IssueKind.{IssueKind}
 use Rattle.jr_model.specs.declared.events.IssueKind.TheVariants as issue
 use Rattle.jr_model.specs.declared.events.Started.{Started}
 use Rattle.jr_model.specs.declared.events.Verdict.{Verdict as GivenVerdict}
-use Rattle.jr_model.specs.declared.events.Verdict.TheVariants.{Good, Bad}
+use Rattle.jr_model.specs.declared.events.Verdict.TheVariants.{Good, Bad, Void}
 use Rattle.jr_model.specs.declared.tickets.TicketKind.{TicketKind}
 use Rattle.jr_model.specs.declared.tickets.TicketKind.TheVariants as ticket
 use Rattle.jr_model.specs.declared.totals.Totals.{Totals}
 use Rattle.jr_model.specs.declared.workloads.Draw.{Draw}
 use Rattle.jr_model.specs.Draws.{draws_of_job}
 use Rattle.jr_model.specs.History.{started, started_by, kind_for, is_of_clone, is_judged_kind, is_write, is_judged, ended_whole, outcome_of}
-use Rattle.jr_model.specs.Legal.{is_legal, is_complete, is_io_of, is_fault, is_bad, verdict_fits, job_says}
+use Rattle.jr_model.specs.Legal.{is_legal, is_complete, is_io_of, is_fault, is_bad, is_void, verdict_fits, job_says}
 use Rattle.jr_model.specs.Plan.{Plan, SubJob, clone_of, checks_reads, issued_as}
 use Rattle.jr_model.specs.Quiet.{checks_of_pass, bytes_drawn, quiet_totals, quiet_report}
 use Rattle.jr_model.specs.Report.{Miscompare, miscompare_on, miscompare_by, miscompares, miscompare_line, on_write, of_pass, of_clone, in_order, totals_lines, all_totals, report_of}
@@ -27,7 +27,10 @@ use Rattle.jr_model.specs.Rounds.{Pass, pass_of, passes_of, write_id, is_write_d
 use Rattle.jr_model.specs.Totals.{is_read, moved, bytes_of, is_verdict_of, is_skip_of, is_fault_of, totals_of}
 use Rattle.jr_plan.specs.Files.{are_apart}
 use Rattle.jr_model.specs.PlanFacts.{IsPlanned}
-use Rattle.jr_laws_quiet.specs.Quiet.{is_calm, is_quiet}
+use Rattle.jr_laws_quiet.proofs.Races.{unraced, quiet_is_fine}
+use Rattle.jr_laws_quiet.specs.Quiet.{is_quiet, none_declines, NothingRaced}
+use Rattle.jr_model.specs.Races.{has_raced}
+use Rattle.jr_laws_quiet.proofs.Steps.{is_fine, are_fine}
 use Rattle.jr_laws_quiet.proofs.Tallies.{total, got, upto, total-filter, total-filter_map, total_same, total_zero, total-sum, total-map, total_upto, sum_map-total, count_by-total, length-total, upto_same_below, upto-sum}
 use Rattle.jr_laws_quiet.proofs.Steps.{IsStep, along, started_push, write_kind}
 use Rattle.jr_laws_quiet.proofs.Ends.{verdict_worth, verdict_worth_agrees, one_more, verdicts_in_all}
@@ -59,11 +62,11 @@ module _ (plan : Plan) (f g : Started → ℕ) (agree : (s : Started) → is_jud
   verdict_agrees h (End worker io outcome) step = refl
   verdict_agrees h (Verdict worker io verdict) step =
       subst (λ (ios : List Started). got f (slice_get ios io) ≡ got g (slice_get ios io)) (sym (started_push h (Verdict worker io verdict) ∙ append-nil (started h)))
-      (by_io (slice_get (started h) io) (and_parts (ended_whole (outcome_of h io) && not (is_judged h io)) (verdict_fits plan verdict (slice_get (started h) io)) step.may).1)
+      (by_io (slice_get (started h) io) (and_parts (ended_whole (outcome_of h io) && not (is_judged h io)) (verdict_fits plan (has_raced h io) verdict (slice_get (started h) io)) step.may).1)
     where
-      by_io : (o : Option Started) → verdict_fits plan verdict o ≡ true → got f o ≡ got g o
+      by_io : (o : Option Started) → verdict_fits plan (has_raced h io) verdict o ≡ true → got f o ≡ got g o
       by_io None fits = refl
-      by_io (Some s) fits = agree s (and_parts (is_judged_kind s.kind) (job_says (clone_of plan s.write.clone) s.kind s.piece.len verdict) fits).0
+      by_io (Some s) fits = agree s (and_parts (is_judged_kind s.kind) (cond (has_raced h io) (is_void verdict) (job_says (clone_of plan s.write.clone) s.kind s.piece.len verdict)) fits).0
 
   counts_step : (h : List Event) (e : Event) → IsStep plan h e → CountsChecks f g h → CountsChecks f g (h ++ e ∷ [])
   counts_step h e step so_far =
@@ -75,7 +78,7 @@ module _ (plan : Plan) (f g : Started → ℕ) (agree : (s : Started) → is_jud
         so_far,
       )
 
-  pub counts_checks : (history : List Event) → is_legal plan history ≡ true → is_quiet history ≡ true → CountsChecks f g history
+  pub counts_checks : (history : List Event) → is_legal plan history ≡ true → are_fine history ≡ true → CountsChecks f g history
   counts_checks history legal quiet = along plan (CountsChecks f g) refl counts_step history legal quiet
 
 -- a list of what is nothing at each item
@@ -84,23 +87,24 @@ flat_map_none f [] none = refl
 flat_map_none f (x ∷ xs) none = ap (λ ys. ys ++ flat_map f xs) (none x) ∙ flat_map_none f xs none
 
 -- nothing is found bad
-pub no_miscompares : (ios : List Started) (events : List Event) → is_quiet events ≡ true → filter_map (miscompare_by ios) events ≡ []
+pub no_miscompares : (ios : List Started) (events : List Event) → are_fine events ≡ true → filter_map (miscompare_by ios) events ≡ []
 no_miscompares ios [] quiet = refl
 no_miscompares ios (e ∷ events) quiet =
-    let calms = and_parts (is_calm e) (is_quiet events) quiet in
+    let calms = and_parts (is_fine e) (are_fine events) quiet in
     ap (λ (o : Option Miscompare). cons_option o (filter_map (miscompare_by ios) events)) (none_by e calms.0) ∙ no_miscompares ios events calms.1
   where
     none_on : (o : Option Started) → miscompare_on o Good ≡ None
     none_on None = refl
     none_on (Some s) = refl
 
-    none_by : (x : Event) → is_calm x ≡ true → miscompare_by ios x ≡ None
+    none_by : (x : Event) → is_fine x ≡ true → miscompare_by ios x ≡ None
     none_by (Issue worker kind write piece) calm = refl
     none_by (Probe worker write piece) calm = refl
     none_by (Skip worker write) calm = refl
     none_by (End worker io outcome) calm = refl
     none_by (Verdict worker io Good) calm = none_on (slice_get ios io)
     none_by (Verdict worker io (Bad what)) calm = cc
+    none_by (Verdict worker io Void) calm = cc
 
 pub none_in_order : (plan : Plan) → in_order plan [] ≡ []
 none_in_order plan =
@@ -240,7 +244,7 @@ skips_drawn job = by_rounds (has_rounds job) refl
                   (λ (d : Draw). ap {B = ℕ} (λ (b : Bool). cond (b && is_overwritten job n d) 1 0) (and_right (is_write_draw d) (has_rounds job) none)),
             )
 
-module _ (plan : Plan) (planned_all : IsPlanned plan) (apart : are_apart plan.clones ≡ true) (history : List Event) (legal : is_legal plan history ≡ true) (complete : is_complete plan history ≡ true) (quiet : is_quiet history ≡ true) (c : ℕ) (job : SubJob) (planned : clone_of plan c ≡ Some job) where
+module _ (plan : Plan) (planned_all : IsPlanned plan) (apart : are_apart plan.clones ≡ true) (history : List Event) (raceless : NothingRaced history) (legal : is_legal plan history ≡ true) (complete : is_complete plan history ≡ true) (quiet : are_fine history ≡ true) (c : ℕ) (job : SubJob) (planned : clone_of plan c ≡ Some job) where
   moved_total : (test : TicketKind → Bool) (no_check : test ticket.Probe ≡ false) (p : Draw → Bool) (same : (d : Draw) → test (kind_for (issued_as job d.dir)) ≡ p d) (g : Piece → ℕ) → total (λ (s : Started). g s.piece) (moved history test c) ≡ total (λ (d : Draw). g d.piece) (filter p (all_draws job))
   moved_total test no_check p same g =
       moved_is_drawn plan (numbers_of plan planned_all) c job planned test no_check g history legal quiet complete
@@ -273,7 +277,7 @@ module _ (plan : Plan) (planned_all : IsPlanned plan) (apart : are_apart plan.cl
       ∙ total-filter_map (check_worth c) started_by history
       ∙ total_same (λ (e : Event). got (check_worth c) (started_by e)) (λ (e : Event). probe_worth c e + issue_worth checked_worth c e) history one_start
       ∙ total-sum (probe_worth c) (issue_worth checked_worth c) history
-      ∙ ap (λ (n : ℕ). n + total (issue_worth checked_worth c) history) (probes_counted plan planned_all apart c job planned history legal quiet complete)
+      ∙ ap (λ (n : ℕ). n + total (issue_worth checked_worth c) history) (probes_counted plan planned_all apart c job planned history raceless legal quiet complete)
       ∙ ap (λ (n : ℕ). upto (λ (p : ℕ). total (worth_where job (is_kept job) p) (draws_of_job job p)) job.passes + n)
       (issues_in_all plan history (numbers_of plan planned_all) c job planned checked_worth legal quiet complete)
     where
@@ -286,13 +290,14 @@ module _ (plan : Plan) (planned_all : IsPlanned plan) (apart : are_apart plan.cl
       by_io None = refl
       by_io (Some s) = both_true (is_of_clone c s) (test Good) passes
 
-      one_verdict : (e : Event) → is_calm e ≡ true → ◌≡◌ {A = ℕ} (cond (is_verdict_of (started history) test c e) 1 0) (verdict_worth (clone_worth c) (started history) e)
+      one_verdict : (e : Event) → is_fine e ≡ true → ◌≡◌ {A = ℕ} (cond (is_verdict_of (started history) test c e) 1 0) (verdict_worth (clone_worth c) (started history) e)
       one_verdict (Issue worker kind write piece) calm = refl
       one_verdict (Probe worker write piece) calm = refl
       one_verdict (Skip worker write) calm = refl
       one_verdict (End worker io outcome) calm = refl
       one_verdict (Verdict worker io Good) calm = by_io (slice_get (started history) io)
       one_verdict (Verdict worker io (Bad what)) calm = cc
+      one_verdict (Verdict worker io Void) calm = cc
 
       on_checks : (s : Started) → is_judged_kind s.kind ≡ true → clone_worth c s ≡ check_worth c s
       on_checks s judged = ap {B = ℕ} (λ (b : Bool). cond (b && is_of_clone c s) 1 0) (sym judged)
@@ -317,20 +322,25 @@ module _ (plan : Plan) (planned_all : IsPlanned plan) (apart : are_apart plan.cl
       one_start (End worker io outcome) = refl
       one_start (Verdict worker io verdict) = refl
 
-  -- nothing is bad, and nothing fails
-  none_bad : count_by (is_verdict_of (started history) is_bad c) history ≡ 0
-  none_bad =
-      count_by-total (is_verdict_of (started history) is_bad c) history
-      ∙ total_calm (λ (e : Event). cond (is_verdict_of (started history) is_bad c e) 1 0) (λ (e : Event). 0) history nothing quiet
+  -- no verdict passes a test that no good one passes
+  none_passes : (test : GivenVerdict → Bool) → test Good ≡ false → count_by (is_verdict_of (started history) test c) history ≡ 0
+  none_passes test fails =
+      count_by-total (is_verdict_of (started history) test c) history
+      ∙ total_calm (λ (e : Event). cond (is_verdict_of (started history) test c e) 1 0) (λ (e : Event). 0) history nothing quiet
       ∙ total_zero (λ (e : Event). 0) history (λ e. refl)
     where
-      nothing : (e : Event) → is_calm e ≡ true → ◌≡◌ {A = ℕ} (cond (is_verdict_of (started history) is_bad c e) 1 0) 0
+      none_of : (own : Bool) → ◌≡◌ {A = ℕ} (cond (own && test Good) 1 0) 0
+      none_of true = ap {B = ℕ} (λ (b : Bool). cond b 1 0) fails
+      none_of false = refl
+
+      nothing : (e : Event) → is_fine e ≡ true → ◌≡◌ {A = ℕ} (cond (is_verdict_of (started history) test c e) 1 0) 0
       nothing (Issue worker kind write piece) calm = refl
       nothing (Probe worker write piece) calm = refl
       nothing (Skip worker write) calm = refl
       nothing (End worker io outcome) calm = refl
-      nothing (Verdict worker io verdict) calm =
-          ap {B = ℕ} (λ (b : Bool). cond b 1 0) (and_right (is_io_of c (slice_get (started history) io)) (is_bad verdict) (not-true (is_bad verdict) calm))
+      nothing (Verdict worker io Good) calm = none_of (is_io_of c (slice_get (started history) io))
+      nothing (Verdict worker io (Bad what)) calm = cc
+      nothing (Verdict worker io Void) calm = cc
 
   none_fails : count_by (is_fault_of (started history) c) history ≡ 0
   none_fails =
@@ -338,7 +348,7 @@ module _ (plan : Plan) (planned_all : IsPlanned plan) (apart : are_apart plan.cl
       ∙ total_calm (λ (e : Event). cond (is_fault_of (started history) c e) 1 0) (λ (e : Event). 0) history nothing quiet
       ∙ total_zero (λ (e : Event). 0) history (λ e. refl)
     where
-      nothing : (e : Event) → is_calm e ≡ true → ◌≡◌ {A = ℕ} (cond (is_fault_of (started history) c e) 1 0) 0
+      nothing : (e : Event) → is_fine e ≡ true → ◌≡◌ {A = ℕ} (cond (is_fault_of (started history) c e) 1 0) 0
       nothing (Issue worker kind write piece) calm = refl
       nothing (Probe worker write piece) calm = refl
       nothing (Skip worker write) calm = refl
@@ -355,7 +365,7 @@ module _ (plan : Plan) (planned_all : IsPlanned plan) (apart : are_apart plan.cl
   skips_are_drawn : count_by (is_skip_of c) history ≡ (quiet_totals job).skipped
   skips_are_drawn =
       count_by-total (is_skip_of c) history
-      ∙ skips_counted plan planned_all apart c job planned history legal quiet complete
+      ∙ skips_counted plan planned_all apart c job planned history raceless legal quiet complete
       ∙ skips_drawn job
       ∙ ap (λ (n : ℕ). cond (has_rounds job) (length (filter is_write_draw (all_draws job)) - n) 0) (checks_drawn job)
 
@@ -367,11 +377,11 @@ module _ (plan : Plan) (planned_all : IsPlanned plan) (apart : are_apart plan.cl
       (moved_bytes is_read refl (λ (d : Draw). not (is_write_draw d)) (read_draw job))
       (moved_count is_write refl is_write_draw (write_kind job))
       (moved_bytes is_write refl is_write_draw (write_kind job))
-      (checks_are_drawn (λ (verdict : GivenVerdict). true) refl)
-      (checks_are_drawn (λ (verdict : GivenVerdict). not (is_bad verdict)) refl)
-      none_bad
+      (checks_are_drawn (λ (verdict : GivenVerdict). not (is_void verdict)) refl)
+      (checks_are_drawn (λ (verdict : GivenVerdict). not (is_bad verdict || is_void verdict)) refl)
+      (none_passes is_bad refl)
       skips_are_drawn
-      refl
+      (none_passes is_void refl)
       none_fails
 
 pub map_same_at : {X Y : Type 0} (f g : X → Y) (xs : List X) → ((k : ℕ) (x : X) → slice_get xs k ≡ Some x → f x ≡ g x) → map f xs ≡ map g xs
@@ -380,14 +390,20 @@ map_same_at {X = X} f g (x ∷ xs) same =
     ap (λ y. y ∷ map f xs) (same 0 x refl)
     ∙ ap (λ ys. g x ∷ ys) (map_same_at f g xs (λ (k : ℕ) (y : X) (at : slice_get xs k ≡ Some y). same (suc k) y at))
 
--- the report of a complete run in which nothing goes wrong
-pub quiet_run : (plan : Plan) (history : List Event) → IsPlanned plan → are_apart plan.clones ≡ true → is_legal plan history ≡ true → is_complete plan history ≡ true → is_quiet history ≡ true → report_of plan history ≡ quiet_report plan
-quiet_run plan history planned_all apart legal complete quiet =
+-- the report of a complete run in which nothing goes wrong and nothing raced
+pub quiet_run_unraced : (plan : Plan) (history : List Event) → IsPlanned plan → NothingRaced history → are_apart plan.clones ≡ true → is_legal plan history ≡ true → is_complete plan history ≡ true → is_quiet history ≡ true → report_of plan history ≡ quiet_report plan
+quiet_run_unraced plan history planned_all raceless apart legal complete calm =
+    let quiet = quiet_is_fine plan history raceless legal calm in
     let totals : all_totals plan history ≡ map quiet_totals plan.clones =
     map_same_at (λ (job : SubJob). totals_of history job.clone) quiet_totals plan.clones
     (λ (k : ℕ) (job : SubJob) (at : slice_get plan.clones k ≡ Some job).
-    ap (totals_of history) (clone_is plan (numbers_of plan planned_all) k job at) ∙ clone_totals plan planned_all apart history legal complete quiet k job at) in
+    ap (totals_of history) (clone_is plan (numbers_of plan planned_all) k job at) ∙ clone_totals plan planned_all apart history raceless legal complete quiet k job at) in
     let none : in_order plan (miscompares history) ≡ [] = ap (in_order plan) (no_miscompares (started history) history quiet) ∙ none_in_order plan in
     ap (λ (ts : List Totals). totals_lines plan ts ++ flat_map (miscompare_line plan) (in_order plan (miscompares history))) totals
     ∙ ap (λ (found : List Miscompare). quiet_report plan ++ flat_map (miscompare_line plan) found) none
     ∙ append-nil (quiet_report plan)
+
+-- so where no clone declines, it is the report of every complete run in which nothing goes wrong
+pub quiet_run : (plan : Plan) (history : List Event) → IsPlanned plan → none_declines plan ≡ true → are_apart plan.clones ≡ true → is_legal plan history ≡ true → is_complete plan history ≡ true → is_quiet history ≡ true → report_of plan history ≡ quiet_report plan
+quiet_run plan history planned_all undeclined apart legal complete quiet =
+    quiet_run_unraced plan history planned_all (unraced plan (numbers_of plan planned_all) undeclined history legal) apart legal complete quiet

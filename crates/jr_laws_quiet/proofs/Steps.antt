@@ -14,53 +14,81 @@ use Rattle.jr_model.specs.declared.events.IssueKind.{IssueKind}
 use Rattle.jr_model.specs.declared.events.IssueKind.TheVariants as issue
 use Rattle.jr_model.specs.declared.events.Outcome.{Outcome}
 use Rattle.jr_model.specs.declared.events.Started.{Started}
+use Rattle.jr_model.specs.declared.events.Verdict.TheVariants.{Good, Bad, Void}
 use Rattle.jr_model.specs.declared.events.Outcome.TheVariants.{Whole}
 use Rattle.jr_model.specs.declared.events.WriteId.{WriteId}
 use Rattle.jr_model.specs.declared.workloads.Draw.{Draw}
 use Rattle.jr_model.specs.Draws.{draws_of_job, fresh_progress}
 use Rattle.jr_model.specs.History.{started, started_by, kind_for, outcome_of, flies, is_judged, is_probe, is_write, ended_whole, same_write, same_piece}
 use Rattle.jr_model.specs.LastWrite.{is_intact}
-use Rattle.jr_model.specs.Legal.{is_legal, legal_after, may_happen, end_fits, verdict_fits, may_issue, may_take_up, step_of_draw, step_of_clone, same_issue, is_this_issue, is_this_probe, is_this_skip}
+use Rattle.jr_model.specs.Legal.{is_fault, is_legal, legal_after, may_happen, end_fits, verdict_fits, may_issue, may_take_up, step_of_draw, step_of_clone, same_issue, is_this_issue, is_this_probe, is_this_skip}
 use Rattle.jr_model.specs.Plan.{Plan, SubJob, IsNumbered, clone_of, checks_reads, issued_as}
+use Rattle.jr_model.specs.Races.{has_raced}
 use Rattle.jr_model.specs.Rounds.{Pass, pass_of, write_id, is_write_draw}
 use Rattle.jr_model.specs.Words.{pass_words}
 use Rattle.jr_model.proofs.LegalLaws.{is_legal-more, number-draws_from}
 use Rattle.jr_model.proofs.SerialLaws.{IsWell, well-more, whole_some}
 use Rattle.jr_model.proofs.Equality.{eq_issue, eq_piece}
-use Rattle.jr_laws_quiet.specs.Quiet.{is_calm, is_quiet}
+
+-- nothing goes wrong with the event, and its verdict, if it is one, is good
+abbrev pub is_fine : Event → Bool
+is_fine (End worker io outcome) = not (is_fault outcome)
+is_fine (Verdict worker io Good) = true
+is_fine (Verdict worker io (Bad what)) = false
+is_fine (Verdict worker io Void) = false
+is_fine (Issue worker kind write piece) = true
+is_fine (Probe worker write piece) = true
+is_fine (Skip worker write) = true
+
+abbrev pub are_fine : List Event → Bool
+are_fine history = list_all is_fine history
 
 -- an event that may happen after a legal history, with nothing wrong so far
 pub record IsStep (plan : Plan) (history : List Event) (e : Event) : Type 0 where
   pub legal : is_legal plan history ≡ true
   pub may : may_happen plan history e ≡ true
-  pub quiet : is_quiet history ≡ true
-  pub calm : is_calm e ≡ true
+  pub quiet : are_fine history ≡ true
+  pub calm : is_fine e ≡ true
 
-pub along_from : (plan : Plan) (P : List Event → Type 0) → ((h : List Event) (e : Event) → IsStep plan h e → P h → P (h ++ e ∷ [])) → (before events : List Event) → is_legal plan before ≡ true → legal_after plan before events ≡ true → is_quiet before ≡ true → is_quiet events ≡ true → P before → P (before ++ events)
-along_from plan P step before [] so_far legal quiet calm start = subst P (sym (append-nil before)) start
-along_from plan P step before (e ∷ events) so_far legal quiet calm start =
+-- what holds of the empty history, and after each event that may happen, holds of every legal history
+legal_from : (plan : Plan) (P : List Event → Type 0) → ((h : List Event) (e : Event) → is_legal plan h ≡ true → may_happen plan h e ≡ true → P h → P (h ++ e ∷ [])) → (before events : List Event) → is_legal plan before ≡ true → legal_after plan before events ≡ true → P before → P (before ++ events)
+legal_from plan P step before [] so_far legal start = subst P (sym (append-nil before)) start
+legal_from plan P step before (e ∷ events) so_far legal start =
     let parts = and_parts (may_happen plan before e) (legal_after plan (before ++ e ∷ []) events) legal in
-    let calms = and_parts (is_calm e) (is_quiet events) calm in
-    let next = step before e (record { legal = so_far; may = parts.0; quiet = quiet; calm = calms.0 }) start in
     subst P (append_assoc before (e ∷ []) events)
-    (along_from plan P step (before ++ e ∷ []) events (is_legal-more plan before e so_far parts.0) parts.1
-    (list_all-append is_calm before (e ∷ []) ∙ and_from (is_quiet before) (is_calm e && true) quiet (and_from (is_calm e) true calms.0 refl))
-    calms.1 next)
+    (legal_from plan P step (before ++ e ∷ []) events (is_legal-more plan before e so_far parts.0) parts.1 (step before e so_far parts.0 start))
 
--- what holds of the empty history, and after each step, holds of every legal history in which nothing goes wrong
-pub along : (plan : Plan) (P : List Event → Type 0) → P [] → ((h : List Event) (e : Event) → IsStep plan h e → P h → P (h ++ e ∷ [])) → (history : List Event) → is_legal plan history ≡ true → is_quiet history ≡ true → P history
-along plan P start step history legal quiet = along_from plan P step [] history refl legal refl quiet start
+pub each_legal : (plan : Plan) (P : List Event → Type 0) → P [] → ((h : List Event) (e : Event) → is_legal plan h ≡ true → may_happen plan h e ≡ true → P h → P (h ++ e ∷ [])) → (history : List Event) → is_legal plan history ≡ true → P history
+each_legal plan P start step history legal = legal_from plan P step [] history refl legal start
 
-pub well_of : (plan : Plan) (history : List Event) → is_legal plan history ≡ true → is_quiet history ≡ true → IsWell plan history
-well_of plan history legal quiet =
-    along plan (IsWell plan) (record { legal = refl; ends = λ io o h. none_some io o h; judged = λ io h. none_true io h })
-    (λ h e step well. well-more plan h e well step.may) history legal quiet
+pub legal_is_well : (plan : Plan) (history : List Event) → is_legal plan history ≡ true → IsWell plan history
+legal_is_well plan history legal =
+    each_legal plan (IsWell plan) (record { legal = refl; ends = λ io o h. none_some io o h; judged = λ io h. none_true io h })
+    (λ h e so_far may well. well-more plan h e well may) history legal
   where
     none_some : (io : ℕ) (o : Outcome) → None ≡ Some o → io < 0
     none_some io o h = cc
 
     none_true : (io : ℕ) → false ≡ true → io < 0
     none_true io h = cc
+
+pub along_from : (plan : Plan) (P : List Event → Type 0) → ((h : List Event) (e : Event) → IsStep plan h e → P h → P (h ++ e ∷ [])) → (before events : List Event) → is_legal plan before ≡ true → legal_after plan before events ≡ true → are_fine before ≡ true → are_fine events ≡ true → P before → P (before ++ events)
+along_from plan P step before [] so_far legal quiet calm start = subst P (sym (append-nil before)) start
+along_from plan P step before (e ∷ events) so_far legal quiet calm start =
+    let parts = and_parts (may_happen plan before e) (legal_after plan (before ++ e ∷ []) events) legal in
+    let calms = and_parts (is_fine e) (are_fine events) calm in
+    let next = step before e (record { legal = so_far; may = parts.0; quiet = quiet; calm = calms.0 }) start in
+    subst P (append_assoc before (e ∷ []) events)
+    (along_from plan P step (before ++ e ∷ []) events (is_legal-more plan before e so_far parts.0) parts.1
+    (list_all-append is_fine before (e ∷ []) ∙ and_from (are_fine before) (is_fine e && true) quiet (and_from (is_fine e) true calms.0 refl))
+    calms.1 next)
+
+-- what holds of the empty history, and after each step, holds of every legal history in which nothing goes wrong
+pub along : (plan : Plan) (P : List Event → Type 0) → P [] → ((h : List Event) (e : Event) → IsStep plan h e → P h → P (h ++ e ∷ [])) → (history : List Event) → is_legal plan history ≡ true → are_fine history ≡ true → P history
+along plan P start step history legal quiet = along_from plan P step [] history refl legal refl quiet start
+
+pub well_of : (plan : Plan) (history : List Event) → is_legal plan history ≡ true → are_fine history ≡ true → IsWell plan history
+well_of plan history legal quiet = legal_is_well plan history legal
 
 -- the event speaks of an I/O among the first n
 abbrev pub refers : ℕ → Event → Bool
@@ -95,14 +123,14 @@ pub refers_now : (plan : Plan) (h : List Event) (e : Event) → IsStep plan h e 
 refers_now plan h (End worker io outcome) step =
     (and_parts (nat_lt io (length (started h))) (is_none (outcome_of h io)) (and_parts (flies h io) (end_fits worker outcome (slice_get (started h) io)) step.may).0).0
 refers_now plan h (Verdict worker io verdict) step =
-    let parts = and_parts (ended_whole (outcome_of h io) && not (is_judged h io)) (verdict_fits plan verdict (slice_get (started h) io)) step.may in
+    let parts = and_parts (ended_whole (outcome_of h io) && not (is_judged h io)) (verdict_fits plan (has_raced h io) verdict (slice_get (started h) io)) step.may in
     let ended = and_parts (ended_whole (outcome_of h io)) (not (is_judged h io)) parts.0 in
     lt-ltb io (length (started h)) ((well_of plan h step.legal step.quiet).ends io Whole (whole_some (outcome_of h io) ended.0))
 refers_now plan h (Issue worker kind write piece) step = refl
 refers_now plan h (Probe worker write piece) step = refl
 refers_now plan h (Skip worker write) step = refl
 
-pub all_refer : (plan : Plan) (history : List Event) → is_legal plan history ≡ true → is_quiet history ≡ true → list_all (refers (length (started history))) history ≡ true
+pub all_refer : (plan : Plan) (history : List Event) → is_legal plan history ≡ true → are_fine history ≡ true → list_all (refers (length (started history))) history ≡ true
 all_refer plan history legal quiet = along plan (λ (h : List Event). list_all (refers (length (started h))) h ≡ true) refl grows history legal quiet
   where
     grows : (h : List Event) (e : Event) → IsStep plan h e → list_all (refers (length (started h))) h ≡ true → list_all (refers (length (started (h ++ e ∷ [])))) (h ++ e ∷ []) ≡ true
@@ -195,7 +223,7 @@ pub record IsTakeUp (plan : Plan) (h : List Event) (intact : Bool) (write : Writ
   pub job : SubJob
   pub draw : Draw
   pub names : IsNamed plan write job draw
-  pub may : may_take_up h (pass_of job write.pass) draw ≡ true
+  pub may : may_take_up plan h (pass_of job write.pass) draw ≡ true
   pub intact_is : is_intact h (write_id (pass_of job write.pass) draw) draw.piece ≡ intact
 
 pub issue_of : (plan : Plan) (h : List Event) (worker : ℕ) (kind : IssueKind) (write : WriteId) (piece : Piece) → IsNumbered plan → may_happen plan h (Issue worker kind write piece) ≡ true → IsIssue plan h kind write piece
@@ -214,32 +242,44 @@ issue_of plan h worker kind write piece numbered may = by_clone (clone_of plan w
     by_draw job planned None drawn g = cc
     by_draw job planned (Some draw) drawn g =
         let pass = pass_of job write.pass in
-        let found = by_cases pass draw (may_take_up h pass draw) (is_intact h (write_id pass draw) draw.piece) (may_issue plan h pass draw) g in
+        let found = by_cases pass draw (may_take_up plan h pass draw) (is_intact h (write_id pass draw) draw.piece) (may_issue plan h pass draw) g in
         record { job = job; draw = draw; names = named plan write job draw numbered planned drawn; kind_is = found.1; piece_is = found.2; may = found.0 }
 
     by_clone : (o : Option SubJob) → clone_of plan write.clone ≡ o → is_this_issue kind write piece (step_of_clone plan h worker write o) ≡ true → IsIssue plan h kind write piece
     by_clone None planned g = cc
     by_clone (Some job) planned g = by_draw job planned (slice_get (draws_of_job job write.pass) write.number) refl g
 
-pub probe_of : (plan : Plan) (h : List Event) (worker : ℕ) (write : WriteId) (piece : Piece) → IsNumbered plan → may_happen plan h (Probe worker write piece) ≡ true → IsTakeUp plan h true write
-probe_of plan h worker write piece numbered may = by_clone (clone_of plan write.clone) refl may
+-- a draw's check, over its piece
+pub record IsProbe (plan : Plan) (h : List Event) (write : WriteId) (piece : Piece) : Type 0 where
+  pub take : IsTakeUp plan h true write
+  pub piece_is : take.draw.piece ≡ piece
+
+pub probed_of : (plan : Plan) (h : List Event) (worker : ℕ) (write : WriteId) (piece : Piece) → IsNumbered plan → may_happen plan h (Probe worker write piece) ≡ true → IsProbe plan h write piece
+probed_of plan h worker write piece numbered may = by_clone (clone_of plan write.clone) refl may
   where
-    by_cases : (pass : Pass) (draw : Draw) (taken intact may_be : Bool) → is_this_probe write piece (cond taken (Some (cond intact (Probe worker (write_id pass draw) draw.piece) (Skip worker (write_id pass draw)))) (cond may_be (Some (Issue worker (issued_as pass.job draw.dir) (write_id pass draw) draw.piece)) None)) ≡ true → (taken ≡ true) × (intact ≡ true)
-    by_cases pass draw true true may_be g = (refl, refl)
+    by_cases : (pass : Pass) (draw : Draw) (taken intact may_be : Bool) → is_this_probe write piece (cond taken (Some (cond intact (Probe worker (write_id pass draw) draw.piece) (Skip worker (write_id pass draw)))) (cond may_be (Some (Issue worker (issued_as pass.job draw.dir) (write_id pass draw) draw.piece)) None)) ≡ true → (taken ≡ true) × (intact ≡ true) × (draw.piece ≡ piece)
+    by_cases pass draw true true may_be g =
+        (refl, refl, eq_piece draw.piece piece (and_parts (same_write (write_id pass draw) write) (same_piece draw.piece piece) g).1)
     by_cases pass draw true false may_be g = cc
     by_cases pass draw false intact false g = cc
     by_cases pass draw false intact true g = cc
 
-    by_draw : (job : SubJob) → clone_of plan write.clone ≡ Some job → (o : Option Draw) → slice_get (draws_of_job job write.pass) write.number ≡ o → is_this_probe write piece (step_of_draw plan h worker (pass_of job write.pass) o) ≡ true → IsTakeUp plan h true write
+    by_draw : (job : SubJob) → clone_of plan write.clone ≡ Some job → (o : Option Draw) → slice_get (draws_of_job job write.pass) write.number ≡ o → is_this_probe write piece (step_of_draw plan h worker (pass_of job write.pass) o) ≡ true → IsProbe plan h write piece
     by_draw job planned None drawn g = cc
     by_draw job planned (Some draw) drawn g =
         let pass = pass_of job write.pass in
-        let found = by_cases pass draw (may_take_up h pass draw) (is_intact h (write_id pass draw) draw.piece) (may_issue plan h pass draw) g in
-        record { job = job; draw = draw; names = named plan write job draw numbered planned drawn; may = found.0; intact_is = found.1 }
+        let found = by_cases pass draw (may_take_up plan h pass draw) (is_intact h (write_id pass draw) draw.piece) (may_issue plan h pass draw) g in
+        record {
+          take = record { job = job; draw = draw; names = named plan write job draw numbered planned drawn; may = found.0; intact_is = found.1 };
+          piece_is = found.2;
+        }
 
-    by_clone : (o : Option SubJob) → clone_of plan write.clone ≡ o → is_this_probe write piece (step_of_clone plan h worker write o) ≡ true → IsTakeUp plan h true write
+    by_clone : (o : Option SubJob) → clone_of plan write.clone ≡ o → is_this_probe write piece (step_of_clone plan h worker write o) ≡ true → IsProbe plan h write piece
     by_clone None planned g = cc
     by_clone (Some job) planned g = by_draw job planned (slice_get (draws_of_job job write.pass) write.number) refl g
+
+pub probe_of : (plan : Plan) (h : List Event) (worker : ℕ) (write : WriteId) (piece : Piece) → IsNumbered plan → may_happen plan h (Probe worker write piece) ≡ true → IsTakeUp plan h true write
+probe_of plan h worker write piece numbered may = (probed_of plan h worker write piece numbered may).take
 
 pub skip_of : (plan : Plan) (h : List Event) (worker : ℕ) (write : WriteId) → IsNumbered plan → may_happen plan h (Skip worker write) ≡ true → IsTakeUp plan h false write
 skip_of plan h worker write numbered may = by_clone (clone_of plan write.clone) refl may
@@ -254,7 +294,7 @@ skip_of plan h worker write numbered may = by_clone (clone_of plan write.clone) 
     by_draw job planned None drawn g = cc
     by_draw job planned (Some draw) drawn g =
         let pass = pass_of job write.pass in
-        let found = by_cases pass draw (may_take_up h pass draw) (is_intact h (write_id pass draw) draw.piece) (may_issue plan h pass draw) g in
+        let found = by_cases pass draw (may_take_up plan h pass draw) (is_intact h (write_id pass draw) draw.piece) (may_issue plan h pass draw) g in
         record { job = job; draw = draw; names = named plan write job draw numbered planned drawn; may = found.0; intact_is = found.1 }
 
     by_clone : (o : Option SubJob) → clone_of plan write.clone ≡ o → is_this_skip write (step_of_clone plan h worker write o) ≡ true → IsTakeUp plan h false write

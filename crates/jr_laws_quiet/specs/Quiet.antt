@@ -19,6 +19,7 @@ use Rattle.jr_model.specs.Report.{report_of}
 use Rattle.jr_model.specs.Rounds.{Pass, pass_of, group_of, group_index}
 use Rattle.jr_plan.specs.Files.{are_apart}
 use Rattle.jr_model.specs.PlanFacts.{IsPlanned}
+use Rattle.jr_model.specs.Races.{has_raced}
 
 -- the event is no fault and no bad verdict
 abbrev pub is_calm : Event → Bool
@@ -61,11 +62,29 @@ is_last_in draws draw = not (list_any (later_over draw) draws)
 abbrev pub stays_last : Pass → Draw → Bool
 stays_last pass draw = is_last_in (group_of pass (group_index pass draw.number)) draw
 
--- a write is issued once all that it overlaps has ended
+-- no clone declines that its I/Os wait for those that they overlap
+abbrev pub none_declines : Plan → Bool
+none_declines plan = not (list_any (λ (job : SubJob). job.declines) plan.clones)
+
+-- nothing raced in the history
+abbrev pub NothingRaced : List Event → Type 0
+NothingRaced history = (io : ℕ) → has_raced history io ≡ false
+
+-- where no clone declines, nothing races
+abbrev pub NothingRaces : Type 0
+NothingRaces =
+    (plan : Plan) (history : List Event) (io : ℕ)
+    → IsPlanned plan
+    → none_declines plan ≡ true
+    → is_legal plan history ≡ true
+    → has_raced history io ≡ false
+
+-- a write is issued once all that it overlaps has ended, where no clone declines
 abbrev pub WriteWaits : Type 0
 WriteWaits =
     (plan : Plan) (history : List Event) (worker : ℕ) (write : WriteId) (piece : Piece) (id : ℕ) (io : Started)
     → IsPlanned plan
+    → none_declines plan ≡ true
     → may_happen plan history (Issue worker issue.Write write piece) ≡ true
     → slice_get (started history) id ≡ Some io
     → pieces_overlap io.piece piece ≡ true
@@ -76,6 +95,7 @@ abbrev pub LastIsLatest : Type 0
 LastIsLatest =
     (plan : Plan) (history : List Event) (file block : ℕ)
     → IsPlanned plan
+    → none_declines plan ≡ true
     → is_legal plan history ≡ true
     → is_quiet history ≡ true
     → list_any (writes_block file block) (in_flight history) ≡ false
@@ -87,6 +107,7 @@ abbrev pub ChecksStayLast : Type 0
 ChecksStayLast =
     (plan : Plan) (history : List Event) (worker : ℕ) (write : WriteId) (piece : Piece) (job : SubJob) (draw : Draw)
     → IsPlanned plan
+    → none_declines plan ≡ true
     → are_apart plan.clones ≡ true
     → is_legal plan history ≡ true
     → is_quiet history ≡ true
@@ -95,11 +116,12 @@ ChecksStayLast =
     → (may_happen plan history (Probe worker write piece) ≡ true → stays_last (pass_of job write.pass) draw ≡ true)
     × (may_happen plan history (Skip worker write) ≡ true → stays_last (pass_of job write.pass) draw ≡ false)
 
--- where no two clones have one file, all complete runs in which nothing goes wrong have one report, that of the draws
+-- where no clone declines and no two have one file, all complete runs in which nothing goes wrong have one report, that of the draws
 abbrev pub QuietReport : Type 0
 QuietReport =
     (plan : Plan) (history : List Event)
     → IsPlanned plan
+    → none_declines plan ≡ true
     → are_apart plan.clones ≡ true
     → is_legal plan history ≡ true
     → is_complete plan history ≡ true

@@ -4,4 +4,4 @@
 
 mod quiet;
 
-pub use quiet::{checks_stay_last, last_is_latest, quiet_report, write_waits};
+pub use quiet::{checks_stay_last, last_is_latest, nothing_races, quiet_report, write_waits};

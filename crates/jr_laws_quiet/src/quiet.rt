@@ -1,6 +1,11 @@
-ghost use Rattle.jr_laws_quiet.specs.Quiet.{WriteWaits, LastIsLatest, ChecksStayLast, QuietReport};
+ghost use Rattle.jr_laws_quiet.specs.Quiet.{NothingRaces, WriteWaits, LastIsLatest, ChecksStayLast, QuietReport};
 
-/// A write is issued once all that it overlaps has ended.
+/// Where no clone declines, nothing races.
+pub fn nothing_races()
+    ensures { NothingRaces }
+{}
+
+/// Where no clone declines, a write is issued once all that it overlaps has ended.
 pub fn write_waits()
     ensures { WriteWaits }
 {}

@@ -9,7 +9,7 @@ use Rattle.jr_model.specs.declared.events.Event.{Event}
 use Rattle.jr_model.specs.declared.events.Event.TheVariants.{Issue, Probe, Skip, End, Verdict}
 use Rattle.jr_model.specs.declared.events.Started.{Started}
 use Rattle.jr_model.specs.declared.events.Verdict.{Verdict as GivenVerdict}
-use Rattle.jr_model.specs.declared.events.Verdict.TheVariants.{Good, Bad}
+use Rattle.jr_model.specs.declared.events.Verdict.TheVariants.{Good, Bad, Void}
 use Rattle.jr_model.specs.declared.events.WriteId.{WriteId}
 use Rattle.jr_model.specs.declared.tickets.TicketKind.{TicketKind}
 use Rattle.jr_model.specs.declared.tickets.TicketKind.TheVariants as ticket
@@ -36,6 +36,7 @@ use Rattle.jr_laws_report.proofs.Writes.{AreDistinct}
 -- a bad verdict on a check or checked read is on its write
 on_check : (s : Started) (verdict : GivenVerdict) (m : Miscompare) → miscompare_on (Some s) verdict ≡ Some m → s.write ≡ m.write
 on_check s Good m is = cc
+on_check s Void m is = cc
 on_check s (Bad what) m is = ap (λ (x : Miscompare). x.write) (same_some (record { write = s.write; piece = s.piece; what = what }) m is)
 
 -- each is on the write of a draw

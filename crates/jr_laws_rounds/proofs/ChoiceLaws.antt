@@ -39,14 +39,14 @@ module _ (plan : Plan) (planned : IsPlanned plan) (job : SubJob) (there : clone_
   done_none q done =
       no_choice_of plan h worker job q (λ k draw at.
       no_step_of plan h worker (pass_of job q) draw
-      (none_taken h job q k draw at (done_parts h (pass_of job q) done).closed)
+      (none_taken plan h job q k draw at (done_parts h (pass_of job q) done).closed)
       (not_issued plan h (pass_of job q) draw (λ now. done_not_current h (pass_of job q) done now)))
 
   later_none : (r q : ℕ) → r < q → p < q → pass_finished h (pass_of job r) ≡ false → choice_of_pass plan h worker (pass_of job q) ≡ None
   later_none r q later above unfinished =
       no_choice_of plan h worker job q (λ k draw at.
       no_step_of plan h worker (pass_of job q) draw
-      (unbegun_not_taken h job q k draw at (in_pass.after q above))
+      (unbegun_not_taken plan h job q k draw at (in_pass.after q above))
       (not_issued plan h (pass_of job q) draw (λ now. later_not_current h job r q later unfinished now)))
 
   -- where its pass isn't finished the other passes have none
@@ -87,7 +87,7 @@ module _ (plan : Plan) (planned : IsPlanned plan) (job : SubJob) (there : clone_
           room = room;
           current = now_current h job p in_pass.within unfinished (λ r below. finished_before h job p r in_pass below);
           free = by_rounds (cases_Bool (has_rounds job));
-          untaken = λ k draw at. free_not_taken h job p k draw at free;
+          untaken = λ k draw at. free_not_taken plan h job p k draw at free;
         })
       where
         by_rounds : (has_rounds job ≡ true) ⊎ (has_rounds job ≡ false) → waits_for_round h (pass_of job p) ≡ false
@@ -106,7 +106,7 @@ module _ (plan : Plan) (planned : IsPlanned plan) (job : SubJob) (there : clone_
           room = room;
           current = now_current h job (suc p) within unfinished (λ r below. earlier r below);
           free = unbegun_free h job (suc p) 0 draw.0 draw.1 none;
-          untaken = λ k other_draw at. unbegun_not_taken h job (suc p) k other_draw at none;
+          untaken = λ k other_draw at. unbegun_not_taken plan h job (suc p) k other_draw at none;
         })
       where
         earlier : (r : ℕ) → r < suc p → pass_finished h (pass_of job r) ≡ true
@@ -151,9 +151,9 @@ module _ (plan : Plan) (planned : IsPlanned plan) (job : SubJob) (there : clone_
         ]
 
     -- while a round is under way it is the first write of the round that may be taken up
-    round_choice : has_rounds job ≡ true → waits_for_round h (pass_of job p) ≡ true → list_all (λ (write : WriteId). (write.clone == job.clone) && (write.pass == p)) (current_round job h).to_check ≡ true → AreUnsettled h job p (current_round job h).to_check → choice_of_clone plan h worker job ≡ cond (no_issue_flies h job.clone) (first_given (take_up_write h worker job) (current_round job h).to_check) None
+    round_choice : has_rounds job ≡ true → waits_for_round h (pass_of job p) ≡ true → list_all (λ (write : WriteId). (write.clone == job.clone) && (write.pass == p)) (current_round job h).to_check ≡ true → AreUnsettled h job p (current_round job h).to_check → choice_of_clone plan h worker job ≡ cond (no_issue_flies h job.clone) (first_given (take_up_write plan h worker job) (current_round job h).to_check) None
     round_choice rounds waits own left =
-        let checks = first_given (take_up_write h worker job) (current_round job h).to_check in
+        let checks = first_given (take_up_write plan h worker job) (current_round job h).to_check in
         chosen_of plan h worker job p in_pass.within (others_none (waits_unfinished h job p waits))
         ∙ elim (cases_Bool (no_issue_flies h job.clone)) [
           | inl quiet ↦
@@ -164,12 +164,12 @@ module _ (plan : Plan) (planned : IsPlanned plan) (job : SubJob) (there : clone_
               ∙ sym (cond-false (no_issue_flies h job.clone) checks None busy)
         ]
       where
-        barred : no_issue_flies h job.clone ≡ false → (draw : Draw) → may_take_up h (pass_of job p) draw ≡ false
+        barred : no_issue_flies h job.clone ≡ false → (draw : Draw) → may_take_up plan h (pass_of job p) draw ≡ false
         barred busy draw =
-            false_from_ne_true (may_take_up h (pass_of job p) draw) (λ may.
+            false_from_ne_true (may_take_up plan h (pass_of job p) draw) (λ may.
             both_ways (is_open h (pass_of job p) (group_index (pass_of job p) draw.number))
             (and_right _ (no_issue_flies h job.clone) busy)
-            (can_take h (pass_of job p) draw may).opened)
+            (can_take plan h (pass_of job p) draw may).opened)
 
 -- the law, where the current round says what the pass waits for
 pub choice_by_standing-law : WaitsUnderWay → LeftInPass → LeftAreUnsettled → ChoiceByStanding
@@ -178,7 +178,7 @@ choice_by_standing-law waits in_this unsettled plan h worker c p job planned leg
     let round = current_round job h in
     let blocked = is_halted h job || not (has_room h job) in
     let under = has_rounds job && is_under_way round in
-    let checks = cond (no_issue_flies h job.clone) (first_given (take_up_write h worker job) round.to_check) None in
+    let checks = cond (no_issue_flies h job.clone) (first_given (take_up_write plan h worker job) round.to_check) None in
     let issues = next_issue plan h worker job p in
     elim (cases_Bool blocked) [
       | inl stuck ↦ blocked_none plan planned job there h worker p in_pass stuck ∙ sym (cond-true blocked None (cond under checks issues) stuck)

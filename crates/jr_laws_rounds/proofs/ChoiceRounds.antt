@@ -88,14 +88,14 @@ pub record IsChecking (h : List Event) (job : SubJob) (p : ℕ) : Type 0 where
   pub quiet : no_issue_flies h job.clone ≡ true
 
 -- what isn't left of a full group isn't taken up
-not_left : (h : List Event) (job : SubJob) (p : ℕ) (draw : Draw) → (is_write_draw draw ≡ true → (is_full h (pass_of job p) (group_index (pass_of job p) draw.number) && not (is_settled h (write_id (pass_of job p) draw))) ≡ false) → may_take_up h (pass_of job p) draw ≡ false
-not_left h job p draw none = false_from_ne_true (may_take_up h (pass_of job p) draw) no_take
+not_left : (plan : Plan) (h : List Event) (job : SubJob) (p : ℕ) (draw : Draw) → (is_write_draw draw ≡ true → (is_full h (pass_of job p) (group_index (pass_of job p) draw.number) && not (is_settled h (write_id (pass_of job p) draw))) ≡ false) → may_take_up plan h (pass_of job p) draw ≡ false
+not_left plan h job p draw none = false_from_ne_true (may_take_up plan h (pass_of job p) draw) no_take
   where
-    no_take : may_take_up h (pass_of job p) draw ≡ true → ⊥
+    no_take : may_take_up plan h (pass_of job p) draw ≡ true → ⊥
     no_take may =
         let pass = pass_of job p in
         let g = group_index pass draw.number in
-        let needs = takeable h pass draw may in
+        let needs = takeable plan h pass draw may in
         let full = (open_parts h pass g needs.opened).full in
         let untaken = not-true (list_any (takes_up (write_id pass draw)) h) needs.untaken in
         let unsettled : is_settled h (write_id pass draw) ≡ false =
@@ -111,38 +111,38 @@ module _ (plan : Plan) (h : List Event) (worker : ℕ) (job : SubJob) (p : ℕ) 
       both_ways (not (waits_for_round h (pass_of job p))) (not_from_true (waits_for_round h (pass_of job p)) waits) (can_issue plan h (pass_of job p) draw may).free)
 
   -- a write that is left is taken up, unless it was, or something bars it
-  left_step : IsChecking h job p → (draw : Draw) → IsWriteAt job p draw → (is_full h (pass_of job p) (group_index (pass_of job p) draw.number) && not (is_settled h (write_id (pass_of job p) draw))) ≡ true → step_of plan h worker (pass_of job p) draw ≡ take_up h worker (pass_of job p) (Some draw)
+  left_step : IsChecking h job p → (draw : Draw) → IsWriteAt job p draw → (is_full h (pass_of job p) (group_index (pass_of job p) draw.number) && not (is_settled h (write_id (pass_of job p) draw))) ≡ true → step_of plan h worker (pass_of job p) draw ≡ take_up plan h worker (pass_of job p) (Some draw)
   left_step now draw write left =
       let pass = pass_of job p in
       let event = check_or_skip h worker pass draw in
       let issue = Issue worker (issued_as job draw.dir) (write_id pass draw) draw.piece in
       let taken = list_any (takes_up (write_id pass draw)) h in
-      let clear = is_clear h false draw.piece in
+      let clear = is_clear plan h pass.job false draw.piece in
       let unissued = waits_no_issue now.waits draw in
       elim (cases_Bool (taken || not clear)) [
         | inl bars ↦
-            no_step_of plan h worker pass draw (false_from_ne_true (may_take_up h pass draw) (λ may. barred bars may)) unissued
+            no_step_of plan h worker pass draw (false_from_ne_true (may_take_up plan h pass draw) (λ may. barred bars may)) unissued
             ∙ sym (cond-true (taken || not clear) None (Some event) bars)
         | inr free ↦
-            cond-true (may_take_up h pass draw) (Some event) (cond (may_issue plan h pass draw) (Some issue) None) (may_be free)
+            cond-true (may_take_up plan h pass draw) (Some event) (cond (may_issue plan h pass draw) (Some issue) None) (may_be free)
             ∙ sym (cond-false (taken || not clear) None (Some event) free)
       ]
     where
-      barred : (list_any (takes_up (write_id (pass_of job p) draw)) h || not (is_clear h false draw.piece)) ≡ true → may_take_up h (pass_of job p) draw ≡ true → ⊥
+      barred : (list_any (takes_up (write_id (pass_of job p) draw)) h || not (is_clear plan h job false draw.piece)) ≡ true → may_take_up plan h (pass_of job p) draw ≡ true → ⊥
       barred bars may =
           let taken = list_any (takes_up (write_id (pass_of job p) draw)) h in
-          let clear = is_clear h false draw.piece in
-          let can = can_take h (pass_of job p) draw may in
+          let clear = is_clear plan h job false draw.piece in
+          let can = can_take plan h (pass_of job p) draw may in
           both_ways (taken || not clear)
           (or_from taken (not clear) (not-true taken can.new) (not_from_true clear can.clear))
           bars
 
-      may_be : (list_any (takes_up (write_id (pass_of job p) draw)) h || not (is_clear h false draw.piece)) ≡ false → may_take_up h (pass_of job p) draw ≡ true
+      may_be : (list_any (takes_up (write_id (pass_of job p) draw)) h || not (is_clear plan h job false draw.piece)) ≡ false → may_take_up plan h (pass_of job p) draw ≡ true
       may_be free =
           let pass = pass_of job p in
           let g = group_index pass draw.number in
           let taken = list_any (takes_up (write_id pass draw)) h in
-          let clear = is_clear h false draw.piece in
+          let clear = is_clear plan h pass.job false draw.piece in
           let parts = or_parts taken (not clear) free in
           let full = and_parts (is_full h pass g) (not (is_settled h (write_id pass draw))) left in
           let unsettled = not-true (is_settled h (write_id pass draw)) full.1 in
@@ -152,7 +152,7 @@ module _ (plan : Plan) (h : List Event) (worker : ℕ) (job : SubJob) (p : ℕ) 
           both_ways (is_settled h (write_id pass draw)) unsettled
           (all_at (λ (d : Draw). is_settled h (write_id pass d)) (group_of pass g) own.0.place draw
           (and_parts (is_full h pass g) (list_all (λ (d : Draw). is_settled h (write_id pass d)) (group_of pass g)) closed).1 own.0.at)) in
-          take_may h pass draw (record {
+          take_may plan h pass draw (record {
             writes = write.writes;
             rounds = now.rounds;
             new = not_from_false taken parts.0;
@@ -164,9 +164,9 @@ module _ (plan : Plan) (h : List Event) (worker : ℕ) (job : SubJob) (p : ℕ) 
           })
 
   -- the choice of the pass, where the writes of one of its groups are those left
-  of_group : IsChecking h job p → (g : ℕ) → AreUnsettled h job p (left_writes h job p g) → choice_of_pass plan h worker (pass_of job p) ≡ first_given (take_up_write h worker job) (left_writes h job p g)
+  of_group : IsChecking h job p → (g : ℕ) → AreUnsettled h job p (left_writes h job p g) → choice_of_pass plan h worker (pass_of job p) ≡ first_given (take_up_write plan h worker job) (left_writes h job p g)
   of_group now g left =
-      gives_same (step_of plan h worker (pass_of job p)) (λ (z : Draw). take_up h worker (pass_of job p) (slice_get (draws_of_job job p) z.number)) (draws_of_job job p) (left_of h job p g)
+      gives_same (step_of plan h worker (pass_of job p)) (λ (z : Draw). take_up plan h worker (pass_of job p) (slice_get (draws_of_job job p) z.number)) (draws_of_job job p) (left_of h job p g)
       (record {
         numbered = numbered_draws job p;
         rises = rising_kept (is_left h (pass_of job p)) 0 (group_of (pass_of job p) g) (group_rises job p g);
@@ -174,21 +174,21 @@ module _ (plan : Plan) (h : List Event) (worker : ℕ) (job : SubJob) (p : ℕ) 
         same = λ j z at. same_step j z at;
         others = λ k x at. other k x at;
       })
-      ∙ sym (given_of_made (take_up_write h worker job) (write_id (pass_of job p)) (left_of h job p g))
+      ∙ sym (given_of_made (take_up_write plan h worker job) (write_id (pass_of job p)) (left_of h job p g))
     where
       its_write : (j : ℕ) (z : Draw) → slice_get (left_of h job p g) j ≡ Some z → IsWriteAt job p z
       its_write j z at =
           let member = got_filtered (is_left h (pass_of job p)) (group_of (pass_of job p) g) j z at in
           write_of_group job p g member.0 z member.1
 
-      same_step : (j : ℕ) (z : Draw) → slice_get (left_of h job p g) j ≡ Some z → step_of plan h worker (pass_of job p) z ≡ take_up h worker (pass_of job p) (slice_get (draws_of_job job p) z.number)
+      same_step : (j : ℕ) (z : Draw) → slice_get (left_of h job p g) j ≡ Some z → step_of plan h worker (pass_of job p) z ≡ take_up plan h worker (pass_of job p) (slice_get (draws_of_job job p) z.number)
       same_step j z at =
           let id = write_id (pass_of job p) in
           let write = its_write j z at in
           let there : list_any (same_write (id z)) (left_writes h job p g) ≡ true =
           any_at (same_write (id z)) (left_writes h job p g) j (id z) (made_at id (left_of h job p g) j z at) (same_write_refl (id z)) in
           left_step now z write (sym (left z.number z write.at write.writes) ∙ there)
-          ∙ ap (take_up h worker (pass_of job p)) (sym write.at)
+          ∙ ap (take_up plan h worker (pass_of job p)) (sym write.at)
 
       found_left : (k : ℕ) (x : Draw) → slice_get (draws_of_job job p) k ≡ Some x → list_any (same_write (write_id (pass_of job p) x)) (left_writes h job p g) ≡ true → (j : ℕ) × (slice_get (left_of h job p g) j ≡ Some x)
       found_left k x at some =
@@ -206,7 +206,7 @@ module _ (plan : Plan) (h : List Event) (worker : ℕ) (job : SubJob) (p : ℕ) 
             | inl some ↦ inr (found_left k x at some)
             | inr none ↦
                 inl (no_step_of plan h worker (pass_of job p) x
-                (not_left h job p x (λ writes. sym (left k x at writes) ∙ none))
+                (not_left plan h job p x (λ writes. sym (left k x at writes) ∙ none))
                 (waits_no_issue now.waits x))
           ]
 
@@ -216,20 +216,20 @@ module _ (plan : Plan) (h : List Event) (worker : ℕ) (job : SubJob) (p : ℕ) 
       nothing_given (step_of plan h worker (pass_of job p)) (draws_of_job job p)
       (λ k x at.
       no_step_of plan h worker (pass_of job p) x
-      (not_left h job p x (λ writes. sym (left k x at writes)))
+      (not_left plan h job p x (λ writes. sym (left k x at writes)))
       (waits_no_issue now.waits x))
 
   -- the writes left of some pass, which are all of this one
-  of_pass : IsChecking h job p → (n g : ℕ) → list_all (λ (write : WriteId). (write.clone == job.clone) && (write.pass == p)) (left_writes h job n g) ≡ true → AreUnsettled h job p (left_writes h job n g) → choice_of_pass plan h worker (pass_of job p) ≡ first_given (take_up_write h worker job) (left_writes h job n g)
+  of_pass : IsChecking h job p → (n g : ℕ) → list_all (λ (write : WriteId). (write.clone == job.clone) && (write.pass == p)) (left_writes h job n g) ≡ true → AreUnsettled h job p (left_writes h job n g) → choice_of_pass plan h worker (pass_of job p) ≡ first_given (take_up_write plan h worker job) (left_writes h job n g)
   of_pass now n g own left =
       elim (cases_eq n p) [
         | inl same ↦
-            subst (λ (m : ℕ). AreUnsettled h job p (left_writes h job m g) → choice_of_pass plan h worker (pass_of job p) ≡ first_given (take_up_write h worker job) (left_writes h job m g))
+            subst (λ (m : ℕ). AreUnsettled h job p (left_writes h job m g) → choice_of_pass plan h worker (pass_of job p) ≡ first_given (take_up_write plan h worker job) (left_writes h job m g))
             (sym same) (of_group now g) left
         | inr apart ↦ by_left apart (left_of h job n g) own left
       ]
     where
-      by_left : (n ≡ p → ⊥) → (zs : List Draw) → list_all (λ (write : WriteId). (write.clone == job.clone) && (write.pass == p)) (map (write_id (pass_of job n)) zs) ≡ true → AreUnsettled h job p (map (write_id (pass_of job n)) zs) → choice_of_pass plan h worker (pass_of job p) ≡ first_given (take_up_write h worker job) (map (write_id (pass_of job n)) zs)
+      by_left : (n ≡ p → ⊥) → (zs : List Draw) → list_all (λ (write : WriteId). (write.clone == job.clone) && (write.pass == p)) (map (write_id (pass_of job n)) zs) ≡ true → AreUnsettled h job p (map (write_id (pass_of job n)) zs) → choice_of_pass plan h worker (pass_of job p) ≡ first_given (take_up_write plan h worker job) (map (write_id (pass_of job n)) zs)
       by_left apart [] all none = of_none now none
       by_left apart (z ∷ zs) all none =
           let first = and_parts ((job.clone == job.clone) && (n == p)) (list_all (λ (write : WriteId). (write.clone == job.clone) && (write.pass == p)) (map (write_id (pass_of job n)) zs)) all in
@@ -237,6 +237,6 @@ module _ (plan : Plan) (h : List Event) (worker : ℕ) (job : SubJob) (p : ℕ) 
           absurd (apart same)
 
   -- so it is for the current round, whatever its last write is
-  pub of_round : IsChecking h job p → (last : Option WriteId) → list_all (λ (write : WriteId). (write.clone == job.clone) && (write.pass == p)) (round_up_to job h last).to_check ≡ true → AreUnsettled h job p (round_up_to job h last).to_check → choice_of_pass plan h worker (pass_of job p) ≡ first_given (take_up_write h worker job) (round_up_to job h last).to_check
+  pub of_round : IsChecking h job p → (last : Option WriteId) → list_all (λ (write : WriteId). (write.clone == job.clone) && (write.pass == p)) (round_up_to job h last).to_check ≡ true → AreUnsettled h job p (round_up_to job h last).to_check → choice_of_pass plan h worker (pass_of job p) ≡ first_given (take_up_write plan h worker job) (round_up_to job h last).to_check
   of_round now None own left = of_none now left
   of_round now (Some write) own left = of_pass now write.pass (group_index (pass_of job write.pass) write.number) own left

@@ -52,7 +52,7 @@ pub record CanIssue (plan : Plan) (h : List Event) (pass : Pass) (draw : Draw) :
   pub next : (draw.number == issued_count h pass) ≡ true
   pub going : not (is_halted h pass.job) ≡ true
   pub room : has_room h pass.job ≡ true
-  pub clear : is_clear h (is_write_draw draw) draw.piece ≡ true
+  pub clear : is_clear plan h pass.job (is_write_draw draw) draw.piece ≡ true
   pub current : is_current h pass ≡ true
   pub free : not (waits_for_round h pass) ≡ true
   pub opened : phase_is_open plan h pass.job ≡ true
@@ -60,50 +60,50 @@ pub record CanIssue (plan : Plan) (h : List Event) (pass : Pass) (draw : Draw) :
 pub can_issue : (plan : Plan) (h : List Event) (pass : Pass) (draw : Draw) → may_issue plan h pass draw ≡ true → CanIssue plan h pass draw
 can_issue plan h pass draw may =
     let parts = seven_parts (draw.number == issued_count h pass) (not (is_halted h pass.job)) (has_room h pass.job)
-    (is_clear h (is_write_draw draw) draw.piece) (is_current h pass) (not (waits_for_round h pass)) (phase_is_open plan h pass.job) may in
+    (is_clear plan h pass.job (is_write_draw draw) draw.piece) (is_current h pass) (not (waits_for_round h pass)) (phase_is_open plan h pass.job) may in
     record { next = parts.0; going = parts.1; room = parts.2; clear = parts.3; current = parts.4; free = parts.5; opened = parts.6 }
 
 pub issue_may : (plan : Plan) (h : List Event) (pass : Pass) (draw : Draw) → CanIssue plan h pass draw → may_issue plan h pass draw ≡ true
 issue_may plan h pass draw can =
     seven_from (draw.number == issued_count h pass) (not (is_halted h pass.job)) (has_room h pass.job)
-    (is_clear h (is_write_draw draw) draw.piece) (is_current h pass) (not (waits_for_round h pass)) (phase_is_open plan h pass.job)
+    (is_clear plan h pass.job (is_write_draw draw) draw.piece) (is_current h pass) (not (waits_for_round h pass)) (phase_is_open plan h pass.job)
     can.next can.going can.room can.clear can.current can.free can.opened
 
 -- the parts of a check or skip that may be made
-pub record CanTake (h : List Event) (pass : Pass) (draw : Draw) : Type 0 where
+pub record CanTake (plan : Plan) (h : List Event) (pass : Pass) (draw : Draw) : Type 0 where
   pub writes : is_write_draw draw ≡ true
   pub rounds : has_rounds pass.job ≡ true
   pub new : not (list_any (takes_up (write_id pass draw)) h) ≡ true
   pub going : not (is_halted h pass.job) ≡ true
   pub room : has_room h pass.job ≡ true
-  pub clear : is_clear h false draw.piece ≡ true
+  pub clear : is_clear plan h pass.job false draw.piece ≡ true
   pub opened : is_open h pass (group_index pass draw.number) ≡ true
 
-pub can_take : (h : List Event) (pass : Pass) (draw : Draw) → may_take_up h pass draw ≡ true → CanTake h pass draw
-can_take h pass draw may =
+pub can_take : (plan : Plan) (h : List Event) (pass : Pass) (draw : Draw) → may_take_up plan h pass draw ≡ true → CanTake plan h pass draw
+can_take plan h pass draw may =
     let parts = seven_parts (is_write_draw draw) (has_rounds pass.job) (not (list_any (takes_up (write_id pass draw)) h))
-    (not (is_halted h pass.job)) (has_room h pass.job) (is_clear h false draw.piece) (is_open h pass (group_index pass draw.number)) may in
+    (not (is_halted h pass.job)) (has_room h pass.job) (is_clear plan h pass.job false draw.piece) (is_open h pass (group_index pass draw.number)) may in
     record { writes = parts.0; rounds = parts.1; new = parts.2; going = parts.3; room = parts.4; clear = parts.5; opened = parts.6 }
 
-pub take_may : (h : List Event) (pass : Pass) (draw : Draw) → CanTake h pass draw → may_take_up h pass draw ≡ true
-take_may h pass draw can =
+pub take_may : (plan : Plan) (h : List Event) (pass : Pass) (draw : Draw) → CanTake plan h pass draw → may_take_up plan h pass draw ≡ true
+take_may plan h pass draw can =
     seven_from (is_write_draw draw) (has_rounds pass.job) (not (list_any (takes_up (write_id pass draw)) h))
-    (not (is_halted h pass.job)) (has_room h pass.job) (is_clear h false draw.piece) (is_open h pass (group_index pass draw.number))
+    (not (is_halted h pass.job)) (has_room h pass.job) (is_clear plan h pass.job false draw.piece) (is_open h pass (group_index pass draw.number))
     can.writes can.rounds can.new can.going can.room can.clear can.opened
 
 -- where neither may be made there is no step
 neither : (a b : Bool) (x y : Event) → a ≡ false → b ≡ false → cond a (Some x) (cond b (Some y) None) ≡ None
 neither a b x y not_a not_b = cond-false a (Some x) (cond b (Some y) None) not_a ∙ cond-false b (Some y) None not_b
 
-pub no_step_of : (plan : Plan) (h : List Event) (worker : ℕ) (pass : Pass) (draw : Draw) → may_take_up h pass draw ≡ false → may_issue plan h pass draw ≡ false → step_of plan h worker pass draw ≡ None
+pub no_step_of : (plan : Plan) (h : List Event) (worker : ℕ) (pass : Pass) (draw : Draw) → may_take_up plan h pass draw ≡ false → may_issue plan h pass draw ≡ false → step_of plan h worker pass draw ≡ None
 no_step_of plan h worker pass draw untaken unissued =
-    neither (may_take_up h pass draw) (may_issue plan h pass draw) (check_or_skip h worker pass draw) (Issue worker (issued_as pass.job draw.dir) (write_id pass draw) draw.piece) untaken unissued
+    neither (may_take_up plan h pass draw) (may_issue plan h pass draw) (check_or_skip h worker pass draw) (Issue worker (issued_as pass.job draw.dir) (write_id pass draw) draw.piece) untaken unissued
 
 -- a clone that is halted, or has no room, has no step
 pub blocked_step : (plan : Plan) (h : List Event) (worker : ℕ) (pass : Pass) (draw : Draw) → (is_halted h pass.job || not (has_room h pass.job)) ≡ true → step_of plan h worker pass draw ≡ None
 blocked_step plan h worker pass draw blocked =
     no_step_of plan h worker pass draw
-    (false_from_ne_true (may_take_up h pass draw) (λ may. let can = can_take h pass draw may in blocks can.going can.room))
+    (false_from_ne_true (may_take_up plan h pass draw) (λ may. let can = can_take plan h pass draw may in blocks can.going can.room))
     (false_from_ne_true (may_issue plan h pass draw) (λ may. let can = can_issue plan h pass draw may in blocks can.going can.room))
   where
     blocks : not (is_halted h pass.job) ≡ true → has_room h pass.job ≡ true → ⊥
@@ -127,12 +127,12 @@ later_not_current h job r q later unfinished current =
     both_ways (pass_finished h (pass_of job r)) unfinished (before_at h job q r now.before later (omega (arith, later, now.within)))
 
 -- of a pass of which nothing was issued no write is taken up
-pub unbegun_not_taken : (h : List Event) (job : SubJob) (q k : ℕ) (draw : Draw) → slice_get (draws_of_job job q) k ≡ Some draw → issued_count h (pass_of job q) ≡ 0 → may_take_up h (pass_of job q) draw ≡ false
-unbegun_not_taken h job q k draw at none =
+pub unbegun_not_taken : (plan : Plan) (h : List Event) (job : SubJob) (q k : ℕ) (draw : Draw) → slice_get (draws_of_job job q) k ≡ Some draw → issued_count h (pass_of job q) ≡ 0 → may_take_up plan h (pass_of job q) draw ≡ false
+unbegun_not_taken plan h job q k draw at none =
     let pass = pass_of job q in
     let g = group_index pass draw.number in
-    false_from_ne_true (may_take_up h pass draw) (λ may.
-    full_needs_issue h pass g k draw at none (open_parts h pass g (takeable h pass draw may).opened).full)
+    false_from_ne_true (may_take_up plan h pass draw) (λ may.
+    full_needs_issue h pass g k draw at none (open_parts h pass g (takeable plan h pass draw may).opened).full)
 
 -- where nothing was issued of a pass it waits for no round
 pub unbegun_free : (h : List Event) (job : SubJob) (q k : ℕ) (draw : Draw) → slice_get (draws_of_job job q) k ≡ Some draw → issued_count h (pass_of job q) ≡ 0 → waits_for_round h (pass_of job q) ≡ false
@@ -164,15 +164,15 @@ waits_unfinished h job p waits = false_from_ne_true (pass_finished h (pass_of jo
         (group_closed h job p g parts.0 (done_parts h pass done).closed (omega (arith, ranged.0, ranged.1)))
 
 -- where a pass waits for no round none of its writes is taken up
-pub free_not_taken : (h : List Event) (job : SubJob) (p k : ℕ) (draw : Draw) → slice_get (draws_of_job job p) k ≡ Some draw → (has_rounds job ≡ true → waits_for_round h (pass_of job p) ≡ false) → may_take_up h (pass_of job p) draw ≡ false
-free_not_taken h job p k draw at free = false_from_ne_true (may_take_up h (pass_of job p) draw) not_taken
+pub free_not_taken : (plan : Plan) (h : List Event) (job : SubJob) (p k : ℕ) (draw : Draw) → slice_get (draws_of_job job p) k ≡ Some draw → (has_rounds job ≡ true → waits_for_round h (pass_of job p) ≡ false) → may_take_up plan h (pass_of job p) draw ≡ false
+free_not_taken plan h job p k draw at free = false_from_ne_true (may_take_up plan h (pass_of job p) draw) not_taken
   where
-    not_taken : may_take_up h (pass_of job p) draw ≡ true → ⊥
+    not_taken : may_take_up plan h (pass_of job p) draw ≡ true → ⊥
     not_taken may =
         let pass = pass_of job p in
         let g = group_index pass draw.number in
         let waiting = λ (i : ℕ). is_full h pass i && not (is_closed h pass i) in
-        let needs = takeable h pass draw may in
+        let needs = takeable plan h pass draw may in
         let own = in_own_group job p draw.number draw (at_number job p k draw at) needs.writes in
         let opened = open_parts h pass g needs.opened in
         let same : 0 + g ≡ g = omega arith in
@@ -209,15 +209,15 @@ none_chosen plan h worker job none =
     subst (λ (x : Pass). choice_of_pass plan h worker x ≡ None) is.0 (none k is.1))
 
 -- what the issue of a pass's next draw rests on
-pub record CanGoOn (h : List Event) (job : SubJob) (q : ℕ) : Type 0 where
+pub record CanGoOn (plan : Plan) (h : List Event) (job : SubJob) (q : ℕ) : Type 0 where
   pub going : is_halted h job ≡ false
   pub room : has_room h job ≡ true
   pub current : is_current h (pass_of job q) ≡ true
   pub free : waits_for_round h (pass_of job q) ≡ false
-  pub untaken : (k : ℕ) (draw : Draw) → slice_get (draws_of_job job q) k ≡ Some draw → may_take_up h (pass_of job q) draw ≡ false
+  pub untaken : (k : ℕ) (draw : Draw) → slice_get (draws_of_job job q) k ≡ Some draw → may_take_up plan h (pass_of job q) draw ≡ false
 
 -- the choice of such a pass is the issue of its next draw
-pub next_draw : (plan : Plan) (h : List Event) (worker : ℕ) (job : SubJob) (q n : ℕ) → issued_count h (pass_of job q) ≡ n → CanGoOn h job q → choice_of_pass plan h worker (pass_of job q) ≡ issue_of plan h worker (pass_of job q) (slice_get (draws_of_job job q) n)
+pub next_draw : (plan : Plan) (h : List Event) (worker : ℕ) (job : SubJob) (q n : ℕ) → issued_count h (pass_of job q) ≡ n → CanGoOn plan h job q → choice_of_pass plan h worker (pass_of job q) ≡ issue_of plan h worker (pass_of job q) (slice_get (draws_of_job job q) n)
 next_draw plan h worker job q n count can = by_draw (slice_get (draws_of_job job q) n) refl
   where
     other_number : (k : ℕ) (draw : Draw) → slice_get (draws_of_job job q) k ≡ Some draw → (k ≡ n → ⊥) → step_of plan h worker (pass_of job q) draw ≡ None
@@ -232,7 +232,7 @@ next_draw plan h worker job q n count can = by_draw (slice_get (draws_of_job job
     this_one draw at =
         let pass = pass_of job q in
         let issue = Issue worker (issued_as job draw.dir) (write_id pass draw) draw.piece in
-        let clear = is_clear h (is_write_draw draw) draw.piece in
+        let clear = is_clear plan h pass.job (is_write_draw draw) draw.piece in
         let opened = phase_is_open plan h job in
         let number = number_is job q n draw at in
         let same : may_issue plan h pass draw ≡ (clear && opened) =
@@ -249,7 +249,7 @@ next_draw plan h worker job q n count can = by_draw (slice_get (draws_of_job job
           free = not_from_false (waits_for_round h pass) can.free;
           opened = parts.1;
         })) in
-        cond-false (may_take_up h pass draw) (Some (check_or_skip h worker pass draw)) (cond (may_issue plan h pass draw) (Some issue) None) (can.untaken n draw at)
+        cond-false (may_take_up plan h pass draw) (Some (check_or_skip h worker pass draw)) (cond (may_issue plan h pass draw) (Some issue) None) (can.untaken n draw at)
         ∙ ap (λ (b : Bool). cond b (Some issue) None) same
 
     by_draw : (o : Option Draw) → slice_get (draws_of_job job q) n ≡ o → choice_of_pass plan h worker (pass_of job q) ≡ issue_of plan h worker (pass_of job q) o

@@ -142,7 +142,7 @@ module _ (plan : Plan) (numbered : IsNumbered plan) (job : SubJob) (planned : cl
   takes_issued h intact write step clone =
       let one : step.job ≡ job = same_some step.job job (sym step.names.planned ∙ ap (clone_of plan) clone ∙ planned) in
       let pass = pass_of step.job write.pass in
-      let takes = takeable h pass step.draw step.may in
+      let takes = takeable plan h pass step.draw step.may in
       let full = (open_parts h pass (group_index pass step.draw.number) takes.opened).full in
       let drawn : slice_get (draws_of_job step.job write.pass) step.draw.number ≡ Some step.draw =
       ap (slice_get (draws_of_job step.job write.pass)) step.names.number ∙ step.names.drawn in

@@ -15,6 +15,7 @@ use Rattle.jr_model.specs.declared.events.WriteId.{WriteId}
 use Rattle.jr_model.specs.History.{started, started_by, end_of, outcome_of, flies, if_flying, in_flight, in_flight_of, is_of_clone, is_judged, ended_whole}
 use Rattle.jr_model.specs.Legal.{is_legal, may_happen, end_fits, verdict_fits}
 use Rattle.jr_model.specs.Plan.{Plan}
+use Rattle.jr_model.specs.Races.{has_raced}
 use Rattle.jr_model.specs.Rounds.{settles, is_settled}
 use Rattle.jr_model.proofs.SerialLaws.{IsWell, well-more, whole_some, first_given-append}
 use Rattle.jr_laws_steps.proofs.PlaceLemmas.{any_found, any_at, got_filtered, kept_at}
@@ -106,7 +107,7 @@ refers_next : (plan : Plan) (h : List Event) (e : Event) → is_legal plan h ≡
 refers_next plan h (End worker io outcome) legal may =
     (and_parts (nat_lt io (length (started h))) (is_none (outcome_of h io)) (and_parts (flies h io) (end_fits worker outcome (slice_get (started h) io)) may).0).0
 refers_next plan h (Verdict worker io verdict) legal may =
-    let parts = and_parts (ended_whole (outcome_of h io) && not (is_judged h io)) (verdict_fits plan verdict (slice_get (started h) io)) may in
+    let parts = and_parts (ended_whole (outcome_of h io) && not (is_judged h io)) (verdict_fits plan (has_raced h io) verdict (slice_get (started h) io)) may in
     let ended = and_parts (ended_whole (outcome_of h io)) (not (is_judged h io)) parts.0 in
     lt-ltb io (length (started h)) ((well_legal plan h legal).ends io Whole (whole_some (outcome_of h io) ended.0))
 refers_next plan h (Issue worker kind write piece) legal may = refl

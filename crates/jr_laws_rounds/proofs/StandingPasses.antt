@@ -81,14 +81,14 @@ pub at_number : (job : SubJob) (p k : ℕ) (draw : Draw) → slice_get (draws_of
 at_number job p k draw at = ap (slice_get (draws_of_job job p)) (number_is job p k draw at) ∙ at
 
 -- where all rounds of a pass are closed none of its writes is taken up
-pub none_taken : (h : List Event) (job : SubJob) (p k : ℕ) (draw : Draw) → slice_get (draws_of_job job p) k ≡ Some draw → rounds_closed h (pass_of job p) ≡ true → may_take_up h (pass_of job p) draw ≡ false
-none_taken h job p k draw at closed = false_from_ne_true (may_take_up h (pass_of job p) draw) not_taken
+pub none_taken : (plan : Plan) (h : List Event) (job : SubJob) (p k : ℕ) (draw : Draw) → slice_get (draws_of_job job p) k ≡ Some draw → rounds_closed h (pass_of job p) ≡ true → may_take_up plan h (pass_of job p) draw ≡ false
+none_taken plan h job p k draw at closed = false_from_ne_true (may_take_up plan h (pass_of job p) draw) not_taken
   where
-    not_taken : may_take_up h (pass_of job p) draw ≡ true → ⊥
+    not_taken : may_take_up plan h (pass_of job p) draw ≡ true → ⊥
     not_taken may =
         let pass = pass_of job p in
         let g = group_index pass draw.number in
-        let needs = takeable h pass draw may in
+        let needs = takeable plan h pass draw may in
         let own = in_own_group job p draw.number draw (at_number job p k draw at) needs.writes in
         both_ways (is_closed h pass g) (open_parts h pass g needs.opened).not_closed (group_closed h job p g needs.rounds closed own.1)
 
@@ -105,10 +105,10 @@ pub record IssueIn (plan : Plan) (job : SubJob) (h : List Event) (write : WriteI
   pub may : may_issue plan h (pass_of job write.pass) draw ≡ true
 
 -- a write of the clone that an event checks or skips
-pub record TakeIn (job : SubJob) (h : List Event) (write : WriteId) : Type 0 where
+pub record TakeIn (plan : Plan) (job : SubJob) (h : List Event) (write : WriteId) : Type 0 where
   pub draw : Draw
   pub drawn : slice_get (draws_of_job job write.pass) write.number ≡ Some draw
-  pub may : may_take_up h (pass_of job write.pass) draw ≡ true
+  pub may : may_take_up plan h (pass_of job write.pass) draw ≡ true
 
 -- a planned clone
 module _ (plan : Plan) (planned : IsPlanned plan) (job : SubJob) (there : clone_of plan job.clone ≡ Some job) where
@@ -125,13 +125,13 @@ module _ (plan : Plan) (planned : IsPlanned plan) (job : SubJob) (there : clone_
         may = subst (λ (j : SubJob). may_issue plan h (pass_of j write.pass) m.draw ≡ true) same m.may;
       }
 
-  pub take_in : (h : List Event) (write : WriteId) → MayTakeUp plan h write → write.clone ≡ job.clone → TakeIn job h write
+  pub take_in : (h : List Event) (write : WriteId) → MayTakeUp plan h write → write.clone ≡ job.clone → TakeIn plan job h write
   take_in h write m clone =
       let same = own_job m.job write.clone m.named.planned clone in
       record {
         draw = m.draw;
         drawn = subst (λ (j : SubJob). slice_get (draws_of_job j write.pass) write.number ≡ Some m.draw) same m.named.drawn;
-        may = subst (λ (j : SubJob). may_take_up h (pass_of j write.pass) m.draw ≡ true) same m.may;
+        may = subst (λ (j : SubJob). may_take_up plan h (pass_of j write.pass) m.draw ≡ true) same m.may;
       }
 
   -- of a finished pass nothing is started
@@ -152,7 +152,7 @@ module _ (plan : Plan) (planned : IsPlanned plan) (job : SubJob) (there : clone_
       let take = take_in h write (may_probe_of plan h worker write piece may).0 its_clone in
       let closed : rounds_closed h (pass_of job write.pass) ≡ true =
       subst (λ (n : ℕ). rounds_closed h (pass_of job n) ≡ true) (sym its_pass) (done_parts h (pass_of job q) done).closed in
-      both_ways (may_take_up h (pass_of job write.pass) take.draw) (none_taken h job write.pass write.number take.draw take.drawn closed) take.may
+      both_ways (may_take_up plan h (pass_of job write.pass) take.draw) (none_taken plan h job write.pass write.number take.draw take.drawn closed) take.may
   none_starts h (Skip worker write) q io may done starts clone pass = cc
   none_starts h (End worker id outcome) q io may done starts clone pass = cc
   none_starts h (Verdict worker id verdict) q io may done starts clone pass = cc
@@ -234,7 +234,7 @@ module _ (plan : Plan) (planned : IsPlanned plan) (job : SubJob) (there : clone_
       let pass = pass_of job write.pass in
       let take = take_in h write (may_probe_of plan h worker write piece may).0 (ap (λ (w : WriteId). w.clone) same ∙ clone) in
       let g = group_index pass take.draw.number in
-      let opened = open_parts h pass g (takeable h pass take.draw take.may).opened in
+      let opened = open_parts h pass g (takeable plan h pass take.draw take.may).opened in
       subst (λ (w : WriteId). 0 < issued_count h (pass_of job w.pass)) same
       (elim (cases_lt 0 (issued_count h pass)) [
         | inl some ↦ some

@@ -13,14 +13,15 @@ use Rattle.jr_model.specs.Plan.{Plan, SubJob, clone_of}
 use Rattle.jr_model.specs.Rounds.{pass_of, is_open}
 use Rattle.jr_plan.specs.Files.{are_apart}
 use Rattle.jr_model.specs.PlanFacts.{IsPlanned}
-use Rattle.jr_laws_quiet.specs.Quiet.{is_quiet, last_issued}
+use Rattle.jr_laws_quiet.specs.Quiet.{is_quiet, last_issued, none_declines}
 
--- where no two clones have one file and a round of a clone is open, the last write of each block of its file is the one that
+-- where no clone declines, no two have one file and a round of a clone is open, the last write of each block of its file is the one that
 -- was issued last
 abbrev pub OpenIsLatest : Type 0
 OpenIsLatest =
     (plan : Plan) (history : List Event) (job : SubJob) (pass g block : ℕ)
     → IsPlanned plan
+    → none_declines plan ≡ true
     → are_apart plan.clones ≡ true
     → is_legal plan history ≡ true
     → is_quiet history ≡ true
@@ -33,12 +34,13 @@ abbrev pub is_latest : List Event → WriteId → Piece → Bool
 is_latest history write piece =
     list_all (λ block. is_this_write write (last_issued history piece.file block)) (blocks_of piece)
 
--- so the writes that are checked were issued last over each of their blocks, whoever uses the file, and those that are
+-- so, where no clone declines, the writes that are checked were issued last over each of their blocks, whoever uses the file, and those that are
 -- skipped weren't
 abbrev pub TakenUpIsLatest : Type 0
 TakenUpIsLatest =
     (plan : Plan) (history : List Event) (worker : ℕ) (write : WriteId) (piece : Piece) (job : SubJob) (draw : Draw)
     → IsPlanned plan
+    → none_declines plan ≡ true
     → is_legal plan history ≡ true
     → is_quiet history ≡ true
     → clone_of plan write.clone ≡ Some job

@@ -26,23 +26,23 @@ abbrev pub is_under_way : Round → Bool
 is_under_way round = is_due round && not (is_closed round)
 
 -- the check or skip of the draw's write, unless it was taken up or something in flight bars it
-abbrev pub take_up : List Event → ℕ → Pass → Option Draw → Option Event
-take_up history worker pass None = None
-take_up history worker pass (Some draw) =
-    if list_any (takes_up (write_id pass draw)) history || not (is_clear history false draw.piece) then None
+abbrev pub take_up : Plan → List Event → ℕ → Pass → Option Draw → Option Event
+take_up plan history worker pass None = None
+take_up plan history worker pass (Some draw) =
+    if list_any (takes_up (write_id pass draw)) history || not (is_clear plan history pass.job false draw.piece) then None
     else Some (check_or_skip history worker pass draw)
 
 -- the same of a write of the clone
-abbrev pub take_up_write : List Event → ℕ → SubJob → WriteId → Option Event
-take_up_write history worker job write =
+abbrev pub take_up_write : Plan → List Event → ℕ → SubJob → WriteId → Option Event
+take_up_write plan history worker job write =
     let pass = pass_of job write.pass in
-    take_up history worker pass (slice_get pass.draws write.number)
+    take_up plan history worker pass (slice_get pass.draws write.number)
 
 -- the issue of a draw, unless something in flight bars it or its phase isn't open
 abbrev pub issue_of : Plan → List Event → ℕ → Pass → Option Draw → Option Event
 issue_of plan history worker pass None = None
 issue_of plan history worker pass (Some draw) =
-    if is_clear history (is_write_draw draw) draw.piece && phase_is_open plan history pass.job
+    if is_clear plan history pass.job (is_write_draw draw) draw.piece && phase_is_open plan history pass.job
     then Some (Issue worker (issued_as pass.job draw.dir) (write_id pass draw) draw.piece)
     else None
 
@@ -62,7 +62,7 @@ step_in_pass plan history worker job pass =
     let round = current_round job history in
     if is_halted history job || not (has_room history job) then None
     else (if has_rounds job && is_under_way round
-    then (if no_issue_flies history job.clone then first_given (take_up_write history worker job) round.to_check else None)
+    then (if no_issue_flies history job.clone then first_given (take_up_write plan history worker job) round.to_check else None)
     else next_issue plan history worker job pass)
 
 -- this is the least step of the clone

@@ -52,7 +52,7 @@ issue_has_step plan history write dir piece m =
       within = current_pass history pass (issuable plan history pass m.draw m.may).current;
       drawn = m.named.drawn;
       some = λ w none.
-          let neither = neither_step (may_take_up history pass m.draw) (may_issue plan history pass m.draw) (check_or_skip history w pass m.draw) (Issue w (issued_as pass.job m.draw.dir) (write_id pass m.draw) m.draw.piece) none in
+          let neither = neither_step (may_take_up plan history pass m.draw) (may_issue plan history pass m.draw) (check_or_skip history w pass m.draw) (Issue w (issued_as pass.job m.draw.dir) (write_id pass m.draw) m.draw.piece) none in
           let e : true ≡ false = sym m.may ∙ neither.1 in
           cc;
     }
@@ -67,7 +67,7 @@ take_up_has_step plan history write legal m =
       within = taken_up_within plan history write m legal;
       drawn = m.named.drawn;
       some = λ w none.
-          let neither = neither_step (may_take_up history pass m.draw) (may_issue plan history pass m.draw) (check_or_skip history w pass m.draw) (Issue w (issued_as pass.job m.draw.dir) (write_id pass m.draw) m.draw.piece) none in
+          let neither = neither_step (may_take_up plan history pass m.draw) (may_issue plan history pass m.draw) (check_or_skip history w pass m.draw) (Issue w (issued_as pass.job m.draw.dir) (write_id pass m.draw) m.draw.piece) none in
           let e : true ≡ false = sym m.may ∙ neither.0 in
           cc;
     }

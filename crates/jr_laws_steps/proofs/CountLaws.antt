@@ -19,7 +19,7 @@ use Rattle.jr_model.specs.Rounds.{pass_of}
 use Rattle.jr_model.specs.Serial.{carried_out, goes_on, serial_after, serial_history, followed_by, memory_after}
 use Rattle.jr_model.specs.Words.{pass_words}
 use Rattle.jr_model.proofs.LegalLaws.{is_legal-more, choice_may_happen, choice_is_step, cases_step_of}
-use Rattle.jr_model.proofs.SerialLaws.{IsWell, well_choice}
+use Rattle.jr_model.proofs.SerialLaws.{IsRested, well_choice}
 use Rattle.jr_model.specs.PlanFacts.{IsPlanned}
 use Rattle.jr_laws_draws.proofs.TheLaw.{pass_law, drawable_of}
 use Rattle.jr_laws_steps.proofs.CountLemmas.{sum_of_plan_within}
@@ -218,28 +218,32 @@ carried_leaves plan history e =
     subst (λ (all : List Event). left plan all ≤ left plan (history ++ e ∷ [])) (append_assoc history (e ∷ []) more)
     (left_most plan (history ++ e ∷ []) more)
 
-serial_goes_on : (limit : ℕ) (plan : Plan) (rest : List Event → List Event) (history : List Event) (o : Option Event) → ((longer : List Event) → IsWell plan longer → left plan longer ≤ limit → choice plan (rest longer) 0 ≡ None) → IsNumbered plan → IsWell plan history → left plan history ≤ suc limit → choice plan history 0 ≡ o → choice plan (goes_on plan rest history o) 0 ≡ None
+serial_goes_on : (limit : ℕ) (plan : Plan) (rest : List Event → List Event) (history : List Event) (o : Option Event) → ((longer : List Event) → IsRested plan longer → left plan longer ≤ limit → choice plan (rest longer) 0 ≡ None) → IsNumbered plan → IsRested plan history → left plan history ≤ suc limit → choice plan history 0 ≡ o → choice plan (goes_on plan rest history o) 0 ≡ None
 serial_goes_on limit plan rest history None ends numbered well few chosen = chosen
 serial_goes_on limit plan rest history (Some e) ends numbered well few chosen =
     ends (history ++ carried_out plan history e) (well_choice plan history e numbered well chosen)
-    (omega (arith, few, carried_leaves plan history e, choice_leaves plan history 0 e numbered well.legal chosen))
+    (omega (arith, few, carried_leaves plan history e, choice_leaves plan history 0 e numbered well.well.legal chosen))
 
-serial_stops : (limit : ℕ) (plan : Plan) (history : List Event) → IsNumbered plan → IsWell plan history → left plan history ≤ limit → choice plan (serial_after limit plan history) 0 ≡ None
+serial_stops : (limit : ℕ) (plan : Plan) (history : List Event) → IsNumbered plan → IsRested plan history → left plan history ≤ limit → choice plan (serial_after limit plan history) 0 ≡ None
 serial_stops zero plan history numbered well few = nothing (choice plan history 0) refl
   where
     nothing : (o : Option Event) → choice plan history 0 ≡ o → o ≡ None
     nothing None chosen = refl
-    nothing (Some e) chosen = absurd (omega (arith, few, choice_leaves plan history 0 e numbered well.legal chosen))
+    nothing (Some e) chosen = absurd (omega (arith, few, choice_leaves plan history 0 e numbered well.well.legal chosen))
 serial_stops (suc limit) plan history numbered well few =
     serial_goes_on limit plan (serial_after limit plan) history (choice plan history 0)
-    (λ (longer : List Event) (still : IsWell plan longer) (fewer : left plan longer ≤ limit). serial_stops limit plan longer numbered still fewer)
+    (λ (longer : List Event) (still : IsRested plan longer) (fewer : left plan longer ≤ limit). serial_stops limit plan longer numbered still fewer)
     numbered well few refl
 
 -- one worker goes on until nothing may be started
 pub serial_stops_all : (plan : Plan) → IsPlanned plan → choice plan (serial_history plan) 0 ≡ None
 serial_stops_all plan planned =
     serial_stops (2 * work_of plan) plan [] (numbered_of plan planned)
-    (record { legal = refl; ends = λ io o h. none_some io o h; judged = λ io h. none_true io h })
+    (record {
+      well = record { legal = refl; ends = λ io o h. none_some io o h; judged = λ io h. none_true io h };
+      rested = λ io below. absurd (omega (arith, below));
+      unraced = λ io. refl;
+    })
     (omega (arith, untaken_first plan planned, unissued_first plan planned))
   where
     none_some : (io : ℕ) (o : Outcome) → None ≡ Some o → io < 0

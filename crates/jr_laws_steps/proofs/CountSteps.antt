@@ -80,10 +80,10 @@ two_conds true b x y z h = inl (refl, sym (same_Some x z h))
 two_conds false true x y z h = inr (refl, sym (same_Some y z h))
 two_conds false false x y z h = cc
 
-pub cases_of_step : (plan : Plan) (history : List Event) (worker : ℕ) (pass : Pass) (draw : Draw) (e : Event) → step_of plan history worker pass draw ≡ Some e → ((may_take_up history pass draw ≡ true) × ((e ≡ Probe worker (write_id pass draw) draw.piece) ⊎ (e ≡ Skip worker (write_id pass draw)))) ⊎ ((may_issue plan history pass draw ≡ true) × (e ≡ Issue worker (issued_as pass.job draw.dir) (write_id pass draw) draw.piece))
+pub cases_of_step : (plan : Plan) (history : List Event) (worker : ℕ) (pass : Pass) (draw : Draw) (e : Event) → step_of plan history worker pass draw ≡ Some e → ((may_take_up plan history pass draw ≡ true) × ((e ≡ Probe worker (write_id pass draw) draw.piece) ⊎ (e ≡ Skip worker (write_id pass draw)))) ⊎ ((may_issue plan history pass draw ≡ true) × (e ≡ Issue worker (issued_as pass.job draw.dir) (write_id pass draw) draw.piece))
 cases_of_step plan history worker pass draw e h =
     let write = write_id pass draw in
-    elim (two_conds (may_take_up history pass draw) (may_issue plan history pass draw) (check_or_skip history worker pass draw) (Issue worker (issued_as pass.job draw.dir) write draw.piece) e h) [
+    elim (two_conds (may_take_up plan history pass draw) (may_issue plan history pass draw) (check_or_skip history worker pass draw) (Issue worker (issued_as pass.job draw.dir) write draw.piece) e h) [
       | inl taken ↦
           inl (taken.0, cases_cond (is_intact history write draw.piece) (Probe worker write draw.piece) (Skip worker write) e taken.1)
       | inr issued ↦ inr issued
@@ -104,7 +104,7 @@ pub record TakesUp (plan : Plan) (history : List Event) (write : WriteId) : Type
   pub draw : Draw
   pub planned : clone_of plan write.clone ≡ Some job
   pub drawn : slice_get (draws_of_job job write.pass) write.number ≡ Some draw
-  pub may : may_take_up history (pass_of job write.pass) draw ≡ true
+  pub may : may_take_up plan history (pass_of job write.pass) draw ≡ true
   pub same : same_write (write_id (pass_of job write.pass) draw) write ≡ true
 
 -- a name of an issue, of a check, of a skip
@@ -218,7 +218,7 @@ seven_parts a b c d e f g h =
 -- the pass is one of its clone's, and the draw the next to be issued
 pub issue_is_next : (plan : Plan) (history : List Event) (pass : Pass) (draw : Draw) → may_issue plan history pass draw ≡ true → (draw.number ≡ issued_count history pass) × (pass.number < pass.job.passes)
 issue_is_next plan history pass draw may =
-    let parts = seven_parts (draw.number == issued_count history pass) (not (is_halted history pass.job)) (has_room history pass.job) (is_clear history (is_write_draw draw) draw.piece) (is_current history pass) (not (waits_for_round history pass)) (phase_is_open plan history pass.job) may in
+    let parts = seven_parts (draw.number == issued_count history pass) (not (is_halted history pass.job)) (has_room history pass.job) (is_clear plan history pass.job (is_write_draw draw) draw.piece) (is_current history pass) (not (waits_for_round history pass)) (phase_is_open plan history pass.job) may in
     let current = current_parts pass.number pass.job.passes (not (pass_finished history pass)) _ parts.2 in
     (eqb-true draw.number (issued_count history pass) parts.0, current)
   where
@@ -227,9 +227,9 @@ issue_is_next plan history pass draw may =
         ltb-true p passes (and_parts (nat_lt p passes) b (and_parts (nat_lt p passes && b) c h).0).0
 
 -- the write was neither checked nor skipped, and its round is open
-pub take_up_is_new : (history : List Event) (pass : Pass) (draw : Draw) → may_take_up history pass draw ≡ true → (list_any (takes_up (write_id pass draw)) history ≡ false) × (is_open history pass (group_index pass draw.number) ≡ true)
-take_up_is_new history pass draw may =
-    let parts = seven_parts (is_write_draw draw) (has_rounds pass.job) (not (list_any (takes_up (write_id pass draw)) history)) (not (is_halted history pass.job)) (has_room history pass.job) (is_clear history false draw.piece) (is_open history pass (group_index pass draw.number)) may in
+pub take_up_is_new : (plan : Plan) (history : List Event) (pass : Pass) (draw : Draw) → may_take_up plan history pass draw ≡ true → (list_any (takes_up (write_id pass draw)) history ≡ false) × (is_open history pass (group_index pass draw.number) ≡ true)
+take_up_is_new plan history pass draw may =
+    let parts = seven_parts (is_write_draw draw) (has_rounds pass.job) (not (list_any (takes_up (write_id pass draw)) history)) (not (is_halted history pass.job)) (has_room history pass.job) (is_clear plan history pass.job false draw.piece) (is_open history pass (group_index pass draw.number)) may in
     (not-true (list_any (takes_up (write_id pass draw)) history) parts.1, parts.3)
 
 -- none of these draws is below zero
@@ -366,7 +366,7 @@ pub take_up_falls : (plan : Plan) (history : List Event) (e : Event) (write : Wr
 take_up_falls plan history e write within taken hits =
     let pass = pass_of taken.job write.pass in
     let test = takes_up (write_id pass taken.draw) in
-    let new = take_up_is_new history pass taken.draw taken.may in
+    let new = take_up_is_new plan history pass taken.draw taken.may in
     let g = group_index pass taken.draw.number in
     let issued = full_is_issued history pass g write.number taken.draw taken.drawn (open_is_full history pass g new.1) in
     let below = within write.clone write.pass taken.job taken.planned issued in

@@ -57,7 +57,7 @@ pub record IsIssuable (plan : Plan) (history : List Event) (pass : Pass) (draw :
 pub issuable : (plan : Plan) (history : List Event) (pass : Pass) (draw : Draw) → may_issue plan history pass draw ≡ true → IsIssuable plan history pass draw
 issuable plan history pass draw may =
     let parts = seven_parts (draw.number == issued_count history pass) (not (is_halted history pass.job)) (has_room history pass.job)
-    (is_clear history (is_write_draw draw) draw.piece) (is_current history pass) (not (waits_for_round history pass))
+    (is_clear plan history pass.job (is_write_draw draw) draw.piece) (is_current history pass) (not (waits_for_round history pass))
     (phase_is_open plan history pass.job) may in
     record { number = eqb-true draw.number (issued_count history pass) parts.0; current = parts.4 }
 
@@ -68,10 +68,10 @@ pub record IsTakeable (history : List Event) (pass : Pass) (draw : Draw) : Type 
   pub untaken : not (list_any (takes_up (write_id pass draw)) history) ≡ true
   pub opened : is_open history pass (group_index pass draw.number) ≡ true
 
-pub takeable : (history : List Event) (pass : Pass) (draw : Draw) → may_take_up history pass draw ≡ true → IsTakeable history pass draw
-takeable history pass draw may =
+pub takeable : (plan : Plan) (history : List Event) (pass : Pass) (draw : Draw) → may_take_up plan history pass draw ≡ true → IsTakeable history pass draw
+takeable plan history pass draw may =
     let parts = seven_parts (is_write_draw draw) (has_rounds pass.job) (not (list_any (takes_up (write_id pass draw)) history))
-    (not (is_halted history pass.job)) (has_room history pass.job) (is_clear history false draw.piece)
+    (not (is_halted history pass.job)) (has_room history pass.job) (is_clear plan history pass.job false draw.piece)
     (is_open history pass (group_index pass draw.number)) may in
     record { writes = parts.0; rounds = parts.1; untaken = parts.2; opened = parts.6 }
 
@@ -156,7 +156,7 @@ open_is_full history pass g h =
 pub taken_up_within : (plan : Plan) (history : List Event) (write : WriteId) (step : MayTakeUp plan history write) → is_legal plan history ≡ true → write.pass < step.job.passes
 taken_up_within plan history write step legal =
     let pass = pass_of step.job write.pass in
-    let may = takeable history pass step.draw step.may in
+    let may = takeable plan history pass step.draw step.may in
     let clone : write.clone ≡ step.job.clone = ap (λ (w : WriteId). w.clone) (sym step.named.name) in
     let planned : clone_of plan step.job.clone ≡ Some step.job =
     subst (λ (n : ℕ). clone_of plan n ≡ Some step.job) clone step.named.planned in
@@ -200,7 +200,7 @@ starts_drawn plan history (Probe worker write piece) io legal may starts =
     let found = may_probe_of plan history worker write piece may in
     let step = found.0 in
     let pass = pass_of step.job write.pass in
-    let checks = takeable history pass step.draw step.may in
+    let checks = takeable plan history pass step.draw step.may in
     let way : step.draw.dir ≡ direction.Write = writes_dir step.draw step.draw.dir refl checks.writes in
     let drawn : IsDrawn plan (record { worker = worker; kind = ticket.Probe; write = write; piece = piece }) step.job step.draw = record {
       planned = step.named.planned;

@@ -14,8 +14,9 @@ use Rattle.jr_model.specs.declared.events.Outcome.TheVariants.{Whole}
 use Rattle.jr_model.specs.declared.events.Started.{Started}
 use Rattle.jr_model.specs.declared.events.Verdict.{Verdict as GivenVerdict}
 use Rattle.jr_model.specs.History.{started, started_by, end_of, outcome_of, flies, is_verdict_on, is_judged, is_judged_kind, ended_whole}
-use Rattle.jr_model.specs.Legal.{is_legal, may_happen, end_fits, verdict_fits, outcome_fits, job_says}
+use Rattle.jr_model.specs.Legal.{is_legal, may_happen, end_fits, verdict_fits, outcome_fits, job_says, is_void}
 use Rattle.jr_model.specs.Plan.{Plan, clone_of}
+use Rattle.jr_model.specs.Races.{has_raced}
 use Rattle.jr_model.proofs.SerialLaws.{IsWell, well-more, whole_some, first_given-append, none_from, false_from}
 use Rattle.jr_laws_steps.proofs.StartedLemmas.{by_events}
 
@@ -126,21 +127,21 @@ pub record JudgesIo (plan : Plan) (history : List Event) (io : ℕ) (verdict : G
   pub judged : Started
   pub there : slice_get (started history) io ≡ Some judged
   pub check : is_judged_kind judged.kind ≡ true
-  pub says : job_says (clone_of plan judged.write.clone) judged.kind judged.piece.len verdict ≡ true
+  pub said : cond (has_raced history io) (is_void verdict) (job_says (clone_of plan judged.write.clone) judged.kind judged.piece.len verdict) ≡ true
   pub ended : outcome_of history io ≡ Some Whole
   pub unjudged : is_judged history io ≡ false
 
 pub verdict_names : (plan : Plan) (history : List Event) (worker io : ℕ) (verdict : GivenVerdict) → may_happen plan history (Verdict worker io verdict) ≡ true → JudgesIo plan history io verdict
 verdict_names plan history worker io verdict may =
-    let parts = and_parts (ended_whole (outcome_of history io) && not (is_judged history io)) (verdict_fits plan verdict (slice_get (started history) io)) may in
+    let parts = and_parts (ended_whole (outcome_of history io) && not (is_judged history io)) (verdict_fits plan (has_raced history io) verdict (slice_get (started history) io)) may in
     let front = and_parts (ended_whole (outcome_of history io)) (not (is_judged history io)) parts.0 in
     by_io (slice_get (started history) io) refl parts.1 (whole_some (outcome_of history io) front.0) (not-true (is_judged history io) front.1)
   where
-    by_io : (o : Option Started) → slice_get (started history) io ≡ o → verdict_fits plan verdict o ≡ true → outcome_of history io ≡ Some Whole → is_judged history io ≡ false → JudgesIo plan history io verdict
+    by_io : (o : Option Started) → slice_get (started history) io ≡ o → verdict_fits plan (has_raced history io) verdict o ≡ true → outcome_of history io ≡ Some Whole → is_judged history io ≡ false → JudgesIo plan history io verdict
     by_io None at fits whole unjudged = cc
     by_io (Some s) at fits whole unjudged =
-        let parts = and_parts (is_judged_kind s.kind) (job_says (clone_of plan s.write.clone) s.kind s.piece.len verdict) fits in
-        record { judged = s; there = at; check = parts.0; says = parts.1; ended = whole; unjudged = unjudged }
+        let parts = and_parts (is_judged_kind s.kind) (cond (has_raced history io) (is_void verdict) (job_says (clone_of plan s.write.clone) s.kind s.piece.len verdict)) fits in
+        record { judged = s; there = at; check = parts.0; said = parts.1; ended = whole; unjudged = unjudged }
 
 -- the event names no I/O that isn't among the first n
 abbrev pub is_known : ℕ → Event → Bool

@@ -34,12 +34,12 @@ pub record IsStuck (plan : Plan) (history : List Event) (worker : ℕ) (pass : P
   pub none : (k : ℕ) (draw : Draw) → slice_get pass.draws k ≡ Some draw → step_of plan history worker pass draw ≡ None
 
 module _ (plan : Plan) (history : List Event) (worker : ℕ) (pass : Pass) (stuck : IsStuck plan history worker pass) where
-  no_step : (k : ℕ) (draw : Draw) → slice_get pass.draws k ≡ Some draw → (may_take_up history pass draw ≡ false) × (may_issue plan history pass draw ≡ false)
+  no_step : (k : ℕ) (draw : Draw) → slice_get pass.draws k ≡ Some draw → (may_take_up plan history pass draw ≡ false) × (may_issue plan history pass draw ≡ false)
   no_step k draw at =
-      neither_step (may_take_up history pass draw) (may_issue plan history pass draw) (check_or_skip history worker pass draw) (Issue worker (issued_as pass.job draw.dir) (write_id pass draw) draw.piece) (stuck.none k draw at)
+      neither_step (may_take_up plan history pass draw) (may_issue plan history pass draw) (check_or_skip history worker pass draw) (Issue worker (issued_as pass.job draw.dir) (write_id pass draw) draw.piece) (stuck.none k draw at)
 
   -- a write of an open round may be taken up where it isn't settled
-  may_take : (g : ℕ) (draw : Draw) → has_rounds pass.job ≡ true → is_full history pass g ≡ true → is_closed history pass g ≡ false → is_write_draw draw ≡ true → group_index pass draw.number ≡ g → is_settled history (write_id pass draw) ≡ false → may_take_up history pass draw ≡ true
+  may_take : (g : ℕ) (draw : Draw) → has_rounds pass.job ≡ true → is_full history pass g ≡ true → is_closed history pass g ≡ false → is_write_draw draw ≡ true → group_index pass draw.number ≡ g → is_settled history (write_id pass draw) ≡ false → may_take_up plan history pass draw ≡ true
   may_take g draw rounds full unclosed writes index unsettled =
       let untaken : list_any (takes_up (write_id pass draw)) history ≡ false = false_from_ne_true (list_any (takes_up (write_id pass draw)) history) (λ taken. both_ways (is_settled history (write_id pass draw)) unsettled (taken_up_settled history stuck.rests (write_id pass draw) taken)) in
       let opens : is_open history pass g ≡ true =
@@ -51,7 +51,7 @@ module _ (plan : Plan) (history : List Event) (worker : ℕ) (pass : Pass) (stuc
       let new = not (list_any (takes_up (write_id pass draw)) history) in
       let going = not (is_halted history pass.job) in
       let room = has_room history pass.job in
-      let clear = is_clear history false draw.piece in
+      let clear = is_clear plan history pass.job false draw.piece in
       and_from (written && checked && new && going && room && clear) (is_open history pass (group_index pass draw.number))
       (and_from (written && checked && new && going && room) clear
       (and_from (written && checked && new && going) room
@@ -61,7 +61,7 @@ module _ (plan : Plan) (history : List Event) (worker : ℕ) (pass : Pass) (stuc
       (not_from_false (list_any (takes_up (write_id pass draw)) history) untaken))
       (not_from_false (is_halted history pass.job) stuck.going))
       (room_at_rest history stuck.rests pass.job stuck.depth))
-      (clear_at_rest history stuck.rests false draw.piece))
+      (clear_at_rest history stuck.rests plan pass.job false draw.piece))
       (subst (λ (n : ℕ). is_open history pass n ≡ true) (sym index) opens)
 
   -- no round is open
@@ -78,7 +78,7 @@ module _ (plan : Plan) (history : List Event) (worker : ℕ) (pass : Pass) (stuc
       let unsettled : list_all settled (group_of pass g) ≡ false = ap (λ (b : Bool). b && list_all settled (group_of pass g)) (sym is.0) ∙ closed in
       let first = first_fails settled (group_of pass g) unsettled in
       let write = group_write pass g first.0 first.1 stuck.numbered (omega (arith, ranged)) first.2 in
-      both_ways (may_take_up history pass first.1) (no_step write.0 first.1 write.1).0
+      both_ways (may_take_up plan history pass first.1) (no_step write.0 first.1 write.1).0
       (may_take g first.1 parts.0 is.0 closed write.2 write.3 first.3)
 
   -- where all is issued, and no round is open, all rounds are closed
@@ -127,7 +127,7 @@ module _ (plan : Plan) (history : List Event) (worker : ℕ) (pass : Pass) (stuc
           let next = draw.number == issued_count history pass in
           let going = not (is_halted history pass.job) in
           let room = has_room history pass.job in
-          let clear = is_clear history (is_write_draw draw) draw.piece in
+          let clear = is_clear plan history pass.job (is_write_draw draw) draw.piece in
           let first = is_current history pass in
           let unheld = not (waits_for_round history pass) in
           both_ways (may_issue plan history pass draw) (no_step (issued_count history pass) draw there.1).1
@@ -138,7 +138,7 @@ module _ (plan : Plan) (history : List Event) (worker : ℕ) (pass : Pass) (stuc
           (and_from (next && going) room
           (and_from next going (eq-eqb draw.number (issued_count history pass) (omega (arith, number))) (not_from_false (is_halted history pass.job) stuck.going))
           (room_at_rest history stuck.rests pass.job stuck.depth))
-          (clear_at_rest history stuck.rests (is_write_draw draw) draw.piece))
+          (clear_at_rest history stuck.rests plan pass.job (is_write_draw draw) draw.piece))
           current)
           (not_from_false (waits_for_round history pass) free))
           stuck.opened)

@@ -29,7 +29,7 @@ issued_in_order plan history pass draw h =
     let counted = draw.number == issued_count history pass in
     let going = not (is_halted history pass.job) in
     let room = has_room history pass.job in
-    let clear = is_clear history (is_write_draw draw) draw.piece in
+    let clear = is_clear plan history pass.job (is_write_draw draw) draw.piece in
     let current = is_current history pass in
     let free = not (waits_for_round history pass) in
     let opened = phase_is_open plan history pass.job in
@@ -51,7 +51,7 @@ issue_may false false intact worker d dir w write p piece h = cc
 issue_within : (plan : Plan) (history : List Event) (worker k : ℕ) (dir : IssueKind) (write : WriteId) (piece : Piece) (pass : Pass) (o : Option Draw) → AreNumbered 0 pass.draws → slice_get pass.draws k ≡ o → is_this_issue dir write piece (step_of_draw plan history worker pass o) ≡ true → issued_count history pass < length pass.draws
 issue_within plan history worker k dir write piece pass None numbered at h = cc
 issue_within plan history worker k dir write piece pass (Some draw) numbered at h =
-    let may = issue_may (may_take_up history pass draw) (may_issue plan history pass draw) (is_intact history (write_id pass draw) draw.piece) worker (issued_as pass.job draw.dir) dir (write_id pass draw) write draw.piece piece h in
+    let may = issue_may (may_take_up plan history pass draw) (may_issue plan history pass draw) (is_intact history (write_id pass draw) draw.piece) worker (issued_as pass.job draw.dir) dir (write_id pass draw) write draw.piece piece h in
     let next = issued_in_order plan history pass draw may in
     let number = numbered k draw at in
     let within = slice_get_within pass.draws k draw at in

@@ -26,6 +26,7 @@ use Rattle.jr_model.proofs.SerialLaws.{any-append}
 use Rattle.jr_model.proofs.Equality.{eq_write}
 use Rattle.jr_words.proofs.WordLemmas.{length-words_from}
 use Rattle.jr_model.specs.PlanFacts.{IsPlanned}
+use Rattle.jr_model.proofs.RaceLaws.{overlap_turned}
 use Rattle.jr_laws_draws.specs.PassLaw.{is_mapped}
 use Rattle.jr_laws_draws.proofs.TheLaw.{pass_law, drawable_of}
 use Rattle.jr_laws_steps.specs.Drawn.{IsDrawn}
@@ -152,7 +153,7 @@ not_again plan history (Probe worker write piece) i a b legal may starts at same
     let is_b : s ≡ b = same_some s b starts in
     let writes : a.write ≡ write = same ∙ ap (λ (x : Started). x.write) (sym is_b) in
     let probe : is_probe a.kind ≡ true = kinds ∙ ap (λ (x : Started). is_probe x.kind) (sym is_b) in
-    let untaken = (takeable history (pass_of step.job write.pass) step.draw step.may).untaken in
+    let untaken = (takeable plan history (pass_of step.job write.pass) step.draw step.may).untaken in
     let taken : list_any (takes_up write) history ≡ true =
     subst (λ (w : WriteId). list_any (takes_up w) history ≡ true) writes (is_taken_up history i a at probe) in
     let free : not (list_any (takes_up write) history) ≡ true =
@@ -207,15 +208,6 @@ pairs_at R xs i j x y all before at_i at_j =
     subst (λ v. R v y) (get_or_from_slice_get xs i x y at_i)
     (subst (λ v. R (get_or xs i y) v) (get_or_from_slice_get xs j y y at_j)
     (all i j y before (slice_get_within xs j y at_j)))
-
--- sharing a byte goes both ways
-overlap_turned : (a b : Piece) → pieces_overlap a b ≡ true → pieces_overlap b a ≡ true
-overlap_turned a b h =
-    let parts = and_parts (a.file == b.file) (nat_lt (max a.offset b.offset) (min (piece_end a) (piece_end b))) h in
-    let shared : max a.offset b.offset < min (piece_end a) (piece_end b) = ltb-true (max a.offset b.offset) (min (piece_end a) (piece_end b)) parts.1 in
-    and_from (b.file == a.file) (nat_lt (max b.offset a.offset) (min (piece_end b) (piece_end a)))
-    (eq-eqb b.file a.file (sym (eqb-true a.file b.file parts.0)))
-    (lt-ltb (max b.offset a.offset) (min (piece_end b) (piece_end a)) (omega (arith, shared)))
 
 apart_turned : (a b : Piece) → pieces_overlap a b ≡ false → pieces_overlap b a ≡ false
 apart_turned a b apart =

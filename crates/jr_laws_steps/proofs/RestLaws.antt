@@ -11,8 +11,8 @@ use Rattle.jr_model.specs.declared.events.Started.{Started}
 use Rattle.jr_model.specs.declared.events.WriteId.{WriteId}
 use Rattle.jr_model.specs.declared.tickets.TicketKind.TheVariants as ticket
 use Rattle.jr_model.specs.History.{started, started_by, end_of, outcome_of, if_flying, in_flight, in_flight_of, is_of_clone, is_probe, same_write}
-use Rattle.jr_model.specs.Legal.{has_room, conflicts, is_clear, takes_up}
-use Rattle.jr_model.specs.Plan.{SubJob}
+use Rattle.jr_model.specs.Legal.{has_room, waits_for, is_clear, takes_up}
+use Rattle.jr_model.specs.Plan.{Plan, SubJob}
 use Rattle.jr_model.specs.Rounds.{Pass, is_probe_of, settles, is_settled, no_issue_flies, nothing_flies_of, nothing_flies_in}
 use Rattle.jr_model.proofs.LegalLaws.{first_given-some}
 use Rattle.jr_laws_steps.proofs.PlaceLemmas.{any_found, any_at, kept_at, none_kept}
@@ -42,8 +42,8 @@ module _ (history : List Event) (rests : in_flight history ≡ []) where
   room_at_rest job depth =
       ap (λ (ios : List Started). nat_lt (length ios) job.depth) (none_in_flight_of job.clone) ∙ lt-ltb 0 job.depth (omega (arith, depth))
 
-  pub clear_at_rest : (writes : Bool) (piece : Piece) → is_clear history writes piece ≡ true
-  clear_at_rest writes piece = ap (λ (ios : List Started). not (list_any (conflicts writes piece) ios)) rests
+  pub clear_at_rest : (plan : Plan) (job : SubJob) (writes : Bool) (piece : Piece) → is_clear plan history job writes piece ≡ true
+  clear_at_rest plan job writes piece = ap (λ (ios : List Started). not (list_any (waits_for plan job writes piece) ios)) rests
 
   pub no_issue_at_rest : (c : ℕ) → no_issue_flies history c ≡ true
   no_issue_at_rest c = ap (list_all (λ (io : Started). is_probe io.kind)) (none_in_flight_of c)

@@ -37,7 +37,7 @@ pub record MayTakeUp (plan : Plan) (history : List Event) (write : WriteId) : Ty
   pub job : SubJob
   pub draw : Draw
   pub named : IsNamed plan write job draw
-  pub may : may_take_up history (pass_of job write.pass) draw ≡ true
+  pub may : may_take_up plan history (pass_of job write.pass) draw ≡ true
 
 issue_conds : (checks intact issues : Bool) (worker : ℕ) (d dir : IssueKind) (w write : WriteId) (p piece : Piece)
     → is_this_issue dir write piece (cond checks (Some (cond intact (Probe worker w p) (Skip worker w))) (cond issues (Some (Issue worker d w p)) None)) ≡ true
@@ -73,7 +73,7 @@ module _ (plan : Plan) (history : List Event) (worker : ℕ) (write : WriteId) w
   issue_draw dir piece job (Some draw) planned drawn h =
       let pass = pass_of job write.pass in
       let w = write_id pass draw in
-      let found = issue_conds (may_take_up history pass draw) (is_intact history w draw.piece) (may_issue plan history pass draw) worker (issued_as job draw.dir) dir w write draw.piece piece h in
+      let found = issue_conds (may_take_up plan history pass draw) (is_intact history w draw.piece) (may_issue plan history pass draw) worker (issued_as job draw.dir) dir w write draw.piece piece h in
       let same = and_parts (same_issue (issued_as job draw.dir) dir && same_write w write) (same_piece draw.piece piece) found.1 in
       let front = and_parts (same_issue (issued_as job draw.dir) dir) (same_write w write) same.0 in
       record {
@@ -94,7 +94,7 @@ module _ (plan : Plan) (history : List Event) (worker : ℕ) (write : WriteId) w
   probe_draw piece job (Some draw) planned drawn h =
       let pass = pass_of job write.pass in
       let w = write_id pass draw in
-      let found = probe_conds (may_take_up history pass draw) (is_intact history w draw.piece) (may_issue plan history pass draw) worker (issued_as job draw.dir) w write draw.piece piece h in
+      let found = probe_conds (may_take_up plan history pass draw) (is_intact history w draw.piece) (may_issue plan history pass draw) worker (issued_as job draw.dir) w write draw.piece piece h in
       let same = and_parts (same_write w write) (same_piece draw.piece piece) found.1 in (
         record {
           job = job;
@@ -114,7 +114,7 @@ module _ (plan : Plan) (history : List Event) (worker : ℕ) (write : WriteId) w
   skip_draw job (Some draw) planned drawn h =
       let pass = pass_of job write.pass in
       let w = write_id pass draw in
-      let found = skip_conds (may_take_up history pass draw) (is_intact history w draw.piece) (may_issue plan history pass draw) worker (issued_as job draw.dir) w write draw.piece h in
+      let found = skip_conds (may_take_up plan history pass draw) (is_intact history w draw.piece) (may_issue plan history pass draw) worker (issued_as job draw.dir) w write draw.piece h in
       record {
         job = job;
         draw = draw;

@@ -31,6 +31,7 @@ random io_type cell cells has_map size = record {
   checks_writes = false;
   backlog = 0;
   is_fatal = false;
+  declines = false;
 }
 
 -- four words a draw: nothing for its direction, size and filler, and these for its place

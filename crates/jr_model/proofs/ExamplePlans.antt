@@ -38,6 +38,7 @@ sequential_writes cells method = record {
   checks_writes = true;
   backlog = 0;
   is_fatal = false;
+  declines = false;
 }
 
 abbrev pub in_memory : List SubJob → ℕ → Plan
@@ -67,6 +68,14 @@ two_clones_one_file = record {
   files = record { name = codes "f"; low = 0; high = 8192 } ∷ [];
   engine = engine.Memory;
   verifiers = 0;
+}
+
+-- the same with serialize_overlap=0
+abbrev pub two_that_decline : Plan
+two_that_decline = record two_clones_one_file {
+  clones =
+      record (sequential_writes 2 ones) { declines = true }
+      ∷ record (sequential_writes 2 ones) { clone = 1; declines = true } ∷ [];
 }
 
 -- `[a] ioengine=memory rw=write size=4k`, `[b] ioengine=memory rw=write size=4k stonewall`

@@ -30,7 +30,7 @@ use Rattle.jr_model.specs.Quiet.{quiet_report}
 use Rattle.jr_model.specs.Report.{report_of, all_totals}
 use Rattle.jr_model.specs.Serial.{serial_history}
 use Rattle.jr_model.specs.Words.{words_from}
-use Rattle.jr_model.proofs.ExamplePlans.{two_checked_writes, seven_in_threes, two_at_depth_2, two_clones_one_file, stonewalled}
+use Rattle.jr_model.proofs.ExamplePlans.{two_checked_writes, seven_in_threes, two_at_depth_2, two_clones_one_file, two_that_decline, stonewalled}
 
 -- write k of clone c's first pass, and a 4096-byte piece of file f
 abbrev pub write : ℕ → ℕ → WriteId
@@ -148,6 +148,30 @@ pub totals_on_one_file :
     ∷ []
 unfolding words_from fill_bytes stream_of word_bytes u32_at
 totals_on_one_file = refl
+
+-- the same with serialize_overlap=0: both write the first cell at once, so neither write is checked; clone 1 writes the second
+-- one while clone 0 checks it, so that check is void
+abbrev pub declined_steps : List Step
+declined_steps =
+    step.Take 0 ∷ step.Take 1 ∷ step.End 0 reply.Pass ∷ step.End 1 reply.Pass ∷ step.Take 0 ∷ step.End 2 reply.Pass
+    ∷ step.Take 0 ∷ step.Take 1 ∷ step.End 3 reply.Pass ∷ step.Judge 1 3 ∷ step.End 4 reply.Pass ∷ step.Take 0
+    ∷ step.End 5 reply.Pass ∷ step.Judge 0 5 ∷ step.Take 0 ∷ []
+
+pub replies_declined :
+    replies_to two_that_decline declined_steps
+    ≡ answer.Io 0 ∷ answer.Io 1 ∷ answer.Ended ∷ answer.Ended ∷ answer.Io 2 ∷ answer.Ended
+    ∷ answer.Probe 3 ∷ answer.Io 4 ∷ answer.Ended ∷ answer.Judged ∷ answer.Ended ∷ answer.Probe 5
+    ∷ answer.Ended ∷ answer.Judged ∷ answer.Finished ∷ []
+unfolding words_from fill_bytes stream_of word_bytes u32_at
+replies_declined = refl
+
+pub totals_declined :
+    totals_after two_that_decline declined_steps
+    ≡ record { reads = 0; rbytes = 0; writes = 2; wbytes = 8192; checks = 0; good = 0; bad = 0; skipped = 1; void = 1; faults = 0 }
+    ∷ record { reads = 0; rbytes = 0; writes = 2; wbytes = 8192; checks = 1; good = 1; bad = 0; skipped = 1; void = 0; faults = 0 }
+    ∷ []
+unfolding words_from fill_bytes stream_of word_bytes u32_at
+totals_declined = refl
 
 -- `[a] ioengine=memory rw=write size=4k`, `[b] ioengine=memory rw=write size=4k stonewall`: the second waits
 pub replies_stonewalled :

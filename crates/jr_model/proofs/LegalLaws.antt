@@ -105,7 +105,7 @@ same_issue_refl issue.ReadCheck = refl
 -- a step of a draw is its check, its skip or its issue
 pub cases_step_of : (plan : Plan) (history : List Event) (worker : ℕ) (pass : Pass) (draw : Draw) (e : Event) → step_of plan history worker pass draw ≡ Some e → (e ≡ Probe worker (write_id pass draw) draw.piece) ⊎ ((e ≡ Skip worker (write_id pass draw)) ⊎ (e ≡ Issue worker (issued_as pass.job draw.dir) (write_id pass draw) draw.piece))
 cases_step_of plan history worker pass draw e h =
-    elim (two_conds (may_take_up history pass draw) (may_issue plan history pass draw) _ _ e h) [
+    elim (two_conds (may_take_up plan history pass draw) (may_issue plan history pass draw) _ _ e h) [
       | inl checked ↦
           elim (cases_cond (is_intact history (write_id pass draw) draw.piece) _ _ e checked) [
             | inl probe ↦ inl probe

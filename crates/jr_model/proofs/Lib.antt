@@ -6,4 +6,5 @@ pub mod ExamplePlans
 pub mod ExampleRuns
 pub mod LegalLaws
 pub mod MachineLaws
+pub mod RaceLaws
 pub mod SerialLaws

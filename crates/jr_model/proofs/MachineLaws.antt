@@ -19,7 +19,7 @@ use Rattle.jr_model.specs.declared.events.Event.TheVariants.{End, Verdict}
 use Rattle.jr_model.specs.declared.events.Outcome.{Outcome}
 use Rattle.jr_model.specs.declared.events.Outcome.TheVariants.{Whole, Short}
 use Rattle.jr_model.specs.declared.events.Verdict.{Verdict as GivenVerdict}
-use Rattle.jr_model.specs.declared.events.Verdict.TheVariants.{Good, Bad}
+use Rattle.jr_model.specs.declared.events.Verdict.TheVariants.{Good, Bad, Void}
 use Rattle.jr_model.specs.declared.events.Part.{Part}
 use Rattle.jr_model.specs.declared.events.Part.TheVariants as part
 use Rattle.jr_model.specs.declared.events.What.{What}
@@ -39,9 +39,10 @@ use Rattle.jr_model.specs.Content.{pattern_bytes, block_version, chunk_version, 
 use Rattle.jr_model.specs.Draws.{draws_of}
 use Rattle.jr_model.specs.History.{Started, started, started_by, flies, outcome_of, is_judged, is_judged_kind, ended_whole}
 use Rattle.jr_model.specs.Judgement.{digest_in, first_difference, byte_verdict, verdict_of, header_verdict, same_bytes, in_chunk, first_bad, bytes_of_chunk, chunk_verdict, own_header, own_chunk_verdict, own_header_verdict, own_interval, cuts_whole, own_chunks_verdict, own_digest_verdict, own_verdict_of, pattern_verdict}
-use Rattle.jr_model.specs.Legal.{is_legal, outcome_fits, end_fits, verdict_fits, is_header_finding, is_chunk_finding, digest_finds, own_digest_finds, own_finds, own_says, kind_finds, kind_says, job_says, ticket_says}
-use Rattle.jr_model.specs.Machine.{expected_by, State, Stepped, is_skip, choices_after, taken, take_answer, work_of, verdict_in_job, verdict_on, seed_of_draw, content_of_io, read_of, bytes_read, first_state, end_refusal, judge_refusal, is_judgeable, read_ends, ends_by, machine_end_by, machine_judge_by, machine_take, machine_step, machine_run}
+use Rattle.jr_model.specs.Legal.{is_legal, is_void, outcome_fits, end_fits, verdict_fits, is_header_finding, is_chunk_finding, digest_finds, own_digest_finds, own_finds, own_says, kind_finds, kind_says, job_says, ticket_says}
+use Rattle.jr_model.specs.Machine.{expected_by, said_of, State, Stepped, is_skip, choices_after, taken, take_answer, work_of, verdict_in_job, verdict_on, seed_of_draw, content_of_io, read_of, bytes_read, first_state, end_refusal, judge_refusal, is_judgeable, read_ends, ends_by, machine_end_by, machine_judge_by, machine_take, machine_step, machine_run}
 use Rattle.jr_model.specs.Plan.{Plan, SubJob, IsNumbered, clone_of}
+use Rattle.jr_model.specs.Races.{has_raced}
 use Rattle.jr_model.specs.Replies.{FileBytes, outcome_for, stored, stored_in, reply_to_read, reply_to_write}
 use Rattle.jr_model.proofs.LegalLaws.{is_legal-more, choice_may_happen, started_planned}
 
@@ -118,6 +119,7 @@ header_says P kind header bytes good front digest area =
 pub first_says : (P : GivenVerdict → Type 0) (verdict : GivenVerdict) (verdicts : List GivenVerdict) → P verdict → P (first_bad verdicts) → P (first_bad (verdict ∷ verdicts))
 first_says P Good verdicts here there = there
 first_says P (Bad what) verdicts here there = here
+first_says P Void verdicts here there = there
 
 pub first_of_says : (P : GivenVerdict → Type 0) (f : ℕ → GivenVerdict) (from n : ℕ) → P Good → ((i : ℕ) → i < from + n → P (f i)) → P (first_bad (map f (range_with_len from n)))
 first_of_says P f from zero good each = good
@@ -342,25 +344,36 @@ four_conds false true false true x y z w h = (refl, refl)
 four_conds false true false false x y z w h = cc
 four_conds false false c d x y z w h = cc
 
+-- what verdict_fits asks for beside the kind
+abbrev pub is_said : Plan → Bool → GivenVerdict → Started → Bool
+is_said plan raced verdict io = cond raced (is_void verdict) (job_says (clone_of plan io.write.clone) io.kind io.piece.len verdict)
+
+-- what is said of an I/O fits, where the verdict on its bytes does
+pub said_fits : (plan : Plan) (raced : Bool) (io : Started) (verdict : GivenVerdict) → job_says (clone_of plan io.write.clone) io.kind io.piece.len verdict ≡ true → is_said plan raced (said_of raced verdict) io ≡ true
+said_fits plan true io verdict says = refl
+said_fits plan false io verdict says = says
+
 pub sound_judge_by : (plan : Plan) (s : State) (by id : ℕ) (refused : Option DeskFault) (io : Option Started) → IsSound plan s → judge_refusal s id ≡ refused → slice_get (started s.history) id ≡ io → IsSound plan (machine_judge_by plan s by id refused io).state
 sound_judge_by plan s by id (Some fault) io sound free at = sound
 sound_judge_by plan s by id None None sound free at = sound
 sound_judge_by plan s by id None (Some io) sound free at =
     let bytes = bytes_read s.read_back id in
-    let verdict = verdict_on plan io bytes in
+    let raced = has_raced s.history id in
+    let verdict = said_of raced (verdict_on plan io bytes) in
     let open_to = four_conds s.is_stopped (nat_lt id (length (started s.history))) (is_judged s.history id) (is_judgeable s.history id (slice_get (started s.history) id)) Stopped Twice WrongKind Stranger free in
     let planned = started_planned plan [] s.history id io sound.legal at in
     let check = and_parts (is_judged_kind io.kind) (ended_whole (outcome_of s.history id))
     (subst (λ (o : Option Started). is_judgeable s.history id o ≡ true) at open_to.1) in
     record {
       legal = is_legal-more plan s.history (Verdict by id verdict) sound.legal
-          (and_from (ended_whole (outcome_of s.history id) && not (is_judged s.history id)) (verdict_fits plan verdict (slice_get (started s.history) id))
+          (and_from (ended_whole (outcome_of s.history id) && not (is_judged s.history id)) (verdict_fits plan raced verdict (slice_get (started s.history) id))
           (and_from (ended_whole (outcome_of s.history id)) (not (is_judged s.history id)) check.1 (not_from_false (is_judged s.history id) open_to.0))
-          (subst (λ (o : Option Started). verdict_fits plan verdict o ≡ true) (sym at)
-          (and_from (is_judged_kind io.kind) (job_says (clone_of plan io.write.clone) io.kind io.piece.len verdict) check.0
+          (subst (λ (o : Option Started). verdict_fits plan raced verdict o ≡ true) (sym at)
+          (and_from (is_judged_kind io.kind) (is_said plan raced verdict io) check.0
+          (said_fits plan raced io (verdict_on plan io bytes)
           (job_says_fits (clone_of plan io.write.clone) planned.0 io
           (seed_of_draw (slice_get (draws_of plan io.write.clone io.write.pass) io.write.number)) bytes planned.1 check.0
-          (read_fits (started s.history) s.read_back id io sound.fits at)))));
+          (read_fits (started s.history) s.read_back id io sound.fits at))))));
       fits = fit_longer s.history (Verdict by id verdict ∷ []) s.read_back sound.fits;
     }
 

@@ -3,7 +3,7 @@ use Rattle.std.proofs.Common.{◌≡◌, ℕ, zero, suc, ◌*◌, ◌<◌, ◌�
 use Rattle.std.specs.Prelude.{◌⊎◌, Option, Some, None, slice_get, nat_lt, ◌==◌, is_none}
 use Rattle.std.specs.Option.{option_or}
 use Rattle.std.specs.List.{list_any, cons_option}
-use Rattle.std.proofs.lemmas.Bool.{and_parts, and_from, eq-eqb, eqb-true, lt-ltb, ltb-true}
+use Rattle.std.proofs.lemmas.Bool.{and_parts, and_from, cases_eq, eq-eqb, eqb-true, lt-ltb, ltb-true}
 use Rattle.std.proofs.lemmas.List.Elements.{filter_map-append}
 use Rattle.jr_model.specs.declared.blocks.Piece.{Piece}
 use Rattle.jr_model.specs.declared.events.Event.{Event}
@@ -21,7 +21,9 @@ use Rattle.jr_model.specs.History.{first_given, Started, started, started_by, en
 use Rattle.jr_model.specs.Legal.{is_legal, may_happen, end_fits, verdict_fits, job_says}
 use Rattle.jr_model.specs.Plan.{Plan, SubJob, IsNumbered, clone_of, issued_as}
 use Rattle.jr_model.specs.Serial.{carried_out, goes_on, memory_after, serial_after, serial_history, stored_for}
+use Rattle.jr_model.specs.Races.{has_raced}
 use Rattle.jr_model.proofs.MachineLaws.{job_says_fits, range_short}
+use Rattle.jr_model.proofs.RaceLaws.{raced_other, still_unraced}
 use Rattle.jr_model.proofs.LegalLaws.{is_legal-more, choice_may_happen, choice_is_step, cases_step_of, starts_planned}
 use Rattle.jr_model.specs.Machine.{seed_of_draw, verdict_on, work_of}
 use Rattle.jr_model.specs.Draws.{draws_of}
@@ -105,7 +107,7 @@ judge_was_started plan history (Skip worker write) io ends may h = cc
 judge_was_started plan history (End worker id outcome) io ends may h = cc
 judge_was_started plan history (Verdict worker id verdict) io ends may h =
     let same : id ≡ io = eqb-true id io (or_false (id == io) h) in
-    let parts = and_parts (ended_whole (outcome_of history id) && not (is_judged history id)) (verdict_fits plan verdict (slice_get (started history) id)) may in
+    let parts = and_parts (ended_whole (outcome_of history id) && not (is_judged history id)) (verdict_fits plan (has_raced history id) verdict (slice_get (started history) id)) may in
     let ended = and_parts (ended_whole (outcome_of history id)) (not (is_judged history id)) parts.0 in
     subst (λ (n : ℕ). n < length (started history)) same (ends id Whole (whole_some (outcome_of history id) ended.0))
   where
@@ -151,8 +153,37 @@ pub false_from : (b : Bool) → (b ≡ true → ⊥) → b ≡ false
 false_from false f = refl
 false_from true f = absurd (f refl)
 
+-- all that was started has ended
+abbrev pub AllEnded : List Event → Type 0
+AllEnded history = (io : ℕ) → io < length (started history) → is_none (outcome_of history io) ≡ false
+
+whole_is_some : (o : Option Outcome) → ended_whole o ≡ true → is_none o ≡ false
+whole_is_some None h = cc
+whole_is_some (Some x) h = refl
+
+-- what has ended stays so
+pub still_ended : (history events : List Event) (io : ℕ) → is_none (outcome_of history io) ≡ false → is_none (outcome_of (history ++ events) io) ≡ false
+still_ended history events io ended = ap is_none (first_given-append (end_of io) history events) ∙ kept (outcome_of history io) (first_given (end_of io) events) ended
+  where
+    kept : (a b : Option Outcome) → is_none a ≡ false → is_none (option_or a b) ≡ false
+    kept None b h = cc
+    kept (Some x) b h = refl
+
+-- where an event starts nothing, all is as much at rest as before
+pub rested-other : (history : List Event) (e : Event) → started_by e ≡ None → AllEnded history → AllEnded (history ++ e ∷ [])
+rested-other history e nothing rested io below =
+    let same : started (history ++ e ∷ []) ≡ started history =
+    filter_map-append started_by history (e ∷ []) ∙ ap (λ (o : Option Started). started history ++ cons_option o []) nothing ∙ append-nil (started history) in
+    still_ended history (e ∷ []) io (rested io (subst (λ (ios : List Started). io < length ios) same below))
+
+-- a history that is well, with nothing in flight, in which nothing raced
+pub record IsRested (plan : Plan) (history : List Event) : Type 0 where
+  pub well : IsWell plan history
+  pub rested : AllEnded history
+  pub unraced : (io : ℕ) → has_raced history io ≡ false
+
 -- the I/O that an event starts ends whole by its own worker
-module _ (plan : Plan) (history : List Event) (e : Event) (s : Started) (well : IsWell plan history) (starts : started_by e ≡ Some s) (unended : end_of (length (started history)) e ≡ None) (unjudged : is_verdict_on (length (started history)) e ≡ false) where
+module _ (plan : Plan) (history : List Event) (e : Event) (s : Started) (well : IsWell plan history) (starts : started_by e ≡ Some s) (unended : end_of (length (started history)) e ≡ None) (unjudged : is_verdict_on (length (started history)) e ≡ false) (rested : AllEnded history) (unraced : (io : ℕ) → has_raced history io ≡ false) where
   now_started : started (history ++ e ∷ []) ≡ started history ++ s ∷ []
   now_started =
       filter_map-append started_by history (e ∷ []) ∙ ap (λ (o : Option Started). started history ++ cons_option o []) starts
@@ -209,29 +240,56 @@ module _ (plan : Plan) (history : List Event) (e : Event) (s : Started) (well : 
       (filter_map-append started_by (history ++ e ∷ []) (End 0 io Whole ∷ []) ∙ append-nil (started (history ++ e ∷ [])))
       ∙ started_last
 
+  -- nothing has raced, since nothing was in flight
+  unraced_now : (io : ℕ) → has_raced ((history ++ e ∷ []) ++ End 0 (length (started history)) Whole ∷ []) io ≡ false
+  unraced_now io =
+      raced_other (history ++ e ∷ []) (End 0 (length (started history)) Whole) io refl
+      ∙ still_unraced history e s io starts rested (unraced io)
+
   -- a verdict that may be said of it may follow
   may_be_said : (said : GivenVerdict) → is_judged_kind s.kind ≡ true → job_says (clone_of plan s.write.clone) s.kind s.piece.len said ≡ true → may_happen plan ((history ++ e ∷ []) ++ End 0 (length (started history)) Whole ∷ []) (Verdict 0 (length (started history)) said) ≡ true
   may_be_said said judged says =
       let io = length (started history) in
       let later = (history ++ e ∷ []) ++ End 0 io Whole ∷ [] in
-      and_from (ended_whole (outcome_of later io) && not (is_judged later io)) (verdict_fits plan said (slice_get (started later) io))
+      and_from (ended_whole (outcome_of later io) && not (is_judged later io)) (verdict_fits plan (has_raced later io) said (slice_get (started later) io))
       (and_from (ended_whole (outcome_of later io)) (not (is_judged later io)) ended_whole_now (ap not not_judged_now))
-      (subst (λ (o : Option Started). verdict_fits plan said o ≡ true) (sym started_then)
-      (and_from (is_judged_kind s.kind) (job_says (clone_of plan s.write.clone) s.kind s.piece.len said) judged says))
+      (subst (λ (b : Bool). verdict_fits plan b said (slice_get (started later) io) ≡ true) (sym (unraced_now io))
+      (subst (λ (o : Option Started). verdict_fits plan false said o ≡ true) (sym started_then)
+      (and_from (is_judged_kind s.kind) (job_says (clone_of plan s.write.clone) s.kind s.piece.len said) judged says)))
+
+  -- all has ended again
+  rested_then : AllEnded ((history ++ e ∷ []) ++ End 0 (length (started history)) Whole ∷ [])
+  rested_then io below =
+      let n = length (started history) in
+      let grown : started ((history ++ e ∷ []) ++ End 0 n Whole ∷ []) ≡ started history ++ s ∷ [] =
+      filter_map-append started_by (history ++ e ∷ []) (End 0 n Whole ∷ []) ∙ append-nil (started (history ++ e ∷ [])) ∙ now_started in
+      elim (cases_eq io n) [
+        | inl same ↦
+            ap (λ (k : ℕ). is_none (outcome_of ((history ++ e ∷ []) ++ End 0 n Whole ∷ []) k)) same
+            ∙ whole_is_some (outcome_of ((history ++ e ∷ []) ++ End 0 n Whole ∷ []) n) ended_whole_now
+        | inr apart ↦
+            let within : io < n = omega (arith, below, ap length grown, length-append (started history) (s ∷ []), apart) in
+            still_ended (history ++ e ∷ []) (End 0 n Whole ∷ []) io (still_ended history (e ∷ []) io (rested io within))
+      ]
 
   -- the event, its end, and a verdict that may be said of it
-  well_judged : (said : GivenVerdict) → s.worker ≡ 0 → may_happen plan history e ≡ true → is_judged_kind s.kind ≡ true → job_says (clone_of plan s.write.clone) s.kind s.piece.len said ≡ true → IsWell plan (history ++ e ∷ End 0 (length (started history)) Whole ∷ Verdict 0 (length (started history)) said ∷ [])
+  well_judged : (said : GivenVerdict) → s.worker ≡ 0 → may_happen plan history e ≡ true → is_judged_kind s.kind ≡ true → job_says (clone_of plan s.write.clone) s.kind s.piece.len said ≡ true → IsRested plan (history ++ e ∷ End 0 (length (started history)) Whole ∷ Verdict 0 (length (started history)) said ∷ [])
   well_judged said worker may judged says =
       let io = length (started history) in
-      subst (λ (all : List Event). IsWell plan all) (append_assoc history (e ∷ []) (End 0 io Whole ∷ Verdict 0 io said ∷ []))
-      (subst (λ (all : List Event). IsWell plan all) (append_assoc (history ++ e ∷ []) (End 0 io Whole ∷ []) (Verdict 0 io said ∷ []))
-      (well-more plan ((history ++ e ∷ []) ++ End 0 io Whole ∷ []) (Verdict 0 io said) (well_ended worker may) (may_be_said said judged says)))
+      let ended = (history ++ e ∷ []) ++ End 0 io Whole ∷ [] in
+      subst (λ (all : List Event). IsRested plan all) (append_assoc history (e ∷ []) (End 0 io Whole ∷ Verdict 0 io said ∷ []))
+      (subst (λ (all : List Event). IsRested plan all) (append_assoc (history ++ e ∷ []) (End 0 io Whole ∷ []) (Verdict 0 io said ∷ []))
+      (record {
+        well = well-more plan ended (Verdict 0 io said) (well_ended worker may) (may_be_said said judged says);
+        rested = rested-other ended (Verdict 0 io said) refl rested_then;
+        unraced = λ id. raced_other ended (Verdict 0 io said) id refl ∙ unraced_now id;
+      }))
 
   -- the event and its end alone
-  well_unjudged : s.worker ≡ 0 → may_happen plan history e ≡ true → IsWell plan (history ++ e ∷ End 0 (length (started history)) Whole ∷ [])
+  well_unjudged : s.worker ≡ 0 → may_happen plan history e ≡ true → IsRested plan (history ++ e ∷ End 0 (length (started history)) Whole ∷ [])
   well_unjudged worker may =
-      subst (λ (all : List Event). IsWell plan all) (append_assoc history (e ∷ []) (End 0 (length (started history)) Whole ∷ []))
-      (well_ended worker may)
+      subst (λ (all : List Event). IsRested plan all) (append_assoc history (e ∷ []) (End 0 (length (started history)) Whole ∷ []))
+      (record { well = well_ended worker may; rested = rested_then; unraced = unraced_now })
 
 -- the bytes that a memory has of a piece are no more than the piece's
 pub stored_short : (memory : List FileBytes) (s : Started) → length (stored_for memory s) ≤ s.piece.len
@@ -248,64 +306,75 @@ says_own plan s found bytes planned judged short =
     job_says_fits (clone_of plan s.write.clone) found s (seed_of_draw (slice_get (draws_of plan s.write.clone s.write.pass) s.write.number)) bytes planned judged short
 
 -- a choice that is carried out leaves a legal history
-pub well_issue : (plan : Plan) (history : List Event) (kind : IssueKind) (write : WriteId) (piece : Piece) → IsWell plan history → may_happen plan history (Issue 0 kind write piece) ≡ true → IsWell plan (history ++ carried_out plan history (Issue 0 kind write piece))
+pub well_issue : (plan : Plan) (history : List Event) (kind : IssueKind) (write : WriteId) (piece : Piece) → IsRested plan history → may_happen plan history (Issue 0 kind write piece) ≡ true → IsRested plan (history ++ carried_out plan history (Issue 0 kind write piece))
 well_issue plan history issue.Read write piece well may =
-    well_unjudged plan history (Issue 0 issue.Read write piece) (record { worker = 0; kind = ticket.Read; write = write; piece = piece }) well refl refl refl refl may
+    well_unjudged plan history (Issue 0 issue.Read write piece) (record { worker = 0; kind = ticket.Read; write = write; piece = piece }) well.well refl refl refl well.rested well.unraced refl may
 well_issue plan history issue.Write write piece well may =
-    well_unjudged plan history (Issue 0 issue.Write write piece) (record { worker = 0; kind = ticket.Write; write = write; piece = piece }) well refl refl refl refl may
+    well_unjudged plan history (Issue 0 issue.Write write piece) (record { worker = 0; kind = ticket.Write; write = write; piece = piece }) well.well refl refl refl well.rested well.unraced refl may
 well_issue plan history issue.ReadCheck write piece well may =
     let e = Issue 0 issue.ReadCheck write piece in
     let s : Started = record { worker = 0; kind = ticket.ReadCheck; write = write; piece = piece } in
     let planned = starts_planned plan history e s may refl in
     let bytes = stored_for (memory_after plan history) s in
-    well_judged plan history e s well refl refl refl (verdict_on plan s bytes) refl may refl
+    well_judged plan history e s well.well refl refl refl well.rested well.unraced (verdict_on plan s bytes) refl may refl
     (says_own plan s planned.0 bytes planned.1 refl (stored_short (memory_after plan history) s))
 
-pub well_probe : (plan : Plan) (history : List Event) (write : WriteId) (piece : Piece) → IsWell plan history → may_happen plan history (Probe 0 write piece) ≡ true → IsWell plan (history ++ carried_out plan history (Probe 0 write piece))
+pub well_probe : (plan : Plan) (history : List Event) (write : WriteId) (piece : Piece) → IsRested plan history → may_happen plan history (Probe 0 write piece) ≡ true → IsRested plan (history ++ carried_out plan history (Probe 0 write piece))
 well_probe plan history write piece well may =
     let e = Probe 0 write piece in
     let s : Started = record { worker = 0; kind = ticket.Probe; write = write; piece = piece } in
     let planned = starts_planned plan history e s may refl in
-    well_judged plan history e s well refl refl refl Good refl may refl (says_good (clone_of plan write.clone) planned.0 piece.len planned.1)
+    well_judged plan history e s well.well refl refl refl well.rested well.unraced Good refl may refl (says_good (clone_of plan write.clone) planned.0 piece.len planned.1)
 
-pub well_choice : (plan : Plan) (history : List Event) (e : Event) → IsNumbered plan → IsWell plan history → choice plan history 0 ≡ Some e → IsWell plan (history ++ carried_out plan history e)
+pub well_choice : (plan : Plan) (history : List Event) (e : Event) → IsNumbered plan → IsRested plan history → choice plan history 0 ≡ Some e → IsRested plan (history ++ carried_out plan history e)
 well_choice plan history e numbered well chosen =
     let may = choice_may_happen plan history 0 e numbered chosen in
     let step = choice_is_step plan history 0 e numbered chosen in
     let pass = pass_of step.0 step.1 in
     elim (cases_step_of plan history 0 pass step.2 e step.3) [
       | inl probe ↦
-          subst (λ (x : Event). IsWell plan (history ++ carried_out plan history x)) (sym probe)
+          subst (λ (x : Event). IsRested plan (history ++ carried_out plan history x)) (sym probe)
           (well_probe plan history (write_id pass step.2) step.2.piece well (subst (λ (x : Event). may_happen plan history x ≡ true) probe may))
       | inr other ↦
           elim other [
             | inl skip ↦
-                subst (λ (x : Event). IsWell plan (history ++ carried_out plan history x)) (sym skip)
-                (well-more plan history (Skip 0 (write_id pass step.2)) well (subst (λ (x : Event). may_happen plan history x ≡ true) skip may))
+                subst (λ (x : Event). IsRested plan (history ++ carried_out plan history x)) (sym skip)
+                (record {
+                  well = well-more plan history (Skip 0 (write_id pass step.2)) well.well (subst (λ (x : Event). may_happen plan history x ≡ true) skip may);
+                  rested = rested-other history (Skip 0 (write_id pass step.2)) refl well.rested;
+                  unraced = λ id. raced_other history (Skip 0 (write_id pass step.2)) id refl ∙ well.unraced id;
+                })
             | inr issued ↦
-                subst (λ (x : Event). IsWell plan (history ++ carried_out plan history x)) (sym issued)
+                subst (λ (x : Event). IsRested plan (history ++ carried_out plan history x)) (sym issued)
                 (well_issue plan history (issued_as step.0 step.2.dir) (write_id pass step.2) step.2.piece well (subst (λ (x : Event). may_happen plan history x ≡ true) issued may))
           ]
     ]
 
-pub well_goes_on : (plan : Plan) (rest : List Event → List Event) (history : List Event) (o : Option Event) → ((longer : List Event) → IsWell plan longer → IsWell plan (rest longer)) → IsNumbered plan → IsWell plan history → choice plan history 0 ≡ o → IsWell plan (goes_on plan rest history o)
+pub well_goes_on : (plan : Plan) (rest : List Event → List Event) (history : List Event) (o : Option Event) → ((longer : List Event) → IsRested plan longer → IsRested plan (rest longer)) → IsNumbered plan → IsRested plan history → choice plan history 0 ≡ o → IsRested plan (goes_on plan rest history o)
 well_goes_on plan rest history None keeps numbered well chosen = well
 well_goes_on plan rest history (Some e) keeps numbered well chosen =
     keeps (history ++ carried_out plan history e) (well_choice plan history e numbered well chosen)
 
-pub well_serial : (limit : ℕ) (plan : Plan) (history : List Event) → IsNumbered plan → IsWell plan history → IsWell plan (serial_after limit plan history)
+pub well_serial : (limit : ℕ) (plan : Plan) (history : List Event) → IsNumbered plan → IsRested plan history → IsRested plan (serial_after limit plan history)
 well_serial zero plan history numbered well = well
 well_serial (suc limit) plan history numbered well =
     well_goes_on plan (serial_after limit plan) history (choice plan history 0)
-    (λ (more : List Event) (still : IsWell plan more). well_serial limit plan more numbered still) numbered well refl
+    (λ (more : List Event) (still : IsRested plan more). well_serial limit plan more numbered still) numbered well refl
 
--- the history of one worker is legal
-pub legal_serial : (plan : Plan) → IsNumbered plan → is_legal plan (serial_history plan) ≡ true
-legal_serial plan numbered =
-    (well_serial (2 * work_of plan) plan [] numbered (record { legal = refl; ends = λ io o h. none_some io o h; judged = λ io h. none_true io h })).legal
+-- the history of one worker is legal, and nothing races in it
+pub rested_serial : (plan : Plan) → IsNumbered plan → IsRested plan (serial_history plan)
+rested_serial plan numbered =
+    (well_serial (2 * work_of plan) plan [] numbered (record {
+      well = record { legal = refl; ends = λ io o h. none_some io o h; judged = λ io h. none_true io h };
+      rested = λ io below. absurd (omega (arith, below));
+      unraced = λ io. refl;
+    }))
   where
     none_some : (io : ℕ) (o : Outcome) → None ≡ Some o → io < 0
     none_some io o h = cc
 
     none_true : (io : ℕ) → false ≡ true → io < 0
     none_true io h = cc
+
+pub legal_serial : (plan : Plan) → IsNumbered plan → is_legal plan (serial_history plan) ≡ true
+legal_serial plan numbered = (rested_serial plan numbered).well.legal

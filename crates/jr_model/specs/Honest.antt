@@ -1,5 +1,5 @@
 -- Believed: when reads are honest, and when verdicts are those of the bytes read (of this project).
-use Rattle.std.specs.Prelude.{◌≡◌, ℕ, zero, suc, ◌-◌, ◌*◌, List, [], ◌∷◌, take, drop, slice_get, Option, Some, None, is_some, IsTrue, if◌then◌else◌}
+use Rattle.std.specs.Prelude.{◌≡◌, ℕ, zero, suc, ◌-◌, ◌*◌, List, [], ◌∷◌, take, drop, slice_get, Option, Some, None, is_some, IsTrue, IsFalse, if◌then◌else◌}
 use Rattle.jr_model.specs.declared.limits.TheConstants.{SECTOR}
 use Rattle.jr_model.specs.declared.blocks.Piece.{Piece}
 use Rattle.jr_model.specs.declared.events.Event.{Event}
@@ -10,8 +10,9 @@ use Rattle.jr_model.specs.declared.workloads.Draw.{Draw}
 use Rattle.jr_model.specs.Draws.{draws_of}
 use Rattle.jr_model.specs.History.{Started, started, started_by, outcome_of, is_probe, ended_whole}
 use Rattle.jr_model.specs.LastWrite.{covers_block, last_write}
-use Rattle.jr_model.specs.Machine.{content_in_job, verdict_on}
+use Rattle.jr_model.specs.Machine.{content_in_job, verdict_on, said_of}
 use Rattle.jr_model.specs.Plan.{Plan, clone_of}
+use Rattle.jr_model.specs.Races.{has_raced}
 
 -- the history before I/O io was started
 abbrev pub before_start : List Event → ℕ → List Event
@@ -34,12 +35,13 @@ abbrev pub written_in : Plan → WriteId → ℕ → List ℕ
 written_in plan write block =
     written_by plan write (slice_get (draws_of plan write.clone write.pass) write.number) block
 
--- io is a check that ended whole
+-- io is a check that ended whole and didn't race
 abbrev pub IsWholeCheck : List Event → ℕ → Started → Type 0
 IsWholeCheck history io s =
     (slice_get (started history) io ≡ Some s) × IsTrue (is_probe s.kind) × IsTrue (ended_whole (outcome_of history io))
+    × IsFalse (has_raced history io)
 
--- reads are honest: each check that ended whole gave, in each of its blocks, what the block's last write before the
+-- reads are honest: each check that ended whole and didn't race gave, in each of its blocks, what the block's last write before the
 -- check put there; `read` gives the bytes of each check
 abbrev pub IsHonest : Plan → List Event → (ℕ → List ℕ) → Type 0
 IsHonest plan history read =
@@ -49,10 +51,10 @@ IsHonest plan history read =
     → last_write (before_start history io) s.piece.file block ≡ Some write
     → block_bytes s.piece block (read io) ≡ written_in plan write block
 
--- each verdict is that on the bytes read
+-- each verdict is that on the bytes read, but for what raced
 abbrev pub IsJudgedBy : Plan → List Event → (ℕ → List ℕ) → Type 0
 IsJudgedBy plan history read =
     (place by io : ℕ) (verdict : GivenVerdict) (s : Started)
     → slice_get history place ≡ Some (Verdict by io verdict)
     → slice_get (started history) io ≡ Some s
-    → verdict ≡ verdict_on plan s (read io)
+    → verdict ≡ said_of (has_raced history io) (verdict_on plan s (read io))

@@ -18,7 +18,7 @@ use Rattle.jr_model.specs.declared.events.Part.TheVariants as part
 use Rattle.jr_model.specs.declared.events.What.TheVariants.{Header, Digest, DataArea, Byte, Chunk}
 use Rattle.jr_model.specs.declared.events.WriteId.{WriteId}
 use Rattle.jr_model.specs.declared.events.Verdict.{Verdict}
-use Rattle.jr_model.specs.declared.events.Verdict.TheVariants.{Good, Bad}
+use Rattle.jr_model.specs.declared.events.Verdict.TheVariants.{Good, Bad, Void}
 use Rattle.std.specs.Int.{w32, w64, to_le_bytes, from_le_bytes}
 use Rattle.jr_model.specs.declared.limits.TheConstants.{SECTOR}
 use Rattle.jr_model.specs.Content.{magic, kind_code, block_version, chunk_version, digest_of, digest_length, pattern_bytes, data_area, chunk_at, chunk_seed, chunks_in, chunk_header}
@@ -58,12 +58,14 @@ in_chunk i (Bad Digest) = Bad (Chunk i part.Digest)
 in_chunk i (Bad DataArea) = Bad (Chunk i part.DataArea)
 in_chunk i (Bad (Byte n)) = Bad (Byte n)
 in_chunk i (Bad (Chunk n found)) = Bad (Chunk n found)
+in_chunk i Void = Void
 
--- the first verdict that isn't good
+-- the first bad verdict, if there is one
 abbrev pub first_bad : List Verdict → Verdict
 first_bad [] = Good
 first_bad (Good ∷ verdicts) = first_bad verdicts
 first_bad (Bad what ∷ verdicts) = Bad what
+first_bad (Void ∷ verdicts) = first_bad verdicts
 
 -- the bytes of chunk i
 abbrev pub bytes_of_chunk : ℕ → ℕ → List ℕ → List ℕ

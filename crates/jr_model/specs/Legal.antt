@@ -13,7 +13,7 @@ use Rattle.jr_model.specs.declared.events.IssueKind.TheVariants as issue
 use Rattle.jr_model.specs.declared.events.Outcome.{Outcome}
 use Rattle.jr_model.specs.declared.events.Outcome.TheVariants.{Whole, Failed, Short}
 use Rattle.jr_model.specs.declared.events.Verdict.{Verdict as GivenVerdict}
-use Rattle.jr_model.specs.declared.events.Verdict.TheVariants.{Good, Bad}
+use Rattle.jr_model.specs.declared.events.Verdict.TheVariants.{Good, Bad, Void}
 use Rattle.jr_model.specs.declared.events.What.{What}
 use Rattle.jr_model.specs.declared.events.What.TheVariants.{Header, Digest, DataArea, Byte, Chunk}
 use Rattle.jr_model.specs.declared.events.WriteId.{WriteId}
@@ -24,7 +24,8 @@ use Rattle.jr_model.specs.declared.workloads.Draw.{Draw}
 use Rattle.jr_model.specs.History.{Started, started, flies, outcome_of, in_flight, in_flight_of, awaiting, is_of_clone, is_judged, is_judged_kind, is_write, ended_whole, same_write, same_piece}
 use Rattle.jr_model.specs.LastWrite.{is_intact}
 use Rattle.jr_model.specs.Pieces.{pieces_overlap}
-use Rattle.jr_model.specs.Plan.{Plan, SubJob, clone_of, issued_as}
+use Rattle.jr_model.specs.Plan.{Plan, SubJob, clone_of, declines_of, issued_as}
+use Rattle.jr_model.specs.Races.{has_raced}
 use Rattle.jr_model.specs.Rounds.{Pass, pass_of, write_id, is_write_draw, issued_count, has_rounds, group_index, is_open, waits_for_round, clone_finished, is_current, nothing_flies_of}
 
 -- the I/O is the clone's
@@ -41,6 +42,7 @@ is_fault (Short n) = true
 abbrev pub is_bad : GivenVerdict → Bool
 is_bad Good = false
 is_bad (Bad what) = true
+is_bad Void = false
 
 -- the event halts the clone, where these I/Os are started: a fault, or a bad verdict where that is fatal
 abbrev pub halts : List Started → SubJob → Event → Bool
@@ -79,9 +81,14 @@ has_room history job = nat_lt (length (in_flight_of history job.clone)) job.dept
 abbrev pub conflicts : Bool → Piece → Started → Bool
 conflicts writes piece io = (writes || is_write io.kind) && pieces_overlap io.piece piece
 
--- nothing in flight overlaps the piece where one of the two writes
-abbrev pub is_clear : List Event → Bool → Piece → Bool
-is_clear history writes piece = not (list_any (conflicts writes piece) (in_flight history))
+-- the clone's I/O has to wait for the other: the two overlap, one of them writes, and neither clone declines to wait
+abbrev pub waits_for : Plan → SubJob → Bool → Piece → Started → Bool
+waits_for plan job writes piece io =
+    not (job.declines || declines_of (clone_of plan io.write.clone)) && conflicts writes piece io
+
+-- the clone's I/O over the piece has to wait for nothing in flight
+abbrev pub is_clear : Plan → List Event → SubJob → Bool → Piece → Bool
+is_clear plan history job writes piece = not (list_any (waits_for plan job writes piece) (in_flight history))
 
 -- draw k of the pass may be issued
 abbrev pub may_issue : Plan → List Event → Pass → Draw → Bool
@@ -89,7 +96,7 @@ may_issue plan history pass draw =
     (draw.number == issued_count history pass)
     && not (is_halted history pass.job)
     && has_room history pass.job
-    && is_clear history (is_write_draw draw) draw.piece
+    && is_clear plan history pass.job (is_write_draw draw) draw.piece
     && is_current history pass
     && not (waits_for_round history pass)
     && phase_is_open plan history pass.job
@@ -103,14 +110,14 @@ takes_up write (End worker io outcome) = false
 takes_up write (Verdict worker io verdict) = false
 
 -- the write may be checked, or skipped, now: its round is open, it was neither checked nor skipped, and there is room
-abbrev pub may_take_up : List Event → Pass → Draw → Bool
-may_take_up history pass draw =
+abbrev pub may_take_up : Plan → List Event → Pass → Draw → Bool
+may_take_up plan history pass draw =
     is_write_draw draw
     && has_rounds pass.job
     && not (list_any (takes_up (write_id pass draw)) history)
     && not (is_halted history pass.job)
     && has_room history pass.job
-    && is_clear history false draw.piece
+    && is_clear plan history pass.job false draw.piece
     && is_open history pass (group_index pass draw.number)
 
 -- the check of a write where it is intact, else its skip
@@ -122,7 +129,7 @@ check_or_skip history worker pass draw =
 -- the step that may happen with a draw now, if there is one: its check or skip, or its issue
 abbrev pub step_of : Plan → List Event → ℕ → Pass → Draw → Option Event
 step_of plan history worker pass draw =
-    if may_take_up history pass draw
+    if may_take_up plan history pass draw
     then Some (check_or_skip history worker pass draw)
     else (if may_issue plan history pass draw then Some (Issue worker (issued_as pass.job draw.dir) (write_id pass draw) draw.piece) else None)
 
@@ -224,6 +231,7 @@ kind_finds verify.Sha256 interval len what = digest_finds interval len what
 abbrev pub kind_says : VerifyKind → ℕ → ℕ → GivenVerdict → Bool
 kind_says kind interval len Good = true
 kind_says kind interval len (Bad what) = kind_finds kind interval len what
+kind_says kind interval len Void = false
 
 -- what may be said of a checked read, whose bytes say themselves how they are cut: into whole 512-byte blocks at least (a piece
 -- has one or more)
@@ -240,6 +248,7 @@ own_finds verify.Sha256 len what = own_digest_finds len what
 abbrev pub own_says : VerifyKind → ℕ → GivenVerdict → Bool
 own_says kind len Good = true
 own_says kind len (Bad what) = own_finds kind len what
+own_says kind len Void = false
 
 -- what may be said of an I/O of this kind, where its clone verifies so
 abbrev pub ticket_says : TicketKind → Method → ℕ → GivenVerdict → Bool
@@ -252,11 +261,18 @@ abbrev pub job_says : Option SubJob → TicketKind → ℕ → GivenVerdict → 
 job_says None kind len verdict = false
 job_says (Some job) kind len verdict = ticket_says kind job.method len verdict
 
--- a check or checked read that may be said this of
-abbrev pub verdict_fits : Plan → GivenVerdict → Option Started → Bool
-verdict_fits plan verdict None = false
-verdict_fits plan verdict (Some io) =
-    is_judged_kind io.kind && job_says (clone_of plan io.write.clone) io.kind io.piece.len verdict
+-- nothing is said of the bytes
+abbrev pub is_void : GivenVerdict → Bool
+is_void Void = true
+is_void Good = false
+is_void (Bad what) = false
+
+-- a check or checked read that may be said this of: nothing of its bytes where it raced, and else what its kind can find
+abbrev pub verdict_fits : Plan → Bool → GivenVerdict → Option Started → Bool
+verdict_fits plan raced verdict None = false
+verdict_fits plan raced verdict (Some io) =
+    is_judged_kind io.kind
+    && (if raced then is_void verdict else job_says (clone_of plan io.write.clone) io.kind io.piece.len verdict)
 
 -- the event may happen after the history
 abbrev pub may_happen : Plan → List Event → Event → Bool
@@ -267,7 +283,7 @@ may_happen plan history (End worker io outcome) =
     flies history io && end_fits worker outcome (slice_get (started history) io)
 may_happen plan history (Verdict worker io verdict) =
     ended_whole (outcome_of history io) && not (is_judged history io)
-    && verdict_fits plan verdict (slice_get (started history) io)
+    && verdict_fits plan (has_raced history io) verdict (slice_get (started history) io)
 
 -- each of these events may happen in its turn, after those before
 abbrev pub legal_after : Plan → List Event → List Event → Bool

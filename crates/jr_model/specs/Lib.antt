@@ -16,6 +16,7 @@ pub mod Pieces
 pub mod Plan
 pub mod PlanFacts
 pub mod Quiet
+pub mod Races
 pub mod Replies
 pub mod Report
 pub mod Rounds

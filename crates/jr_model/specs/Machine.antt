@@ -10,7 +10,7 @@ use Rattle.jr_model.specs.declared.events.Event.{Event}
 use Rattle.jr_model.specs.declared.events.Event.TheVariants.{Issue, Probe, Skip, End, Verdict}
 use Rattle.jr_model.specs.declared.events.Outcome.{Outcome}
 use Rattle.jr_model.specs.declared.events.Verdict.{Verdict as GivenVerdict}
-use Rattle.jr_model.specs.declared.events.Verdict.TheVariants.{Good}
+use Rattle.jr_model.specs.declared.events.Verdict.TheVariants.{Good, Void}
 use Rattle.jr_model.specs.declared.events.WriteId.{WriteId}
 use Rattle.jr_model.specs.declared.replies.Reply.{Reply}
 use Rattle.jr_model.specs.declared.steps.DeskFault.{DeskFault}
@@ -29,6 +29,7 @@ use Rattle.jr_model.specs.History.{Started, started, outcome_of, is_judged, is_j
 use Rattle.jr_model.specs.Judgement.{verdict_of}
 use Rattle.jr_model.specs.Legal.{is_complete}
 use Rattle.jr_model.specs.Plan.{Plan, SubJob, clone_of}
+use Rattle.jr_model.specs.Races.{has_raced}
 use Rattle.jr_model.specs.Replies.{FileBytes, ReadReply, WriteReply, fresh_memory, outcome_for, stored, memory_with, reply_to_read, reply_to_write}
 
 -- Take: what it appends, and what it answers
@@ -217,6 +218,10 @@ machine_end_by plan s io reply None (Some started) = record {
 abbrev pub machine_end : Plan → State → ℕ → Reply → Stepped
 machine_end plan s io reply = machine_end_by plan s io reply (end_refusal s io) (slice_get (started s.history) io)
 
+-- what is said of an I/O: nothing of its bytes where it raced, and else the verdict on them
+abbrev pub said_of : Bool → GivenVerdict → GivenVerdict
+said_of raced verdict = if raced then Void else verdict
+
 -- refused, or judged
 abbrev pub machine_judge_by : Plan → State → ℕ → ℕ → Option DeskFault → Option Started → Stepped
 machine_judge_by plan s by io (Some fault) started = record { reply = answer.Refused fault; state = s }
@@ -224,7 +229,7 @@ machine_judge_by plan s by io None None = record { reply = answer.Refused Strang
 machine_judge_by plan s by io None (Some started) = record {
   reply = answer.Judged;
   state = record s {
-    history = s.history ++ Verdict by io (verdict_on plan started (bytes_read s.read_back io)) ∷ [];
+    history = s.history ++ Verdict by io (said_of (has_raced s.history io) (verdict_on plan started (bytes_read s.read_back io))) ∷ [];
   };
 }
 

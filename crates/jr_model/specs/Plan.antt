@@ -1,6 +1,6 @@
 -- Believed: what a job file asks for, as the other definitions read it (fio's manual, "Job file format" and "Parameters").
 -- Names are lists of bytes; offsets and sizes are in bytes.
-use Rattle.std.specs.Prelude.{◌≡◌, ℕ, Bool, true, false, not, ◌&&◌, List, Option, Some, slice_get, if◌then◌else◌}
+use Rattle.std.specs.Prelude.{◌≡◌, ℕ, Bool, true, false, not, ◌&&◌, List, Option, Some, None, slice_get, if◌then◌else◌}
 use Rattle.jr_model.specs.declared.blocks.Dir.{Dir}
 use Rattle.jr_model.specs.declared.blocks.Dir.TheVariants as direction
 use Rattle.jr_model.specs.declared.contents.Method.{Method}
@@ -33,6 +33,7 @@ pub record SubJob : Type 0 where
   pub checks_writes : Bool
   pub backlog : ℕ
   pub is_fatal : Bool
+  pub declines : Bool
 
 -- one file of a run: its name, the least start in it, and the greatest end of a region
 pub record FileSpec : Type 0 where
@@ -54,6 +55,11 @@ clone_of plan c = slice_get plan.clones c
 -- each clone's number is its place
 abbrev pub IsNumbered : Plan → Type 0
 IsNumbered plan = (i : ℕ) (job : SubJob) → slice_get plan.clones i ≡ Some job → job.clone ≡ i
+
+-- the clone, if it is there, declines that its I/Os wait for those that they overlap
+abbrev pub declines_of : Option SubJob → Bool
+declines_of None = false
+declines_of (Some job) = job.declines
 
 -- whether blocks are verified at all
 abbrev pub is_verified : VerifyKind → Bool

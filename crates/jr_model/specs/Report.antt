@@ -6,7 +6,7 @@ use Rattle.jr_model.specs.declared.blocks.Piece.{Piece}
 use Rattle.jr_model.specs.declared.events.Event.{Event}
 use Rattle.jr_model.specs.declared.events.Event.TheVariants.{Issue, Probe, Skip, End, Verdict}
 use Rattle.jr_model.specs.declared.events.Verdict.{Verdict as GivenVerdict}
-use Rattle.jr_model.specs.declared.events.Verdict.TheVariants.{Good, Bad}
+use Rattle.jr_model.specs.declared.events.Verdict.TheVariants.{Good, Bad, Void}
 use Rattle.jr_model.specs.declared.events.What.{What}
 use Rattle.jr_model.specs.declared.events.Part.{Part}
 use Rattle.jr_model.specs.declared.events.Part.TheVariants as part
@@ -58,6 +58,7 @@ pub record Miscompare : Type 0 where
 abbrev pub miscompare_on : Option Started → GivenVerdict → Option Miscompare
 miscompare_on None verdict = None
 miscompare_on (Some io) Good = None
+miscompare_on (Some io) Void = None
 miscompare_on (Some io) (Bad what) = Some (record { write = io.write; piece = io.piece; what = what })
 
 abbrev pub miscompare_by : List Started → Event → Option Miscompare

@@ -1,5 +1,5 @@
 -- Believed: when the calls of an engine with a known memory are what a worker completed (of this project).
-use Rattle.std.specs.Prelude.{◌≡◌, ℕ, suc, ◌==◌, Bool, List, [], ◌∷◌, slice_get, Some}
+use Rattle.std.specs.Prelude.{◌≡◌, ℕ, suc, ◌==◌, Bool, not, ◌&&◌, List, [], ◌∷◌, slice_get, Some}
 use Rattle.std.specs.Bool.{MatchBool}
 use Rattle.jr_model.specs.declared.events.Event.{Event}
 use Rattle.jr_model.specs.declared.events.Event.TheVariants.{Issue, Probe, Skip, End}
@@ -10,6 +10,7 @@ use Rattle.jr_model.specs.declared.replies.Reply.{Reply}
 use Rattle.jr_model.specs.declared.tickets.TicketKind.{TicketKind}
 use Rattle.jr_model.specs.declared.tickets.TicketKind.TheVariants as ticket
 use Rattle.jr_model.specs.History.{Started, started}
+use Rattle.jr_model.specs.Legal.{is_void}
 use Rattle.jr_model.specs.Machine.{content_of_io, read_of, bytes_read, verdict_on}
 use Rattle.jr_model.specs.Plan.{Plan}
 use Rattle.jr_model.specs.Replies.{FileBytes, memory_with, outcome_for, reply_to_write, scripted_reply}
@@ -52,11 +53,11 @@ called plan engine io ticket.Read started = read_called engine io started (scrip
 called plan engine io ticket.Probe started = read_called engine io started (scripted_reply engine.script engine.calls)
 called plan engine io ticket.ReadCheck started = read_called engine io started (scripted_reply engine.script engine.calls)
 
--- the verdict on an I/O, where this worker started it, is that on the bytes that its engine gave
+-- the verdict on an I/O, where this worker started it and it didn't race, is that on the bytes that its engine gave
 abbrev pub IsOnBytes : Plan → ℕ → List Started → KnownEngine → ℕ → Verdict → Type 0
 IsOnBytes plan worker ios before io verdict =
     (s : Started) × (slice_get ios io ≡ Some s)
-    × MatchBool (s.worker == worker) (verdict_on plan s (bytes_read before.read_back io) ≡ verdict) (Unit {0})
+    × MatchBool (s.worker == worker && not (is_void verdict)) (verdict_on plan s (bytes_read before.read_back io) ≡ verdict) (Unit {0})
 
 -- the events of one worker, in order, are the engine's calls: each of its ends is the next call's, with that outcome,
 -- and, where verdicts are inline, the verdict on each of its checks, whoever gave it, is that on the bytes so read

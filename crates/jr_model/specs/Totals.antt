@@ -7,8 +7,8 @@ use Rattle.jr_model.specs.declared.tickets.TicketKind.{TicketKind}
 use Rattle.jr_model.specs.declared.tickets.TicketKind.TheVariants as ticket
 use Rattle.jr_model.specs.declared.totals.Totals.{Totals}
 use Rattle.jr_model.specs.History.{Started, started, is_of_clone, is_write, ended_whole}
-use Rattle.jr_model.specs.Legal.{is_io_of, is_fault, is_bad}
-use Rattle.std.specs.Prelude.{◌==◌, not}
+use Rattle.jr_model.specs.Legal.{is_io_of, is_fault, is_bad, is_void}
+use Rattle.std.specs.Prelude.{◌==◌, not, ◌||◌}
 
 abbrev pub is_read : TicketKind → Bool
 is_read ticket.Read = true
@@ -71,10 +71,10 @@ totals_of history c =
       rbytes = bytes_of reads;
       writes = length writes;
       wbytes = bytes_of writes;
-      checks = count_by (is_verdict_of ios (λ verdict. true) c) history;
-      good = count_by (is_verdict_of ios (λ verdict. not (is_bad verdict)) c) history;
+      checks = count_by (is_verdict_of ios (λ verdict. not (is_void verdict)) c) history;
+      good = count_by (is_verdict_of ios (λ verdict. not (is_bad verdict || is_void verdict)) c) history;
       bad = count_by (is_verdict_of ios is_bad c) history;
       skipped = count_by (is_skip_of c) history;
-      void = 0;
+      void = count_by (is_verdict_of ios is_void c) history;
       faults = count_by (is_fault_of ios c) history;
     }

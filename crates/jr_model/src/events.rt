@@ -64,6 +64,8 @@ pub enum Part {
 pub enum Verdict {
     Good,
     Bad(What),
+    /// Nothing is said of its bytes: a write overlapped it while both were in flight.
+    Void,
 }
 
 /// What a draw is issued as.

@@ -5,13 +5,13 @@ pub struct Totals {
     pub rbytes: u64,
     pub writes: u64,
     pub wbytes: u64,
-    /// Verdicts, good and bad.
+    /// Verdicts, good and bad. A void one is none of these.
     pub checks: u64,
     pub good: u64,
     pub bad: u64,
-    /// Writes that weren't checked, since a later write took some of their blocks.
+    /// Writes that weren't checked, since another write took some of their blocks.
     pub skipped: u64,
-    /// Checks without a verdict, since a write raced them. Always 0 where overlap is serialised.
+    /// Checks that say nothing, since a write overlapped them while both were in flight. 0 where no clone declines.
     pub void: u64,
     /// I/Os and checks that failed or ended short.
     pub faults: u64,

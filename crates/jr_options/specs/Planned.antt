@@ -19,4 +19,5 @@ workload_of job = record {
   checks_writes = job.options.checks_writes;
   backlog = job.options.backlog;
   is_fatal = job.options.is_fatal;
+  declines = job.options.declines;
 }

@@ -41,6 +41,7 @@ impl PlannedJob {
             checks_writes: options.checks_writes,
             backlog: options.backlog,
             is_fatal: options.is_fatal,
+            declines: options.declines,
         }
     }
 }

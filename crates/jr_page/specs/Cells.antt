@@ -7,7 +7,7 @@ use Rattle.jr_model.specs.Plan.{Plan}
 use Rattle.jr_model.specs.Report.{field, what_text}
 use Rattle.jr_page.specs.declared.cells.Cell.{Cell}
 use Rattle.jr_places.specs.declared.fates.Fate.{Fate}
-use Rattle.jr_places.specs.declared.fates.Fate.TheVariants.{Untouched, Read, Good, Skipped, Unchecked, Fault, Bad}
+use Rattle.jr_places.specs.declared.fates.Fate.TheVariants.{Untouched, Read, Good, Skipped, Unchecked, Void, Fault, Bad}
 use Rattle.jr_places.specs.declared.maps.FileMap.{FileMap}
 use Rattle.jr_places.specs.Firsts.{first_bad}
 use Rattle.jr_places.specs.Maps.{cell_size, fate_of}
@@ -46,6 +46,7 @@ sign_of Read = codes "r"
 sign_of Good = codes "g"
 sign_of Skipped = codes "s"
 sign_of Unchecked = codes "u"
+sign_of Void = codes "v"
 sign_of Fault = codes "F"
 sign_of Bad = codes "B"
 
@@ -55,6 +56,7 @@ fate_word Read = codes "read only"
 fate_word Good = codes "good"
 fate_word Skipped = codes "skipped"
 fate_word Unchecked = codes "unchecked"
+fate_word Void = codes "void"
 fate_word Fault = codes "fault"
 fate_word Bad = codes "bad"
 

@@ -9,9 +9,10 @@ use jr_tallies::Bad;
 use std::alloc::AllocError;
 
 // All states of a cell, the worst first.
-const FATES: [Fate; 7] = [
+const FATES: [Fate; 8] = [
     Fate::Bad,
     Fate::Fault,
+    Fate::Void,
     Fate::Unchecked,
     Fate::Skipped,
     Fate::Good,
@@ -78,8 +79,9 @@ fn meaning_of(fate: Fate) -> &'static str {
     match fate {
         Fate::Bad => "a check found something else",
         Fate::Fault => "an I/O failed or ended short",
+        Fate::Void => "a check that a write overlapped in flight: nothing is said of it",
         Fate::Unchecked => "a write that no verdict was given on",
-        Fate::Skipped => "a write that is not checked: a later one took some of its blocks",
+        Fate::Skipped => "a write that is not checked: another one took some of its blocks",
         Fate::Good => "a check found what was written",
         Fate::Read => "a job read it",
         Fate::Untouched => "nothing, or nothing that has ended",
@@ -195,6 +197,7 @@ fn sign_of(fate: Fate) -> &'static str
         Fate::Good => "g",
         Fate::Skipped => "s",
         Fate::Unchecked => "u",
+        Fate::Void => "v",
         Fate::Fault => "F",
         Fate::Bad => "B",
     }
@@ -209,6 +212,7 @@ fn fate_word(fate: Fate) -> &'static str
         Fate::Good => "good",
         Fate::Skipped => "skipped",
         Fate::Unchecked => "unchecked",
+        Fate::Void => "void",
         Fate::Fault => "fault",
         Fate::Bad => "bad",
     }

@@ -19,6 +19,7 @@ th, td { padding: .15rem .6rem; border-bottom: 1px solid var(--line); text-align
 .sign { font: bold 6.6px system-ui, sans-serif; text-anchor: middle; }
 .B rect { fill: #d55e00; } .B text { fill: #ffffff; }
 .F rect { fill: #7b2d8b; } .F text { fill: #ffffff; }
+.v rect { fill: #6c6a66; } .v text { fill: #ffffff; }
 .u rect { fill: #f0e442; } .u text { fill: #1b1f24; }
 .s rect { fill: #a9b1bb; } .s text { fill: #1b1f24; }
 .g rect { fill: #9fd3f2; } .g text { fill: #1f5f86; }

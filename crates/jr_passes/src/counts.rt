@@ -1,10 +1,10 @@
-ghost use Rattle.std.specs.Prelude.{◌≡◌, ◌^◌, IfOk, true, not, length, filter_map, count_by, ◌≤◌};
+ghost use Rattle.std.specs.Prelude.{◌≡◌, ◌^◌, ◌||◌, IfOk, not, length, filter_map, count_by, ◌≤◌};
 ghost use Rattle.jr_model.specs.History.{is_write};
-ghost use Rattle.jr_model.specs.Legal.{is_bad};
+ghost use Rattle.jr_model.specs.Legal.{is_bad, is_void};
 ghost use Rattle.jr_passes.specs.Counts.{totals_by};
 ghost use Rattle.jr_model.specs.Totals.{is_read, if_wanted, moved_by, moved, bytes_of, is_verdict_of, is_skip_of, is_fault_of, totals_of};
 
-use jr_history::{Past, ended_whole, is_bad, is_fault, is_io_of, is_of_clone, is_write};
+use jr_history::{Past, ended_whole, is_bad, is_fault, is_io_of, is_of_clone, is_void, is_write};
 use jr_model::{Event, Memory, Started, TicketKind, Totals};
 use std::alloc::Global;
 
@@ -116,23 +116,26 @@ fn write_bytes(ios: &[Started], events: &[Event], clone: u32) -> u64
     total
 }
 
-// Whether the event is a verdict on a check or checked read of the clone.
+// Whether the event is a verdict on the bytes of a check or checked read of the clone.
 fn is_verdict(ios: &[Started], clone: u32, event: &Event) -> bool
-    ensures { result ≡ is_verdict_of ios.now (λ verdict. true) clone event.now }
+    ensures { result ≡ is_verdict_of ios.now (λ verdict. not (is_void verdict)) clone event.now }
 {
     match *event {
-        Event::Verdict { io, .. } => is_io_of(clone, ios.get(io as usize).copied()),
+        Event::Verdict { io, verdict, .. } => {
+            is_io_of(clone, ios.get(io as usize).copied()) && !is_void(verdict)
+        }
         _ => false,
     }
 }
 
 // Whether the event is a good verdict on one.
 fn is_good_verdict(ios: &[Started], clone: u32, event: &Event) -> bool
-    ensures { result ≡ is_verdict_of ios.now (λ verdict. not (is_bad verdict)) clone event.now }
+    ensures { result
+        ≡ is_verdict_of ios.now (λ verdict. not (is_bad verdict || is_void verdict)) clone event.now }
 {
     match *event {
         Event::Verdict { io, verdict, .. } => {
-            is_io_of(clone, ios.get(io as usize).copied()) && !is_bad(verdict)
+            is_io_of(clone, ios.get(io as usize).copied()) && !(is_bad(verdict) || is_void(verdict))
         }
         _ => false,
     }
@@ -150,8 +153,21 @@ fn is_bad_verdict(ios: &[Started], clone: u32, event: &Event) -> bool
     }
 }
 
+// Whether the event says of one that it is void.
+fn is_void_verdict(ios: &[Started], clone: u32, event: &Event) -> bool
+    ensures { result ≡ is_verdict_of ios.now is_void clone event.now }
+{
+    match *event {
+        Event::Verdict { io, verdict, .. } => {
+            is_io_of(clone, ios.get(io as usize).copied()) && is_void(verdict)
+        }
+        _ => false,
+    }
+}
+
 fn verdict_count(ios: &[Started], events: &[Event], clone: u32) -> usize
-    ensures { result ≡ count_by (is_verdict_of ios.now (λ verdict. true) clone) events.now }
+    ensures { result
+        ≡ count_by (is_verdict_of ios.now (λ verdict. not (is_void verdict)) clone) events.now }
 {
     events
         .iter()
@@ -161,7 +177,8 @@ fn verdict_count(ios: &[Started], events: &[Event], clone: u32) -> usize
 
 fn good_count(ios: &[Started], events: &[Event], clone: u32) -> usize
     ensures { result
-        ≡ count_by (is_verdict_of ios.now (λ verdict. not (is_bad verdict)) clone) events.now }
+        ≡ count_by (is_verdict_of ios.now (λ verdict. not (is_bad verdict || is_void verdict)) clone)
+        events.now }
 {
     events
         .iter()
@@ -175,6 +192,15 @@ fn bad_count(ios: &[Started], events: &[Event], clone: u32) -> usize
     events
         .iter()
         .filter(|event| is_bad_verdict(ios, clone, event))
+        .count()
+}
+
+fn void_count(ios: &[Started], events: &[Event], clone: u32) -> usize
+    ensures { result ≡ count_by (is_verdict_of ios.now is_void clone) events.now }
+{
+    events
+        .iter()
+        .filter(|event| is_void_verdict(ios, clone, event))
         .count()
 }
 
@@ -233,7 +259,7 @@ fn totals_by(ios: &[Started], events: &[Event], clone: u32) -> Totals
         good: good_count(ios, events, clone) as u64,
         bad: bad_count(ios, events, clone) as u64,
         skipped: skip_count(events, clone) as u64,
-        void: 0,
+        void: void_count(ios, events, clone) as u64,
         faults: fault_count(ios, events, clone) as u64,
     }
 }

@@ -1,9 +1,11 @@
--- The bytes of bad verdicts, by computing.
+-- The bytes of bad verdicts, and which of two fates is worse, by computing.
 use Rattle.std.proofs.Common.{◌≡◌, refl}
 use Rattle.jr_model.specs.declared.blocks.Piece.{Piece}
 use Rattle.jr_model.specs.declared.events.Part.TheVariants as part
 use Rattle.jr_model.specs.declared.events.What.TheVariants.{Digest, Chunk}
+use Rattle.jr_places.specs.declared.fates.Fate.TheVariants.{Good, Unchecked, Void, Fault, Bad}
 use Rattle.jr_places.specs.BadBlocks.{wrong_bytes}
+use Rattle.jr_places.specs.Maps.{worse}
 
 -- a block of 4096 bytes at 8192
 block : Piece
@@ -30,3 +32,16 @@ digest_row = refl
 no_interval_row : wrong_bytes 0 block (Chunk 0 part.Digest) ≡ block
 unfolding block
 no_interval_row = refl
+
+-- where a check raced, more is known amiss than of a write that wasn't checked, and less than of a fault; what came first is no matter
+unchecked_row : worse Unchecked Void ≡ Void
+unchecked_row = refl
+
+good_row : worse Void Good ≡ Void
+good_row = refl
+
+fault_row : worse Void Fault ≡ Fault
+fault_row = refl
+
+bad_row : worse Bad Void ≡ Bad
+bad_row = refl

@@ -14,12 +14,12 @@ use Rattle.jr_model.specs.declared.tickets.TicketKind.{TicketKind}
 use Rattle.jr_model.specs.declared.tickets.TicketKind.TheVariants as ticket
 use Rattle.jr_model.specs.declared.events.Started.{Started}
 use Rattle.jr_model.specs.History.{started, same_write}
-use Rattle.jr_model.specs.Legal.{is_bad, is_fault}
+use Rattle.jr_model.specs.Legal.{is_fault}
 use Rattle.jr_model.specs.Pieces.{pieces_overlap}
 use Rattle.jr_model.specs.Plan.{Plan}
 use Rattle.jr_places.specs.BadBlocks.{bad_bytes, block_piece}
 use Rattle.jr_places.specs.declared.fates.Fate.{Fate}
-use Rattle.jr_places.specs.declared.fates.Fate.TheVariants.{Untouched, Read, Good, Skipped, Unchecked, Fault, Bad}
+use Rattle.jr_places.specs.declared.fates.Fate.TheVariants.{Untouched, Read, Good, Skipped, Unchecked, Void, Fault, Bad}
 use Rattle.jr_places.specs.declared.maps.FileMap.{FileMap}
 
 -- how bad it is
@@ -29,8 +29,9 @@ rank Read = 1
 rank Good = 2
 rank Skipped = 3
 rank Unchecked = 4
-rank Fault = 5
-rank Bad = 6
+rank Void = 5
+rank Fault = 6
+rank Bad = 7
 
 abbrev pub worse : Fate → Fate → Fate
 worse a b = if nat_lt (rank a) (rank b) then b else a
@@ -72,12 +73,15 @@ abbrev pub fate_of_end : List Event → Started → Outcome → Fate
 fate_of_end history io outcome = if is_fault outcome then Fault else fate_of_whole history io.kind io.write
 
 abbrev pub fate_of_verdict : GivenVerdict → Fate
-fate_of_verdict verdict = if is_bad verdict then Bad else Good
+fate_of_verdict given.Good = Good
+fate_of_verdict (given.Bad what) = Bad
+fate_of_verdict given.Void = Void
 
 -- the bytes that a verdict is over
 abbrev pub verdict_bytes : Plan → GivenVerdict → Started → Piece
 verdict_bytes plan given.Good io = io.piece
 verdict_bytes plan (given.Bad what) io = bad_bytes plan io.write io.piece what
+verdict_bytes plan given.Void io = io.piece
 
 -- some bytes, and what is said of them
 pub record Said : Type 0 where

@@ -10,10 +10,12 @@ pub enum Fate {
     Read,
     /// A check that found what was written, or a read whose bytes were right.
     Good,
-    /// A write that is not checked, since a later one took some of its blocks.
+    /// A write that is not checked, since another one took some of its blocks, meanwhile or later.
     Skipped,
     /// A write that no verdict was given on.
     Unchecked,
+    /// A check, or a read that is checked, of which nothing is said: a write overlapped it while both were in flight.
+    Void,
     /// An I/O that failed or ended short.
     Fault,
     /// A check that found something else, or a read whose bytes were wrong.
@@ -30,8 +32,9 @@ fn rank(fate: Fate) -> u8
         Fate::Good => 2,
         Fate::Skipped => 3,
         Fate::Unchecked => 4,
-        Fate::Fault => 5,
-        Fate::Bad => 6,
+        Fate::Void => 5,
+        Fate::Fault => 6,
+        Fate::Bad => 7,
     }
 }
 

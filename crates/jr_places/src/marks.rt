@@ -10,7 +10,7 @@ ghost use Rattle.jr_places.specs.Told.{IsTold};
 use crate::fates::Fate;
 use crate::spans::{Span, bad_bytes, whole};
 use crate::told::Told;
-use jr_history::{is_bad, is_fault};
+use jr_history::is_fault;
 use jr_model::{Event, Outcome, Started, TicketKind, Verdict, WriteId};
 use jr_plan::Plan;
 
@@ -68,7 +68,7 @@ fn verdict_bytes(plan: &Plan, verdict: Verdict, io: &Started) -> Span
     ensures { span_bytes result ≡ verdict_bytes plan.now verdict io.now }
 {
     match verdict {
-        Verdict::Good => whole(&io.piece),
+        Verdict::Good | Verdict::Void => whole(&io.piece),
         Verdict::Bad(what) => bad_bytes(plan, &io.write, &io.piece, what),
     }
 }
@@ -76,10 +76,10 @@ fn verdict_bytes(plan: &Plan, verdict: Verdict, io: &Started) -> Span
 fn fate_of_verdict(verdict: Verdict) -> Fate
     ensures { result ≡ fate_of_verdict verdict }
 {
-    if is_bad(verdict) {
-        Fate::Bad
-    } else {
-        Fate::Good
+    match verdict {
+        Verdict::Good => Fate::Good,
+        Verdict::Bad(_) => Fate::Bad,
+        Verdict::Void => Fate::Void,
     }
 }
 

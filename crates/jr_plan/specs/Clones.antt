@@ -24,4 +24,5 @@ planned_clone w job number file start = record {
   checks_writes = w.checks_writes;
   backlog = w.backlog;
   is_fatal = w.is_fatal;
+  declines = w.declines;
 }

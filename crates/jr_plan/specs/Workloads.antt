@@ -28,6 +28,7 @@ plain_workload io_type block cells = record {
   checks_writes = true;
   backlog = 0;
   is_fatal = false;
+  declines = false;
 }
 
 -- its region is whole blocks of 512 bytes and has cells, the sizes in use fit the cell, and the interval between headers does

@@ -188,4 +188,11 @@ impl SubJob {
     {
         self.workload.is_fatal
     }
+
+    /// Whether its I/Os wait for none that they overlap, nor others for them (`serialize_overlap=0`).
+    pub fn declines(&self) -> bool
+        ensures { result ≡ self.now.declines }
+    {
+        self.workload.declines
+    }
 }

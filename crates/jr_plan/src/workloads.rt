@@ -37,6 +37,8 @@ pub struct Workload {
     pub backlog: u32,
     /// Whether a bad verdict halts it.
     pub is_fatal: bool,
+    /// Whether its I/Os wait for none that they overlap, nor others for them (`serialize_overlap=0`).
+    pub declines: bool,
 }
 
 impl Workload {
@@ -65,6 +67,7 @@ impl Workload {
             checks_writes: true,
             backlog: 0,
             is_fatal: false,
+            declines: false,
         }
     }
 

@@ -1,14 +1,15 @@
-ghost use Rattle.std.specs.Prelude.{◌≡◌, ◌&&◌, not, ◌==◌, IfOk, length, slice_get};
+ghost use Rattle.std.specs.Prelude.{◌≡◌, ◌&&◌, not, ◌==◌, IfOk, length, slice_get, if◌then◌else◌};
 ghost use Rattle.std.specs.List.{list_all};
 ghost use Rattle.jr_model.specs.History.{started, flies, outcome_of, is_judged, ended_whole, in_flight, awaiting};
 ghost use Rattle.jr_model.specs.Legal.{step_of_draw, step_of_clone, step_at, same_issue, is_this_issue, is_this_probe};
 ghost use Rattle.jr_model.specs.Legal.{is_this_skip, outcome_fits, end_fits, is_header_finding, is_byte_finding, is_chunk_finding, digest_finds, kind_finds};
 ghost use Rattle.jr_model.specs.Legal.{kind_says, own_digest_finds, own_finds, own_says, ticket_says, job_says, verdict_fits};
-ghost use Rattle.jr_model.specs.Legal.{may_happen, is_over, is_complete};
+ghost use Rattle.jr_model.specs.Legal.{is_void, may_happen, is_over, is_complete};
 ghost use Rattle.jr_model.specs.Plan.{clone_of};
+ghost use Rattle.jr_model.specs.Races.{has_raced};
 
 use crate::legal::{is_over, step_of};
-use jr_history::{Past, ended_whole, is_judged_kind};
+use jr_history::{Past, ended_whole, is_judged_kind, is_void};
 use jr_model::{
     Draw, Event, IssueKind, Memory, Method, Outcome, Piece, SECTOR, Started, TicketKind, Verdict,
     VerifyKind, What, WriteId, same_piece, same_write,
@@ -197,6 +198,7 @@ fn kind_says(kind: VerifyKind, interval: u32, len: u32, verdict: Verdict) -> boo
     match verdict {
         Verdict::Good => true,
         Verdict::Bad(what) => kind_finds(kind, interval, len, what),
+        Verdict::Void => false,
     }
 }
 
@@ -225,6 +227,7 @@ fn own_says(kind: VerifyKind, len: u32, verdict: Verdict) -> bool
     match verdict {
         Verdict::Good => true,
         Verdict::Bad(what) => own_finds(kind, len, what),
+        Verdict::Void => false,
     }
 }
 
@@ -251,15 +254,25 @@ fn clone_says(plan: &Plan, clone: u32, kind: TicketKind, len: u32, verdict: Verd
     }
 }
 
-fn verdict_fits(plan: &Plan, verdict: Verdict, io: Option<Started>) -> bool
-    ensures { result ≡ verdict_fits plan.now verdict io }
+// Whether this may be said of an I/O: nothing of its bytes where it raced, and else what its kind can find.
+fn may_be_said(plan: &Plan, raced: bool, verdict: Verdict, io: &Started) -> bool
+    ensures { result
+        ≡ (if raced then is_void verdict
+        else job_says (clone_of plan.now io.now.write.clone) io.now.kind io.now.piece.len verdict) }
+{
+    if raced {
+        is_void(verdict)
+    } else {
+        clone_says(plan, io.write.clone, io.kind, io.piece.len, verdict)
+    }
+}
+
+fn verdict_fits(plan: &Plan, raced: bool, verdict: Verdict, io: Option<Started>) -> bool
+    ensures { result ≡ verdict_fits plan.now raced verdict io }
 {
     match io {
         None => false,
-        Some(io) => {
-            is_judged_kind(io.kind)
-                && clone_says(plan, io.write.clone, io.kind, io.piece.len, verdict)
-        }
+        Some(io) => is_judged_kind(io.kind) && may_be_said(plan, raced, verdict, &io),
     }
 }
 
@@ -275,11 +288,11 @@ pub fn may_end(past: &Past, worker: u32, io: usize, outcome: Outcome) -> bool
 pub fn may_judge(plan: &Plan, past: &Past, io: usize, verdict: Verdict) -> bool
     ensures { result
         ≡ (ended_whole (outcome_of past.now io) && not (is_judged past.now io)
-        && verdict_fits plan.now verdict (slice_get (started past.now) io)) }
+        && verdict_fits plan.now (has_raced past.now io) verdict (slice_get (started past.now) io)) }
 {
     ended_whole(past.ledger().outcome_of(io))
         && !past.ledger().is_judged(io)
-        && verdict_fits(plan, verdict, past.started_at(io))
+        && verdict_fits(plan, past.has_raced(io), verdict, past.started_at(io))
 }
 
 // What may happen with a draw of the plan after a history, if anything.

@@ -1,9 +1,9 @@
 ghost use Rattle.std.specs.Prelude.{◌≡◌, false, nat_le, ◌==◌, not, ◌&&◌, ◌||◌, take};
 ghost use Rattle.std.specs.List.{list_any, list_all};
 ghost use Rattle.jr_model.specs.History.{is_of_clone, awaiting, in_flight};
-ghost use Rattle.jr_model.specs.Legal.{is_halted, is_over, is_at_rest, phase_is_open, has_room, conflicts, is_clear, takes_up};
-ghost use Rattle.jr_model.specs.Legal.{may_take_up, may_issue, check_or_skip, step_of};
-ghost use Rattle.jr_model.specs.Plan.{issued_as};
+ghost use Rattle.jr_model.specs.Legal.{is_halted, is_over, is_at_rest, phase_is_open, has_room, conflicts, waits_for, is_clear};
+ghost use Rattle.jr_model.specs.Legal.{takes_up, may_take_up, may_issue, check_or_skip, step_of};
+ghost use Rattle.jr_model.specs.Plan.{clone_of, declines_of, issued_as};
 ghost use Rattle.jr_model.specs.Rounds.{write_id, is_write_draw, issued_count, has_rounds, clone_finished, is_current};
 ghost use Rattle.jr_model.specs.Rounds.{pass_finished, passes_of};
 
@@ -13,7 +13,7 @@ use crate::rounds::{
 use jr_history::{Past, is_intact, is_of_clone, is_write};
 use jr_model::{Draw, Event, Piece, Started, overlaps};
 use jr_passes::{Agenda, PlannedClone, PlannedPass, has_rounds, is_write_draw};
-use jr_plan::SubJob;
+use jr_plan::{Plan, SubJob};
 
 // Whether a clone is halted, by whether it has a fault, and a bad verdict that is fatal.
 fn halts(faulty: bool, fatal: bool, condemned: bool) -> bool
@@ -99,19 +99,38 @@ fn conflicts(writes: bool, piece: &Piece, io: &Started) -> bool
     (writes || is_write(io.kind)) && overlaps(&io.piece, piece)
 }
 
-fn any_conflicts(past: &Past, writes: bool, piece: &Piece) -> bool
-    ensures { result ≡ list_any (conflicts writes piece.now) (in_flight past.now) }
+// Whether a clone is there and declines.
+fn clone_declines(plan: &Plan, clone: u32) -> bool
+    ensures { result ≡ declines_of (clone_of plan.now clone) }
+{
+    let clone = clone as usize;
+    if clone < plan.clones() {
+        plan.clone_at(clone).declines()
+    } else {
+        false
+    }
+}
+
+// Whether a clone's I/O has to wait for the other: the two conflict, and neither clone declines.
+fn waits_for(plan: &Plan, job: &SubJob, writes: bool, piece: &Piece, io: &Started) -> bool
+    ensures { result ≡ waits_for plan.now job.now writes piece.now io.now }
+{
+    !(job.declines() || clone_declines(plan, io.write.clone)) && conflicts(writes, piece, io)
+}
+
+fn waits_for_any(plan: &Plan, past: &Past, job: &SubJob, writes: bool, piece: &Piece) -> bool
+    ensures { result ≡ list_any (waits_for plan.now job.now writes piece.now) (in_flight past.now) }
 {
     past.in_flight()
         .iter()
-        .any(|io| conflicts(writes, piece, io))
+        .any(|io| waits_for(plan, job, writes, piece, io))
 }
 
-/// Whether nothing in flight overlaps a piece where one of the two writes.
-pub(crate) fn is_clear(past: &Past, writes: bool, piece: &Piece) -> bool
-    ensures { result ≡ is_clear past.now writes piece.now }
+/// Whether a clone's I/O over a piece has to wait for nothing in flight.
+pub(crate) fn is_clear(plan: &Plan, past: &Past, job: &SubJob, writes: bool, piece: &Piece) -> bool
+    ensures { result ≡ is_clear plan.now past.now job.now writes piece.now }
 {
-    !any_conflicts(past, writes, piece)
+    !waits_for_any(plan, past, job, writes, piece)
 }
 
 // Whether the first passes of a clone, so many, are finished.
@@ -137,17 +156,18 @@ pub(crate) fn is_current(past: &Past, clone: &PlannedClone<'_>, pass: &PlannedPa
 
 // Whether a draw is the next of its pass, of a clone that isn't halted and has room, with nothing in
 // flight in its way.
-pub(crate) fn is_next(past: &Past, pass: &PlannedPass<'_>, draw: &Draw) -> bool
+pub(crate) fn is_next(work: &Agenda<'_>, past: &Past, pass: &PlannedPass<'_>, draw: &Draw) -> bool
     ensures { result
         ≡ ((draw.now.number == issued_count past.now pass.now)
         && not (is_halted past.now pass.now.job)
         && has_room past.now pass.now.job
-        && is_clear past.now (is_write_draw draw.now) draw.now.piece) }
+        && is_clear work.now past.now pass.now.job (is_write_draw draw.now) draw.now.piece) }
 {
+    let writes = is_write_draw(draw);
     draw.number as usize == issued_count(past, pass)
         && !is_halted(past, pass.job())
         && has_room(past, pass.job())
-        && is_clear(past, is_write_draw(draw), &draw.piece)
+        && is_clear(work.plan(), past, pass.job(), writes, &draw.piece)
 }
 
 /// Whether a draw of a pass may be issued.
@@ -161,7 +181,7 @@ pub(crate) fn may_issue(
     requires { pass.now.job ≡ clone.now }
     ensures { result ≡ may_issue work.now past.now pass.now draw.now }
 {
-    is_next(past, pass, draw)
+    is_next(work, past, pass, draw)
         && is_current(past, clone, pass)
         && !waits_for_round(past, pass)
         && phase_is_open(work, past, pass.job())
@@ -169,28 +189,33 @@ pub(crate) fn may_issue(
 
 // Whether a draw is a write that wasn't checked or skipped, of a clone that has rounds, isn't halted
 // and has room, with nothing in flight in its check's way.
-pub(crate) fn is_left(past: &Past, pass: &PlannedPass<'_>, draw: &Draw) -> bool
+pub(crate) fn is_left(work: &Agenda<'_>, past: &Past, pass: &PlannedPass<'_>, draw: &Draw) -> bool
     ensures { result
         ≡ (is_write_draw draw.now
         && has_rounds pass.now.job
         && not (list_any (takes_up (write_id pass.now draw.now)) past.now)
         && not (is_halted past.now pass.now.job)
         && has_room past.now pass.now.job
-        && is_clear past.now false draw.now.piece) }
+        && is_clear work.now past.now pass.now.job false draw.now.piece) }
 {
     is_write_draw(draw)
         && has_rounds(pass.job())
         && !past.ledger().is_taken_up(&pass.write_id(draw))
         && !is_halted(past, pass.job())
         && has_room(past, pass.job())
-        && is_clear(past, false, &draw.piece)
+        && is_clear(work.plan(), past, pass.job(), false, &draw.piece)
 }
 
 /// Whether the write of a draw may be checked, or skipped, now.
-pub(crate) fn may_take_up(past: &Past, pass: &PlannedPass<'_>, draw: &Draw) -> bool
-    ensures { result ≡ may_take_up past.now pass.now draw.now }
+pub(crate) fn may_take_up(
+    work: &Agenda<'_>,
+    past: &Past,
+    pass: &PlannedPass<'_>,
+    draw: &Draw,
+) -> bool
+    ensures { result ≡ may_take_up work.now past.now pass.now draw.now }
 {
-    is_left(past, pass, draw) && is_open(past, pass, pass.group_index(draw.number))
+    is_left(work, past, pass, draw) && is_open(past, pass, pass.group_index(draw.number))
 }
 
 // The check of a write where it is intact, else its skip.
@@ -234,7 +259,7 @@ pub(crate) fn step_of(
     requires { pass.now.job ≡ clone.now }
     ensures { result ≡ step_of work.now past.now worker pass.now draw.now }
 {
-    if may_take_up(past, pass, draw) {
+    if may_take_up(work, past, pass, draw) {
         return Some(check_or_skip(past, worker, pass, draw));
     }
     if may_issue(work, past, clone, pass, draw) {

@@ -39,11 +39,11 @@ fn is_open_for(past: &Past, pass: &PlannedPass<'_>, draw: &Draw) -> bool
 }
 
 // Whether the write of a draw may be checked, or skipped, now.
-fn may_take_up(past: &Past, pass: &PlannedPass<'_>, draw: &Draw) -> bool
+fn may_take_up(work: &Agenda<'_>, past: &Past, pass: &PlannedPass<'_>, draw: &Draw) -> bool
     requires { slice_get pass.now.draws draw.now.number ≡ Some draw.now }
-    ensures { result ≡ may_take_up past.now pass.now draw.now }
+    ensures { result ≡ may_take_up work.now past.now pass.now draw.now }
 {
-    is_left(past, pass, draw) && is_open_for(past, pass, draw)
+    is_left(work, past, pass, draw) && is_open_for(past, pass, draw)
 }
 
 // Whether a group waits for its checks, where the writes of its clone are checked at all.
@@ -173,7 +173,7 @@ fn may_issue(
     requires own { pass.now.job ≡ clone.now }
     ensures { result ≡ may_issue work.now past.now pass.now draw.now }
 {
-    is_next(past, pass, draw)
+    is_next(work, past, pass, draw)
         && is_current(work, past, clone, pass)
         && !waits_for_round(work, past, clone, pass)
         && is_phase_open(work, past, clone)
@@ -194,7 +194,7 @@ fn legal_step_of(
     requires drawn { slice_get pass.now.draws draw.now.number ≡ Some draw.now }
     ensures { result ≡ step_of work.now past.now worker pass.now draw.now }
 {
-    if may_take_up(past, pass, draw) {
+    if may_take_up(work, past, pass, draw) {
         return Some(check_or_skip(past, worker, pass, draw));
     }
     if may_issue(work, past, clone, pass, draw) {

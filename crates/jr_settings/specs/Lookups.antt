@@ -71,6 +71,7 @@ options_by saying = record {
   verifiers = (alone (saying (codes "verify_async" ∷ []))).verifiers;
   is_fatal = (alone (saying (codes "verify_fatal" ∷ []))).is_fatal;
   checks_writes = (alone (saying (codes "do_verify" ∷ []))).checks_writes;
+  declines = (alone (saying (codes "serialize_overlap" ∷ []))).declines;
 }
 
 -- the options that lines say: of each option the last line counts

@@ -48,7 +48,7 @@ keys =
     ∷ (codes "directory", Text text.Directory)
     ∷ (codes "stonewall", Flag flag.Stonewall)
     ∷ (codes "wait_for_previous", Flag flag.Stonewall)
-    ∷ (codes "serialize_overlap", Flag flag.Unused)
+    ∷ (codes "serialize_overlap", Flag flag.Serialize)
     ∷ (codes "ioengine", Choice choice.Engine)
     ∷ (codes "verify", Choice choice.Verify)
     ∷ (codes "verify_pattern", Text text.Pattern)

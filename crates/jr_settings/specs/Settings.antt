@@ -57,6 +57,7 @@ flag_setting flag.NoMap v = setting.HasMap (not v)
 flag_setting flag.Stonewall v = setting.Stonewall v
 flag_setting flag.Fatal v = setting.Fatal v
 flag_setting flag.Checks v = setting.Checks v
+flag_setting flag.Serialize v = setting.Declines (not v)
 flag_setting flag.Unused v = setting.Nothing
 
 -- what a number sets; so many percent of writes leave the others to reads

@@ -31,6 +31,7 @@ pub enum FlagKey {
     Stonewall,
     Fatal,
     Checks,
+    Serialize,
     /// One without effect.
     Unused,
 }

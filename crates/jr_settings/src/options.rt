@@ -58,6 +58,8 @@ pub struct JobOptions {
     pub is_fatal: bool,
     /// Whether its writes are read back (`do_verify`).
     pub checks_writes: bool,
+    /// Whether its I/Os wait for none that they overlap (not `serialize_overlap`, where that is given).
+    pub declines: bool,
 }
 
 impl JobOptions {
@@ -90,6 +92,7 @@ impl JobOptions {
             verifiers: 0,
             is_fatal: false,
             checks_writes: true,
+            declines: false,
         }
     }
 
@@ -129,6 +132,7 @@ impl JobOptions {
             Setting::Verifiers(verifiers) => options.verifiers = verifiers,
             Setting::Fatal(is_fatal) => options.is_fatal = is_fatal,
             Setting::Checks(checks_writes) => options.checks_writes = checks_writes,
+            Setting::Declines(declines) => options.declines = declines,
             Setting::Nothing => {}
         }
         options

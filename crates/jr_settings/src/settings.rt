@@ -38,6 +38,7 @@ pub enum Setting {
     Verifiers(u32),
     Fatal(bool),
     Checks(bool),
+    Declines(bool),
     /// Nothing that a clone's numbers show: a name of a file, or an option without effect.
     Nothing,
 }
@@ -97,6 +98,7 @@ fn flag_setting(key: FlagKey, flag: bool) -> Setting
         FlagKey::Stonewall => Setting::Stonewall(flag),
         FlagKey::Fatal => Setting::Fatal(flag),
         FlagKey::Checks => Setting::Checks(flag),
+        FlagKey::Serialize => Setting::Declines(!flag),
         FlagKey::Unused => Setting::Nothing,
     }
 }

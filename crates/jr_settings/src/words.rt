@@ -24,7 +24,7 @@ const KEYS: [(&str, Key); 36] = [
     ("directory", Key::Text(TextKey::Directory)),
     ("stonewall", Key::Flag(FlagKey::Stonewall)),
     ("wait_for_previous", Key::Flag(FlagKey::Stonewall)),
-    ("serialize_overlap", Key::Flag(FlagKey::Unused)),
+    ("serialize_overlap", Key::Flag(FlagKey::Serialize)),
     ("ioengine", Key::Choice(ChoiceKey::Engine)),
     ("verify", Key::Choice(ChoiceKey::Verify)),
     ("verify_pattern", Key::Text(TextKey::Pattern)),

@@ -1,5 +1,5 @@
 -- How large a clone's counts and totals are, in a legal history.
-use Rattle.std.proofs.Common.{◌≡◌, ℕ, suc, ◌+◌, ◌*◌, ◌≤◌, List, [], ◌∷◌, ◌++◌, length, set, Bool, true, false, cond, ◌&&◌, not, refl, ◌∙◌, ap, arith}
+use Rattle.std.proofs.Common.{◌≡◌, ℕ, suc, ◌+◌, ◌*◌, ◌≤◌, List, [], ◌∷◌, ◌++◌, length, set, Bool, true, false, cond, ◌&&◌, ◌||◌, not, refl, ◌∙◌, ap, arith}
 use Rattle.std.specs.Prelude.{Option, Some, None, slice_get, nat_lt, nat_le, ◌==◌, ◌%◌}
 use Rattle.std.proofs.lemmas.Bool.{and_parts, leb-true}
 use Rattle.jr_model.specs.declared.limits.TheConstants.{LARGEST_BLOCK, LARGEST_END, SECTOR}
@@ -9,11 +9,13 @@ use Rattle.jr_model.specs.declared.events.Event.TheVariants.{Issue, Probe, Skip,
 use Rattle.jr_model.specs.declared.events.Outcome.{Outcome}
 use Rattle.jr_model.specs.declared.events.Outcome.TheVariants.{Whole, Failed, Short}
 use Rattle.jr_model.specs.declared.events.Started.{Started}
+use Rattle.jr_model.specs.declared.events.Verdict.{Verdict as GivenVerdict}
+use Rattle.jr_model.specs.declared.events.Verdict.TheVariants.{Good, Bad, Void}
 use Rattle.jr_model.specs.declared.tickets.TicketKind.{TicketKind}
 use Rattle.jr_model.specs.declared.tickets.TicketKind.TheVariants as ticket
 use Rattle.jr_model.specs.declared.totals.Totals.{Totals}
 use Rattle.jr_model.specs.History.{started, started_by, end_of, is_verdict_on, kind_for, is_of_clone, is_judged_kind, is_probe, is_write, ended_whole}
-use Rattle.jr_model.specs.Legal.{is_legal, may_happen, is_io_of, is_bad}
+use Rattle.jr_model.specs.Legal.{is_legal, may_happen, is_io_of, is_bad, is_void}
 use Rattle.jr_model.specs.Machine.{work_of}
 use Rattle.jr_model.specs.Plan.{Plan, SubJob, clone_of}
 use Rattle.jr_model.specs.Report.{all_totals}
@@ -44,8 +46,12 @@ ended_all t = t.reads + t.writes + t.faults
 abbrev EndedFew : List Event → ℕ → Type 0
 EndedFew h c = ended_all (totals_of h c) + (flying_issues h c + flying_checks h c) ≤ length (started h)
 
+-- what was judged
+abbrev judged_all : Totals → ℕ
+judged_all t = t.checks + t.void
+
 abbrev JudgedFew : List Event → ℕ → Type 0
-JudgedFew h c = (totals_of h c).checks + awaited h c + (flying_issues h c + flying_checks h c) ≤ length (started h)
+JudgedFew h c = judged_all (totals_of h c) + awaited h c + (flying_issues h c + flying_checks h c) ≤ length (started h)
 
 -- an I/O is a check or not
 one_kind : (own check : Bool) → counted (own && not check) + counted (own && check) ≤ 1
@@ -81,13 +87,15 @@ part_of true false true = omega arith
 part_of true false false = omega arith
 part_of false check some = omega arith
 
-own_true : (own : Bool) → counted (own && true) ≡ counted own
-own_true true = refl
-own_true false = refl
+-- a verdict says something of the bytes or nothing
+one_said : (own void : Bool) → counted (own && not void) + counted (own && void) ≡ counted own
+one_said true true = refl
+one_said true false = refl
+one_said false void = refl
 
 -- what starts counts as one more that was started
 module _ (plan : Plan) (h : List Event) (e : Event) (c : ℕ) (legal : is_legal plan h ≡ true) (may : may_happen plan h e ≡ true) where
-  starts_few : (s : Started) → started_by e ≡ Some s → ((i : ℕ) → end_of i e ≡ None) → ((i : ℕ) → is_verdict_on i e ≡ false) → ended_all (gain (started h) c e) ≡ 0 → (gain (started h) c e).checks ≡ 0 → (EndedFew h c → EndedFew (h ++ e ∷ []) c) × (JudgedFew h c → JudgedFew (h ++ e ∷ []) c)
+  starts_few : (s : Started) → started_by e ≡ Some s → ((i : ℕ) → end_of i e ≡ None) → ((i : ℕ) → is_verdict_on i e ≡ false) → ended_all (gain (started h) c e) ≡ 0 → judged_all (gain (started h) c e) ≡ 0 → (EndedFew h c → EndedFew (h ++ e ∷ []) c) × (JudgedFew h c → JudgedFew (h ++ e ∷ []) c)
   starts_few s starts ends verdicts nothing unjudged =
       let more = h ++ e ∷ [] in
       let added = totals_added plan h e c legal may in
@@ -97,7 +105,7 @@ module _ (plan : Plan) (h : List Event) (e : Event) (c : ℕ) (legal : is_legal 
       let one = one_kind (is_of_clone c s) (is_probe s.kind) in
       let longer : length (started more) ≡ suc (length (started h)) = length-started-starts h e s starts in (
         λ (few : EndedFew h c). omega (arith, few, added.reads, added.writes, added.faults, nothing, issues, checks, one, longer),
-        λ (few : JudgedFew h c). omega (arith, few, added.checks, unjudged, issues, checks, verdicts_same, one, longer),
+        λ (few : JudgedFew h c). omega (arith, few, added.checks, added.void, unjudged, issues, checks, verdicts_same, one, longer),
       )
 
   stays_few : started_by e ≡ None → ((i : ℕ) → end_of i e ≡ None) → ended_all (gain (started h) c e) ≡ 0 → EndedFew h c → EndedFew (h ++ e ∷ []) c
@@ -122,7 +130,7 @@ both_few plan h (Skip worker write) c legal may =
     let verdicts : awaited more c ≡ awaited h c = awaited-stays h e c refl (λ i. refl) (λ i. refl) in
     let same : length (started more) ≡ length (started h) = length-started-other h e refl in (
       λ (few : EndedFew h c). stays_few plan h e c legal may refl (λ i. refl) (omega arith) few,
-      λ (few : JudgedFew h c). omega (arith, few, added.checks, issues, checks, verdicts, same),
+      λ (few : JudgedFew h c). omega (arith, few, added.checks, added.void, issues, checks, verdicts, same),
     )
 both_few plan h (End worker io outcome) c legal may =
     let e = End worker io outcome in
@@ -138,7 +146,7 @@ both_few plan h (End worker io outcome) c legal may =
     let part = part_of (is_of_clone c s) (is_probe s.kind) (is_judged_kind s.kind && ended_whole (Some outcome)) in
     let same : length (started more) ≡ length (started h) = length-started-other h e refl in (
       λ (few : EndedFew h c). omega (arith, few, added.reads, added.writes, added.faults, gained, few_more, issues, checks, same),
-      λ (few : JudgedFew h c). omega (arith, few, added.checks, issues, checks, verdicts, part, same),
+      λ (few : JudgedFew h c). omega (arith, few, added.checks, added.void, issues, checks, verdicts, part, same),
     )
 both_few plan h (Verdict worker io verdict) c legal may =
     let e = Verdict worker io verdict in
@@ -149,20 +157,23 @@ both_few plan h (Verdict worker io verdict) c legal may =
     let issues : flying_issues more c ≡ flying_issues h c = flying-stays h e is_issue c refl (λ i. refl) in
     let checks : flying_checks more c ≡ flying_checks h c = flying-stays h e is_check c refl (λ i. refl) in
     let verdicts : awaited h c ≡ awaited more c + counted (is_of_clone c s) = awaited-verdict plan h worker io verdict c s may names.there in
-    let gained : (gain (started h) c e).checks ≡ counted (is_of_clone c s) = ap {B = ℕ} (λ (o : Option Started). counted (is_io_of c o && true)) names.there ∙ own_true (is_of_clone c s) in
+    let gained : judged_all (gain (started h) c e) ≡ counted (is_of_clone c s) =
+    ap {B = ℕ} (λ (o : Option Started). counted (is_io_of c o && not (is_void verdict)) + counted (is_io_of c o && is_void verdict)) names.there
+    ∙ one_said (is_of_clone c s) (is_void verdict) in
     let same : length (started more) ≡ length (started h) = length-started-other h e refl in (
       λ (few : EndedFew h c). stays_few plan h e c legal may refl (λ i. refl) (omega arith) few,
-      λ (few : JudgedFew h c). omega (arith, few, added.checks, gained, issues, checks, verdicts, same),
+      λ (few : JudgedFew h c). omega (arith, few, added.checks, added.void, gained, issues, checks, verdicts, same),
     )
 
--- verdicts are good or bad
-one_verdict : (own bad : Bool) → counted (own && not bad) + counted (own && bad) ≡ counted (own && true)
-one_verdict true true = refl
-one_verdict true false = refl
-one_verdict false bad = refl
+-- verdicts that aren't void are good or bad
+one_verdict : (own : Bool) (verdict : GivenVerdict) → counted (own && not (is_bad verdict || is_void verdict)) + counted (own && is_bad verdict) ≡ counted (own && not (is_void verdict))
+one_verdict true Good = refl
+one_verdict true (Bad what) = refl
+one_verdict true Void = refl
+one_verdict false verdict = refl
 
 found_gain : (ios : List Started) (c : ℕ) (e : Event) → (gain ios c e).good + (gain ios c e).bad ≡ (gain ios c e).checks
-found_gain ios c (Verdict worker io verdict) = one_verdict (is_io_of c (slice_get ios io)) (is_bad verdict)
+found_gain ios c (Verdict worker io verdict) = one_verdict (is_io_of c (slice_get ios io)) verdict
 found_gain ios c (Issue worker dir write piece) = refl
 found_gain ios c (Probe worker write piece) = refl
 found_gain ios c (Skip worker write) = refl

@@ -10,12 +10,12 @@ use Rattle.jr_model.specs.declared.events.Outcome.{Outcome}
 use Rattle.jr_model.specs.declared.events.Outcome.TheVariants.{Whole, Failed, Short}
 use Rattle.jr_model.specs.declared.events.Started.{Started}
 use Rattle.jr_model.specs.declared.events.Verdict.{Verdict as GivenVerdict}
-use Rattle.jr_model.specs.declared.events.Verdict.TheVariants.{Good, Bad}
+use Rattle.jr_model.specs.declared.events.Verdict.TheVariants.{Good, Bad, Void}
 use Rattle.jr_model.specs.declared.tickets.TicketKind.{TicketKind}
 use Rattle.jr_model.specs.declared.tickets.TicketKind.TheVariants as ticket
 use Rattle.jr_model.specs.declared.totals.Totals.{Totals}
 use Rattle.jr_model.specs.History.{started, is_of_clone, is_write, ended_whole}
-use Rattle.jr_model.specs.Legal.{is_legal, may_happen, is_io_of, is_fault, is_bad, halts, is_halted}
+use Rattle.jr_model.specs.Legal.{is_legal, may_happen, is_io_of, is_fault, is_bad, is_void, halts, is_halted}
 use Rattle.jr_model.specs.Plan.{Plan, SubJob, IsNumbered, clone_of}
 use Rattle.jr_model.specs.Report.{all_totals}
 use Rattle.jr_model.specs.Totals.{is_read, if_wanted, moved_by, moved, bytes_of, is_verdict_of, is_skip_of, is_fault_of, totals_of}
@@ -102,11 +102,11 @@ gain ios c e = record {
   rbytes = bytes (moved_by ios is_read c e);
   writes = ones (moved_by ios is_write c e);
   wbytes = bytes (moved_by ios is_write c e);
-  checks = cond (is_verdict_of ios (λ verdict. true) c e) 1 0;
-  good = cond (is_verdict_of ios (λ verdict. not (is_bad verdict)) c e) 1 0;
+  checks = cond (is_verdict_of ios (λ verdict. not (is_void verdict)) c e) 1 0;
+  good = cond (is_verdict_of ios (λ verdict. not (is_bad verdict || is_void verdict)) c e) 1 0;
   bad = cond (is_verdict_of ios is_bad c e) 1 0;
   skipped = cond (is_skip_of c e) 1 0;
-  void = 0;
+  void = cond (is_verdict_of ios is_void c e) 1 0;
   faults = cond (is_fault_of ios c e) 1 0;
 }
 
@@ -149,11 +149,11 @@ module _ (plan : Plan) (history : List Event) (e : Event) (c : ℕ) (legal : is_
     rbytes = bytes-more is_read;
     writes = count-more is_write;
     wbytes = bytes-more is_write;
-    checks = verdicts-more (λ verdict. true);
-    good = verdicts-more (λ verdict. not (is_bad verdict));
+    checks = verdicts-more (λ verdict. not (is_void verdict));
+    good = verdicts-more (λ verdict. not (is_bad verdict || is_void verdict));
     bad = verdicts-more is_bad;
     skipped = sum_by_push (λ (x : Event). cond (is_skip_of c x) 1 0) history e;
-    void = refl;
+    void = verdicts-more is_void;
     faults = counted-more plan history e legal may (λ (ios : List Started). is_fault_of ios c) (fault_agrees c);
   }
 
@@ -272,6 +272,20 @@ add_bad t u h = same_totals u (record t { checks = t.checks + 1; bad = t.bad + 1
   faults = omega (arith, h.faults);
 })
 
+add_void : (t u : Totals) → AreAdded t (record none { void = 1 }) u → u ≡ record t { void = t.void + 1 }
+add_void t u h = same_totals u (record t { void = t.void + 1 }) (record {
+  reads = omega (arith, h.reads);
+  rbytes = omega (arith, h.rbytes);
+  writes = omega (arith, h.writes);
+  wbytes = omega (arith, h.wbytes);
+  checks = omega (arith, h.checks);
+  good = omega (arith, h.good);
+  bad = omega (arith, h.bad);
+  skipped = omega (arith, h.skipped);
+  void = omega (arith, h.void);
+  faults = omega (arith, h.faults);
+})
+
 add_skip : (t u : Totals) → AreAdded t (record none { skipped = 1 }) u → u ≡ record t { skipped = t.skipped + 1 }
 add_skip t u h = same_totals u (record t { skipped = t.skipped + 1 }) (record {
   reads = omega (arith, h.reads);
@@ -325,9 +339,18 @@ end_totals c outcome None t u h = add_none t u h
 end_totals c outcome (Some io) t u h = end_adds (is_of_clone c io) io.kind outcome io t u h
 
 -- what a Verdict adds
-verdict_adds : (own : Bool) (verdict : GivenVerdict) (t u : Totals) → AreAdded t (record none { checks = cond (own && true) 1 0; good = cond (own && not (is_bad verdict)) 1 0; bad = cond (own && is_bad verdict) 1 0 }) u → u ≡ cond own (totals_judged verdict t) t
+abbrev verdict_gain : Bool → GivenVerdict → Totals
+verdict_gain own verdict = record none {
+  checks = cond (own && not (is_void verdict)) 1 0;
+  good = cond (own && not (is_bad verdict || is_void verdict)) 1 0;
+  bad = cond (own && is_bad verdict) 1 0;
+  void = cond (own && is_void verdict) 1 0;
+}
+
+verdict_adds : (own : Bool) (verdict : GivenVerdict) (t u : Totals) → AreAdded t (verdict_gain own verdict) u → u ≡ cond own (totals_judged verdict t) t
 verdict_adds true Good t u h = add_good t u h
 verdict_adds true (Bad what) t u h = add_bad t u h
+verdict_adds true Void t u h = add_void t u h
 verdict_adds false verdict t u h = add_none t u h
 
 -- and a Skip

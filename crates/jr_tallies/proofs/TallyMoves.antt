@@ -163,6 +163,7 @@ are_small plan history c planned legal =
       good = omega (arith, few.judged, few.found, small);
       bad = omega (arith, few.judged, few.found, small);
       skipped = omega (arith, skips);
+      void = omega (arith, few.judged, small);
       faults = omega (arith, few.ended, small);
     }
 
@@ -327,10 +328,15 @@ verdict_step job worker id verdict named_io io k at same =
 
 -- the bad verdicts after one verdict more
 
-pub bads_same : (history : List Event) (bads : List Bad) (io : Started) (verdict : GivenVerdict) → map miscompare_of bads ≡ miscompares history → verdict ≡ said.Good → map miscompare_of bads ≡ miscompares history ++ cons_option (miscompare_on (Some io) verdict) []
-bads_same history bads io verdict was good =
+no_miscompare : (io : Started) (verdict : GivenVerdict) → ((what : What) → verdict ≡ said.Bad what → ⊥) → miscompare_on (Some io) verdict ≡ None
+no_miscompare io said.Good other = refl
+no_miscompare io said.Void other = refl
+no_miscompare io (said.Bad what) other = absurd (other what refl)
+
+pub bads_same : (history : List Event) (bads : List Bad) (io : Started) (verdict : GivenVerdict) → map miscompare_of bads ≡ miscompares history → ((what : What) → verdict ≡ said.Bad what → ⊥) → map miscompare_of bads ≡ miscompares history ++ cons_option (miscompare_on (Some io) verdict) []
+bads_same history bads io verdict was other =
     was ∙ sym (append-nil (miscompares history))
-    ∙ ap (λ (v : GivenVerdict). miscompares history ++ cons_option (miscompare_on (Some io) v) []) (sym good)
+    ∙ ap (λ (o : Option Miscompare). miscompares history ++ cons_option o []) (sym (no_miscompare io verdict other))
 
 pub bads_more : (history : List Event) (before after : List Bad) (io : Started) (verdict : GivenVerdict) (write : WriteId) (piece : Piece) (what : What) → map miscompare_of before ≡ miscompares history → after ≡ before ++ record { write = write; piece = piece; what = what } ∷ [] → verdict ≡ said.Bad what → io.write ≡ write → io.piece ≡ piece → map miscompare_of after ≡ miscompares history ++ cons_option (miscompare_on (Some io) verdict) []
 bads_more history before after io verdict write piece what was pushed bad wrote placed =

@@ -88,7 +88,7 @@ VerdictsAreCounted =
 -- has it, if it ended whole; a write is skipped once
 pub record AreFew (plan : Plan) (history : List Event) (c : ℕ) (t : Totals) : Type 0 where
   pub ended : t.reads + t.writes + t.faults + (flying_issues history c + flying_checks history c) ≤ length (started history)
-  pub judged : t.checks + awaited history c + (flying_issues history c + flying_checks history c) ≤ length (started history)
+  pub judged : t.checks + t.void + awaited history c + (flying_issues history c + flying_checks history c) ≤ length (started history)
   pub found : t.good + t.bad ≡ t.checks
   pub skipped : t.skipped ≤ work_of plan
   pub rbytes : t.rbytes ≤ t.reads * LARGEST_BLOCK

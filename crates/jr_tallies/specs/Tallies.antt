@@ -6,7 +6,7 @@ use Rattle.jr_model.specs.declared.events.Outcome.{Outcome}
 use Rattle.jr_model.specs.declared.events.Outcome.TheVariants.{Whole, Failed, Short}
 use Rattle.jr_model.specs.declared.events.Started.{Started}
 use Rattle.jr_model.specs.declared.events.Verdict.{Verdict as GivenVerdict}
-use Rattle.jr_model.specs.declared.events.Verdict.TheVariants.{Good, Bad}
+use Rattle.jr_model.specs.declared.events.Verdict.TheVariants.{Good, Bad, Void}
 use Rattle.jr_model.specs.declared.tickets.TicketKind.{TicketKind}
 use Rattle.jr_model.specs.declared.tickets.TicketKind.TheVariants as ticket
 use Rattle.jr_model.specs.declared.totals.Totals.{Totals}
@@ -98,6 +98,7 @@ totals_ended kind len (Short n) t = record t { faults = t.faults + 1 }
 abbrev pub totals_judged : GivenVerdict → Totals → Totals
 totals_judged Good t = record t { checks = t.checks + 1; good = t.good + 1 }
 totals_judged (Bad what) t = record t { checks = t.checks + 1; bad = t.bad + 1 }
+totals_judged Void t = record t { void = t.void + 1 }
 
 abbrev pub totals_after_end : ℕ → Option Started → Outcome → Totals → Totals
 totals_after_end c None outcome t = t

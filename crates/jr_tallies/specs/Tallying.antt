@@ -71,6 +71,7 @@ pub record AreSmall (totals : Totals) : Type 0 where
   pub good : totals.good + 1 < 2 ^ 64
   pub bad : totals.bad + 1 < 2 ^ 64
   pub skipped : totals.skipped + 1 < 2 ^ 64
+  pub void : totals.void + 1 < 2 ^ 64
   pub faults : totals.faults + 1 < 2 ^ 64
 
 -- the clone is there, and what is kept of it can be counted on

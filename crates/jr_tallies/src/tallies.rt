@@ -224,7 +224,7 @@ fn count_verdict(counts: &mut Counts, is_fatal: bool, verdict: Verdict)
     ensures { counts.new ≡ counts_with (tally_judged (tally_in counts.old)) (counts.old.is_halted || is_fatal && is_bad verdict) }
 {
     counts.verdicts -= 1;
-    if is_fatal && verdict != Verdict::Good {
+    if is_fatal && matches!(verdict, Verdict::Bad(_)) {
         counts.is_halted = true;
     }
 }
@@ -234,9 +234,15 @@ fn total_verdict(totals: &mut Totals, verdict: Verdict)
     requires { AreSmall totals.old }
     ensures { totals.new ≡ totals_judged verdict totals.old }
 {
-    totals.checks += 1;
     match verdict {
-        Verdict::Good => totals.good += 1,
-        Verdict::Bad(_) => totals.bad += 1,
+        Verdict::Good => {
+            totals.checks += 1;
+            totals.good += 1;
+        }
+        Verdict::Bad(_) => {
+            totals.checks += 1;
+            totals.bad += 1;
+        }
+        Verdict::Void => totals.void += 1,
     }
 }

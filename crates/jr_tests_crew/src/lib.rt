@@ -7,6 +7,8 @@ mod asserts;
 #[cfg(test)]
 mod drops;
 #[cfg(test)]
+mod gates;
+#[cfg(test)]
 mod handover;
 #[cfg(test)]
 mod judged;
@@ -14,6 +16,8 @@ mod judged;
 mod plans;
 #[cfg(test)]
 mod progress;
+#[cfg(test)]
+mod races;
 #[cfg(test)]
 mod runs;
 #[cfg(test)]

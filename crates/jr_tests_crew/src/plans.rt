@@ -16,6 +16,23 @@ pub(crate) fn plan_of(
     for _ in 0..clones {
         draft.add(alloc, workload, "w", String::from_str(alloc, "f")?, 0)?;
     }
+    finished(draft, engine, verifiers)
+}
+
+// A clone with each of these, both from the begin of one file on, with so many verifiers.
+pub(crate) fn plan_of_two(
+    alloc: Global,
+    first: &Workload,
+    second: &Workload,
+    verifiers: u32,
+) -> Result<Plan, Fail> {
+    let mut draft = Draft::new(alloc);
+    draft.add(alloc, first, "v", String::from_str(alloc, "f")?, 0)?;
+    draft.add(alloc, second, "w", String::from_str(alloc, "f")?, 0)?;
+    finished(draft, EngineKind::Null, verifiers)
+}
+
+fn finished(draft: Draft, engine: EngineKind, verifiers: u32) -> Result<Plan, Fail> {
     if draft.clones() == 0 || verifiers > MOST_VERIFIERS {
         return Err(Fail::from("no such plan"));
     }

@@ -8,6 +8,8 @@ mod board;
 #[cfg(test)]
 mod laws;
 #[cfg(test)]
+mod plain;
+#[cfg(test)]
 mod plans;
 #[cfg(test)]
 mod plays;

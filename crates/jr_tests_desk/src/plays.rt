@@ -153,6 +153,68 @@ fn two_clones_over_one_file(rt: HostRuntime) -> Result<(), Fail> {
     assert_played(&rt, rt.alloc(), &clones, &steps, &replies, &totals)
 }
 
+// The same writes, which may overlap.
+fn declining(cells: u32) -> Workload {
+    Workload {
+        declines: true,
+        ..checked(cells)
+    }
+}
+
+// Both write the first block at once, so neither write is checked. The second clone writes the second block while the first one checks it,
+// so that check is void.
+#[test]
+fn two_clones_that_decline(rt: HostRuntime) -> Result<(), Fail> {
+    let steps = [
+        Step::Take(0),
+        Step::Take(1),
+        Step::End(0, Reply::Pass),
+        Step::End(1, Reply::Pass),
+        Step::Take(0),
+        Step::End(2, Reply::Pass),
+        Step::Take(0),
+        Step::Take(1),
+        Step::End(3, Reply::Pass),
+        Step::Judge(1, 3),
+        Step::End(4, Reply::Pass),
+        Step::Take(0),
+        Step::End(5, Reply::Pass),
+        Step::Judge(0, 5),
+        Step::Take(0),
+    ];
+    let replies = [
+        StepReply::Io(0),
+        StepReply::Io(1),
+        StepReply::Ended,
+        StepReply::Ended,
+        StepReply::Io(2),
+        StepReply::Ended,
+        StepReply::Probe(3),
+        StepReply::Io(4),
+        StepReply::Ended,
+        StepReply::Judged,
+        StepReply::Ended,
+        StepReply::Probe(5),
+        StepReply::Ended,
+        StepReply::Judged,
+        StepReply::Finished,
+    ];
+    let first = Totals {
+        skipped: 1,
+        void: 1,
+        ..WROTE
+    };
+    let second = Totals {
+        checks: 1,
+        good: 1,
+        skipped: 1,
+        ..WROTE
+    };
+    let clones = [(declining(2), "f", 0), (declining(2), "f", 0)];
+    let totals = [first, second];
+    assert_played(&rt, rt.alloc(), &clones, &steps, &replies, &totals)
+}
+
 // A write of each of two clones, where the second waits for the first.
 #[test]
 fn a_stonewall_is_waited_for(rt: HostRuntime) -> Result<(), Fail> {

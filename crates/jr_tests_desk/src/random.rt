@@ -77,6 +77,7 @@ fn draw_workload(seed: &mut u64) -> Workload {
         checks_writes: draw(seed, 5) != 0,
         backlog: draw(seed, 3) * 3 / 2,
         is_fatal: draw(seed, 2) == 0,
+        declines: draw(seed, 4) == 0,
         ..Workload::plain(io_type, cell, cells)
     }
 }
@@ -90,6 +91,25 @@ pub(crate) fn draw_plan(alloc: Global, seed: &mut u64) -> Result<Plan, Fail> {
         let file = if draw(seed, files) == 0 { "a" } else { "b" };
         let start = 512 * u64::from(draw(seed, 4));
         draft.add(alloc, &workload, "w", String::from_str(alloc, file)?, start)?;
+    }
+    if draft.clones() == 0 {
+        return Err(Fail::from("no clones"));
+    }
+    Ok(draft.finish(EngineKind::Memory, 0))
+}
+
+// A plan of three clones over one file, whose regions overlap. One of them declines to wait, or in one plan of four none does.
+pub(crate) fn draw_three(alloc: Global, seed: &mut u64) -> Result<Plan, Fail> {
+    let mut draft = Draft::new(alloc);
+    let declining = draw(seed, 4);
+    for clone in 0..3u32 {
+        let workload = Workload {
+            phase: 0,
+            declines: clone == declining,
+            ..draw_workload(seed)
+        };
+        let start = 512 * u64::from(draw(seed, 4));
+        draft.add(alloc, &workload, "w", String::from_str(alloc, "f")?, start)?;
     }
     if draft.clones() == 0 {
         return Err(Fail::from("no clones"));

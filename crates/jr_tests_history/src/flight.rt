@@ -2,7 +2,7 @@ ghost use Rattle.std.specs.Prelude.{◌≡◌, ◌≤◌, ◌<◌};
 ghost use Rattle.jr_model.specs.Pieces.{piece_end};
 
 use crate::asserts::same;
-use jr_flight::{Flight, FlightFault, Io};
+use jr_flight::{Ended, Flight, FlightFault, Io};
 use jr_model::{Dir, IoId, Piece, overlaps};
 use std::test::Fail;
 
@@ -12,41 +12,83 @@ fn piece(file: u32, offset: u64, len: u32) -> Piece
     Piece { file, offset, len }
 }
 
+fn io(id: IoId, piece: Piece, dir: Dir, declines: bool) -> Io
+    ensures { result ≡ record { id = id; clone = id; piece = piece; dir = dir; declines = declines } }
+{
+    Io {
+        id,
+        clone: id,
+        piece,
+        dir,
+        declines,
+    }
+}
+
+fn ended(io: Io, raced: bool) -> Result<Ended, FlightFault> {
+    Ok(Ended { io, raced })
+}
+
 #[test]
 fn a_write_bars_its_bytes_alone(rt: HostRuntime) -> Result<(), Fail> {
     let mut flight = Flight::new(rt.alloc())?;
-    let write = Io {
-        id: 0,
-        clone: 0,
-        piece: piece(0, 0, 4096),
-        dir: Dir::Write,
-    };
+    let write = io(0, piece(0, 0, 4096), Dir::Write, false);
     flight.begin(write)?;
     assert!(rt; flight.flies(0));
-    assert!(rt; !flight.clear(&piece(0, 4095, 1), Dir::Read));
-    assert!(rt; flight.clear(&piece(0, 4096, 512), Dir::Write));
-    assert!(rt; flight.clear(&piece(1, 0, 4096), Dir::Write));
-    same(&rt, flight.end(0), Ok(write));
-    assert!(rt; flight.clear(&piece(0, 4095, 1), Dir::Read));
+    assert!(rt; !flight.clear(&piece(0, 4095, 1), Dir::Read, false));
+    assert!(rt; flight.clear(&piece(0, 4096, 512), Dir::Write, false));
+    assert!(rt; flight.clear(&piece(1, 0, 4096), Dir::Write, false));
+    same(&rt, flight.end(0), ended(write, false));
+    assert!(rt; flight.clear(&piece(0, 4095, 1), Dir::Read, false));
     Ok(())
 }
 
 #[test]
 fn a_read_bars_writes_alone(rt: HostRuntime) -> Result<(), Fail> {
     let mut flight = Flight::new(rt.alloc())?;
-    let read = Io {
-        id: 7,
-        clone: 1,
-        piece: piece(0, 8192, 4096),
-        dir: Dir::Read,
-    };
+    let read = io(7, piece(0, 8192, 4096), Dir::Read, false);
     flight.begin(read)?;
-    assert!(rt; flight.clear(&piece(0, 8192, 4096), Dir::Read));
-    assert!(rt; !flight.clear(&piece(0, 8192, 4096), Dir::Write));
+    assert!(rt; flight.clear(&piece(0, 8192, 4096), Dir::Read, false));
+    assert!(rt; !flight.clear(&piece(0, 8192, 4096), Dir::Write, false));
     same(&rt, flight.end(8), Err(FlightFault::Stranger));
     assert!(rt; !flight.flies(8));
-    same(&rt, flight.end(7), Ok(read));
+    same(&rt, flight.end(7), ended(read, false));
     same(&rt, flight.end(7), Err(FlightFault::Stranger));
+    Ok(())
+}
+
+// The write alone races the read: a read writes over nothing.
+#[test]
+fn a_write_races_what_declines_to_wait(rt: HostRuntime) -> Result<(), Fail> {
+    let mut flight = Flight::new(rt.alloc())?;
+    let read = io(3, piece(0, 8192, 4096), Dir::Read, true);
+    let write = io(4, piece(0, 4096, 8192), Dir::Write, false);
+    flight.begin(read)?;
+    assert!(rt; flight.clear(&piece(0, 4096, 8192), Dir::Write, false));
+    assert!(rt; !flight.mark(&write));
+    assert!(rt; flight.raced(3) && !flight.flies(4));
+    flight.put(Ended {
+        io: write,
+        raced: false,
+    })?;
+    same(&rt, flight.end(4), ended(write, false));
+    same(&rt, flight.end(3), ended(read, true));
+    Ok(())
+}
+
+#[test]
+fn two_writes_race_each_other_alone(rt: HostRuntime) -> Result<(), Fail> {
+    let mut flight = Flight::new(rt.alloc())?;
+    let aside = io(0, piece(0, 4096, 4096), Dir::Write, false);
+    let first = io(1, piece(0, 0, 4096), Dir::Write, false);
+    let second = io(2, piece(0, 4095, 1), Dir::Write, true);
+    flight.begin(aside)?;
+    flight.begin(first)?;
+    assert!(rt; flight.clear(&piece(0, 4095, 1), Dir::Write, true));
+    flight.begin(second)?;
+    assert!(rt; flight.raced(1) && flight.raced(2) && !flight.raced(0) && !flight.raced(3));
+    same(&rt, flight.end(2), ended(second, true));
+    same(&rt, flight.end(1), ended(first, true));
+    same(&rt, flight.end(0), ended(aside, false));
     Ok(())
 }
 
@@ -84,24 +126,45 @@ fn draw_dir(seed: &mut u64) -> Dir {
     }
 }
 
-// The same three answers of a plain list of what is in flight.
+// The same answers of a plain list of what is in flight.
 
-fn flies(ios: &[Io], id: IoId) -> bool {
-    ios.iter().any(|io| io.id == id)
+fn flies(ios: &[Ended], id: IoId) -> bool {
+    ios.iter().any(|other| other.io.id == id)
 }
 
-fn clear(ios: &[Io], piece: &Piece, dir: Dir) -> bool {
-    ios.iter().all(|io| !overlaps(piece, &io.piece) || io.dir == Dir::Read && dir == Dir::Read)
+fn raced(ios: &[Ended], id: IoId) -> bool {
+    ios.iter().any(|other| other.io.id == id && other.raced)
 }
 
-fn end(ios: &mut Vec<Io>, id: IoId) -> Result<Io, FlightFault> {
-    match ios.iter().position(|io| io.id == id) {
+fn clear(ios: &[Ended], piece: &Piece, dir: Dir, declines: bool) -> bool {
+    ios.iter().all(|other| {
+        declines
+            || other.io.declines
+            || !overlaps(piece, &other.io.piece)
+            || other.io.dir == Dir::Read && dir == Dir::Read
+    })
+}
+
+fn begin(ios: &mut Vec<Ended>, io: Io) -> Result<(), Fail> {
+    let mut raced = false;
+    for other in ios.iter_mut() {
+        if overlaps(&io.piece, &other.io.piece) {
+            raced |= other.io.dir == Dir::Write;
+            other.raced |= io.dir == Dir::Write;
+        }
+    }
+    ios.push(Ended { io, raced })?;
+    Ok(())
+}
+
+fn end(ios: &mut Vec<Ended>, id: IoId) -> Result<Ended, FlightFault> {
+    match ios.iter().position(|other| other.io.id == id) {
         None => Err(FlightFault::Stranger),
         Some(place) => Ok(ios.swap_remove(place)),
     }
 }
 
-// Where a request for memory is refused, the same call is made again: nothing has changed.
+// Where a request for memory is refused, the same call is made again: nothing has changed. One in four declines to wait.
 #[test]
 fn agrees_with_a_plain_list(rt: HostRuntime) -> Result<(), Fail> {
     let mut flight = Flight::new(rt.alloc())?;
@@ -111,27 +174,22 @@ fn agrees_with_a_plain_list(rt: HostRuntime) -> Result<(), Fail> {
         let id = draw(&mut seed, 64);
         let piece = draw_piece(&mut seed);
         let dir = draw_dir(&mut seed);
+        let declines = draw(&mut seed, 4) == 0;
         same(&rt, (round, flight.flies(id)), (round, flies(&ios, id)));
+        same(&rt, (round, flight.raced(id)), (round, raced(&ios, id)));
         same(
             &rt,
-            (round, flight.clear(&piece, dir)),
-            (round, clear(&ios, &piece, dir)),
+            (round, flight.clear(&piece, dir, declines)),
+            (round, clear(&ios, &piece, dir, declines)),
         );
-        if flight.clear(&piece, dir) && !flight.flies(id) {
-            let io = Io {
-                id,
-                clone: id % 4,
-                piece,
-                dir,
-            };
+        if flight.clear(&piece, dir, declines) && !flight.flies(id) {
+            let io = io(id, piece, dir, declines);
             if flight.begin(io).is_err() {
-                assert!(rt;
-                    flight.clear(&piece, dir) && !flight.flies(id),
-                    "round {round}"
-                );
+                same(&rt, (round, flight.raced(id)), (round, false));
+                assert!(rt; !flight.flies(id), "round {round}");
                 flight.begin(io)?;
             }
-            ios.push(io)?;
+            begin(&mut ios, io)?;
         } else {
             same(&rt, (round, flight.end(id)), (round, end(&mut ios, id)));
         }

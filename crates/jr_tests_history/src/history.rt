@@ -221,14 +221,64 @@ fn an_end_before_its_start_counts(rt: HostRuntime) -> Result<(), Fail> {
 fn the_last_write_of_a_block_is_the_one_that_ended_last(rt: HostRuntime) -> Result<(), Fail> {
     let events = [
         issue(0, block(0)),
+        end(0, Outcome::Whole),
+        issue(1, block(0)),
+        end(1, Outcome::Whole),
+    ];
+    let before = past_of(rt.alloc(), &events[..3])?;
+    assert_last(&rt, &before, write(0), write(1));
+    let past = past_of(rt.alloc(), &events)?;
+    assert_last(&rt, &past, write(1), write(0));
+    Ok(())
+}
+
+// Two that are in flight at once, and which of them a write overlapped.
+#[test]
+fn what_a_write_overlaps_in_flight_has_raced(rt: HostRuntime) -> Result<(), Fail> {
+    let rows = [
+        (issue(0, block(0)), issue(1, block(0)), (true, true)),
+        (probe(0, block(0)), issue(1, block(0)), (true, false)),
+        (issue(0, block(0)), probe(1, block(0)), (false, true)),
+        (probe(0, block(0)), probe(1, block(0)), (false, false)),
+        (issue(0, block(0)), issue(1, block(1)), (false, false)),
+    ];
+    for (first, second, raced) in rows {
+        let past = past_of(rt.alloc(), &[first, second])?;
+        assert_raced(&rt, &past, raced);
+    }
+    let apart = [
+        issue(0, block(0)),
+        end(0, Outcome::Whole),
+        issue(1, block(0)),
+    ];
+    assert_raced(&rt, &past_of(rt.alloc(), &apart)?, (false, false));
+    Ok(())
+}
+
+// Of the first two I/Os these raced, and no other did.
+fn assert_raced(rt: &impl Abort, past: &Past, raced: (bool, bool)) {
+    same(rt, (past.has_raced(0), past.has_raced(1)), raced);
+    assert!(rt; !past.has_raced(2));
+}
+
+// Two writes at once, and then a third.
+#[test]
+fn a_write_that_raced_leaves_no_last_write(rt: HostRuntime) -> Result<(), Fail> {
+    let events = [
+        issue(0, block(0)),
         issue(1, block(0)),
         end(1, Outcome::Whole),
         end(0, Outcome::Whole),
+        issue(2, block(0)),
+        end(2, Outcome::Whole),
     ];
-    let before = past_of(rt.alloc(), &events[..3])?;
-    assert_last(&rt, &before, write(1), write(0));
+    for count in [3, 4, 5] {
+        let before = past_of(rt.alloc(), &events[..count])?;
+        same(&rt, last_write(&before, 0, 1), None);
+    }
     let past = past_of(rt.alloc(), &events)?;
-    assert_last(&rt, &past, write(0), write(1));
+    assert_raced(&rt, &past, (true, true));
+    assert_last(&rt, &past, write(2), write(1));
     Ok(())
 }
 

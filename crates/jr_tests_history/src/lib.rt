@@ -1,4 +1,5 @@
-// Tests of what is kept of a run, and of the definitions as a plain program: what flies, what is intact, what a history says.
+// Tests of what is kept of a run, and of the definitions as a plain program: what flies, what is intact, what a history says, and
+// the check of a trace.
 #![tactic(auto)]
 
 #[cfg(test)]
@@ -19,5 +20,7 @@ mod replay;
 mod tallies;
 #[cfg(test)]
 mod tickets;
+#[cfg(test)]
+mod traces;
 #[cfg(test)]
 mod writes;

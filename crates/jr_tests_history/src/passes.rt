@@ -14,6 +14,12 @@ const WRITE_0: WriteId = WriteId {
     number: 0,
 };
 
+const WRITE_1: WriteId = WriteId {
+    clone: 0,
+    pass: 0,
+    number: 1,
+};
+
 const BLOCK_0: Piece = Piece {
     file: 0,
     offset: 0,
@@ -49,17 +55,43 @@ fn totals_of_a_run(rt: HostRuntime) -> Result<(), Fail> {
             io: 1,
             verdict: Verdict::Bad(What::Byte(7)),
         },
+        Event::Probe {
+            worker: 0,
+            write: WRITE_0,
+            piece: BLOCK_0,
+        },
+        Event::Issue {
+            worker: 0,
+            kind: IssueKind::Write,
+            write: WRITE_1,
+            piece: BLOCK_0,
+        },
+        Event::End {
+            worker: 0,
+            io: 2,
+            outcome: Outcome::Whole,
+        },
+        Event::Verdict {
+            worker: 0,
+            io: 2,
+            verdict: Verdict::Void,
+        },
+        Event::End {
+            worker: 0,
+            io: 3,
+            outcome: Outcome::Whole,
+        },
     ];
     let want = Totals {
         reads: 0,
         rbytes: 0,
-        writes: 1,
-        wbytes: 4096,
+        writes: 2,
+        wbytes: 8192,
         checks: 1,
         good: 0,
         bad: 1,
         skipped: 0,
-        void: 0,
+        void: 1,
         faults: 0,
     };
     same(&rt, totals(rt.alloc(), &history, 0)?, want);

@@ -243,6 +243,63 @@ fn assert_overwritten(rt: &impl Abort, past: &Past) {
     assert!(rt; is_intact(past, &write(1, 0), &block(0)));
 }
 
+// The first clone declines; the second one writes its block while that is written, or checked.
+fn declined(alloc: Global) -> Result<Plan, Fail> {
+    let declines = Workload {
+        declines: true,
+        ..checked(1)
+    };
+    plan_of(alloc, &[(declines, "f", 0), (checked(1), "f", 0)])
+}
+
+#[test]
+fn writes_overlap_where_one_clone_declines(rt: HostRuntime) -> Result<(), Fail> {
+    let plan = declined(rt.alloc())?;
+    let history = [
+        issue(0, write(0, 0), block(0)),
+        issue(1, write(1, 0), block(0)),
+        end(0, 0, Outcome::Whole),
+        end(1, 1, Outcome::Whole),
+    ];
+    same(&rt, legal_front(rt.alloc(), &plan, &history)?, 4);
+    let step = choice(rt.alloc(), &plan, front(&history, 1), 1)?;
+    same(&rt, step, Some(history[1]));
+    assert_none_written(&rt, rt.alloc(), &history)?;
+    let skip = Event::Skip {
+        worker: 0,
+        write: write(0, 0),
+    };
+    same(&rt, choice(rt.alloc(), &plan, &history, 0)?, Some(skip));
+    Ok(())
+}
+
+#[test]
+fn a_check_is_void_exactly_where_it_raced(rt: HostRuntime) -> Result<(), Fail> {
+    let plan = declined(rt.alloc())?;
+    let begun = [
+        issue(0, write(0, 0), block(0)),
+        end(0, 0, Outcome::Whole),
+        probe(0, write(0, 0), block(0)),
+        issue(1, write(1, 0), block(0)),
+        end(0, 1, Outcome::Whole),
+    ];
+    let alone = [begun[0], begun[1], begun[2], begun[4]];
+    same(&rt, legal_front(rt.alloc(), &plan, &begun)?, 5);
+    let verdicts = [
+        (Verdict::Good, true),
+        (Verdict::Bad(What::Byte(3)), true),
+        (Verdict::Void, false),
+    ];
+    for (verdict, is_alone) in verdicts {
+        let event = said(1, 1, verdict);
+        let found = allowed(rt.alloc(), &plan, &alone, &event)?;
+        same(&rt, (verdict, found), (verdict, is_alone));
+        let found = allowed(rt.alloc(), &plan, &begun, &event)?;
+        same(&rt, (verdict, found), (verdict, !is_alone));
+    }
+    Ok(())
+}
+
 #[test]
 fn a_later_phase_waits(rt: HostRuntime) -> Result<(), Fail> {
     let early = Workload::plain(IoType::Write, 4096, 1);

@@ -34,7 +34,7 @@ fn is_small(totals: &Totals) -> bool
         && totals.writes < 99
         && totals.wbytes < 99_999;
     let checked = totals.checks < 99 && totals.good < 99 && totals.bad < 99;
-    moved && checked && totals.skipped < 99 && totals.faults < 99
+    moved && checked && totals.skipped < 99 && totals.void < 99 && totals.faults < 99
 }
 
 // Whether the clone is there, and what is kept of it is small.
@@ -147,6 +147,8 @@ fn each_clone_has_its_own(rt: HostRuntime) -> Result<(), Fail> {
         Verdict::Bad(What::Byte(5)),
     )?;
     judge(&rt, &mut tallies, &bad(0), true, Verdict::Good)?;
+    write_and_check(&rt, &mut tallies, 0);
+    judge(&rt, &mut tallies, &bad(0), true, Verdict::Void)?;
     assert!(rt; can_count(&tallies, 0));
     tallies.issued(0);
     assert!(rt; can_count(&tallies, 1));
@@ -168,22 +170,21 @@ fn each_clone_has_its_own(rt: HostRuntime) -> Result<(), Fail> {
     let first = Totals {
         reads: 0,
         rbytes: 0,
-        writes: 1,
-        wbytes: 4096,
+        writes: 2,
+        wbytes: 8192,
         checks: 1,
         good: 1,
         bad: 0,
         skipped: 0,
-        void: 0,
+        void: 1,
         faults: 1,
     };
     let second = Totals {
-        writes: 2,
-        wbytes: 8192,
         checks: 2,
         good: 0,
         bad: 2,
         skipped: 1,
+        void: 0,
         faults: 0,
         ..first
     };

@@ -117,9 +117,9 @@ fn tickets_come_back_as_they_were_handed_out(rt: HostRuntime) -> Result<(), Fail
     Ok(())
 }
 
-fn end(rt: &impl Abort, table: &mut TicketTable, id: u32, outcome: Outcome) {
+fn end(rt: &impl Abort, table: &mut TicketTable, id: u32, outcome: Outcome, raced: bool) {
     assert!(rt; (id as usize) < table.states.len());
-    table.end(id, outcome);
+    table.end(id, outcome, raced);
 }
 
 // How far the I/O of this number has come, as each call says.
@@ -142,23 +142,31 @@ fn hand_check(rt: &impl Abort, plan: &Plan, table: &mut TicketTable, id: u32) ->
 fn each_goes_its_own_way(rt: HostRuntime) -> Result<(), Fail> {
     let plan = two_clones(rt.alloc())?;
     let mut table = TicketTable::new(rt.alloc());
-    for id in 0..3u32 {
+    for id in 0..4u32 {
         assert!(rt; is_at(&table, id, false, false, false));
         hand_check(&rt, &plan, &mut table, id)?;
         assert!(rt; is_at(&table, id, false, false, false));
     }
-    same(&rt, table.states.len(), 3);
-    end(&rt, &mut table, 2, Outcome::Short(512));
-    end(&rt, &mut table, 1, Outcome::Whole);
+    same(&rt, table.states.len(), 4);
+    end(&rt, &mut table, 2, Outcome::Short(512), false);
+    end(&rt, &mut table, 1, Outcome::Whole, false);
+    end(&rt, &mut table, 3, Outcome::Whole, true);
     assert!(rt; is_at(&table, 0, false, false, false));
     assert!(rt; is_at(&table, 1, true, true, false));
     assert!(rt; is_at(&table, 2, true, false, false));
-    same(&rt, table.states.len(), 3);
+    assert!(rt; is_at(&table, 3, true, true, false));
+    assert!(rt; table.has_raced(3) && !table.has_raced(1));
+    same(&rt, table.states.len(), 4);
     table.judge(1);
     assert!(rt; is_at(&table, 1, true, true, true));
-    end(&rt, &mut table, 0, Outcome::Failed);
-    let states = [IoState::Faulty, IoState::Judged, IoState::Faulty];
+    end(&rt, &mut table, 0, Outcome::Failed, true);
+    let states = [
+        IoState::Faulty,
+        IoState::Judged,
+        IoState::Faulty,
+        IoState::Raced,
+    ];
     same(&rt, table.states.as_slice(), states.as_slice());
-    assert!(rt; is_at(&table, 3, false, false, false));
+    assert!(rt; is_at(&table, 4, false, false, false));
     Ok(())
 }

@@ -51,3 +51,35 @@ fn assert_shared(rt: &impl Abort, plan: &Plan) {
     same(rt, plan.verifiers(), 2);
     same(rt, plan.engine(), EngineKind::Memory);
 }
+
+// Whether each of two clones declines to wait for what it overlaps.
+fn two_decline(alloc: Global, text: &str) -> Result<(bool, bool), Fail> {
+    let plan = planned(alloc, text, None)?;
+    if plan.clones() != 2 {
+        return Err(Fail::from("two clones"));
+    }
+    Ok((plan.clone_at(0).declines(), plan.clone_at(1).declines()))
+}
+
+#[test]
+fn each_job_declines_for_its_clones(rt: HostRuntime) -> Result<(), Fail> {
+    let rows = [
+        ("[a]\nsize=8k\n[b]\nsize=8k\n", (false, false)),
+        (
+            "[a]\nsize=8k\nserialize_overlap=0\n[b]\nsize=8k\n",
+            (true, false),
+        ),
+        (
+            "[a]\nsize=8k\nserialize_overlap=0\nnumjobs=2\n",
+            (true, true),
+        ),
+        (
+            "[global]\nsize=8k\nserialize_overlap=0\n[a]\n[b]\nserialize_overlap=1\n",
+            (true, false),
+        ),
+    ];
+    for (text, want) in rows {
+        same(&rt, (text, two_decline(rt.alloc(), text)?), (text, want));
+    }
+    Ok(())
+}

@@ -82,6 +82,20 @@ fn assert_shared(rt: &impl Abort, plan: &Plan) {
     same(rt, plan.engine(), EngineKind::Memory);
 }
 
+#[test]
+fn clones_decline_as_their_work_says(rt: HostRuntime) -> Result<(), Fail> {
+    let declining = Workload {
+        declines: true,
+        ..plain()
+    };
+    let draft = added(rt.alloc(), Draft::new(rt.alloc()), &declining, "f", 0)?;
+    let plan = finished(added(rt.alloc(), draft, &plain(), "f", 0)?)?;
+    assert!(rt; plan.clones() == 2);
+    same(&rt, plan.clone_at(0).declines(), true);
+    same(&rt, plan.clone_at(1).declines(), false);
+    Ok(())
+}
+
 // What a job file can't ask for, beside what it can.
 #[test]
 fn drafts_refuse_by_name(rt: HostRuntime) -> Result<(), Fail> {

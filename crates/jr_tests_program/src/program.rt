@@ -5,6 +5,7 @@ use jr_cli::{
     read_trace,
 };
 use jr_engines::MemoryEngine;
+use jr_stats::TraceFault;
 use std::alloc::Global;
 use std::io;
 use std::io::{ErrorKind, Read, Write};
@@ -146,9 +147,9 @@ fn a_report_and_a_trace_are_written(rt: HostRuntime) -> Result<(), Fail> {
     Ok(())
 }
 
-// What the check of a trace of CHECKED writes.
-fn checked(alloc: Global, events: &str) -> Result<Vec<u8>, CliFault> {
-    let plan = read_job(alloc, CHECKED.as_bytes(), None)?;
+// What the check of a trace of the job text writes.
+fn checked(alloc: Global, job: &str, events: &str) -> Result<Vec<u8>, CliFault> {
+    let plan = read_job(alloc, job.as_bytes(), None)?;
     let events = read_trace(alloc, events.as_bytes())?;
     let mut out = Vec::new(alloc);
     print_check(alloc, &plan, events.as_slice(), &mut out)?;
@@ -157,8 +158,41 @@ fn checked(alloc: Global, events: &str) -> Result<Vec<u8>, CliFault> {
 
 #[test]
 fn a_trace_is_checked(rt: HostRuntime) -> Result<(), Fail> {
-    let out = checked(rt.alloc(), EVENTS)?;
+    let out = checked(rt.alloc(), CHECKED, EVENTS)?;
     same(&rt, out.as_slice(), TOTALS.as_bytes());
+    Ok(())
+}
+
+const DECLINED: &str =
+    "[global]\nioengine=memory\nfilename=f\nsize=4k\n[r]\nverify=md5\nserialize_overlap=0\n[w]\nrw=write\n";
+
+const RACED: &str =
+    "r: clone=0 reads=1 rbytes=4096 writes=0 wbytes=0 checks=0 good=0 bad=0 skipped=0 void=1 faults=0
+w: clone=1 reads=0 rbytes=0 writes=1 wbytes=4096 checks=0 good=0 bad=0 skipped=0 void=0 faults=0
+";
+
+// A checked read beside a write over its block, whichever of them began first.
+#[test]
+fn a_check_that_raced_is_void_in_a_trace(rt: HostRuntime) -> Result<(), Fail> {
+    let rows = [
+        (
+            "I 0 0 0 0 0\nI 1 1 1 0 0\nE 0 0 whole\nV 0 0",
+            "E 1 1 whole",
+        ),
+        (
+            "I 0 0 1 0 0\nI 1 1 0 0 0\nE 1 1 whole\nV 1 1",
+            "E 0 0 whole",
+        ),
+    ];
+    for (begun, rest) in rows {
+        let events = format!(in rt.alloc(); "{begun} void\n{rest}\n")?;
+        let out = checked(rt.alloc(), DECLINED, events.as_str())?;
+        same(&rt, (begun, out.as_slice()), (begun, RACED.as_bytes()));
+        let events = format!(in rt.alloc(); "{begun} good\n{rest}\n")?;
+        let fault = checked(rt.alloc(), DECLINED, events.as_str()).err();
+        let illegal = CliFault::Trace(TraceFault::Illegal(4));
+        same(&rt, (begun, fault), (begun, Some(illegal)));
+    }
     Ok(())
 }
 

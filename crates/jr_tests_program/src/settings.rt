@@ -40,6 +40,31 @@ fn the_last_mix_counts(rt: HostRuntime) {
     same(&rt, read_percent(alloc, text), Ok(70));
 }
 
+// Whether a text's first job declines to wait for what it overlaps.
+fn declines(alloc: Global, text: &str) -> Result<bool, JobFault> {
+    match options(alloc, text) {
+        Ok(options) => Ok(options.declines),
+        Err(fault) => Err(fault),
+    }
+}
+
+#[test]
+fn overlap_is_declined_with_0_alone(rt: HostRuntime) {
+    let alloc = rt.alloc();
+    same(&rt, declines(alloc, "[a]\n"), Ok(false));
+    same(&rt, declines(alloc, "[a]\nserialize_overlap=0\n"), Ok(true));
+    same(
+        &rt,
+        declines(alloc, "[a]\nserialize_overlap=1\n"),
+        Ok(false),
+    );
+    same(&rt, declines(alloc, "[a]\nserialize_overlap\n"), Ok(false));
+    let text = "[a]\nserialize_overlap=1\nserialize_overlap=0\n";
+    same(&rt, declines(alloc, text), Ok(true));
+    let text = "[a]\nserialize_overlap=no\n";
+    same(&rt, declines(alloc, text), Err(JobFault::BadValue(2)));
+}
+
 #[test]
 fn splits_and_cells(rt: HostRuntime) -> Result<(), Fail> {
     let shape = shape(

@@ -1,7 +1,7 @@
 -- What one event more makes of the tickets of a history, and of how far each of them has come.
-use Rattle.std.proofs.Common.{◌≡◌, ℕ, ◌+◌, ◌<◌, ◌≤◌, List, [], ◌∷◌, ◌++◌, length, map, Bool, true, false, cond, refl, sym, ◌∙◌, ap, arith}
+use Rattle.std.proofs.Common.{◌≡◌, ℕ, ◌+◌, ◌<◌, ◌≤◌, List, [], ◌∷◌, ◌++◌, length, map, Bool, true, false, cond, ◌&&◌, refl, sym, ◌∙◌, ap, arith}
 use Rattle.std.proofs.Math.ListN.{set}
-use Rattle.std.specs.Prelude.{Option, Some, None, slice_get}
+use Rattle.std.specs.Prelude.{Option, Some, None, slice_get, nat_lt, is_none}
 use Rattle.std.specs.List.{cons_option, enumerate_from, filter_map, range_with_len}
 use Rattle.std.specs.Option.{option_map, option_to_list}
 use Rattle.std.proofs.lemmas.List.{map-append}
@@ -17,10 +17,12 @@ use Rattle.jr_model.specs.declared.tickets.Ticket.{Ticket}
 use Rattle.jr_model.specs.History.{started, started_by, end_of, outcome_of, is_verdict_on, is_judged}
 use Rattle.jr_model.specs.Legal.{is_legal, may_happen}
 use Rattle.jr_model.specs.Plan.{Plan}
+use Rattle.jr_model.specs.Races.{has_raced}
+use Rattle.jr_model.proofs.RaceLaws.{raced_other, raced_for_good}
 use Rattle.jr_laws_steps.proofs.StartedLemmas.{started-starts, started-other, length-started-starts, length-started-other, started_below}
 use Rattle.jr_laws_steps.specs.Nexts.{IsNext, grown}
 use Rattle.jr_laws_steps.proofs.JudgedEnded.{flying_unjudged}
-use Rattle.jr_laws_steps.proofs.Grown.{outcome_of-stays, outcome_of-other, outcome_of-end, is_judged-stays, is_judged-other, is_judged-verdict, not_ended_yet, not_judged_yet, end_names, verdict_names}
+use Rattle.jr_laws_steps.proofs.Grown.{outcome_of-stays, outcome_of-other, outcome_of-end, is_judged-stays, is_judged-other, is_judged-verdict, not_ended_yet, not_judged_yet, legal_is_well, end_names, verdict_names}
 use Rattle.jr_laws_steps.proofs.Lists.{map_same}
 use Rattle.jr_tickets.specs.declared.table.TicketTable.{TicketTable}
 use Rattle.jr_tickets.specs.declared.table.IoState.{IoState}
@@ -58,16 +60,26 @@ ticket_started plan history id io at =
 
 -- how far they have come
 
+-- whether it raced doesn't show while it is in flight
+raced_unseen : (raced was : Bool) (o : Option Outcome) → (is_none o ≡ false → raced ≡ was) → by_outcome raced o ≡ by_outcome was o
+raced_unseen raced was None same = refl
+raced_unseen raced was (Some outcome) same = ap (λ (b : Bool). by_outcome b (Some outcome)) (same refl)
+
 states_same : (after before : List Event) (id : ℕ) → is_judged after id ≡ is_judged before id
-    → outcome_of after id ≡ outcome_of before id → state_of after id ≡ state_of before id
-states_same after before id judged ended =
-    ap (λ (b : Bool). cond b states.Judged (by_outcome (outcome_of after id))) judged
-    ∙ ap (λ (o : Option Outcome). cond (is_judged before id) states.Judged (by_outcome o)) ended
+    → outcome_of after id ≡ outcome_of before id
+    → (is_none (outcome_of before id) ≡ false → has_raced after id ≡ has_raced before id)
+    → state_of after id ≡ state_of before id
+states_same after before id judged ended raced =
+    ap (λ (b : Bool). cond b states.Judged (by_outcome (has_raced after id) (outcome_of after id))) judged
+    ∙ ap (λ (o : Option Outcome). cond (is_judged before id) states.Judged (by_outcome (has_raced after id) o)) ended
+    ∙ ap (cond (is_judged before id) states.Judged)
+    (raced_unseen (has_raced after id) (has_raced before id) (outcome_of before id) raced)
 
 states_by : (history : List Event) (id : ℕ) (o : Option Outcome) → is_judged history id ≡ false → outcome_of history id ≡ o
-    → state_of history id ≡ by_outcome o
+    → state_of history id ≡ by_outcome (has_raced history id) o
 states_by history id o unjudged ended =
-    ap (λ (b : Bool). cond b states.Judged (by_outcome (outcome_of history id))) unjudged ∙ ap by_outcome ended
+    ap (λ (b : Bool). cond b states.Judged (by_outcome (has_raced history id) (outcome_of history id))) unjudged
+    ∙ ap (by_outcome (has_raced history id)) ended
 
 pub states_count : (history : List Event) → length (all_states history) ≡ length (started history)
 states_count history = length-map-range_with_len (state_of history) 0 (length (started history))
@@ -105,10 +117,24 @@ states_starts plan history event io legal starts =
     count : length (started (grown history event)) ≡ n + 1
     count = omega (arith, length-started-starts history event io starts)
 
+    ended_below : (i : ℕ) (o : Option Outcome) → outcome_of history i ≡ o → is_none o ≡ false → i < n
+    ended_below i None at ended = cc
+    ended_below i (Some outcome) at ended = (legal_is_well plan history legal).ends i outcome at
+
+    at_rest : (below none : Bool) → none ≡ false → (below && none) ≡ false
+    at_rest true none ended = ended
+    at_rest false none ended = refl
+
+    -- what has ended keeps its race
+    raced_same : (i : ℕ) → is_none (outcome_of history i) ≡ false → has_raced after i ≡ has_raced history i
+    raced_same i ended =
+        raced_for_good history event i (ended_below i (outcome_of history i) refl ended)
+        (at_rest (nat_lt i n) (is_none (outcome_of history i)) ended)
+
     same : (i : ℕ) → state_of after i ≡ state_of history i
     same i =
         states_same after history i (is_judged-stays history event i (no_verdict event io starts i))
-        (outcome_of-stays history event i (no_end event io starts i))
+        (outcome_of-stays history event i (no_end event io starts i)) (raced_same i)
 
     new : state_of history n ≡ states.InFlight
     new =
@@ -130,7 +156,8 @@ states_moves history event id nothing below others =
 
 pub states_end : (plan : Plan) (history : List Event) (worker id : ℕ) (outcome : Outcome) → is_legal plan history ≡ true
     → may_happen plan history (End worker id outcome) ≡ true
-    → all_states (grown history (End worker id outcome)) ≡ set (all_states history) id (by_outcome (Some outcome))
+    → all_states (grown history (End worker id outcome))
+    ≡ set (all_states history) id (by_outcome (has_raced history id) (Some outcome))
 states_end plan history worker id outcome legal may =
     let event = End worker id outcome in
     let after = grown history event in
@@ -138,10 +165,12 @@ states_end plan history worker id outcome legal may =
     states_moves history event id refl (started_below history id names.ended names.there)
     (λ (i : ℕ) (apart : i ≡ id → ⊥).
     states_same after history i (is_judged-stays history event i refl)
-    (outcome_of-other history worker id outcome i (λ (e : id ≡ i). apart (sym e))))
+    (outcome_of-other history worker id outcome i (λ (e : id ≡ i). apart (sym e)))
+    (λ (ended : is_none (outcome_of history i) ≡ false). raced_other history event i refl))
     ∙ ap (set (all_states history) id)
     (states_by after id (Some outcome) (is_judged-stays history event id refl ∙ flying_unjudged plan history id legal names.flies)
-    (outcome_of-end history worker id outcome names.flies))
+    (outcome_of-end history worker id outcome names.flies)
+    ∙ ap (λ (b : Bool). by_outcome b (Some outcome)) (raced_other history event id refl))
 
 pub states_verdict : (plan : Plan) (history : List Event) (worker id : ℕ) (verdict : GivenVerdict)
     → may_happen plan history (Verdict worker id verdict) ≡ true
@@ -153,8 +182,9 @@ states_verdict plan history worker id verdict may =
     states_moves history event id refl (started_below history id names.judged names.there)
     (λ (i : ℕ) (apart : i ≡ id → ⊥).
     states_same after history i (is_judged-other history worker id verdict i (λ (e : id ≡ i). apart (sym e)))
-    (outcome_of-stays history event i refl))
-    ∙ ap (λ (b : Bool). set (all_states history) id (cond b states.Judged (by_outcome (outcome_of after id))))
+    (outcome_of-stays history event i refl)
+    (λ (ended : is_none (outcome_of history i) ≡ false). raced_other history event i refl))
+    ∙ ap (λ (b : Bool). set (all_states history) id (cond b states.Judged (by_outcome (has_raced after id) (outcome_of after id))))
     (is_judged-verdict history worker id verdict)
 
 pub states_skip : (history : List Event) (worker : ℕ) (write : WriteId)
@@ -164,7 +194,8 @@ states_skip history worker write =
     let after = grown history event in
     ap (λ (m : ℕ). map (state_of after) (range_with_len 0 m)) (length-started-other history event refl)
     ∙ map_same (state_of history) (state_of after) (range_with_len 0 (length (started history)))
-    (λ j i at. states_same after history i (is_judged-stays history event i refl) (outcome_of-stays history event i refl))
+    (λ j i at. states_same after history i (is_judged-stays history event i refl) (outcome_of-stays history event i refl)
+    (λ (ended : is_none (outcome_of history i) ≡ false). raced_other history event i refl))
 
 -- the index goes on agreeing with the history
 
@@ -208,17 +239,19 @@ handed_starts plan history event io before after ticket next starts is launches 
     alone None = refl
     alone (Some h) = refl
 
-pub handed_end : (plan : Plan) (history : List Event) (worker id : ℕ) (outcome : Outcome) (before after : TicketTable)
-    → IsNext plan history (End worker id outcome) → after.launches.items ≡ before.launches.items
+pub handed_end : (plan : Plan) (history : List Event) (worker id : ℕ) (outcome : Outcome) (raced : Bool) (before after : TicketTable)
+    → IsNext plan history (End worker id outcome) → raced ≡ has_raced history id
+    → after.launches.items ≡ before.launches.items
     → after.headers.items ≡ before.headers.items
-    → after.states.items ≡ set before.states.items id (by_outcome (Some outcome)) → IsHanded plan history before
+    → after.states.items ≡ set before.states.items id (by_outcome raced (Some outcome)) → IsHanded plan history before
     → IsHanded plan (grown history (End worker id outcome)) after
-handed_end plan history worker id outcome before after next launches headers come handed = record {
+handed_end plan history worker id outcome raced before after next same launches headers come handed = record {
   launches = launches ∙ handed.launches ∙ sym (ap (launches_from 0) (tickets_stay plan history (End worker id outcome) refl));
   headers = headers ∙ handed.headers ∙ sym (ap (filter_map header_wanted) (tickets_stay plan history (End worker id outcome) refl));
   states =
       come
-      ∙ ap (λ (ps : List IoState). set ps id (by_outcome (Some outcome))) handed.states
+      ∙ ap (λ (b : Bool). set before.states.items id (by_outcome b (Some outcome))) same
+      ∙ ap (λ (ps : List IoState). set ps id (by_outcome (has_raced history id) (Some outcome))) handed.states
       ∙ sym (states_end plan history worker id outcome next.legal next.may);
 }
 

@@ -1,5 +1,5 @@
 -- Internal: what is kept of the tickets of a run by number, and how far each of them has come.
-use Rattle.std.specs.Prelude.{◌≡◌, ◌+◌, ◌==◌, ℕ, List, [], ◌∷◌, length, map, slice_get, Option, Some, None, if◌then◌else◌}
+use Rattle.std.specs.Prelude.{◌≡◌, ◌+◌, ◌==◌, ℕ, Bool, List, [], ◌∷◌, length, map, slice_get, Option, Some, None, if◌then◌else◌}
 use Rattle.std.specs.List.{filter_map, range_with_len}
 use Rattle.std.specs.Option.{option_to_list}
 use Rattle.jr_model.specs.declared.blocks.Piece.{Piece}
@@ -17,6 +17,7 @@ use Rattle.jr_model.specs.declared.tickets.TicketKind.TheVariants as ticket
 use Rattle.jr_model.specs.Content.{expected_pattern}
 use Rattle.jr_model.specs.History.{started, outcome_of, is_judged}
 use Rattle.jr_model.specs.Plan.{Plan, clone_of}
+use Rattle.jr_model.specs.Races.{has_raced}
 use Rattle.jr_tickets.specs.declared.table.TicketTable.{TicketTable}
 use Rattle.jr_tickets.specs.declared.table.IoState.{IoState}
 use Rattle.jr_tickets.specs.declared.table.IoState.TheVariants as states
@@ -97,16 +98,17 @@ ticket_again plan headers id launch =
       expected = expected_again launch.kind method launch.seed (slice_get headers launch.headers);
     }
 
--- in flight, or how it ended
-abbrev pub by_outcome : Option Outcome → IoState
-by_outcome None = states.InFlight
-by_outcome (Some Whole) = states.EndedWhole
-by_outcome (Some Failed) = states.Faulty
-by_outcome (Some (Short n)) = states.Faulty
+-- in flight, or how it ended, and where it ended whole whether it raced
+abbrev pub by_outcome : Bool → Option Outcome → IoState
+by_outcome raced None = states.InFlight
+by_outcome raced (Some Whole) = if raced then states.Raced else states.EndedWhole
+by_outcome raced (Some Failed) = states.Faulty
+by_outcome raced (Some (Short n)) = states.Faulty
 
 -- how far the I/O of this number has come
 abbrev pub state_of : List Event → ℕ → IoState
-state_of history id = if is_judged history id then states.Judged else by_outcome (outcome_of history id)
+state_of history id =
+    if is_judged history id then states.Judged else by_outcome (has_raced history id) (outcome_of history id)
 
 -- of all that were started
 abbrev pub all_states : List Event → List IoState

@@ -1,4 +1,4 @@
-ghost use Rattle.std.specs.Prelude.{◌≡◌, ◌<◌, ◌^◌, ◌++◌, ℕ, true, List, [], length, slice_get, is_some, Some, OnOk, vec_len, vec_capacity};
+ghost use Rattle.std.specs.Prelude.{◌≡◌, ◌<◌, ◌^◌, ◌++◌, ℕ, true, false, List, [], length, slice_get, is_some, Some, OnOk, vec_len, vec_capacity};
 ghost use Rattle.std.specs.Option.{option_map, option_to_list};
 ghost use Rattle.jr_model.specs.declared.events.Event.{Event};
 ghost use Rattle.jr_model.specs.declared.events.Event.TheVariants.{End, Verdict};
@@ -7,6 +7,7 @@ ghost use Rattle.jr_model.specs.declared.events.Verdict.{Verdict as GivenVerdict
 ghost use Rattle.jr_model.specs.History.{started, started_by, outcome_of, ended_whole, is_judged};
 ghost use Rattle.jr_model.specs.Legal.{is_legal};
 ghost use Rattle.jr_model.specs.Plan.{Plan as Planned};
+ghost use Rattle.jr_model.specs.Races.{has_raced};
 ghost use Rattle.jr_tickets.specs.Handing.{IsHanded, header_in};
 ghost use Rattle.jr_tickets.specs.Kept.{tickets_of};
 ghost use Rattle.jr_laws_steps.specs.Nexts.{IsNext, grown};
@@ -24,6 +25,8 @@ pub enum IoState {
     InFlight,
     /// It ended with all its bytes, and has no verdict.
     EndedWhole,
+    /// It ended with all its bytes, but a write overlapped it meanwhile, and it has no verdict.
+    Raced,
     /// It failed, or ended short.
     Faulty,
     /// A check that ended whole and has its verdict.
@@ -132,7 +135,22 @@ impl TicketTable {
     {
         match self.states.get(id as usize) {
             None => false,
-            Some(states) => *states == IoState::EndedWhole || *states == IoState::Judged,
+            Some(states) => matches!(
+                *states,
+                IoState::EndedWhole | IoState::Raced | IoState::Judged
+            ),
+        }
+    }
+
+    /// Whether a write overlapped it while both were in flight. This is kept of one that ended whole, until its verdict.
+    pub fn has_raced(&self, id: IoId) -> bool
+        ensures { (plan : Planned) (history : List Event) → is_legal plan history ≡ true → IsHanded plan history self.now
+            → ended_whole (outcome_of history id) ≡ true → is_judged history id ≡ false
+            → result ≡ has_raced history id }
+    {
+        match self.states.get(id as usize) {
+            None => false,
+            Some(states) => *states == IoState::Raced,
         }
     }
 
@@ -163,13 +181,15 @@ impl TicketTable {
         self.states.push_reserved(IoState::InFlight);
     }
 
-    /// Takes in how one ended.
-    pub fn end(&mut self, id: IoId, outcome: Outcome)
+    /// Takes in how one ended, and whether it raced.
+    pub fn end(&mut self, id: IoId, outcome: Outcome, raced: bool)
         requires { id < length self.old.states.items }
         ensures { (plan : Planned) (history : List Event) (worker : ℕ) → IsNext plan history (End worker id outcome)
+            → raced ≡ has_raced history id
             → IsHanded plan history self.old → IsHanded plan (grown history (End worker id outcome)) self.new }
     {
         self.states[id as usize] = match outcome {
+            Outcome::Whole if raced => IoState::Raced,
             Outcome::Whole => IoState::EndedWhole,
             Outcome::Failed | Outcome::Short(_) => IoState::Faulty,
         };

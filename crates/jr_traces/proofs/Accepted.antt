@@ -8,7 +8,7 @@ use Rattle.std.proofs.lemmas.List.Splits.{join_with_byte-slice_split}
 use Rattle.jr_model.specs.declared.events.Event.{Event}
 use Rattle.jr_model.specs.declared.events.Event.TheVariants.{Issue, Probe, Skip, End, Verdict}
 use Rattle.jr_model.specs.declared.events.Outcome.TheVariants.{Whole, Failed, Short}
-use Rattle.jr_model.specs.declared.events.Verdict.TheVariants.{Good, Bad}
+use Rattle.jr_model.specs.declared.events.Verdict.TheVariants.{Good, Bad, Void}
 use Rattle.jr_model.specs.declared.events.Part.TheVariants as part
 use Rattle.jr_model.specs.declared.events.What.TheVariants.{Header, Digest, DataArea, Byte, Chunk}
 use Rattle.jr_model.specs.declared.events.WriteId.{WriteId}
@@ -45,6 +45,7 @@ ending_back (ending.Short n) = refl
 
 finding_back : (f : Finding) → finding_of (verdict_of f) ≡ f
 finding_back finding.Good = refl
+finding_back finding.Void = refl
 finding_back finding.Header = refl
 finding_back finding.Digest = refl
 finding_back finding.DataArea = refl
@@ -104,6 +105,7 @@ entry_text_is io (End worker id Whole) = join_word (codes "E") (decimal worker) 
 entry_text_is io (End worker id Failed) = join_word (codes "E") (decimal worker) (decimal id) (codes "failed")
 entry_text_is io (End worker id (Short n)) = join_number (codes "E") (decimal worker) (decimal id) (codes "short") (decimal n)
 entry_text_is io (Verdict by id Good) = join_word (codes "V") (decimal by) (decimal id) (codes "good")
+entry_text_is io (Verdict by id Void) = join_word (codes "V") (decimal by) (decimal id) (codes "void")
 entry_text_is io (Verdict by id (Bad Header)) = join_word (codes "V") (decimal by) (decimal id) (codes "header")
 entry_text_is io (Verdict by id (Bad Digest)) = join_word (codes "V") (decimal by) (decimal id) (codes "digest")
 entry_text_is io (Verdict by id (Bad DataArea)) = join_word (codes "V") (decimal by) (decimal id) (codes "data")

@@ -9,7 +9,7 @@ use Rattle.jr_model.specs.declared.events.Event.TheVariants.{Issue, Probe, Skip,
 use Rattle.jr_model.specs.declared.events.Outcome.{Outcome}
 use Rattle.jr_model.specs.declared.events.Outcome.TheVariants.{Whole, Failed, Short}
 use Rattle.jr_model.specs.declared.events.Verdict.{Verdict as GivenVerdict}
-use Rattle.jr_model.specs.declared.events.Verdict.TheVariants.{Good, Bad}
+use Rattle.jr_model.specs.declared.events.Verdict.TheVariants.{Good, Bad, Void}
 use Rattle.jr_model.specs.declared.events.Part.TheVariants as part
 use Rattle.jr_model.specs.declared.events.What.TheVariants.{Header, Digest, DataArea, Byte, Chunk}
 use Rattle.jr_model.specs.declared.events.WriteId.{WriteId}
@@ -98,6 +98,7 @@ outcome_read a b c (Short n) fits = ap (λ (o : Option ℕ). option_map ending.S
 
 verdict_parts : GivenVerdict → List (List ℕ)
 verdict_parts Good = codes "good" ∷ []
+verdict_parts Void = codes "void" ∷ []
 verdict_parts (Bad Header) = codes "header" ∷ []
 verdict_parts (Bad Digest) = codes "digest" ∷ []
 verdict_parts (Bad DataArea) = codes "data" ∷ []
@@ -109,6 +110,7 @@ verdict_parts (Bad (Chunk i part.DataArea)) = codes "data" ∷ decimal i ∷ []
 verdict_more : (text : List ℕ) (a b c : List ℕ) (verdict : GivenVerdict) → finding_fits (finding_of verdict) ≡ true → fields_of text ≡ a ∷ b ∷ c ∷ [] → fields_of (text ++ verdict_fields verdict) ≡ a ∷ b ∷ c ∷ verdict_parts verdict
 unfolding verdict_parts
 verdict_more text a b c Good fits so = word_more text (a ∷ b ∷ c ∷ []) (codes "good") refl so
+verdict_more text a b c Void fits so = word_more text (a ∷ b ∷ c ∷ []) (codes "void") refl so
 verdict_more text a b c (Bad Header) fits so = word_more text (a ∷ b ∷ c ∷ []) (codes "header") refl so
 verdict_more text a b c (Bad Digest) fits so = word_more text (a ∷ b ∷ c ∷ []) (codes "digest") refl so
 verdict_more text a b c (Bad DataArea) fits so = word_more text (a ∷ b ∷ c ∷ []) (codes "data") refl so
@@ -128,6 +130,7 @@ verdict_more text a b c (Bad (Chunk i part.DataArea)) fits so =
 finding_read : (a b c : List ℕ) (verdict : GivenVerdict) → finding_fits (finding_of verdict) ≡ true → finding_in (a ∷ b ∷ c ∷ verdict_parts verdict) ≡ Some (finding_of verdict)
 unfolding verdict_parts
 finding_read a b c Good fits = refl
+finding_read a b c Void fits = refl
 finding_read a b c (Bad Header) fits = refl
 finding_read a b c (Bad Digest) fits = refl
 finding_read a b c (Bad DataArea) fits = refl

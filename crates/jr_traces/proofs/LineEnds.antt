@@ -10,7 +10,7 @@ use Rattle.jr_model.specs.declared.events.Event.TheVariants.{Issue, Probe, Skip,
 use Rattle.jr_model.specs.declared.events.Outcome.{Outcome}
 use Rattle.jr_model.specs.declared.events.Outcome.TheVariants.{Whole, Failed, Short}
 use Rattle.jr_model.specs.declared.events.Verdict.{Verdict as GivenVerdict}
-use Rattle.jr_model.specs.declared.events.Verdict.TheVariants.{Good, Bad}
+use Rattle.jr_model.specs.declared.events.Verdict.TheVariants.{Good, Bad, Void}
 use Rattle.jr_model.specs.declared.events.Part.TheVariants as part
 use Rattle.jr_model.specs.declared.events.What.TheVariants.{Header, Digest, DataArea, Byte, Chunk}
 use Rattle.jr_model.specs.declared.events.WriteId.{WriteId}
@@ -57,6 +57,7 @@ outcome_line (Short n) fits = two_lines (codes " short") (spaced n) refl (number
 verdict_line : (verdict : GivenVerdict) → finding_fits (finding_of verdict) ≡ true → is_line (verdict_fields verdict) ≡ true
 unfolding is_line
 verdict_line Good fits = refl
+verdict_line Void fits = refl
 verdict_line (Bad Header) fits = refl
 verdict_line (Bad Digest) fits = refl
 verdict_line (Bad DataArea) fits = refl

@@ -48,6 +48,7 @@ finding_fields finding.Digest = codes "digest" ∷ []
 finding_fields finding.DataArea = codes "data" ∷ []
 finding_fields (finding.Byte i) = codes "byte" ∷ decimal i ∷ []
 finding_fields (finding.Chunk i found) = part_word found ∷ decimal i ∷ []
+finding_fields finding.Void = codes "void" ∷ []
 
 abbrev pub entry_fields : Entry → List (List ℕ)
 entry_fields (entry.Issue start) = codes "I" ∷ start_fields start
@@ -221,9 +222,13 @@ module _ (fields : List (List ℕ)) where
               | inr not_header ↦
                   elim (cases_cond (is_word (field_at fields 3) (codes "digest")) _ _ (Some said) not_header) [
                     | inl digest ↦ word_last (codes "digest") four digest.0 ∙ ap behind (same_some finding.Digest said digest.1)
-                    | inr other ↦
-                        let area = from_cond (is_word (field_at fields 3) (codes "data")) (Some finding.DataArea) said other in
-                        word_last (codes "data") four area.0 ∙ ap behind (same_some finding.DataArea said area.1)
+                    | inr not_digest ↦
+                        elim (cases_cond (is_word (field_at fields 3) (codes "data")) _ _ (Some said) not_digest) [
+                          | inl area ↦ word_last (codes "data") four area.0 ∙ ap behind (same_some finding.DataArea said area.1)
+                          | inr other ↦
+                              let void = from_cond (is_word (field_at fields 3) (codes "void")) (Some finding.Void) said other in
+                              word_last (codes "void") four void.0 ∙ ap behind (same_some finding.Void said void.1)
+                        ]
                   ]
             ]
       ]

@@ -12,7 +12,7 @@ use Rattle.jr_model.specs.declared.events.Outcome.{Outcome}
 use Rattle.jr_model.specs.declared.events.Outcome.TheVariants.{Whole, Failed, Short}
 use Rattle.jr_model.specs.declared.events.Started.{Started}
 use Rattle.jr_model.specs.declared.events.Verdict.{Verdict as GivenVerdict}
-use Rattle.jr_model.specs.declared.events.Verdict.TheVariants.{Good, Bad}
+use Rattle.jr_model.specs.declared.events.Verdict.TheVariants.{Good, Bad, Void}
 use Rattle.jr_model.specs.declared.events.What.{What}
 use Rattle.jr_model.specs.declared.events.What.TheVariants.{Header, Digest, DataArea, Byte, Chunk}
 use Rattle.jr_model.specs.declared.events.WriteId.{WriteId}
@@ -24,8 +24,9 @@ use Rattle.jr_model.specs.declared.workloads.Draw.{Draw}
 use Rattle.jr_model.specs.Draws.{draws_of_job}
 use Rattle.jr_model.specs.History.{ended_whole, flies, is_judged, is_judged_kind, outcome_of, started}
 use Rattle.std.proofs.Math.Nat.{div-le_self}
-use Rattle.jr_model.specs.Legal.{digest_finds, end_fits, is_legal, job_says, kind_says, legal_after, may_happen, own_digest_finds, own_says, verdict_fits}
+use Rattle.jr_model.specs.Legal.{digest_finds, end_fits, is_legal, is_void, job_says, kind_says, legal_after, may_happen, own_digest_finds, own_says, verdict_fits}
 use Rattle.jr_model.specs.Plan.{Plan, SubJob, clone_of}
+use Rattle.jr_model.specs.Races.{has_raced}
 use Rattle.jr_model.specs.Rounds.{pass_of}
 use Rattle.jr_model.proofs.LegalLaws.{is_legal-more}
 use Rattle.jr_model.specs.PlanFacts.{IsPlanned}
@@ -120,6 +121,7 @@ module _ (plan : Plan) (planned : IsPlanned plan) where
 
     byte_small : (kind : VerifyKind) (interval len : ℕ) (verdict : GivenVerdict) → len ≤ 2 ^ 32 → kind_says kind interval len verdict ≡ true → finding_fits (finding_of verdict) ≡ true
     byte_small kind interval len Good most h = refl
+    byte_small kind interval len Void most h = refl
     byte_small verify.Plain interval len (Bad what) most h = cc
     byte_small verify.Pattern interval len (Bad (Byte i)) most h = less i len most (ltb-true i len h)
     byte_small verify.Pattern interval len (Bad Header) most h = refl
@@ -142,6 +144,7 @@ module _ (plan : Plan) (planned : IsPlanned plan) where
 
     own_small : (kind : VerifyKind) (len : ℕ) (verdict : GivenVerdict) → len ≤ 2 ^ 32 → own_says kind len verdict ≡ true → finding_fits (finding_of verdict) ≡ true
     own_small kind len Good most h = refl
+    own_small kind len Void most h = refl
     own_small verify.Plain len (Bad what) most h = cc
     own_small verify.Pattern len (Bad what) most h = byte_small verify.Pattern 0 len (Bad what) most h
     own_small verify.Md5 len (Bad what) most h = own_chunk_small len what most h
@@ -155,17 +158,26 @@ module _ (plan : Plan) (planned : IsPlanned plan) where
     says_small (Some job) ticket.Read len verdict most h = cc
     says_small (Some job) ticket.Write len verdict most h = cc
 
+    void_small : (verdict : GivenVerdict) → is_void verdict ≡ true → finding_fits (finding_of verdict) ≡ true
+    void_small Void h = refl
+    void_small Good h = refl
+    void_small (Bad what) h = cc
+
+    said_small : (raced : Bool) (job : Option SubJob) (kind : TicketKind) (len : ℕ) (verdict : GivenVerdict) → len ≤ 2 ^ 32 → cond raced (is_void verdict) (job_says job kind len verdict) ≡ true → finding_fits (finding_of verdict) ≡ true
+    said_small true job kind len verdict most h = void_small verdict h
+    said_small false job kind len verdict most h = says_small job kind len verdict most h
+
     record IsOnStarted (id : ℕ) (fits : Bool) : Type 0 where
       below : id < length (started history)
       small : fits ≡ true
 
-    verdict_small : (id : ℕ) (verdict : GivenVerdict) (o : Option Started) → slice_get (started history) id ≡ o → verdict_fits plan verdict o ≡ true → IsOnStarted id (finding_fits (finding_of verdict))
-    verdict_small id verdict None at h = cc
-    verdict_small id verdict (Some io) at h =
-        let parts = and_parts (is_judged_kind io.kind) (job_says (clone_of plan io.write.clone) io.kind io.piece.len verdict) h in
+    verdict_small : (id : ℕ) (raced : Bool) (verdict : GivenVerdict) (o : Option Started) → slice_get (started history) id ≡ o → verdict_fits plan raced verdict o ≡ true → IsOnStarted id (finding_fits (finding_of verdict))
+    verdict_small id raced verdict None at h = cc
+    verdict_small id raced verdict (Some io) at h =
+        let parts = and_parts (is_judged_kind io.kind) (cond raced (is_void verdict) (job_says (clone_of plan io.write.clone) io.kind io.piece.len verdict)) h in
         record {
           below = slice_get_within (started history) id io at;
-          small = says_small (clone_of plan io.write.clone) io.kind io.piece.len verdict (len_small id io at) parts.1;
+          small = said_small raced (clone_of plan io.write.clone) io.kind io.piece.len verdict (len_small id io at) parts.1;
         }
 
     -- the numbers of an event that may happen are small, but for its worker's
@@ -185,8 +197,9 @@ module _ (plan : Plan) (planned : IsPlanned plan) where
         all_three (is_small worker) (is_small id) (ending_fits (ending_of outcome)) (io_small id (omega (arith, below)))
         (ending_small worker id outcome (slice_get (started history) id) refl parts.1)
     event_small (Verdict by id verdict) may =
-        let parts = and_parts (ended_whole (outcome_of history id) && not (is_judged history id)) (verdict_fits plan verdict (slice_get (started history) id)) may in
-        let on = verdict_small id verdict (slice_get (started history) id) refl parts.1 in
+        let raced = has_raced history id in
+        let parts = and_parts (ended_whole (outcome_of history id) && not (is_judged history id)) (verdict_fits plan raced verdict (slice_get (started history) id)) may in
+        let on = verdict_small id raced verdict (slice_get (started history) id) refl parts.1 in
         all_three (is_small by) (is_small id) (finding_fits (finding_of verdict)) (io_small id (omega (arith, on.below))) on.small
 
   -- the lines of what may happen after a legal history

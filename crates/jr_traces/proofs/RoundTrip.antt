@@ -12,7 +12,7 @@ use Rattle.jr_model.specs.declared.events.IssueKind.{IssueKind}
 use Rattle.jr_model.specs.declared.events.Outcome.{Outcome}
 use Rattle.jr_model.specs.declared.events.Outcome.TheVariants.{Whole, Failed, Short}
 use Rattle.jr_model.specs.declared.events.Verdict.{Verdict as GivenVerdict}
-use Rattle.jr_model.specs.declared.events.Verdict.TheVariants.{Good, Bad}
+use Rattle.jr_model.specs.declared.events.Verdict.TheVariants.{Good, Bad, Void}
 use Rattle.jr_model.specs.declared.events.What.TheVariants.{Header, Digest, DataArea, Byte, Chunk}
 use Rattle.jr_model.specs.declared.events.WriteId.{WriteId}
 use Rattle.jr_model.specs.declared.workloads.Draw.{Draw}
@@ -127,6 +127,7 @@ outcome_back (Short n) = refl
 
 verdict_back : (verdict : GivenVerdict) → verdict_of (finding_of verdict) ≡ verdict
 verdict_back Good = refl
+verdict_back Void = refl
 verdict_back (Bad Header) = refl
 verdict_back (Bad Digest) = refl
 verdict_back (Bad DataArea) = refl

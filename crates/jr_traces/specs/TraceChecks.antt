@@ -50,6 +50,7 @@ finding_fits finding.Digest = true
 finding_fits finding.DataArea = true
 finding_fits (finding.Byte i) = is_small i
 finding_fits (finding.Chunk i part) = is_small i
+finding_fits finding.Void = true
 
 abbrev pub entry_fits : Entry → Bool
 entry_fits (entry.Issue start) = is_small start.worker && is_small start.io && name_fits start.write
@@ -82,6 +83,7 @@ verdict_of finding.Digest = verdict.Bad what.Digest
 verdict_of finding.DataArea = verdict.Bad what.DataArea
 verdict_of (finding.Byte i) = verdict.Bad (what.Byte i)
 verdict_of (finding.Chunk i part) = verdict.Bad (what.Chunk i part)
+verdict_of finding.Void = verdict.Void
 
 -- the draw of this name, if the plan has it
 abbrev pub draw_of : Plan → WriteId → Option Draw

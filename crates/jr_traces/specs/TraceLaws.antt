@@ -41,6 +41,7 @@ ending_of (outcome.Short n) = ending.Short n
 
 abbrev pub finding_of : GivenVerdict → Finding
 finding_of verdict.Good = finding.Good
+finding_of verdict.Void = finding.Void
 finding_of (verdict.Bad w) = bad w
   where
     bad : What → Finding

@@ -97,7 +97,8 @@ word_finding word =
     if is_word word (codes "good") then Some finding.Good
     else (if is_word word (codes "header") then Some finding.Header
     else (if is_word word (codes "digest") then Some finding.Digest
-    else (if is_word word (codes "data") then Some finding.DataArea else None)))
+    else (if is_word word (codes "data") then Some finding.DataArea
+    else (if is_word word (codes "void") then Some finding.Void else None))))
 
 abbrev pub part_of : List ℕ → Option Part
 part_of word =

@@ -6,6 +6,7 @@ use Rattle.jr_model.specs.declared.events.WriteId.{WriteId}
 use Rattle.jr_model.specs.History.{started, flies, outcome_of as how_ended, is_judged, ended_whole, same_write}
 use Rattle.jr_model.specs.Legal.{end_fits, step_at, verdict_fits}
 use Rattle.jr_model.specs.Plan.{Plan}
+use Rattle.jr_model.specs.Races.{has_raced}
 use Rattle.jr_traces.specs.declared.entries.Ending.{Ending}
 use Rattle.jr_traces.specs.declared.entries.Entry.{Entry}
 use Rattle.jr_traces.specs.declared.entries.Entry.TheVariants as entry
@@ -39,7 +40,7 @@ abbrev pub judged : Plan → List Event → ℕ → ℕ → Finding → Option E
 judged plan history by io finding =
     if is_small by && is_small io && finding_fits finding
     && (ended_whole (how_ended history io) && not (is_judged history io)
-    && verdict_fits plan (verdict_of finding) (slice_get (started history) io))
+    && verdict_fits plan (has_raced history io) (verdict_of finding) (slice_get (started history) io))
     then Some (Verdict by io (verdict_of finding)) else None
 
 -- the issue of this draw, where the step is one

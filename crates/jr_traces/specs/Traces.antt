@@ -6,7 +6,7 @@ use Rattle.jr_model.specs.declared.events.Event.TheVariants.{Issue, Probe, Skip,
 use Rattle.jr_model.specs.declared.events.Outcome.{Outcome}
 use Rattle.jr_model.specs.declared.events.Outcome.TheVariants.{Whole, Failed, Short}
 use Rattle.jr_model.specs.declared.events.Verdict.{Verdict as GivenVerdict}
-use Rattle.jr_model.specs.declared.events.Verdict.TheVariants.{Good, Bad}
+use Rattle.jr_model.specs.declared.events.Verdict.TheVariants.{Good, Bad, Void}
 use Rattle.jr_model.specs.declared.events.Part.{Part}
 use Rattle.jr_model.specs.declared.events.Part.TheVariants as part
 use Rattle.jr_model.specs.declared.events.What.{What}
@@ -44,6 +44,7 @@ what_fields (Chunk i found) = part_fields found ++ spaced i
 abbrev pub verdict_fields : GivenVerdict → List ℕ
 verdict_fields Good = codes " good"
 verdict_fields (Bad what) = what_fields what
+verdict_fields Void = codes " void"
 
 -- the line of an event before its line feed, where so many I/Os and checks were started before it
 abbrev pub event_text : ℕ → Event → List ℕ

@@ -33,6 +33,7 @@ pub enum Finding {
     DataArea,
     Byte(u64),
     Chunk(u64, Part),
+    Void,
 }
 
 // What a line of a trace says. Its numbers may be too large for an event.

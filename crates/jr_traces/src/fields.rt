@@ -194,6 +194,8 @@ fn word_finding(word: &[u8]) -> Option<Finding>
         Some(Finding::Digest)
     } else if is_word(word, b"data") {
         Some(Finding::DataArea)
+    } else if is_word(word, b"void") {
+        Some(Finding::Void)
     } else {
         None
     }

@@ -217,5 +217,6 @@ fn verdict_of(finding: &Finding) -> Option<Verdict>
         Finding::DataArea => Some(Verdict::Bad(What::DataArea)),
         Finding::Byte(place) => Some(Verdict::Bad(What::Byte(small(*place)?))),
         Finding::Chunk(chunk, part) => Some(Verdict::Bad(What::Chunk(small(*chunk)?, *part))),
+        Finding::Void => Some(Verdict::Void),
     }
 }

@@ -124,6 +124,7 @@ fn push_finding(text: &mut Vec<u8>, verdict: Verdict) -> Result<(), Memory>
     match verdict {
         Verdict::Good => push_text(text, " good"),
         Verdict::Bad(what) => push_what(text, what),
+        Verdict::Void => push_text(text, " void"),
     }
 }
 

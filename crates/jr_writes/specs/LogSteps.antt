@@ -1,6 +1,6 @@
 -- Believed: the entries that a list of settled writes and unsettled pieces leaves, and which such steps the ends of a
 -- history's writes are (of this project).
-use Rattle.std.specs.Prelude.{List, [], Option, Some, None, slice_get, filter_map, fold, if◌then◌else◌}
+use Rattle.std.specs.Prelude.{ℕ, Bool, not, ◌&&◌, List, [], Option, Some, None, slice_get, filter_map, fold, if◌then◌else◌}
 use Rattle.jr_model.specs.declared.blocks.Piece.{Piece}
 use Rattle.jr_model.specs.declared.contents.Expected.{Expected}
 use Rattle.jr_model.specs.declared.events.Event.{Event}
@@ -9,6 +9,7 @@ use Rattle.jr_model.specs.declared.events.Outcome.{Outcome}
 use Rattle.jr_model.specs.declared.events.Started.{Started}
 use Rattle.jr_model.specs.declared.events.WriteId.{WriteId}
 use Rattle.jr_model.specs.History.{ended_whole, is_write, started}
+use Rattle.jr_model.specs.Races.{has_raced}
 use Rattle.jr_writes.specs.declared.logs.Logged.{Logged}
 use Rattle.jr_writes.specs.LoggedWrites.{settled, unsettled}
 
@@ -26,23 +27,23 @@ after_step entries (unsettle piece) = unsettled entries piece
 abbrev pub log_of : List LogStep → List (WriteId × Logged)
 log_of steps = fold after_step [] steps
 
--- the step that the end of an I/O is: a write that ended whole is settled, with what its content is checked by, and the
--- piece of one that ended otherwise is unsettled
-abbrev pub step_at_end : (WriteId → Piece → Expected) → Option Started → Outcome → Option LogStep
-step_at_end checked_by None outcome = None
-step_at_end checked_by (Some io) outcome =
+-- the step that the end of an I/O is: a write that ended whole and didn't race is settled, with what its content is checked by,
+-- and the piece of one that raced or ended otherwise is unsettled
+abbrev pub step_at_end : (WriteId → Piece → Expected) → Bool → Option Started → Outcome → Option LogStep
+step_at_end checked_by raced None outcome = None
+step_at_end checked_by raced (Some io) outcome =
     if is_write io.kind
-    then Some (if ended_whole (Some outcome) then settle io.write io.piece (checked_by io.write io.piece) else unsettle io.piece)
+    then Some (if ended_whole (Some outcome) && not raced then settle io.write io.piece (checked_by io.write io.piece) else unsettle io.piece)
     else None
 
--- the step that an event is, where these I/Os are started
-abbrev pub step_of : (WriteId → Piece → Expected) → List Started → Event → Option LogStep
-step_of checked_by ios (End worker io outcome) = step_at_end checked_by (slice_get ios io) outcome
-step_of checked_by ios (Issue worker dir write piece) = None
-step_of checked_by ios (Probe worker write piece) = None
-step_of checked_by ios (Skip worker write) = None
-step_of checked_by ios (Verdict worker io verdict) = None
+-- the step that an event is, where these I/Os are started and these of them raced
+abbrev pub step_of : (WriteId → Piece → Expected) → (ℕ → Bool) → List Started → Event → Option LogStep
+step_of checked_by raced ios (End worker io outcome) = step_at_end checked_by (raced io) (slice_get ios io) outcome
+step_of checked_by raced ios (Issue worker dir write piece) = None
+step_of checked_by raced ios (Probe worker write piece) = None
+step_of checked_by raced ios (Skip worker write) = None
+step_of checked_by raced ios (Verdict worker io verdict) = None
 
 -- the steps that a history's events are, in their order
 abbrev pub steps_of : (WriteId → Piece → Expected) → List Event → List LogStep
-steps_of checked_by history = filter_map (step_of checked_by (started history)) history
+steps_of checked_by history = filter_map (step_of checked_by (has_raced history) (started history)) history

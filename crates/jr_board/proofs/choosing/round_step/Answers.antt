@@ -9,7 +9,7 @@ loop-next-init c =
     let plan = c.args.plan.now in
     let board = c.args.board.now in
     let standing = c.args.standing.now in
-    search_starts plan board standing c.args.worker c.next_check-next.result c.next_check-next.ensures.in_order
+    search_starts plan board standing c.args.worker c.args.declines c.next_check-next.result c.next_check-next.ensures.in_order
     c.next_check-next.ensures.value
 
 pub loop-next-preserved : goal.loop-next-preserved
@@ -17,8 +17,8 @@ loop-next-preserved c =
     let plan = c.args.plan.now in
     let board = c.args.board.now in
     let standing = c.args.standing.now in
-    let sofar = subst (λ (next : Option WriteId). IsSearched plan board standing c.args.worker next) c.in-Some.is c.loop-next.invariant in
-    search_on plan board c.requires.board standing c.requires.settled c.args.worker c.in-Some.write sofar c.take_up-step.result
+    let sofar = subst (λ (next : Option WriteId). IsSearched plan board standing c.args.worker c.args.declines next) c.in-Some.is c.loop-next.invariant in
+    search_on plan board c.requires.board standing c.requires.settled c.args.worker c.args.declines c.in-Some.write sofar c.take_up-step.result
     c.next_after-next.result c.take_up-step.ensures
     (sym c.is_some.ensures ∙ c.if-is_some.false) c.next_after-next.ensures.value
 
@@ -27,27 +27,27 @@ loop-next-smaller c =
     let plan = c.args.plan.now in
     let board = c.args.board.now in
     let standing = c.args.standing.now in
-    let sofar = subst (λ (next : Option WriteId). IsSearched plan board standing c.args.worker next) c.in-Some.is c.loop-next.invariant in
+    let sofar = subst (λ (next : Option WriteId). IsSearched plan board standing c.args.worker c.args.declines next) c.in-Some.is c.loop-next.invariant in
     subst (λ (next : Option WriteId). writes_from standing.rounds.round c.next_after-next.result < writes_from standing.rounds.round next)
     (sym c.in-Some.is)
-    (search_smaller plan board c.requires.board standing c.requires.settled c.args.worker c.in-Some.write sofar c.next_after-next.result
+    (search_smaller plan board c.requires.board standing c.requires.settled c.args.worker c.args.declines c.in-Some.write sofar c.next_after-next.result
     c.next_after-next.ensures.value)
 
 pub returns-then-is_some : goal.returns-then-is_some
-returns-then-is_some c clone job there at rounds runs waits =
+returns-then-is_some c clone job there at rounds waits runs under_way =
     let plan = c.args.plan.now in
     let board = c.args.board.now in
     let standing = c.args.standing.now in
-    let sofar = subst (λ (next : Option WriteId). IsSearched plan board standing c.args.worker next) c.in-Some.is c.loop-next.invariant in
-    search_found plan board c.requires.board standing c.requires.settled c.args.worker c.in-Some.write sofar c.take_up-step.result
+    let sofar = subst (λ (next : Option WriteId). IsSearched plan board standing c.args.worker c.args.declines next) c.in-Some.is c.loop-next.invariant in
+    search_found plan board c.requires.board standing c.requires.settled c.args.worker c.args.declines c.in-Some.write sofar c.take_up-step.result
     c.take_up-step.ensures
-    (sym c.is_some.ensures ∙ c.if-is_some.true) clone job there at rounds runs
+    (sym c.is_some.ensures ∙ c.if-is_some.true) clone job there at rounds waits runs
 
 pub returns : goal.returns
 returns c =
     let plan = c.args.plan.now in
     let board = c.args.board.now in
     let standing = c.args.standing.now in
-    let sofar = subst (λ (next : Option WriteId). IsSearched plan board standing c.args.worker next) c.in_default.is c.loop-next.invariant
+    let sofar = subst (λ (next : Option WriteId). IsSearched plan board standing c.args.worker c.args.declines next) c.in_default.is c.loop-next.invariant
     in
-    search_over plan board c.requires.board standing c.requires.settled c.args.worker sofar
+    search_over plan board c.requires.board standing c.requires.settled c.args.worker c.args.declines sofar

@@ -91,7 +91,7 @@ returns-then-is_under_way c job there =
     let rounds : has_rounds job ≡ true = ap has_rounds (sym same) ∙ sym c.has_rounds.ensures ∙ c.if-has_rounds.true in
     let settled = (c.requires.ready.standings c.args.clone job stood there at).settled in
     let waits = sym c.is_under_way.ensures ∙ c.if-is_under_way.true in
-    c.round_step.ensures c.args.clone job there at rounds
+    c.round_step.ensures c.args.clone job there at rounds (c.declines.ensures ∙ ap (λ (j : SubJob). j.declines) same)
     (runs_on plan board c.requires.board c.args.clone job there stood at counts counted c.if-counts.false)
     (waits_now plan board c.requires.board c.args.clone job there stood at counts counted c.args.worker c.if-counts.false room rounds
     settled waits)

@@ -11,7 +11,7 @@ use Rattle.jr_board.proofs.ChoiceBoards.{handed_fits, entry_there, entry, piece_
 use Rattle.jr_board.proofs.choosing.take_up.Goals as goal
 
 pub returns-in_err-issued : goal.returns-in_err-issued
-returns-in_err-issued c clone job there at rounds runs left =
+returns-in_err-issued c clone job there at rounds declines runs left =
     let plan = c.args.plan.now in
     let board = c.args.board.now in
     let standing = c.args.standing.now in
@@ -21,7 +21,7 @@ returns-in_err-issued c clone job there at rounds runs left =
     absurd (omega (arith, below, past, ap length c.deref.ensures.value))
 
 pub returns-then-issued : goal.returns-then-issued
-returns-then-issued c clone job there at rounds runs left =
+returns-then-issued c clone job there at rounds declines runs left =
     let plan = c.args.plan.now in
     let board = c.args.board.now in
     let standing = c.args.standing.now in
@@ -30,10 +30,10 @@ returns-then-issued c clone job there at rounds runs left =
     let found = c.in_ok-issued.ensures.lookup in
     let its = entry plan board c.requires.board clone job there standing at rounds runs write left issued
     (read_at c.deref.result.now standing.issued.items write.number issued c.deref.ensures.value found.3.0 found.1) in
-    sym (taken_already board.history.items c.args.worker job write its.draw its.clone its.drawn (sym its.taken ∙ c.if-issued.true))
+    sym (taken_already plan board.history.items c.args.worker job write its.draw its.clone its.drawn (sym its.taken ∙ c.if-issued.true))
 
 pub returns-in_err-piece : goal.returns-in_err-piece
-returns-in_err-piece c clone job there at rounds runs left =
+returns-in_err-piece c clone job there at rounds declines runs left =
     let plan = c.args.plan.now in
     let board = c.args.board.now in
     let standing = c.args.standing.now in
@@ -52,7 +52,7 @@ is_clear-requires-clause-fits c =
     (sym (c.in_ok-piece.ensures c.args.plan.now c.args.board.now.history.items c.requires.board.tickets))
 
 pub returns-then-not-is_clear : goal.returns-then-not-is_clear
-returns-then-not-is_clear c clone job there at rounds runs left =
+returns-then-not-is_clear c clone job there at rounds declines runs left =
     let plan = c.args.plan.now in
     let board = c.args.board.now in
     let standing = c.args.standing.now in
@@ -64,11 +64,11 @@ returns-then-not-is_clear c clone job there at rounds runs left =
     let history = board.history.items in
     let piece : c.in_ok-piece.piece ≡ its.draw.piece = same_some c.in_ok-piece.piece its.draw.piece
     (c.in_ok-piece.ensures plan history c.requires.board.tickets ∙ piece_there plan board c.requires.board clone job there standing at rounds runs write left issued its) in
-    let unclear = ap (is_clear history false) (sym piece) ∙ sym (c.if-not-is_clear.ensures history c.requires.board.flying) in
-    sym (barred history c.args.worker job write its.draw its.clone its.drawn unclear)
+    let unclear = ap (is_clear plan history job false) (sym piece) ∙ sym (c.if-not-is_clear.ensures plan history job c.requires.board.flying declines) in
+    sym (barred plan history c.args.worker job write its.draw its.clone its.drawn unclear)
 
 pub returns-then-intact : goal.returns-then-intact
-returns-then-intact c clone job there at rounds runs left =
+returns-then-intact c clone job there at rounds declines runs left =
     let plan = c.args.plan.now in
     let board = c.args.board.now in
     let standing = c.args.standing.now in
@@ -81,16 +81,16 @@ returns-then-intact c clone job there at rounds runs left =
     let piece : c.in_ok-piece.piece ≡ its.draw.piece = same_some c.in_ok-piece.piece its.draw.piece
     (c.in_ok-piece.ensures plan history c.requires.board.tickets ∙ piece_there plan board c.requires.board clone job there standing at rounds runs write left issued its) in
     let untaken = sym its.taken ∙ c.if-issued.false in
-    let clear = ap (is_clear history false) (sym piece) ∙ sym (c.if-not-is_clear.ensures history c.requires.board.flying) in
+    let clear = ap (is_clear plan history job false) (sym piece) ∙ sym (c.if-not-is_clear.ensures plan history job c.requires.board.flying declines) in
     let intact = sym (intact_is plan board c.requires.board clone job there standing at rounds runs write left its.draw its.drawn)
     ∙ sym c.if-intact.ensures in
     ap {B = Option Event} (λ (p : Piece). Some (Probe c.args.worker write p)) piece
     ∙ sym (ap {B = Option Event} (λ (b : Bool). Some (cond b (Probe c.args.worker write its.draw.piece) (Skip c.args.worker write)))
     intact)
-    ∙ sym (taken_now history c.args.worker job write its.draw its.clone its.drawn untaken clear)
+    ∙ sym (taken_now plan history c.args.worker job write its.draw its.clone its.drawn untaken clear)
 
 pub returns-else-intact : goal.returns-else-intact
-returns-else-intact c clone job there at rounds runs left =
+returns-else-intact c clone job there at rounds declines runs left =
     let plan = c.args.plan.now in
     let board = c.args.board.now in
     let standing = c.args.standing.now in
@@ -103,8 +103,8 @@ returns-else-intact c clone job there at rounds runs left =
     let piece : c.in_ok-piece.piece ≡ its.draw.piece = same_some c.in_ok-piece.piece its.draw.piece
     (c.in_ok-piece.ensures plan history c.requires.board.tickets ∙ piece_there plan board c.requires.board clone job there standing at rounds runs write left issued its) in
     let untaken = sym its.taken ∙ c.if-issued.false in
-    let clear = ap (is_clear history false) (sym piece) ∙ sym (c.if-not-is_clear.ensures history c.requires.board.flying) in
+    let clear = ap (is_clear plan history job false) (sym piece) ∙ sym (c.if-not-is_clear.ensures plan history job c.requires.board.flying declines) in
     let broken = sym (intact_is plan board c.requires.board clone job there standing at rounds runs write left its.draw its.drawn)
     ∙ sym c.if-intact.ensures in
     sym (ap {B = Option Event} (λ (b : Bool). Some (cond b (Probe c.args.worker write its.draw.piece) (Skip c.args.worker write))) broken)
-    ∙ sym (taken_now history c.args.worker job write its.draw its.clone its.drawn untaken clear)
+    ∙ sym (taken_now plan history c.args.worker job write its.draw its.clone its.drawn untaken clear)

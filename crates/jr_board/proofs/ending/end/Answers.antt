@@ -1,14 +1,16 @@
 -- The index of each part takes the step that the end is.
 use Rattle.std.proofs.Common.{◌≡◌, ℕ, List, length, get_or, refl, sym, ◌∙◌, ap, subst, arith}
 use Rattle.std.proofs.Math.ListN.{set}
-use Rattle.std.specs.Prelude.{Some}
+use Rattle.std.specs.Prelude.{Some, slice_get}
+use Rattle.std.proofs.lemmas.Bool.{and_parts}
 use Rattle.std.proofs.lemmas.Option.{slice_get_read}
 use Rattle.jr_model.specs.declared.events.Event.{Event}
 use Rattle.jr_model.specs.declared.events.Event.TheVariants.{End}
 use Rattle.jr_model.specs.declared.events.Outcome.{Outcome}
-use Rattle.jr_model.specs.History.{is_probe}
-use Rattle.jr_model.specs.Legal.{is_halted}
+use Rattle.jr_model.specs.History.{flies, is_probe, started}
+use Rattle.jr_model.specs.Legal.{end_fits, is_halted}
 use Rattle.jr_model.specs.Plan.{Plan, SubJob, clone_of}
+use Rattle.jr_model.specs.Races.{has_raced}
 use Rattle.jr_model.specs.declared.blocks.Piece.{Piece}
 use Rattle.jr_writes.specs.LoggedWrites.{logged}
 use Rattle.jr_laws_steps.specs.Nexts.{IsNext, grown}
@@ -37,6 +39,14 @@ halted_read plan board clone job counts is planned read =
     let there = (can_count plan history board.tallies clone job is.planned is.legal is.tallies planned).counts in
     let at = slice_get_read board.tallies.counts.items (length board.tallies.counts.items) clone counts refl there read in
     ap (λ (k : Counts). k.is_halted) (counts_are plan history board.tallies clone job counts is.tallies planned at)
+
+-- what is read of a race is that of the history
+raced_here : (c : goal.After-ended) → c.has_raced-raced.result ≡ has_raced c.args.board.now.history.items c.args.ticket.now.id
+raced_here c =
+    let history = c.args.board.now.history.items in
+    let ticket = c.args.ticket.now in
+    let flying = and_parts (flies history ticket.id) (end_fits ticket.worker c.args.outcome (slice_get (started history) ticket.id)) c.requires.may in
+    c.has_raced-raced.ensures c.args.plan.now history c.requires.board.flying flying.0
 
 pub index_mut-requires : goal.index_mut-requires
 index_mut-requires c =
@@ -193,9 +203,9 @@ returns-clause-board c =
     (sym (read_after_set board.standings.items clone new c.index_mut-2.result.now there c.index_mut-2.ensures.value)) stands in
     board_grows plan board _ event is c.requires.may
     (c.push_reserved.ensures.items ∙ ap (λ (h : List Event). grown h event) c.reserve.ensures.items)
-    (c.end.ensures plan history ticket.worker next is.tickets)
+    (c.end.ensures plan history ticket.worker next (raced_here c) is.tickets)
     (c.end-2.ensures plan history ticket.worker outcome next is.flying)
-    (c.in_ok-log_end.ensures.kept plan history next c.requires.own is.log)
+    (c.in_ok-log_end.ensures.kept plan history next c.requires.own (raced_here c) is.log)
     (c.ended.ensures plan history ticket.worker ticket.id parts.io parts.at parts.clone parts.kind
     (ap (λ (p : Piece). p.len) parts.piece) next is.tallies)
     (standings_ended plan history ticket.worker outcome ticket (set board.standings.items clone new) c.check_off.new.standing parts next

@@ -10,12 +10,12 @@ use Rattle.jr_laws_steps.specs.Nexts.{IsNext, grown}
 use Rattle.jr_laws_steps.proofs.StartedFew.{started_small}
 use Rattle.jr_tallies.proofs.TallyMoves.{can_count}
 use Rattle.jr_tickets.proofs.HandingMoves.{headers_within}
-use Rattle.jr_board.proofs.FlyingMoves.{log_issue}
+use Rattle.jr_board.proofs.FlyingMoves.{log_issue, start_fits}
 use Rattle.jr_board.proofs.IssueMoves.{issue_fills}
 use Rattle.jr_board.proofs.StandingMoves.{clone_is, clone_there, stays_other_issue}
 use Rattle.jr_board.proofs.StartingBoards.{board_grows, clone_stands, next_of, stands_at, stands_now}
 use Rattle.jr_board.proofs.StartingStandings.{standing_moves}
-use Rattle.jr_board.proofs.StartingTickets.{issue_io, issue_ticket}
+use Rattle.jr_board.proofs.StartingTickets.{declines_planned, issue_io, issue_ticket}
 use Rattle.jr_board.proofs.starting.issue.Goals as goal
 
 pub overflow_cast-id : goal.overflow_cast-id
@@ -125,7 +125,9 @@ returns-clause-board c =
     board_grows plan board _ e is c.requires.may c.push_reserved.ensures.items
     (c.hand.ensures plan history e io next refl (returns-clause-ticket c) is.tickets)
     (c.start.ensures plan history e io next refl
-    (issue_io (length (started history)) worker dir c.dir_for.result write piece c.count-id.result _ refl c.dir_for.ensures id) is.flying)
+    (issue_io plan (length (started history)) worker (kind_for dir) c.dir_for.result c.declines.result write piece c.count-id.result _ refl
+    c.dir_for.ensures (declines_planned plan write.clone job c.declines.result planned c.declines.ensures) id)
+    is.flying)
     (is.log ∙ sym (log_issue plan history worker dir write piece next))
     (c.issued.ensures plan history worker dir write piece refl next is.tallies)
     (standing_moves plan history (grown history e) board.standings.items write.clone job c.issue.new.self is.standings planned
@@ -134,3 +136,15 @@ returns-clause-board c =
     (λ k other standing there apart stands.
     stays_other_issue plan history other standing stands worker dir write piece next (clone_there plan k other is.planned there)
     (λ (same : write.clone ≡ other.clone). apart (same ∙ sym (clone_is plan k other is.planned there)))))
+
+pub start-requires-clause-fits : goal.start-requires-clause-fits
+start-requires-clause-fits c =
+    let plan = c.args.plan.now in
+    let board = c.args.board.now in
+    let worker = c.args.worker in
+    let kind = c.args.kind in
+    let write = c.args.write in
+    let piece = c.args.piece in
+    start_fits plan board.history.items (Issue worker kind write piece)
+    (record { worker = worker; kind = kind_for kind; write = write; piece = piece })
+    (next_of plan board (Issue worker kind write piece) c.requires.board c.requires.may) refl

@@ -1,6 +1,7 @@
 use Rattle.std.proofs.Common.{◌≡◌, ℕ, length, refl, sym, ◌∙◌, ap, arith}
 use Rattle.std.specs.Prelude.{Option, unwrap_or}
 use Rattle.std.proofs.lemmas.Option.{slice_get_within}
+use Rattle.jr_model.specs.declared.blocks.Dir.TheVariants.{Read}
 use Rattle.jr_model.specs.declared.contents.Expected.{Expected}
 use Rattle.jr_model.specs.declared.contents.Expected.TheVariants as expected
 use Rattle.jr_model.specs.declared.events.Event.TheVariants.{Probe}
@@ -8,18 +9,17 @@ use Rattle.jr_model.specs.declared.events.Started.{Started}
 use Rattle.jr_model.specs.declared.tickets.TicketKind.TheVariants as kind
 use Rattle.jr_model.specs.History.{started}
 use Rattle.jr_model.specs.Plan.{SubJob}
-use Rattle.jr_laws_log.specs.Flying.{io_of}
 use Rattle.jr_laws_steps.proofs.StartedLemmas.{same_some}
 use Rattle.jr_laws_steps.proofs.StepLaws.{may_probe_of}
 use Rattle.jr_laws_steps.specs.Nexts.{grown}
 use Rattle.jr_laws_steps.proofs.StartedFew.{started_small}
 use Rattle.jr_tallies.proofs.TallyMoves.{can_count}
 use Rattle.jr_tickets.proofs.HandingMoves.{headers_within}
-use Rattle.jr_board.proofs.FlyingMoves.{log_probe}
+use Rattle.jr_board.proofs.FlyingMoves.{log_probe, start_fits}
 use Rattle.jr_board.proofs.StandingMoves.{clone_is, clone_there, taken_up_here, stays_other_probe}
 use Rattle.jr_board.proofs.StartingBoards.{board_grows, clone_stands, next_of, stands_at, stands_now}
 use Rattle.jr_board.proofs.StartingStandings.{standing_moves}
-use Rattle.jr_board.proofs.StartingTickets.{method_planned, probe_expects, ticket_made}
+use Rattle.jr_board.proofs.StartingTickets.{declines_planned, issue_io, method_planned, probe_expects, ticket_made}
 use Rattle.jr_board.proofs.starting.probe.Goals as goal
 
 pub overflow_cast-id : goal.overflow_cast-id
@@ -29,8 +29,8 @@ overflow_cast-id c =
     let is = c.requires.board in
     omega (arith, c.count-id.ensures plan history is.tickets, started_small plan history is.planned is.legal)
 
-pub clone_at-requires : goal.clone_at-requires
-clone_at-requires c =
+pub clone_at-job-requires : goal.clone_at-job-requires
+clone_at-job-requires c =
     let plan = c.args.plan.now in
     let write = c.args.write in
     let step = (may_probe_of plan c.args.board.now.history.items c.args.worker write c.args.piece c.requires.may).0 in
@@ -89,7 +89,7 @@ returns-clause-ticket c =
     let next = next_of plan board (Probe worker write piece) is c.requires.may in
     let stands = stands_now plan board write.clone job standing is planned c.index_mut.ensures.value in
     let here = taken_up_here plan history job standing stands worker write piece next planned in
-    let read = same_some c.clone_at.result.now job (sym c.clone_at.ensures.value ∙ planned) in
+    let read = same_some c.clone_at-job.result.now job (sym c.clone_at-job.ensures.value ∙ planned) in
     let at = stands_at plan board write.clone job standing is planned c.index_mut.ensures.value in
     ticket_made plan (length (started history)) worker kind.Probe write piece c.count-id.result c.seed_of.result c.method.result
     c.unwrap_or.result (c.count-id.ensures plan history is.tickets)
@@ -116,10 +116,14 @@ returns-clause-board c =
     let e = Probe worker write piece in
     let io : Started = record { worker = worker; kind = kind.Probe; write = write; piece = piece } in
     let next = next_of plan board e is c.requires.may in
+    let read = same_some c.clone_at-job.result.now job (sym c.clone_at-job.ensures.value ∙ planned) in
     let id = c.count-id.ensures plan history is.tickets in
     board_grows plan board _ e is c.requires.may c.push_reserved.ensures.items
     (c.hand.ensures plan history e io next refl (returns-clause-ticket c) is.tickets)
-    (c.start.ensures plan history e io next refl (ap (λ (i : ℕ). io_of i io) id) is.flying)
+    (c.start.ensures plan history e io next refl
+    (issue_io plan (length (started history)) worker kind.Probe Read c.declines.result write piece c.count-id.result _ refl refl
+    (declines_planned plan write.clone job c.declines.result planned (c.declines.ensures ∙ ap (λ (j : SubJob). j.declines) read)) id)
+    is.flying)
     (is.log ∙ sym (log_probe plan history worker write piece next))
     (c.probed.ensures plan history worker write piece refl next is.tallies)
     (standing_moves plan history (grown history e) board.standings.items write.clone job c.take_up.new.self is.standings planned
@@ -128,3 +132,14 @@ returns-clause-board c =
     (λ k other one there apart stands.
     stays_other_probe plan history other one stands worker write piece next (clone_there plan k other is.planned there)
     (λ (same : write.clone ≡ other.clone). apart (same ∙ sym (clone_is plan k other is.planned there)))))
+
+pub start-requires-clause-fits : goal.start-requires-clause-fits
+start-requires-clause-fits c =
+    let plan = c.args.plan.now in
+    let board = c.args.board.now in
+    let worker = c.args.worker in
+    let write = c.args.write in
+    let piece = c.args.piece in
+    start_fits plan board.history.items (Probe worker write piece)
+    (record { worker = worker; kind = kind.Probe; write = write; piece = piece })
+    (next_of plan board (Probe worker write piece) c.requires.board c.requires.may) refl

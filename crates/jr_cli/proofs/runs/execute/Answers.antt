@@ -1,4 +1,6 @@
 use Rattle.std.proofs.Common.{refl}
+use Rattle.jr_laws_quiet.proofs.Races.{unraced}
+use Rattle.jr_laws_steps.proofs.CountLaws.{numbered_of}
 use Rattle.jr_cli.proofs.EndedRuns.{interrupted_on, complete_on, desk_on, uninterrupted_on, faults_on}
 use Rattle.jr_cli.proofs.QuietRuns.{reported_on, quietly_reported}
 use Rattle.jr_cli.proofs.runs.execute.Goals as goal
@@ -43,10 +45,11 @@ returns-clause-unasked g c unasked =
     uninterrupted_on ran.desk.plan c.args.plan ran.desk.history _ done.plan c.in_ok-told.ensures.interrupted (done.unasked unasked)
 
 pub returns-clause-quiet : goal.returns-clause-quiet
-returns-clause-quiet g c whole =
+returns-clause-quiet g c whole none =
     let ran = c.in_ok-ran.ran in
     let done = c.in_ok-ran.ensures in
     let told = c.in_ok-told.ensures in
     let complete = complete_on ran.desk.plan c.args.plan ran.desk.history _ done.plan told.interrupted whole in
-    quietly_reported c.args.plan ran.desk.history _ _ _ c.facts.ensures done.ended.legal complete
+    quietly_reported c.args.plan ran.desk.history _ _ _ c.facts.ensures
+    (unraced c.args.plan (numbered_of c.args.plan c.facts.ensures) none ran.desk.history done.ended.legal) done.ended.legal complete
     (reported_on ran.desk.plan c.args.plan ran.desk.history ran.desk.history _ _ _ done.plan refl told.reported)

@@ -69,5 +69,5 @@ returns-clause-quiet g c whole =
     let done = c.in_ok-desk.ensures in
     let told = c.in_ok-ended.ensures in
     let complete = complete_on desk.plan c.args.plan desk.history _ done.plan told.interrupted whole in
-    quietly_reported c.args.plan desk.history _ _ _ c.facts.ensures done.ended.legal complete
+    quietly_reported c.args.plan desk.history _ _ _ c.facts.ensures done.ended.unraced done.ended.legal complete
     (reported_on desk.plan c.args.plan desk.history desk.history _ _ _ done.plan refl told.reported)

@@ -1,6 +1,9 @@
-use Rattle.std.proofs.Common.{[], sym, ◌∙◌, ap, subst}
+use Rattle.std.proofs.Common.{[], refl, sym, ◌∙◌, ap, subst}
 use Rattle.jr_model.specs.declared.tickets.Ticket.{Ticket}
 use Rattle.jr_model.specs.History.{outcome_of}
+use Rattle.jr_model.specs.Races.{has_raced}
+use Rattle.jr_model.specs.declared.events.Event.TheVariants.{End}
+use Rattle.jr_model.proofs.RaceLaws.{raced_other}
 use Rattle.jr_tickets.specs.Kept.{IsOwn}
 use Rattle.jr_desk.specs.DeskState.{DeskState}
 use Rattle.jr_crew.proofs.Carrying.{own_then, outcome_then}
@@ -21,3 +24,12 @@ judge-requires-clause-ended g c =
     ap (λ (d : DeskState). outcome_of d.history answer.ticket.id) c.in_ok-end.ensures.ok
     ∙ outcome_then desk.history answer.ticket.worker answer.ticket.id answer.outcome []
     (ap (λ (t : Ticket). outcome_of desk.history t.id) c.serve_own-served.ensures.ticket ∙ c.requires.open.unended)
+
+pub judge-requires-clause-unraced : goal.judge-requires-clause-unraced
+judge-requires-clause-unraced g c =
+    let desk = c.args.desk.now in
+    let answer = c.serve_own-served.result in
+    ap (λ (d : DeskState). has_raced d.history answer.ticket.id) c.in_ok-end.ensures.ok
+    ∙ raced_other desk.history (End answer.ticket.worker answer.ticket.id answer.outcome) answer.ticket.id refl
+    ∙ ap (λ (t : Ticket). has_raced desk.history t.id) c.serve_own-served.ensures.ticket
+    ∙ c.requires.open.unraced

@@ -40,7 +40,7 @@ loop-alloc-preserved g c =
       plan = c.in_ok-turn.ensures.plan ∙ kept.plan;
       going = c.in_ok-turn.ensures.stop ∙ kept.going;
       sofar = goes_on c.args.plan c.loop-alloc.desk.plan c.loop-alloc.desk.history c.turn.new.desk.history _ _ _ kept.planned kept.plan kept.sofar turn;
-      serial = λ fresh. serial_turn c.args.plan c.loop-alloc.desk.plan c.loop-alloc.desk.history c.turn.new.desk.history _ _ kept.planned kept.plan kept.sofar.legal turn (kept.serial fresh);
+      serial = λ fresh. serial_turn c.args.plan c.loop-alloc.desk.plan c.loop-alloc.desk.history c.turn.new.desk.history _ _ kept.planned kept.plan kept.sofar.legal turn (kept.serial fresh) kept.sofar.settled;
     }
 
 pub returns-then-not-branch-clause-plan : goal.returns-then-not-branch-clause-plan

@@ -2,7 +2,7 @@ use Rattle.std.proofs.Common.{◌≡◌, ℕ, ◌+◌, ◌-◌, ◌*◌, ◌<◌
 use Rattle.std.proofs.lemmas.Bool.{cases_lt}
 use Rattle.jr_model.specs.Content.{chunk_header, chunks_in}
 use Rattle.jr_model.specs.Judgement.{chunk_verdict, header_verdict, in_chunk}
-use Rattle.jr_header.proofs.ChunkLemmas.{all_good, bad_at}
+use Rattle.jr_header.proofs.ChunkLemmas.{none_bad, bad_at}
 use Rattle.jr_header.proofs.chunks.chunks_verdict.Goals as goal
 
 pub returns-in-Bad : goal.returns-in-Bad
@@ -18,7 +18,7 @@ returns-in-Bad c =
     (λ (k : ℕ) (least : 0 ≤ k) (below : k < i). c.loop-i.invariant k below) (here ∙ c.in-Bad.is))
 
 pub loop-i-preserved : goal.loop-i-preserved
-loop-i-preserved c k below =
+loop-i-preserved c k below what bad =
     let t = c.args.ticket.now in
     let bytes = c.args.bytes.now in
     let i = c.loop-i.i in
@@ -27,14 +27,14 @@ loop-i-preserved c k below =
     let here : chunk_verdict t.method t.write t.piece c.args.seed bytes i ≡ c.chunk_verdict.result =
     sym (c.chunk_verdict.ensures ∙ ap (λ (k : ℕ). in_chunk i (header_verdict t.method.kind (chunk_header t.method t.write t.piece c.args.seed i) (take k (drop (i * v) bytes)))) step) in
     elim (cases_lt k i) [
-      | inl before ↦ c.loop-i.invariant k before
+      | inl before ↦ c.loop-i.invariant k before what bad
       | inr last ↦
           let same : k ≡ i = omega (arith, below, last) in
-          ap (chunk_verdict t.method t.write t.piece c.args.seed bytes) same ∙ here ∙ c.in_default.is
+          c.in_default.not-Bad what (sym here ∙ sym (ap (chunk_verdict t.method t.write t.piece c.args.seed bytes) same) ∙ bad)
     ]
 
 pub returns : goal.returns
 returns c =
     let t = c.args.ticket.now in
-    sym (all_good (chunk_verdict t.method t.write t.piece c.args.seed c.args.bytes.now) 0 (chunks_in t.method.interval t.piece)
+    sym (none_bad (chunk_verdict t.method t.write t.piece c.args.seed c.args.bytes.now) 0 (chunks_in t.method.interval t.piece)
     (λ (k : ℕ) (least : 0 ≤ k) (below : k < 0 + chunks_in t.method.interval t.piece). c.loop-i.invariant k (omega (arith, below))))

@@ -1,4 +1,4 @@
-use Rattle.std.proofs.Common.{◌≡◌, length, true, false, arith, sym, ◌∙◌, ap, subst}
+use Rattle.std.proofs.Common.{◌≡◌, length, true, false, arith, rules, refl, sym, ◌∙◌, ap, subst}
 use Rattle.std.specs.Prelude.{Ok, Err}
 use Rattle.jr_model.specs.declared.events.Event.TheVariants.{Verdict}
 use Rattle.jr_model.specs.declared.events.Verdict.{Verdict as GivenVerdict}
@@ -6,7 +6,10 @@ use Rattle.jr_model.specs.declared.tickets.Ticket.{Ticket}
 use Rattle.jr_model.specs.History.{outcome_of, is_judged, is_judged_kind, ended_whole}
 use Rattle.jr_model.specs.Legal.{is_legal, may_happen}
 use Rattle.jr_model.specs.Judgement.{verdict_of}
+use Rattle.jr_model.specs.Machine.{said_of}
 use Rattle.jr_model.specs.PlanFacts.{IsPlanned}
+use Rattle.jr_model.specs.Races.{has_raced}
+use Rattle.jr_header.specs.Served.{answer_verdict}
 use Rattle.jr_engines.specs.Answers.{AnswerParts}
 use Rattle.jr_tickets.specs.Kept.{IsOwn}
 use Rattle.jr_desk.specs.DeskState.{DeskState}
@@ -46,11 +49,16 @@ judge-requires-clause-may c =
     let probe : is_judged_kind t.kind ≡ true =
     ap (λ (x : Ticket). is_judged_kind x.kind) same ∙ judged_probe ruling.ticket.kind ruling.outcome c.served.ensures.to_judge in
     let len : length ruling.bytes ≡ t.piece.len = c.served.ensures.room ∙ ap (λ (x : Ticket). x.piece.len) (sym same) in
-    let said : verdict_of t.method t.write t.piece t.expected ruling.bytes ≡ c.verdict.result =
-    ap (λ (x : Ticket). verdict_of x.method x.write x.piece x.expected ruling.bytes) same ∙ sym c.verdict.ensures.value in
-    subst (λ (d : DeskState). may_happen d.plan d.history (Verdict c.args.by t.id c.verdict.result) ≡ true) (sym c.self.view_is)
+    let given : c.said_of-verdict.result ≡ said_of (has_raced desk.history c.args.ruling.now.ticket.id) (answer_verdict c.args.ruling.now) =
+    c.said_of-verdict.ensures.verdict
+    (subst (λ (x : Ticket). ended_whole (outcome_of desk.history x.id) ≡ true) same (sym c.has_ended_whole.ensures ∙ c.if-not-has_ended_whole.false))
+    (subst (λ (x : Ticket). is_judged desk.history x.id ≡ false) same (sym c.is_judged.ensures ∙ c.if-is_judged.false)) in
+    let raced = has_raced desk.history t.id in
+    let said : said_of raced (verdict_of t.method t.write t.piece t.expected ruling.bytes) ≡ c.said_of-verdict.result =
+    ap (λ (x : Ticket). said_of (has_raced desk.history x.id) (verdict_of x.method x.write x.piece x.expected ruling.bytes)) same ∙ sym given in
+    subst (λ (d : DeskState). may_happen d.plan d.history (Verdict c.args.by t.id c.said_of-verdict.result) ≡ true) (sym c.self.view_is)
     (subst (λ (v : GivenVerdict). may_happen desk.plan desk.history (Verdict c.args.by t.id v) ≡ true) said
-    (may_judge desk.plan desk.history t c.args.by ruling.bytes planned legal c.in_ok-check_own.ensures.ok unjudged whole probe (omega (arith, len))))
+    (may_judge desk.plan desk.history t c.args.by ruling.bytes raced refl planned legal c.in_ok-check_own.ensures.ok unjudged whole probe (omega (arith, len))))
 
 pub returns-in_err-judge-clause-refused : goal.returns-in_err-judge-clause-refused
 returns-in_err-judge-clause-refused c =
@@ -73,3 +81,14 @@ returns-clause-refused c =
     (not_stopped desk.is_stopped (λ (stopped : desk.is_stopped ≡ true). ok_err (c.in_ok-check_own.ensures.stopped stopped)))
     (subst (λ (x : Ticket). is_judged desk.history x.id ≡ false) same (sym c.is_judged.ensures ∙ c.if-is_judged.false))
     (subst (λ (x : Ticket). ended_whole (outcome_of desk.history x.id) ≡ true) same (sym c.has_ended_whole.ensures ∙ c.if-not-has_ended_whole.false))
+
+pub returns-clause-ok : goal.returns-clause-ok
+returns-clause-ok c =
+    let desk = c.args.self.now in
+    let t = c.ticket.result.now in
+    let same : t ≡ c.args.ruling.now.ticket = c.ticket.ensures.value ∙ ap (λ (a : AnswerParts). a.ticket) c.served.ensures.value in
+    let given : c.said_of-verdict.result ≡ said_of (has_raced desk.history c.args.ruling.now.ticket.id) (answer_verdict c.args.ruling.now) =
+    c.said_of-verdict.ensures.verdict
+    (subst (λ (x : Ticket). ended_whole (outcome_of desk.history x.id) ≡ true) same (sym c.has_ended_whole.ensures ∙ c.if-not-has_ended_whole.false))
+    (subst (λ (x : Ticket). is_judged desk.history x.id ≡ false) same (sym c.is_judged.ensures ∙ c.if-is_judged.false)) in
+    search (rules, given, same)

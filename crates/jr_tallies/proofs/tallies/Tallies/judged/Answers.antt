@@ -23,4 +23,4 @@ returns-in_default c = λ plan history worker id io job at wrote placed planned 
     planned next was c.requires.count.counts c.index_mut.ensures.value
     (c.count_verdict.ensures ∙ ap (λ (f : Bool). counts_with (tally_judged (tally_in old)) (old.is_halted || f && is_bad c.args.verdict)) (sym fatal))
     refl c.index_mut-2.ensures.value c.total_verdict.ensures refl
-    (bads_same history c.args.self.now.bads.items io c.args.verdict was.bads c.in_default.is)
+    (bads_same history c.args.self.now.bads.items io c.args.verdict was.bads c.in_default.not-Bad)

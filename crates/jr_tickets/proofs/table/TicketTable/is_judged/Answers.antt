@@ -4,6 +4,7 @@ use Rattle.std.specs.Prelude.{Option, Some, None}
 use Rattle.jr_model.specs.declared.events.Outcome.{Outcome}
 use Rattle.jr_model.specs.declared.events.Outcome.TheVariants.{Whole, Failed, Short}
 use Rattle.jr_model.specs.History.{outcome_of, is_judged}
+use Rattle.jr_model.specs.Races.{has_raced}
 use Rattle.jr_laws_steps.proofs.Grown.{not_judged_yet}
 use Rattle.jr_tickets.specs.contracts.table.IoState.{the_type}
 use Rattle.jr_tickets.specs.declared.table.IoState.{IoState}
@@ -12,12 +13,14 @@ use Rattle.jr_tickets.specs.Handing.{by_outcome}
 use Rattle.jr_tickets.proofs.HandingReads.{found_there, past_started, within_started}
 use Rattle.jr_tickets.proofs.table.TicketTable.is_judged.Goals as goal
 
-judged_alone : (judged : Bool) (o : Option Outcome) → sameb the_type (cond judged states.Judged (by_outcome o)) states.Judged ≡ judged
-judged_alone true o = refl
-judged_alone false None = refl
-judged_alone false (Some Whole) = refl
-judged_alone false (Some Failed) = refl
-judged_alone false (Some (Short n)) = refl
+judged_alone : (judged raced : Bool) (o : Option Outcome)
+    → sameb the_type (cond judged states.Judged (by_outcome raced o)) states.Judged ≡ judged
+judged_alone true raced o = refl
+judged_alone false raced None = refl
+judged_alone false true (Some Whole) = refl
+judged_alone false false (Some Whole) = refl
+judged_alone false raced (Some Failed) = refl
+judged_alone false raced (Some (Short n)) = refl
 
 pub returns-in-None : goal.returns-in-None
 returns-in-None c plan history legal is =
@@ -31,4 +34,4 @@ returns-in-Some c plan history legal is =
     ∙ ap (λ (p : IoState). sameb the_type p states.Judged)
     (found_there plan history c.args.self.now c.args.id c.deref.result.now c.in-Some.states.now is below
     c.deref.ensures.value c.in-Some.ensures.lookup.1)
-    ∙ judged_alone (is_judged history c.args.id) (outcome_of history c.args.id)
+    ∙ judged_alone (is_judged history c.args.id) (has_raced history c.args.id) (outcome_of history c.args.id)

@@ -1,0 +1,132 @@
+// Jobs that decline to wait (`serialize_overlap=0`): what a run says where a write overlaps another I/O in flight.
+use crate::asserts::same;
+use crate::gates::two_gates;
+use crate::plans::{checked, plan_of_two};
+use jr_crew::{Progress, Watch, run, run_serial};
+use jr_desk::Desk;
+use jr_engines::NullEngine;
+use jr_model::{IoType, Totals};
+use jr_plan::Workload;
+use std::alloc::Global;
+use std::process::Abort;
+use std::sync::Wait;
+use std::test::Fail;
+use std::thread::Threads;
+
+const NOTHING: Totals = Totals {
+    reads: 0,
+    rbytes: 0,
+    writes: 0,
+    wbytes: 0,
+    checks: 0,
+    good: 0,
+    bad: 0,
+    skipped: 0,
+    void: 0,
+    faults: 0,
+};
+
+// One read of 4096 bytes.
+const READ: Totals = Totals {
+    reads: 1,
+    rbytes: 4096,
+    ..NOTHING
+};
+
+// One write of 4096 bytes.
+const WROTE: Totals = Totals {
+    writes: 1,
+    wbytes: 4096,
+    ..NOTHING
+};
+
+// One read of 4096 bytes that is checked by a pattern of ones.
+fn reading() -> Workload {
+    Workload {
+        io_type: IoType::Read,
+        ..checked(1, 1)
+    }
+}
+
+// One write of 4096 bytes that isn't checked.
+fn writing() -> Workload {
+    Workload::plain(IoType::Write, 4096, 1)
+}
+
+fn declining(workload: Workload) -> Workload {
+    Workload {
+        declines: true,
+        ..workload
+    }
+}
+
+fn totals_of_two(desk: &Desk) -> Result<[Totals; 2], Fail> {
+    match desk.totals() {
+        [first, second] => Ok([*first, *second]),
+        _ => Err(Fail::from("two clones")),
+    }
+}
+
+// Are these the totals of two clones, over engines of zeros where both are in flight at once? Nothing is said to be bad meanwhile.
+fn assert_raced<R: Abort + Threads + Wait + Sync>(
+    rt: &R,
+    alloc: Global,
+    first: &Workload,
+    second: &Workload,
+    want: [Totals; 2],
+) -> Result<(), Fail> {
+    for verifiers in 0..3 {
+        let progress = Progress::new();
+        let watch = Watch {
+            progress: Some(&progress),
+            stop: None,
+        };
+        let plan = plan_of_two(alloc, first, second, verifiers)?;
+        let ran = run(rt, alloc, plan, two_gates(alloc)?, watch)?;
+        same(
+            rt,
+            (verifiers, totals_of_two(&ran.desk)?),
+            (verifiers, want),
+        );
+        same(rt, (verifiers, progress.bad()), (verifiers, 0));
+    }
+    Ok(())
+}
+
+// What is read would be bad.
+#[test]
+fn a_check_that_raced_is_void(rt: HostRuntime) -> Result<(), Fail> {
+    let void = Totals { void: 1, ..READ };
+    for (first, second) in [
+        (declining(reading()), writing()),
+        (reading(), declining(writing())),
+    ] {
+        assert_raced(&rt, rt.alloc(), &first, &second, [void, WROTE])?;
+        assert_raced(&rt, rt.alloc(), &second, &first, [WROTE, void])?;
+    }
+    Ok(())
+}
+
+#[test]
+fn a_write_that_raced_is_skipped(rt: HostRuntime) -> Result<(), Fail> {
+    let skipped = Totals {
+        skipped: 1,
+        ..WROTE
+    };
+    let first = declining(checked(1, 1));
+    assert_raced(&rt, rt.alloc(), &first, &checked(1, 1), [skipped, skipped])?;
+    assert_raced(&rt, rt.alloc(), &first, &writing(), [skipped, WROTE])
+}
+
+#[test]
+fn nothing_races_where_one_worker_runs(rt: HostRuntime) -> Result<(), Fail> {
+    let plan = plan_of_two(rt.alloc(), &declining(reading()), &declining(writing()), 0)?;
+    let desk = run_serial(rt.alloc(), plan, &mut NullEngine::new(), Watch::none())?;
+    let judged = Totals {
+        checks: 1,
+        bad: 1,
+        ..READ
+    };
+    same(&rt, totals_of_two(&desk)?, [judged, WROTE]);
+    Ok(())
+}
