@@ -92,6 +92,9 @@ impl Flight {
         ensures value { result ≡ is_raced io.now self.old }
         ensures entries { self.new ≡ marked io.now self.old }
     {
+        if self.ids.is_empty() {
+            return false;
+        }
         let raced = self.is_raced(io);
         self.mark_others(io);
         raced
