@@ -106,6 +106,7 @@ fn assert_taken_in(rt: &impl Abort, desk: &mut Desk, served: &Served, number: u3
 }
 
 fn assert_judged(rt: &impl Abort, desk: &mut Desk, ruling: &Ruling<'_>) {
+    same(rt, desk.said_of(ruling), ruling.verdict());
     same(rt, desk.judge(7, ruling), Ok(()));
     same(rt, desk.judge(7, ruling), Err(DeskFault::Twice));
 }
