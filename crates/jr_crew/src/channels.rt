@@ -14,7 +14,7 @@ pub struct ChannelEnd<'a> {
 }
 
 impl<'a> ChannelEnd<'a> {
-    ghost use Rattle.std.specs.Prelude.{◌≡◌, IsOkAnd};
+    ghost use Rattle.std.specs.Prelude.{◌≡◌, IfNone, IfSome, IsOkAnd};
     ghost use Rattle.jr_handover.specs.PassStates.{kept_of, given_of, with_put, with_taken};
     ghost use Rattle.jr_handover.specs.Passes.{pass_state};
 
@@ -53,5 +53,13 @@ impl<'a> ChannelEnd<'a> {
         ensures { pass_state self.new.pass ≡ with_taken (pass_state self.old.pass) result }
     {
         self.handoff.take(rt, &mut self.pass)
+    }
+
+    // Takes it if it is there, and waits for nothing.
+    pub fn take_now<R: Wait>(&mut self, rt: &R) -> Option<Parcel>
+        ensures taken { IfSome result (λ parcel. pass_state self.new.pass ≡ with_taken (pass_state self.old.pass) parcel) }
+        ensures none { IfNone result (pass_state self.new.pass ≡ pass_state self.old.pass) }
+    {
+        self.handoff.take_now(rt, &mut self.pass)
     }
 }

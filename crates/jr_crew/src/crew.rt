@@ -206,7 +206,7 @@ fn man<'a, P: Naming + Send + Sync, R: Threads + Wait + Sync>(
             for verifier in verifiers {
                 let Verifier { number, channel } = verifier;
                 if scope
-                    .spawn(move || verify(rt, shared, number, channel))
+                    .spawn(move || verify(rt, shared, alloc, number, channel))
                     .is_ok()
                 {
                     started = started.saturating_add(1);

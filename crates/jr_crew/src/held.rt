@@ -9,6 +9,7 @@ ghost use Rattle.jr_crew.specs.Halts.{first_cause};
 
 use crate::halts::Halt;
 use crate::progress::{note_start, note_verdict};
+use crate::settled::Settled;
 use crate::watch::{Watch, is_asked};
 use jr_desk::{Desk, DeskFault, Take};
 use jr_header::{Ruling, Served};
@@ -240,14 +241,16 @@ impl<'p, P: Naming> Shared<'p, P> {
         Ok((said, next))
     }
 
-    // Takes in a verdict.
-    pub fn judge<R: Wait>(&self, rt: &R, by: u32, ruling: &Ruling<'_>) -> Result<(), Halt> {
-        let said = self.enter(rt).judge(by, ruling)?;
-        note_verdict(
-            self.watch.progress,
-            ruling.served().ticket().piece.len,
-            said,
-        );
+    // Takes in the verdicts on checks, one after another.
+    pub fn judge<R: Wait>(&self, rt: &R, by: u32, settled: &[Settled<'_>]) -> Result<(), Halt> {
+        let mut held = self.enter(rt);
+        for one in settled {
+            let Some(ruling) = &one.ruling else {
+                return Err(Halt::Books);
+            };
+            let said = held.judge(by, ruling)?;
+            note_verdict(self.watch.progress, one.served.ticket().piece.len, said);
+        }
         self.changed.notify_all();
         Ok(())
     }

@@ -34,7 +34,7 @@ impl Progress {
         self.bytes.load(Ordering::Relaxed)
     }
 
-    /// How many checks were judged.
+    /// How many checks were judged, void ones among them.
     pub fn checks(&self) -> u64 {
         self.checks.load(Ordering::Relaxed)
     }
@@ -51,19 +51,24 @@ impl Progress {
 
     // One of the jobs' reads or writes is started.
     fn start(&self, ticket: &Ticket) {
-        self.ios.fetch_add(1, Ordering::Relaxed);
-        self.bytes
-            .fetch_add(u64::from(ticket.piece.len), Ordering::Relaxed);
+        add(&self.ios, 1);
+        add(&self.bytes, u64::from(ticket.piece.len));
     }
 
     // A check is judged.
     fn judge(&self, bytes: u32, said: Verdict) {
-        self.checks.fetch_add(1, Ordering::Relaxed);
-        self.checked.fetch_add(u64::from(bytes), Ordering::Relaxed);
+        add(&self.checks, 1);
+        add(&self.checked, u64::from(bytes));
         if let Verdict::Bad(_) = said {
-            self.bad.fetch_add(1, Ordering::Relaxed);
+            add(&self.bad, 1);
         }
     }
+}
+
+// Adds to a number. Threads do it in turn, each while it holds the desk, so that none undoes what another added.
+fn add(number: &AtomicU64, more: u64) {
+    let so_far = number.load(Ordering::Relaxed);
+    number.store(so_far.wrapping_add(more), Ordering::Relaxed);
 }
 
 // Notes that one of the jobs' reads or writes is started, where anybody wants to know.

@@ -11,13 +11,15 @@ ghost use Rattle.jr_crew.specs.Whole.{IsRun, IsEndedRun};
 
 use crate::faults::RunFault;
 use crate::progress::{Progress, note_start, note_verdict};
+use crate::rooms::make_room;
 use crate::watch::{StopFlag, Watch, is_asked};
 use jr_desk::{Desk, Take};
 use jr_engines::Engine;
-use jr_header::{Served, room_for, rule, serve_own};
+use jr_header::{Served, rule, serve_own};
 use jr_model::{Event, Ticket};
 use jr_plan::Plan;
 use std::alloc::Global;
+use std::mem;
 
 /// Runs a plan with one worker, 0, which waits for nobody and judges its own checks. Where it is asked to stop it does so between
 /// two I/Os: the desk says whether the run is complete.
@@ -45,11 +47,12 @@ pub fn run_serial(
     // Its contract says what holds of every plan.
     plan.facts();
     let mut desk = Desk::new(alloc, plan)?;
-    loop {
+    let mut buffer = Vec::new(alloc);
+    'turns: loop {
         if is_left(&desk, watch.stop) {
             return Ok(desk);
         }
-        if !turn(alloc, &mut desk, engine, watch.progress)? {
+        if !turn(alloc, &mut desk, engine, &mut buffer, watch.progress)? {
             return Ok(desk);
         }
     }
@@ -68,6 +71,7 @@ fn turn(
     alloc: Global,
     desk: &mut Desk,
     engine: &mut dyn Engine,
+    buffer: &mut Vec<u8>,
     progress: Option<&Progress>,
 ) -> Result<bool, RunFault>
     requires between { IsBetweenTurns desk.old }
@@ -81,7 +85,7 @@ fn turn(
 {
     match next_ticket(desk, progress) {
         Ok(Some(ticket)) => {
-            carry_out(alloc, desk, engine, ticket, progress)?;
+            carry_out(alloc, desk, engine, ticket, buffer, progress)?;
             Ok(true)
         }
         Ok(None) => Ok(false),
@@ -110,12 +114,13 @@ fn next_ticket(desk: &mut Desk, progress: Option<&Progress>) -> Result<Option<Ti
     }
 }
 
-// Carries out a ticket, and judges it if it is a check that ended whole.
+// Carries out a ticket, and judges it if it is a check that ended whole. The buffer was used before, and is used again.
 fn carry_out(
     alloc: Global,
     desk: &mut Desk,
     engine: &mut dyn Engine,
     ticket: Ticket,
+    buffer: &mut Vec<u8>,
     progress: Option<&Progress>,
 ) -> Result<(), RunFault>
     requires open { IsOpen desk.old ticket }
@@ -125,10 +130,12 @@ fn carry_out(
     ensures stop { desk.new.is_stopped ≡ desk.old.is_stopped }
     ensures memory { IfErr result (λ fault. fault ≡ RunFault.Memory) }
 {
-    let buffer = room_for(alloc, &ticket)?;
-    let served = serve_own(engine, ticket, buffer);
+    make_room(buffer, &ticket)?;
+    let served = serve_own(engine, ticket, mem::replace(buffer, Vec::new(alloc)));
     end(desk, &served)?;
-    judge(desk, &served, progress)
+    judge(desk, &served, progress)?;
+    *buffer = served.into_buf();
+    Ok(())
 }
 
 // Takes in how a ticket ended.

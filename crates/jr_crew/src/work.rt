@@ -1,4 +1,4 @@
-ghost use Rattle.std.specs.Prelude.{◌≡◌, ◌&&◌, true, replicate, vec_len, IfOk, IfSome, OnOk, Some, None, IfErr, if◌then◌else◌};
+ghost use Rattle.std.specs.Prelude.{◌≡◌, ◌&&◌, true, IfOk, IfSome, OnOk, Some, None, if◌then◌else◌};
 ghost use Rattle.jr_model.specs.Tickets.{ticket_fits};
 ghost use Rattle.jr_handover.specs.Passes.{pass_state};
 ghost use Rattle.jr_header.specs.Served.{ExpectsOwn, is_to_judge};
@@ -7,6 +7,7 @@ ghost use Rattle.jr_crew.specs.Working.{IsSaidOf, IsCalledFor, AreCallsFor, hand
 use crate::channels::ChannelEnd;
 use crate::halts::Halt;
 use crate::held::{Naming, Shared};
+use crate::rooms::make_room;
 use jr_books::Done;
 use jr_engines::Engine;
 use jr_header::{Served, rule, serve_own};
@@ -99,7 +100,7 @@ fn carry_out<P: Naming, R: Wait>(
         return Err(Halt::Books);
     }
     let mut buffer = buffer;
-    clear(&mut buffer, &ticket)?;
+    make_room(&mut buffer, &ticket)?;
     let served = serve_own(engine, ticket, buffer);
     let outcome = served.outcome();
     let Settled {
@@ -113,19 +114,6 @@ fn carry_out<P: Naming, R: Wait>(
         verdict,
     };
     Ok(CarriedOut { done, next, buffer })
-}
-
-// Makes room for the ticket's piece: as many zeros as it has bytes.
-#[tactic(auto, using(crate::proofs::Clearing::zeros_of))]
-fn clear(buffer: &mut Vec<u8>, ticket: &Ticket) -> Result<(), Halt>
-    ensures zeros { OnOk result (buffer.new.items ≡ replicate ticket.now.piece.len 0) }
-    ensures len { OnOk result (vec_len buffer.new ≡ ticket.now.piece.len) }
-    ensures memory { IfErr result (λ halt. halt ≡ Halt.Memory) }
-{
-    let len = ticket.piece.len;
-    buffer.clear();
-    buffer.resize(len as usize, 0)?;
-    Ok(())
 }
 
 // Tells the desk how a ticket ended, and takes what is next. A check that ended whole is judged before, or handed over with its

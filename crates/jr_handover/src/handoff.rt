@@ -126,6 +126,19 @@ impl Handoff {
         }
     }
 
+    /// Takes the parcel at the front, if there is one now. It waits for none.
+    pub fn take_now<R: Wait>(&self, rt: &R, pass: &mut Pass) -> Option<Parcel>
+        requires { IsPassOf self.now pass.old }
+        ensures pass { IsPassOf self.now pass.new }
+        ensures taken { IfSome result (λ parcel. pass_state pass.new ≡ with_taken (pass_state pass.old) parcel) }
+        ensures none { IfNone result (pass_state pass.new ≡ pass_state pass.old) }
+    {
+        match self.receiver.try_recv_as::<Takes, R>(rt, &mut pass.seat) {
+            Ok(parcel) => Some(parcel),
+            Err(_) => None,
+        }
+    }
+
     /// What holds once every pass was joined into this one. Runs don't need it, tests call it.
     pub fn account(&self, pass: &mut Pass)
         requires pass { IsPassOf self.now pass.old }

@@ -6,8 +6,8 @@ use Rattle.jr_crew.proofs.Running.{first_sofar, between, few_calls, goes_on, lea
 use Rattle.jr_crew.proofs.Serially.{serial_first, serial_turn, serial_last}
 use Rattle.jr_crew.proofs.serial.run_serial.Goals as goal
 
-pub loop-alloc-init : goal.loop-alloc-init
-loop-alloc-init g c =
+pub turns-init : goal.turns-init
+turns-init g c =
     let is = c.in_ok-desk.ensures.ok in record {
       planned = c.facts.ensures;
       plan = ap (λ (d : DeskState). d.plan) is;
@@ -18,43 +18,43 @@ loop-alloc-init g c =
 
 pub turn-requires-clause-between : goal.turn-requires-clause-between
 turn-requires-clause-between g c =
-    let kept = c.loop-alloc.invariant in
-    between c.loop-alloc.desk c.args.plan _ _ kept.planned kept.plan kept.going kept.sofar
+    let kept = c.turns.invariant in
+    between c.turns.desk c.args.plan _ _ kept.planned kept.plan kept.going kept.sofar
 
 pub turn-requires-clause-calls : goal.turn-requires-clause-calls
 turn-requires-clause-calls g c =
-    let kept = c.loop-alloc.invariant in
-    few_calls c.args.plan c.loop-alloc.desk.history _ _ kept.planned c.requires kept.sofar
+    let kept = c.turns.invariant in
+    few_calls c.args.plan c.turns.desk.history _ _ kept.planned c.requires kept.sofar
 
-pub loop-alloc-smaller : goal.loop-alloc-smaller
-loop-alloc-smaller g c =
-    let kept = c.loop-alloc.invariant in
+pub turns-smaller : goal.turns-smaller
+turns-smaller g c =
+    let kept = c.turns.invariant in
     let turn = rw c.if-not-branch.false at c.in_ok-turn.ensures.turn in
-    leaves_less c.args.plan c.loop-alloc.desk.plan c.loop-alloc.desk.history c.turn.new.desk.history _ _ _ kept.planned kept.plan kept.sofar turn
+    leaves_less c.args.plan c.turns.desk.plan c.turns.desk.history c.turn.new.desk.history _ _ _ kept.planned kept.plan kept.sofar turn
 
-pub loop-alloc-preserved : goal.loop-alloc-preserved
-loop-alloc-preserved g c =
-    let kept = c.loop-alloc.invariant in
+pub turns-preserved : goal.turns-preserved
+turns-preserved g c =
+    let kept = c.turns.invariant in
     let turn = rw c.if-not-branch.false at c.in_ok-turn.ensures.turn in record {
       planned = kept.planned;
       plan = c.in_ok-turn.ensures.plan ∙ kept.plan;
       going = c.in_ok-turn.ensures.stop ∙ kept.going;
-      sofar = goes_on c.args.plan c.loop-alloc.desk.plan c.loop-alloc.desk.history c.turn.new.desk.history _ _ _ kept.planned kept.plan kept.sofar turn;
-      serial = λ fresh. serial_turn c.args.plan c.loop-alloc.desk.plan c.loop-alloc.desk.history c.turn.new.desk.history _ _ kept.planned kept.plan kept.sofar.legal turn (kept.serial fresh) kept.sofar.settled;
+      sofar = goes_on c.args.plan c.turns.desk.plan c.turns.desk.history c.turn.new.desk.history _ _ _ kept.planned kept.plan kept.sofar turn;
+      serial = λ fresh. serial_turn c.args.plan c.turns.desk.plan c.turns.desk.history c.turn.new.desk.history _ _ kept.planned kept.plan kept.sofar.legal turn (kept.serial fresh) kept.sofar.settled;
     }
 
 pub returns-then-not-branch-clause-plan : goal.returns-then-not-branch-clause-plan
-returns-then-not-branch-clause-plan g c = c.in_ok-turn.ensures.plan ∙ c.loop-alloc.invariant.plan
+returns-then-not-branch-clause-plan g c = c.in_ok-turn.ensures.plan ∙ c.turns.invariant.plan
 
 pub returns-then-not-branch-clause-going : goal.returns-then-not-branch-clause-going
-returns-then-not-branch-clause-going g c = c.in_ok-turn.ensures.stop ∙ c.loop-alloc.invariant.going
+returns-then-not-branch-clause-going g c = c.in_ok-turn.ensures.stop ∙ c.turns.invariant.going
 
 pub returns-then-not-branch-clause-ended : goal.returns-then-not-branch-clause-ended
 returns-then-not-branch-clause-ended g c =
-    let kept = c.loop-alloc.invariant in
+    let kept = c.turns.invariant in
     let last = rw c.if-not-branch.true at c.in_ok-turn.ensures.turn in
     ended_run c.args.plan c.turn.new.desk.history _ _
-    (comes_to_end c.args.plan c.loop-alloc.desk.plan c.loop-alloc.desk.history c.turn.new.desk.history _ _ _ kept.planned kept.plan kept.sofar last)
+    (comes_to_end c.args.plan c.turns.desk.plan c.turns.desk.history c.turn.new.desk.history _ _ _ kept.planned kept.plan kept.sofar last)
 
 pub returns-then-not-branch-clause-run : goal.returns-then-not-branch-clause-run
 returns-then-not-branch-clause-run g c complete =
@@ -63,29 +63,29 @@ returns-then-not-branch-clause-run g c complete =
 pub returns-then-not-branch-clause-unasked : goal.returns-then-not-branch-clause-unasked
 returns-then-not-branch-clause-unasked g c unasked =
     let last = rw c.if-not-branch.true at c.in_ok-turn.ensures.turn in
-    ap (λ (p : Plan). is_complete p c.turn.new.desk.history) (sym c.loop-alloc.invariant.plan) ∙ last.complete
+    ap (λ (p : Plan). is_complete p c.turn.new.desk.history) (sym c.turns.invariant.plan) ∙ last.complete
 
 pub returns-then-not-branch-clause-serial : goal.returns-then-not-branch-clause-serial
 returns-then-not-branch-clause-serial g c fresh complete =
-    let kept = c.loop-alloc.invariant in
+    let kept = c.turns.invariant in
     let last = rw c.if-not-branch.true at c.in_ok-turn.ensures.turn in
-    serial_last c.args.plan c.loop-alloc.desk.plan c.loop-alloc.desk.history c.turn.new.desk.history _ _ kept.planned kept.plan last (kept.serial fresh)
+    serial_last c.args.plan c.turns.desk.plan c.turns.desk.history c.turn.new.desk.history _ _ kept.planned kept.plan last (kept.serial fresh)
 
 -- asked to stop before it is complete
 
 pub returns-then-is_left-clause-plan : goal.returns-then-is_left-clause-plan
-returns-then-is_left-clause-plan g c = c.loop-alloc.invariant.plan
+returns-then-is_left-clause-plan g c = c.turns.invariant.plan
 
 pub returns-then-is_left-clause-going : goal.returns-then-is_left-clause-going
-returns-then-is_left-clause-going g c = c.loop-alloc.invariant.going
+returns-then-is_left-clause-going g c = c.turns.invariant.going
 
 pub returns-then-is_left-clause-ended : goal.returns-then-is_left-clause-ended
-returns-then-is_left-clause-ended g c = ended_run c.args.plan c.loop-alloc.desk.history _ _ c.loop-alloc.invariant.sofar
+returns-then-is_left-clause-ended g c = ended_run c.args.plan c.turns.desk.history _ _ c.turns.invariant.sofar
 
 pub returns-then-is_left-clause-run : goal.returns-then-is_left-clause-run
 returns-then-is_left-clause-run g c complete =
-    left_incomplete c.args.plan c.loop-alloc.desk.plan c.loop-alloc.desk.history c.loop-alloc.invariant.plan (c.is_left.ensures.left c.if-is_left.true) complete
+    left_incomplete c.args.plan c.turns.desk.plan c.turns.desk.history c.turns.invariant.plan (c.is_left.ensures.left c.if-is_left.true) complete
 
 pub returns-then-is_left-clause-serial : goal.returns-then-is_left-clause-serial
 returns-then-is_left-clause-serial g c fresh complete =
-    left_incomplete c.args.plan c.loop-alloc.desk.plan c.loop-alloc.desk.history c.loop-alloc.invariant.plan (c.is_left.ensures.left c.if-is_left.true) complete
+    left_incomplete c.args.plan c.turns.desk.plan c.turns.desk.history c.turns.invariant.plan (c.is_left.ensures.left c.if-is_left.true) complete

@@ -8,8 +8,8 @@ use Rattle.jr_crew.proofs.Turning.{IsSoFar}
 use Rattle.jr_crew.proofs.serial.run_serial.Given as goal
 
 -- the desk is that of the plan, and the run so far keeps what is to hold between two turns
-abbrev pub invariant-loop-alloc : goal.invariant-loop-alloc
-invariant-loop-alloc g l = record {
+abbrev pub invariant-turns : goal.invariant-turns
+invariant-turns g l = record {
   planned : IsPlanned l.fn.plan;
   plan : l.desk.plan ≡ l.fn.plan;
   going : l.desk.is_stopped ≡ false;
@@ -18,5 +18,5 @@ invariant-loop-alloc g l = record {
 }
 
 -- each turn but the last starts one more of what the plan can start
-abbrev pub decreases-loop-alloc : goal.decreases-loop-alloc
-decreases-loop-alloc g l = 2 * work_of l.fn.plan - length (started l.desk.history)
+abbrev pub decreases-turns : goal.decreases-turns
+decreases-turns g l = 2 * work_of l.fn.plan - length (started l.desk.history)
