@@ -1,6 +1,6 @@
 // What one engine's bytes come to, whoever judges them, and whose faults a run counts.
 use crate::asserts::same;
-use crate::plans::{checked, plan_of};
+use crate::plans::{NOTHING, checked, plan_of};
 use jr_crew::{Ran, Watch, run};
 use jr_desk::{Bad, Desk};
 use jr_engines::{Engine, MemoryEngine, NullEngine, Reply, ScriptedEngine};
@@ -11,19 +11,6 @@ use std::process::Abort;
 use std::sync::Wait;
 use std::test::Fail;
 use std::thread::Threads;
-
-const NOTHING: Totals = Totals {
-    reads: 0,
-    rbytes: 0,
-    writes: 0,
-    wbytes: 0,
-    checks: 0,
-    good: 0,
-    bad: 0,
-    skipped: 0,
-    void: 0,
-    faults: 0,
-};
 
 // What a run of one clone counts, and its first bad verdict.
 fn ran_once<R: Threads + Wait + Sync>(

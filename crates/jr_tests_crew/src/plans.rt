@@ -1,8 +1,21 @@
-// The plans that these tests run.
-use jr_model::{EngineKind, IoType, MOST_VERIFIERS, Method, Pattern, VerifyKind};
+// The plans that these tests run, and what runs of them count from.
+use jr_model::{EngineKind, IoType, MOST_VERIFIERS, Method, Pattern, Totals, VerifyKind};
 use jr_plan::{Draft, Plan, Workload};
 use std::alloc::Global;
 use std::test::Fail;
+
+pub(crate) const NOTHING: Totals = Totals {
+    reads: 0,
+    rbytes: 0,
+    writes: 0,
+    wbytes: 0,
+    checks: 0,
+    good: 0,
+    bad: 0,
+    skipped: 0,
+    void: 0,
+    faults: 0,
+};
 
 // So many clones with this work, all in one file, with so many verifiers.
 pub(crate) fn plan_of(

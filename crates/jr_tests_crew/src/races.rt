@@ -1,7 +1,7 @@
 // Jobs that decline to wait (`serialize_overlap=0`): what a run says where a write overlaps another I/O in flight.
 use crate::asserts::same;
 use crate::gates::two_gates;
-use crate::plans::{checked, plan_of_two};
+use crate::plans::{NOTHING, checked, plan_of_two};
 use jr_crew::{Progress, Watch, run, run_serial};
 use jr_desk::Desk;
 use jr_engines::NullEngine;
@@ -12,19 +12,6 @@ use std::process::Abort;
 use std::sync::Wait;
 use std::test::Fail;
 use std::thread::Threads;
-
-const NOTHING: Totals = Totals {
-    reads: 0,
-    rbytes: 0,
-    writes: 0,
-    wbytes: 0,
-    checks: 0,
-    good: 0,
-    bad: 0,
-    skipped: 0,
-    void: 0,
-    faults: 0,
-};
 
 // One read of 4096 bytes.
 const READ: Totals = Totals {
