@@ -77,12 +77,23 @@ page_rule = option_rule (codes "page")
 abbrev pub with_version : App → App
 with_version app = on_top (λ shape. record shape { has_version = true }) app
 
+-- with the arguments for the job and its trace
+abbrev pub with_job_rules : App → App
+with_job_rules app = with_rule (with_rule (with_rule (with_rule (with_rule (
+    with_rule app job_rule) section_rule) parse_only_rule) workers_rule) trace_rule) check_trace_rule
+
+-- with the arguments for how files are used, faults told and runs stopped
+abbrev pub with_run_rules : App → App
+with_run_rules app = with_rule (with_rule (with_rule (with_rule (with_rule (
+    with_rule app cached_rule) allow_mounted_write_rule) notes_rule) drop_pipes_rule) interrupted_rule) stop_fd_rule
+
+-- with the arguments for what else a run tells
+abbrev pub with_report_rules : App → App
+with_report_rules app = with_rule (with_rule (with_rule (with_rule (with_rule (
+    with_rule app bad_blocks_rule) bad_blocks_size_rule) map_rule) progress_rule) json_rule) page_rule
+
 unfoldable pub command_line : App
-command_line = with_rule (with_rule (with_rule (with_rule (with_rule (with_rule (with_rule (with_rule (with_rule (with_rule
-    (with_rule (with_rule (with_rule (with_rule (with_rule (with_rule (with_rule (with_rule
-    (with_version (new_app (codes "fiorun"))) job_rule) section_rule) parse_only_rule) workers_rule) trace_rule) check_trace_rule) cached_rule)
-    allow_mounted_write_rule) notes_rule) drop_pipes_rule) interrupted_rule) stop_fd_rule) bad_blocks_rule) bad_blocks_size_rule) map_rule)
-    progress_rule) json_rule) page_rule
+command_line = with_report_rules (with_run_rules (with_job_rules (with_version (new_app (codes "fiorun")))))
 
 -- the number that a text of digits writes
 abbrev pub number_in : Text → ℕ

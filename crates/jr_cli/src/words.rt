@@ -1,8 +1,12 @@
-ghost use Rattle.std.specs.Prelude.{◌≡◌, ◌⊎◌, ◌≤◌, map, false, Ok, Err, IfOk, IfSome};
-ghost use Rattle.clap.specs.Words.{app_of, fault_of, kind_of, rule_of, FailsBy, matches_of};
+ghost use Rattle.std.specs.Prelude.{◌≡◌, ◌⊎◌, ◌≤◌, ℕ, List, map, false, Ok, Err, IfOk, IfSome};
+ghost use Rattle.clap.specs.Words.{app_of, fault_of, kind_of, rule_of, with_rule, App, FailsBy, HasMatchesOf, IsParsedFrom, matches_of};
+ghost use Rattle.clap.specs.declared.builder.command.Command.{Command};
 ghost use Rattle.jr_cli.specs.Status.{status_of_words};
 ghost use Rattle.jr_cli.specs.CommandLine.{
   command_line,
+  with_job_rules,
+  with_run_rules,
+  with_report_rules,
   job_rule,
   section_rule,
   parse_only_rule,
@@ -26,7 +30,7 @@ ghost use Rattle.jr_cli.specs.CommandLine.{
 
 use crate::faults::CliFault;
 use clap::error::ErrorKind;
-use clap::{Arg, ArgAction, Command, Error, value_parser};
+use clap::{Arg, ArgAction, ArgMatches, Command, Error, value_parser};
 use std::alloc::{AllocError, Global};
 use std::convert::AsStr;
 
@@ -85,7 +89,19 @@ pub fn choose<'a, S: AsStr>(alloc: Global, words: &'a [S]) -> Result<Choice<'a>,
 {
     let command = command(alloc)?;
     let matches = command.try_get_matches_from(words)?;
-    Ok(Choice {
+    Ok(choice_in(&matches))
+}
+
+// What the matches of the command line hold.
+fn choice_in<'a>(matches: &ArgMatches<'a>) -> Choice<'a>
+    ensures fields { (command : Command) → (words : List (List ℕ)) → app_of command ≡ command_line → IsParsedFrom command matches.now
+        → HasMatchesOf (app_of command) words matches.now → IsChoiceOf result (matches_of command_line words) }
+    ensures workers { (command : Command) → app_of command ≡ command_line → IsParsedFrom command matches.now
+        → IfSome result.workers (λ n. (1 ≤ n) × (n ≤ 16)) }
+    ensures progress { (command : Command) → app_of command ≡ command_line → IsParsedFrom command matches.now
+        → IfSome result.progress (λ n. (1 ≤ n) × (n ≤ 86400)) }
+{
+    Choice {
         job: matches.get_str("job"),
         section: matches.get_str("section"),
         parse_only: matches.get_flag("parse-only"),
@@ -104,7 +120,7 @@ pub fn choose<'a, S: AsStr>(alloc: Global, words: &'a [S]) -> Result<Choice<'a>,
         progress: matches.get_one::<u32>("progress"),
         json: matches.get_str("json"),
         page: matches.get_str("page"),
-    })
+    }
 }
 
 /// Prints what clap says of words that it refused, or the help or version that they ask for, and gives the
@@ -130,27 +146,59 @@ pub fn answer_words<R: Print + Eprint>(rt: &R, error: &Error) -> Result<u8, CliF
 fn command<'a>(alloc: Global) -> Result<Command<'a>, AllocError>
     ensures { IfOk result (λ command. app_of command ≡ command_line) }
 {
-    Command::new(alloc, "fiorun")
+    let command = Command::new(alloc, "fiorun")
         .version(VERSION)
-        .about("Runs a fio job file and checks what was written.")
-        .arg(job_arg(alloc))?
-        .arg(section_arg(alloc))?
-        .arg(parse_only_arg(alloc))?
-        .arg(workers_arg(alloc))?
-        .arg(trace_arg(alloc))?
-        .arg(check_trace_arg(alloc))?
-        .arg(cached_arg(alloc))?
-        .arg(allow_mounted_write_arg(alloc))?
-        .arg(notes_arg(alloc))?
-        .arg(drop_pipes_arg(alloc))?
-        .arg(interrupted_arg(alloc))?
-        .arg(stop_fd_arg(alloc))?
-        .arg(bad_blocks_arg(alloc))?
-        .arg(bad_blocks_size_arg(alloc))?
-        .arg(map_arg(alloc))?
-        .arg(progress_arg(alloc))?
-        .arg(json_arg(alloc))?
-        .arg(page_arg(alloc))
+        .about("Runs a fio job file and checks what was written.");
+    let command = with_job_args(alloc, command)?;
+    let command = with_run_args(alloc, command)?;
+    with_report_args(alloc, command)
+}
+
+// The arguments for the job and its trace.
+fn with_job_args<'a>(alloc: Global, command: Command<'a>) -> Result<Command<'a>, AllocError>
+    ensures { IfOk result (λ made. app_of made ≡ with_job_rules (app_of command.entry)) }
+{
+    let command = added(Ok(command), job_arg(alloc));
+    let command = added(command, section_arg(alloc));
+    let command = added(command, parse_only_arg(alloc));
+    let command = added(command, workers_arg(alloc));
+    let command = added(command, trace_arg(alloc));
+    added(command, check_trace_arg(alloc))
+}
+
+// The arguments for how files are used, faults told and runs stopped.
+fn with_run_args<'a>(alloc: Global, command: Command<'a>) -> Result<Command<'a>, AllocError>
+    ensures { IfOk result (λ made. app_of made ≡ with_run_rules (app_of command.entry)) }
+{
+    let command = added(Ok(command), cached_arg(alloc));
+    let command = added(command, allow_mounted_write_arg(alloc));
+    let command = added(command, notes_arg(alloc));
+    let command = added(command, drop_pipes_arg(alloc));
+    let command = added(command, interrupted_arg(alloc));
+    added(command, stop_fd_arg(alloc))
+}
+
+// The arguments for what else a run tells.
+fn with_report_args<'a>(alloc: Global, command: Command<'a>) -> Result<Command<'a>, AllocError>
+    ensures { IfOk result (λ made. app_of made ≡ with_report_rules (app_of command.entry)) }
+{
+    let command = added(Ok(command), bad_blocks_arg(alloc));
+    let command = added(command, bad_blocks_size_arg(alloc));
+    let command = added(command, map_arg(alloc));
+    let command = added(command, progress_arg(alloc));
+    let command = added(command, json_arg(alloc));
+    added(command, page_arg(alloc))
+}
+
+// One more argument, where none before it failed. A `?` behind each argument would be a way out for each, and slow to prove.
+fn added<'a>(
+    command: Result<Command<'a>, AllocError>,
+    arg: Arg<'a>,
+) -> Result<Command<'a>, AllocError>
+    ensures { (app : App) → IfOk command.entry (λ before. app_of before ≡ app) → arg.entry.global ≡ false
+        → IfOk result (λ made. app_of made ≡ with_rule app (rule_of arg.entry)) }
+{
+    command?.arg(arg)
 }
 
 fn job_arg<'a>(alloc: Global) -> Arg<'a>
