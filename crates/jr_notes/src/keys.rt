@@ -29,11 +29,7 @@ const KEYS: [Row; 33] = [
         "a clone works on one file",
         "a job, or one of numjobs, for each file",
     ),
-    (
-        "lockfile",
-        "overlapping I/O is always kept apart",
-        "nothing",
-    ),
+    ("lockfile", "overlapping I/O is kept apart", "nothing"),
     (
         "bsrange blocksize_range bs_unaligned blocksize_unaligned bs_is_seq_rand ba blockalign offset_align",
         "sizes come from lists, places are multiples of the least",
