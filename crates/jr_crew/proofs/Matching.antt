@@ -26,7 +26,7 @@ use Rattle.jr_model.proofs.SerialLaws.{first_given-append}
 use Rattle.jr_model.specs.PlanFacts.{IsPlanned}
 use Rattle.jr_engines.specs.Answers.{Leaves}
 use Rattle.jr_engines.proofs.MemoryLemmas.{covers_after_asked}
-use Rattle.jr_header.specs.Served.{asked_with, is_whole_check, is_to_judge, answer_verdict}
+use Rattle.jr_header.specs.Served.{asked_with, is_whole_check, is_to_judge}
 use Rattle.jr_laws_bytes.specs.Memory.{CoversFiles}
 use Rattle.jr_laws_bytes.proofs.Starts.{draw_started, IsDrawOf}
 use Rattle.jr_laws_bytes.proofs.Contents.{lies_in_file, length-content_of_io}

@@ -16,6 +16,7 @@ use crate::channels::ChannelEnd;
 use crate::faults::RunFault;
 use crate::halts::Halt;
 use crate::held::{Naming, Shared};
+use crate::shares::Shares;
 use crate::staff::{Verifier, Worker, push, room_for, verifiers_for, workers_for};
 use crate::verifier::verify;
 use crate::watch::{StopFlag, Watch, is_asked};
@@ -124,7 +125,8 @@ fn run_manned<'a, P: Naming + Send + Sync, R: Threads + Wait + Sync>(
     ensures failed { IfErr result (IsRefusal (length verifiers.entry.items)) }
 {
     let inline = judges_inline(&plan);
-    let shared = Shared::<P>::new(Desk::new(alloc, plan)?, watch);
+    let shares = Shares::new(alloc, &plan, workers.len())?;
+    let shared = Shared::<P>::new(Desk::new(alloc, plan)?, shares, watch);
     let worked = man(rt, &shared, alloc, inline, workers, verifiers, channel);
     let (desk, halt) = shared.into_parts();
     if let Some(halt) = halt {

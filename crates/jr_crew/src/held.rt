@@ -1,15 +1,17 @@
-ghost use Rattle.std.specs.Prelude.{◌≡◌, ◌++◌, ◌∷◌, [], true, false, Some, IfOk, IfErr, IfSome, OnOk, OnErr};
+ghost use Rattle.std.specs.Prelude.{◌≡◌, ◌++◌, ◌∷◌, [], true, false, Some, All, map, IfOk, IfErr, OnOk, OnErr};
 ghost use Rattle.jr_model.specs.Legal.{is_void};
 ghost use Rattle.jr_model.specs.Machine.{said_of};
 ghost use Rattle.jr_model.specs.Races.{has_raced};
-ghost use Rattle.jr_model.specs.Tickets.{ticket_fits};
-ghost use Rattle.jr_header.specs.Served.{ExpectsOwn, answer_verdict};
+ghost use Rattle.jr_header.specs.Served.{answer_verdict};
 ghost use Rattle.jr_board.specs.Takes.{HandsOutOwn, is_fitting};
 ghost use Rattle.jr_crew.specs.Halts.{first_cause};
+ghost use Rattle.jr_crew.specs.Working.{CanBeServed, CanStart};
 
 use crate::halts::Halt;
 use crate::progress::{note_start, note_verdict};
-use crate::settled::Settled;
+use crate::settled::{Settled, Told};
+use crate::shares::{MOST_BYTES, MOST_IOS, Shares};
+use crate::staff::push;
 use crate::watch::{Watch, is_asked};
 use jr_desk::{Desk, DeskFault, Take};
 use jr_header::{Ruling, Served};
@@ -32,11 +34,14 @@ impl Naming for Brand {
     ghost plan = { record { clones = []; files = []; engine = kind.Null; verifiers = 0 } };
 }
 
-// What lies under the lock: the desk of that plan, and why the run was ended before its time, if it was.
+// What lies under the lock: the desk of that plan, why the run was ended before its time, if it was, how many I/Os and checks workers
+// have in hand, and how many workers wait for some.
 #[derive(Drop)]
 pub struct Held<P: Naming> {
     desk: Desk,
     halt: Option<Halt>,
+    in_hand: u64,
+    waiting: u64,
     of: PhantomData<P>,
     ghost plan_is: { desk.plan ≡ P.plan },
 }
@@ -57,6 +62,23 @@ impl<P: Naming> Held<P> {
         ensures err { OnErr result ((self.new.desk ≡ self.old.desk) × (self.new.halt ≡ self.old.halt)) }
     {
         self.desk.end(served)
+    }
+
+    // Takes in how a worker's ticket ended, and the verdict where the worker judged it.
+    fn take_in<'a>(&mut self, worker: u32, one: &Settled<'a>) -> Result<Told<'a>, DeskFault>
+        ensures { IfOk result (λ told. told.served.now ≡ one.now.served.now) }
+    {
+        self.end(one.served)?;
+        self.in_hand = self.in_hand.saturating_sub(1);
+        let said = match &one.ruling {
+            None => None,
+            Some(ruling) => Some(self.judge(worker, ruling)?),
+        };
+        Ok(Told {
+            served: one.served,
+            inline: one.inline,
+            said,
+        })
     }
 
     // What was taken in: the ruling's verdict, unless the check raced.
@@ -84,7 +106,13 @@ impl<P: Naming> Held<P> {
         ensures desk { result.0.plan ≡ P.plan }
         ensures halt { result.1 ≡ self.halt }
     {
-        let Held { desk, halt, of: _ } = self;
+        let Held {
+            desk,
+            halt,
+            in_hand: _,
+            waiting: _,
+            of: _,
+        } = self;
         (desk, halt)
     }
 }
@@ -106,26 +134,45 @@ const LOOKS: u32 = 1000;
 
 const EAGER_LOOKS: u32 = 10;
 
-// The desk under its lock, what those wait on that can't go on, and what another thread has of the run.
+// What was started: a ticket, or nothing, and how the worker goes on.
+pub enum Started {
+    Ticket(Ticket),
+    Nothing(Step),
+}
+
+// How a worker goes on: with the tickets that it took, not before others have ended something, or not at all.
+#[derive(Clone, Copy)]
+pub enum Step {
+    Go,
+    Wait,
+    End,
+}
+
+// The desk under its lock, what those wait on that can't go on, how much a worker takes at once, and what another thread has of the
+// run.
 #[derive(Drop)]
 pub struct Shared<'p, P: Naming> {
     held: Mutex<Held<P>>,
     changed: Condvar,
+    shares: Shares,
     watch: Watch<'p>,
 }
 
 impl<'p, P: Naming> Shared<'p, P> {
-    pub fn new(desk: Desk, watch: Watch<'p>) -> Shared<'p, P>
+    pub fn new(desk: Desk, shares: Shares, watch: Watch<'p>) -> Shared<'p, P>
         requires { desk.plan ≡ P.plan }
     {
         let held = Held {
             desk,
             halt: None,
+            in_hand: 0,
+            waiting: 0,
             of: PhantomData,
         };
         Shared {
             held: Mutex::new(held),
             changed: Condvar::new(),
+            shares,
             watch,
         }
     }
@@ -137,6 +184,7 @@ impl<'p, P: Naming> Shared<'p, P> {
         let Shared {
             held,
             changed: _,
+            shares: _,
             watch: _,
         } = self;
         held.into_inner().into_parts()
@@ -155,90 +203,129 @@ impl<'p, P: Naming> Shared<'p, P> {
         self.held.lock(rt)
     }
 
-    // The ticket of what this worker is to carry out next; none where the run has ended, or is asked to stop. It waits while
-    // nothing may be started: nothing but an end, a verdict or a stop lets anything start again. One of these comes as long as
+    // Puts what this worker is to carry out next behind its tickets; nothing where the run has ended, or is asked to stop. It waits
+    // while nothing may be started: nothing but an end, a verdict or a stop lets anything start again. One of these comes as long as
     // anybody waits, for then something flies or awaits its verdict.
-    pub fn next<R: Wait>(&self, rt: &R, worker: u32) -> Result<Option<Ticket>, Halt>
-        ensures fits { IfOk result (λ ticket. IfSome ticket (λ t. ticket_fits t ≡ true)) }
-        ensures own { IfOk result (λ ticket. IfSome ticket ExpectsOwn) }
-        ensures memory { IfErr result (λ halt. halt ≡ Halt.Memory) }
-    {
-        let held = self.enter(rt);
-        self.next_under(rt, worker, held)
-    }
-
-    // The same, where the lock is taken already.
-    fn next_under<R: Wait>(
+    pub fn next<R: Wait>(
         &self,
         rt: &R,
         worker: u32,
-        held: MutexGuard<'_, Held<P>>,
-    ) -> Result<Option<Ticket>, Halt>
-        ensures fits { IfOk result (λ ticket. IfSome ticket (λ t. ticket_fits t ≡ true)) }
-        ensures own { IfOk result (λ ticket. IfSome ticket ExpectsOwn) }
-        ensures memory { IfErr result (λ halt. halt ≡ Halt.Memory) }
+        tickets: &mut Vec<Ticket>,
+    ) -> Result<Step, Halt>
+        requires { All CanBeServed tickets.old.items }
+        ensures { OnOk result (All CanBeServed tickets.new.items) }
     {
-        let mut held = held;
+        let mut held = self.enter(rt);
         for _ in rt.forever() {
-            if is_asked(self.watch.stop) {
-                return Ok(None);
-            }
-            match held.take(worker) {
-                Ok(Take::Io(ticket)) => {
-                    note_start(self.watch.progress, &ticket);
-                    return Ok(Some(ticket));
+            match self.share(&mut held, worker, tickets)? {
+                Step::Wait => {
+                    held.waiting = held.waiting.saturating_add(1);
+                    held = self.changed.wait(rt, held);
+                    held.waiting = held.waiting.saturating_sub(1);
                 }
-                Ok(Take::Probe(ticket)) => return Ok(Some(ticket)),
-                Ok(Take::Finished) => return Ok(None),
-                Ok(Take::Wait) => held = self.changed.wait(rt, held),
-                Err(fault) => return Err(Halt::from(fault)),
+                step => return Ok(step),
             }
         }
         unreachable!()
     }
 
-    // Takes in how a ticket ended.
-    pub fn end<R: Wait>(&self, rt: &R, served: &Served) -> Result<(), Halt> {
-        self.enter(rt).end(served)?;
-        self.changed.notify_all();
-        Ok(())
-    }
-
-    // Takes in how a worker's ticket ended, and gives what is next for the worker. The lock is taken once for all of it.
-    pub fn next_after<R: Wait>(
+    // Takes in how a worker's tickets ended, in their order, and takes what is next for the worker. The lock is taken once for all of
+    // it, and nothing is waited for.
+    pub fn hand_in<'a, R: Wait>(
         &self,
         rt: &R,
         worker: u32,
-        served: &Served,
-    ) -> Result<Option<Ticket>, Halt>
-        ensures fits { IfOk result (λ ticket. IfSome ticket (λ t. ticket_fits t ≡ true)) }
-        ensures own { IfOk result (λ ticket. IfSome ticket ExpectsOwn) }
+        settled: &[Settled<'a>],
+        told: &mut Vec<Told<'a>>,
+        tickets: &mut Vec<Ticket>,
+    ) -> Result<Step, Halt>
+        requires { All CanBeServed tickets.old.items }
+        ensures told { OnOk result (map (λ one. one.served.now) told.new.items
+            ≡ map (λ one. one.served.now) told.old.items ++ map (λ one. one.served.now) settled.now) }
+        ensures next { OnOk result (All CanBeServed tickets.new.items) }
     {
         let mut held = self.enter(rt);
-        held.end(served)?;
-        self.changed.notify_all();
-        self.next_under(rt, worker, held)
+        for one in settled {
+            let said = held.take_in(worker, one)?;
+            note_said(&self.watch, &said);
+            push(told, said)?;
+        }
+        self.share(&mut held, worker, tickets)
     }
 
-    // The same of a check that its worker has judged, with what the desk says of it.
-    pub fn next_after_judged<R: Wait>(
+    // Takes a worker's share of what may be started. Where the run has ended all are told.
+    fn share(
         &self,
-        rt: &R,
+        held: &mut Held<P>,
         worker: u32,
-        served: &Served,
-        ruling: &Ruling<'_>,
-    ) -> Result<(Verdict, Option<Ticket>), Halt>
-        ensures says { IfOk result (λ both. is_void both.0 ≡ false → both.0 ≡ answer_verdict ruling.now) }
-        ensures fits { IfOk result (λ both. IfSome both.1 (λ t. ticket_fits t ≡ true)) }
-        ensures own { IfOk result (λ both. IfSome both.1 ExpectsOwn) }
+        tickets: &mut Vec<Ticket>,
+    ) -> Result<Step, Halt>
+        requires { All CanBeServed tickets.old.items }
+        ensures { OnOk result (All CanBeServed tickets.new.items) }
     {
-        let mut held = self.enter(rt);
-        held.end(served)?;
-        let said = held.judge(worker, ruling)?;
-        note_verdict(self.watch.progress, served.ticket().piece.len, said);
-        self.changed.notify_all();
-        let next = self.next_under(rt, worker, held)?;
-        Ok((said, next))
+        let step = self.take_share(held, worker, tickets)?;
+        if let Step::End = step {
+            self.changed.notify_all();
+        }
+        Ok(step)
+    }
+
+    // Takes tickets until this worker has its share, and then wakes one that may take more; or until nothing more may be started.
+    #[tactic(auto, using(crate::proofs::Worked::taken))]
+    fn take_share(
+        &self,
+        held: &mut Held<P>,
+        worker: u32,
+        tickets: &mut Vec<Ticket>,
+    ) -> Result<Step, Halt>
+        requires { All CanBeServed tickets.old.items }
+        ensures { OnOk result (All CanBeServed tickets.new.items) }
+    {
+        let mut bytes: u64 = 0;
+        for taken in 0..MOST_IOS {
+            match self.start(held, worker)? {
+                Started::Ticket(ticket) => {
+                    push(tickets, ticket)?;
+                    bytes = bytes.saturating_add(u64::from(ticket.piece.len));
+                    if taken + 1 >= self.shares.of(&ticket, held.waiting > 0)
+                        || bytes >= MOST_BYTES
+                    {
+                        self.wake_next(held);
+                        return Ok(Step::Go);
+                    }
+                }
+                Started::Nothing(step) => return Ok(or_go(taken, step)),
+            }
+        }
+        self.wake_next(held);
+        Ok(Step::Go)
+    }
+
+    // Wakes one that may take what this worker left; where workers have as much in hand as all depths allow, nothing is left.
+    fn wake_next(&self, held: &Held<P>) {
+        if held.in_hand < self.shares.depths() {
+            self.changed.notify_one();
+        }
+    }
+
+    // Starts one I/O or check, if one may be started.
+    fn start(&self, held: &mut Held<P>, worker: u32) -> Result<Started, Halt>
+        ensures { IfOk result CanStart }
+    {
+        if is_asked(self.watch.stop) {
+            return Ok(Started::Nothing(Step::End));
+        }
+        let ticket = match held.take(worker)? {
+            Take::Io(ticket) => {
+                note_start(self.watch.progress, &ticket);
+                ticket
+            }
+            Take::Probe(ticket) => ticket,
+            Take::Wait => return Ok(Started::Nothing(Step::Wait)),
+            Take::Finished => return Ok(Started::Nothing(Step::End)),
+        };
+        held.in_hand = held.in_hand.saturating_add(1);
+        Ok(Started::Ticket(ticket))
     }
 
     // Takes in the verdicts on checks, one after another.
@@ -259,5 +346,17 @@ impl<'p, P: Naming> Shared<'p, P> {
     pub fn stop<R: Wait>(&self, rt: &R, halt: Halt) {
         self.enter(rt).stop(halt);
         self.changed.notify_all();
+    }
+}
+
+// How a worker goes on that has taken so many tickets and can't take more.
+fn or_go(taken: u64, step: Step) -> Step {
+    if taken == 0 { step } else { Step::Go }
+}
+
+// Notes the verdict on a check, where there is one.
+fn note_said(watch: &Watch<'_>, told: &Told<'_>) {
+    if let Some(said) = told.said {
+        note_verdict(watch.progress, told.served.ticket().piece.len, said);
     }
 }

@@ -10,6 +10,7 @@ mod progress;
 mod rooms;
 mod serial;
 mod settled;
+mod shares;
 mod staff;
 mod verifier;
 mod watch;

@@ -1,39 +1,58 @@
-ghost use Rattle.std.specs.Prelude.{◌≡◌, ◌++◌, map, OnOk, Some, None, if◌then◌else◌};
-ghost use Rattle.jr_header.specs.Served.{is_to_judge};
+ghost use Rattle.std.specs.Prelude.{◌≡◌, ◌++◌, ◌&&◌, false, map, OnOk, Some, None, is_some, if◌then◌else◌};
+ghost use Rattle.jr_model.specs.declared.events.Verdict.{Verdict};
+ghost use Rattle.jr_model.specs.Legal.{is_void};
+ghost use Rattle.jr_header.specs.Served.{answer_verdict, is_to_judge};
+ghost use Rattle.jr_crew.specs.Working.{AreDone};
 
 use crate::halts::Halt;
 use crate::staff::push;
+use jr_books::Done;
 use jr_header::{Ruling, Served, rule};
+use jr_model::Verdict;
 
-// A ticket that was carried out, with the ruling on it where this is a check that ended whole.
+// A ticket that was carried out, with the ruling on it where it is judged here and is a check that ended whole.
 #[derive(Drop)]
 pub struct Settled<'a> {
     pub served: &'a Served,
+    pub inline: bool,
     pub ruling: Option<Ruling<'a>>,
-    ghost ruled: { ruling ≡ (if is_to_judge served.now then Some served.now else None) },
+    ghost ruled: { ruling ≡ (if inline && is_to_judge served.now then Some served.now else None) },
+}
+
+// The same once the desk has taken it in, with what is said of it where it was judged here.
+#[derive(Drop)]
+pub struct Told<'a> {
+    pub served: &'a Served,
+    pub inline: bool,
+    pub said: Option<Verdict>,
+    ghost judged: { is_some said ≡ (inline && is_to_judge served.now) },
+    ghost saying: { (verdict : Verdict) → said ≡ Some verdict → is_void verdict ≡ false → verdict ≡ answer_verdict served.now },
 }
 
 impl<'a> Settled<'a> {
-    // Judges it with no lock held, if it is to be judged.
-    fn of(served: &'a Served) -> Settled<'a>
+    // Judges it with no lock held, if it is to be judged here.
+    fn of(served: &'a Served, inline: bool) -> Settled<'a>
         ensures { result.served.now ≡ served.now }
     {
-        if served.to_judge() {
+        if inline && served.to_judge() {
             Settled {
                 served,
+                inline,
                 ruling: Some(rule(served)),
             }
         } else {
             Settled {
                 served,
+                inline,
                 ruling: None,
             }
         }
     }
 }
 
-// Judges those that are to be judged.
-pub(crate) fn judge_all<'a>(
+// Judges those that are to be judged, if that is done here.
+pub(crate) fn settle_all<'a>(
+    inline: bool,
     served: &'a [Served],
     settled: &mut Vec<Settled<'a>>,
 ) -> Result<(), Halt>
@@ -41,7 +60,25 @@ pub(crate) fn judge_all<'a>(
         ≡ map (λ one. one.served.now) settled.old.items ++ served.now) }
 {
     for one in served {
-        push(settled, Settled::of(one))?;
+        push(settled, Settled::of(one, inline))?;
+    }
+    Ok(())
+}
+
+// Writes what the desk has taken in into a worker's book.
+pub(crate) fn note_all(inline: bool, told: &[Told<'_>], book: &mut Vec<Done>) -> Result<(), Halt>
+    ensures { OnOk result (AreDone inline (map (λ one. one.served.now) told.now) book.old.items book.new.items) }
+{
+    for one in told {
+        if one.inline != inline {
+            return Err(Halt::Books);
+        }
+        let done = Done {
+            ticket: *one.served.ticket(),
+            outcome: one.served.outcome(),
+            verdict: one.said,
+        };
+        push(book, done)?;
     }
     Ok(())
 }

@@ -1,7 +1,7 @@
 use crate::channels::ChannelEnd;
 use crate::halts::Halt;
 use crate::held::{Naming, Shared};
-use crate::settled::judge_all;
+use crate::settled::settle_all;
 use crate::staff::push;
 use jr_handover::Parcel;
 use jr_header::Served;
@@ -93,7 +93,7 @@ fn judge<P: Naming, R: Wait>(
         return Ok(());
     }
     let mut settled = Vec::new(alloc);
-    judge_all(served, &mut settled)?;
+    settle_all(true, served, &mut settled)?;
     shared.judge(rt, number, &settled)
 }
 

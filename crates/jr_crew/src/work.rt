@@ -1,17 +1,20 @@
-ghost use Rattle.std.specs.Prelude.{◌≡◌, ◌&&◌, true, IfOk, IfSome, OnOk, Some, None, if◌then◌else◌};
+ghost use Rattle.std.specs.Prelude.{◌≡◌, All, IfOk, OnOk};
+ghost use Rattle.jr_model.specs.Replies.{EngineState};
 ghost use Rattle.jr_model.specs.Tickets.{ticket_fits};
 ghost use Rattle.jr_handover.specs.Passes.{pass_state};
-ghost use Rattle.jr_header.specs.Served.{ExpectsOwn, is_to_judge};
-ghost use Rattle.jr_crew.specs.Working.{IsSaidOf, IsCalledFor, AreCallsFor, handed_on};
+ghost use Rattle.jr_header.specs.Served.{ExpectsOwn};
+ghost use Rattle.jr_crew.specs.Working.{AreAnswered, AreCallsFor, AreDone, CanBeServed, IsAnswered, all_handed_on};
 
 use crate::channels::ChannelEnd;
 use crate::halts::Halt;
-use crate::held::{Naming, Shared};
+use crate::held::{Naming, Shared, Step};
 use crate::rooms::make_room;
+use crate::settled::{note_all, settle_all};
+use crate::staff::push;
 use jr_books::Done;
 use jr_engines::Engine;
-use jr_header::{Served, rule, serve_own};
-use jr_model::{Ticket, Verdict};
+use jr_header::{Served, serve_own};
+use jr_model::Ticket;
 use std::alloc::Global;
 use std::sync::Wait;
 
@@ -41,7 +44,14 @@ pub(crate) fn work<P: Naming, R: Wait>(
     book
 }
 
-#[tactic(auto, using(crate::proofs::Worked::calls_on))]
+// What a worker has in hand: the tickets that it took, the buffers that it has free, and its book.
+#[derive(Drop)]
+pub struct Load {
+    pub tickets: Vec<Ticket>,
+    pub buffers: Vec<Vec<u8>>,
+    pub book: Vec<Done>,
+}
+
 fn work_on<P: Naming, R: Wait>(
     rt: &R,
     post: &Post<'_, P>,
@@ -50,120 +60,117 @@ fn work_on<P: Naming, R: Wait>(
 ) -> Result<Vec<Done>, Halt>
     ensures { IfOk result (λ book. AreCallsFor post.now.inline (state engine.old) book.items (state engine.new)) }
 {
-    let mut book = Vec::new(post.alloc);
-    let mut buffer = Vec::new(post.alloc);
-    let mut next = post.shared.next(rt, post.number)?;
+    let mut load = Load {
+        tickets: Vec::new(post.alloc),
+        buffers: Vec::new(post.alloc),
+        book: Vec::new(post.alloc),
+    };
+    let mut step = Step::Wait;
     for _ in rt.forever() {
-        let Some(ticket) = next else {
-            return Ok(book);
+        step = match step {
+            Step::Go => carry_out(rt, post, channel, engine, &mut load)?,
+            Step::Wait => post.shared.next(rt, post.number, &mut load.tickets)?,
+            Step::End => return Ok(load.book),
         };
-        let turn = carry_out(rt, post, channel, engine, ticket, buffer)?;
-        book.extend_from_slice(&[turn.done])?;
-        next = turn.next;
-        buffer = turn.buffer;
     }
     unreachable!()
 }
 
-// What a worker completed, what is next for it (nothing where the run has ended), and a buffer for that.
-#[derive(Drop)]
-pub struct CarriedOut {
-    pub done: Done,
-    pub next: Option<Ticket>,
-    pub buffer: Vec<u8>,
-}
-
-// What there is to say once a ticket is settled: the verdict where the worker judged, what is next for it, and a buffer for that.
-#[derive(Drop)]
-pub struct Settled {
-    pub verdict: Option<Verdict>,
-    pub next: Option<Ticket>,
-    pub buffer: Vec<u8>,
-}
-
-// Carries out a ticket with no lock held. A check that ended whole is judged, or handed over.
+// Carries out what a worker took with no lock held, tells the desk all of it at once, and takes what is next. Checks for others are
+// handed over before the worker may wait.
+#[tactic(auto, using(crate::proofs::Worked::calls_done))]
 fn carry_out<P: Naming, R: Wait>(
     rt: &R,
     post: &Post<'_, P>,
     channel: &mut ChannelEnd<'_>,
     engine: &mut dyn Engine,
-    ticket: Ticket,
-    buffer: Vec<u8>,
-) -> Result<CarriedOut, Halt>
-    requires fits { ticket_fits ticket ≡ true }
-    requires own { ExpectsOwn ticket }
-    ensures called { IfOk result (λ turn. IsCalledFor post.now.inline (state engine.old) turn.done (state engine.new)) }
-    ensures fits { IfOk result (λ turn. IfSome turn.next (λ t. ticket_fits t ≡ true)) }
-    ensures own { IfOk result (λ turn. IfSome turn.next ExpectsOwn) }
+    load: &mut Load,
+) -> Result<Step, Halt>
+    requires { All CanBeServed load.old.tickets.items }
+    ensures called { OnOk result ((before : EngineState) → AreCallsFor post.now.inline before load.old.book.items (state engine.old)
+        → AreCallsFor post.now.inline before load.new.book.items (state engine.new)) }
+    ensures next { OnOk result (All CanBeServed load.new.tickets.items) }
+{
+    let served = serve_all(post.alloc, engine, &load.tickets, &mut load.buffers)?;
+    load.tickets.clear();
+    let step = settle(rt, post, &served, load)?;
+    part_with(rt, post.inline, channel, served, &mut load.buffers)?;
+    Ok(step)
+}
+
+// Asks the engine for each ticket, one after another.
+#[tactic(auto, using(crate::proofs::Worked::answered_on))]
+fn serve_all(
+    alloc: Global,
+    engine: &mut dyn Engine,
+    tickets: &[Ticket],
+    buffers: &mut Vec<Vec<u8>>,
+) -> Result<Vec<Served>, Halt>
+    requires { All CanBeServed tickets.now }
+    ensures { IfOk result (λ served. AreAnswered (state engine.old) served.items (state engine.new)) }
+{
+    let mut all = Vec::new(alloc);
+    for ticket in tickets {
+        let buffer = match buffers.pop() {
+            Some(buffer) => buffer,
+            None => Vec::new(alloc),
+        };
+        push(&mut all, serve(engine, ticket, buffer)?)?;
+    }
+    Ok(all)
+}
+
+// Asks the engine for one.
+fn serve(engine: &mut dyn Engine, ticket: &Ticket, buffer: Vec<u8>) -> Result<Served, Halt>
+    requires { CanBeServed ticket.now }
+    ensures { IfOk result (λ served. IsAnswered (state engine.old) served (state engine.new)) }
 {
     if engine.calls() == u64::MAX {
         return Err(Halt::Books);
     }
     let mut buffer = buffer;
-    make_room(&mut buffer, &ticket)?;
-    let served = serve_own(engine, ticket, buffer);
-    let outcome = served.outcome();
-    let Settled {
-        verdict,
-        next,
-        buffer,
-    } = settle(rt, post, channel, served)?;
-    let done = Done {
-        ticket,
-        outcome,
-        verdict,
-    };
-    Ok(CarriedOut { done, next, buffer })
+    make_room(&mut buffer, ticket)?;
+    Ok(serve_own(engine, *ticket, buffer))
 }
 
-// Tells the desk how a ticket ended, and takes what is next. A check that ended whole is judged before, or handed over with its
-// buffer before the worker may wait for what is next.
+// Judges what is judged here, tells the desk, takes what is next, and only then writes into the book: the lock isn't held for it.
 fn settle<P: Naming, R: Wait>(
     rt: &R,
     post: &Post<'_, P>,
-    channel: &mut ChannelEnd<'_>,
-    served: Served,
-) -> Result<Settled, Halt>
-    ensures said { IfOk result (λ settled. IsSaidOf post.now.inline served settled.verdict) }
-    ensures fits { IfOk result (λ settled. IfSome settled.next (λ t. ticket_fits t ≡ true)) }
-    ensures own { IfOk result (λ settled. IfSome settled.next ExpectsOwn) }
-    ensures handed { OnOk result (pass_state channel.new.pass ≡ handed_on post.now.inline served (pass_state channel.old.pass)) }
+    served: &[Served],
+    load: &mut Load,
+) -> Result<Step, Halt>
+    requires { All CanBeServed load.old.tickets.items }
+    ensures done { OnOk result (AreDone post.now.inline served.now load.old.book.items load.new.book.items) }
+    ensures next { OnOk result (All CanBeServed load.new.tickets.items) }
 {
-    if !served.to_judge() {
-        let next = post.shared.next_after(rt, post.number, &served)?;
-        return Ok(Settled {
-            verdict: None,
-            next,
-            buffer: served.into_buf(),
-        });
-    }
-    if post.inline {
-        return judge(rt, post, served);
-    }
-    post.shared.end(rt, &served)?;
-    channel.put(rt, served);
-    let next = post.shared.next(rt, post.number)?;
-    Ok(Settled {
-        verdict: None,
-        next,
-        buffer: Vec::new(post.alloc),
-    })
+    let mut settled = Vec::new(post.alloc);
+    settle_all(post.inline, served, &mut settled)?;
+    let mut told = Vec::with_capacity(post.alloc, settled.len())?;
+    let step = post
+        .shared
+        .hand_in(rt, post.number, &settled, &mut told, &mut load.tickets)?;
+    note_all(post.inline, &told, &mut load.book)?;
+    Ok(step)
 }
 
-// Judges a check that ended whole, and tells the desk both at once.
-fn judge<P: Naming, R: Wait>(rt: &R, post: &Post<'_, P>, served: Served) -> Result<Settled, Halt>
-    requires { is_to_judge served ≡ true }
-    ensures said { IfOk result (λ settled. IsSaidOf true served settled.verdict) }
-    ensures fits { IfOk result (λ settled. IfSome settled.next (λ t. ticket_fits t ≡ true)) }
-    ensures own { IfOk result (λ settled. IfSome settled.next ExpectsOwn) }
+// Hands over the checks that others judge, and keeps all other buffers.
+#[tactic(auto, using(crate::proofs::Worked::handed_all))]
+fn part_with<R: Wait>(
+    rt: &R,
+    inline: bool,
+    channel: &mut ChannelEnd<'_>,
+    served: Vec<Served>,
+    buffers: &mut Vec<Vec<u8>>,
+) -> Result<(), Halt>
+    ensures { OnOk result (pass_state channel.new.pass ≡ all_handed_on inline served.items (pass_state channel.old.pass)) }
 {
-    let ruling = rule(&served);
-    let (said, next) = post
-        .shared
-        .next_after_judged(rt, post.number, &served, &ruling)?;
-    Ok(Settled {
-        verdict: Some(said),
-        next,
-        buffer: served.into_buf(),
-    })
+    for one in served {
+        if !inline && one.to_judge() {
+            channel.put(rt, one);
+        } else {
+            push(buffers, one.into_buf())?;
+        }
+    }
+    Ok(())
 }
