@@ -47,7 +47,8 @@ def listed(name, usual):
 SIZE = int(os.environ.get("SIZE", "256"))
 SIZE_JOBS = int(os.environ.get("SIZE_JOBS", "512"))
 SIZE_DEEP = int(os.environ.get("SIZE_DEEP", "128"))
-TIMES = int(os.environ.get("TIMES", "5"))
+USUAL = 5
+TIMES = int(os.environ.get("TIMES", USUAL))
 LIMIT = float(os.environ.get("LIMIT", "60"))
 PLACES = {it: {"tmpfs": "/dev/shm", "disk": os.environ.get("DISK", HERE)}[it] for it in listed("PLACES", "tmpfs disk")}
 # Where the parts are measured that have one place only.
@@ -444,11 +445,12 @@ def main():
     print(f"- {model}, {os.cpu_count()} processors, {memory} GiB, Linux {platform.release()}")
     fio_is = said_by("fio", "--version") if has_fio() else "fio is not there: its columns are empty"
     print(f"- kit `{said_by('rt', 'version') or 'unknown'}`, {fio_is}")
-    print(f"- {SIZE} MiB a job where its part says no other, medians of {TIMES} runs in turn, no run longer than {LIMIT:.0f} s ('-')\n")
+    print(f"- {SIZE} MiB a job and medians of {USUAL} where a part says no other, runs in turn, none longer than {LIMIT:.0f} s ('-')\n")
     kept = kept_parts()
     # (the sources by what they are, not by a commit: what git calls the folder of the crates)
     sources = said_by("git", "rev-parse", "--short", "HEAD:crates") or "unknown"
-    made = f"Measured on {time.strftime('%Y-%m-%d')}, sources {sources} (`git rev-parse --short HEAD:crates`).\n"
+    often = "" if TIMES == USUAL else f" Medians of {TIMES} runs."
+    made = f"Measured on {time.strftime('%Y-%m-%d')}, sources {sources} (`git rev-parse --short HEAD:crates`).{often}\n"
     for name, (head, part) in PAGE.items():
         if name in PARTS:
             print(f"## {head}\n\n{made}")

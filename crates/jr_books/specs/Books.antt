@@ -1,5 +1,5 @@
--- Believed: what each worker completed, as a history has it (of this project).
-use Rattle.std.specs.Prelude.{ℕ, ◌==◌, Bool, List, Option, Some, None, filter_map, slice_get, if◌then◌else◌}
+-- Believed: what each worker completed, and what verifiers said, as a history has it (of this project).
+use Rattle.std.specs.Prelude.{◌≡◌, ℕ, ◌==◌, Bool, List, Option, Some, None, filter_map, slice_get, Contains, ⊤, if◌then◌else◌}
 use Rattle.jr_model.specs.declared.events.Event.{Event}
 use Rattle.jr_model.specs.declared.events.Event.TheVariants.{Issue, Probe, Skip, End, Verdict}
 use Rattle.jr_model.specs.declared.events.Outcome.{Outcome}
@@ -8,6 +8,7 @@ use Rattle.jr_model.specs.declared.tickets.Ticket.{Ticket}
 use Rattle.jr_model.specs.History.{first_given}
 use Rattle.jr_model.specs.Plan.{Plan}
 use Rattle.jr_books.specs.declared.books.Done.{Done}
+use Rattle.jr_books.specs.declared.books.Said.{Said}
 use Rattle.jr_tickets.specs.Kept.{tickets_of}
 
 -- the verdict on check io, where this event is one
@@ -41,3 +42,18 @@ done_by plan inline history worker (Verdict w io verdict) = None
 -- the worker's book: all that it completed, in the order of its ends
 abbrev pub dones_of : Plan → Bool → List Event → ℕ → List Done
 dones_of plan inline history worker = filter_map (done_by plan inline history worker) history
+
+-- one of these books says this of a check
+pub record IsSaidIn {B : Type 0} (books : List B) (items : B → List Said) (said : Said) : Type 0 where
+  pub at : ℕ
+  pub book : B
+  pub there : slice_get books at ≡ Some book
+  pub among : Contains (items book) said
+
+-- where the event is a verdict, one of these books says it
+abbrev pub IsVerdictIn : {B : Type 0} → List B → (B → List Said) → Event → Type 0
+IsVerdictIn {B = B} books items (Verdict worker io verdict) = IsSaidIn books items (record { io = io; verdict = verdict })
+IsVerdictIn {B = B} books items (Issue worker dir write piece) = ⊤
+IsVerdictIn {B = B} books items (Probe worker write piece) = ⊤
+IsVerdictIn {B = B} books items (Skip worker write) = ⊤
+IsVerdictIn {B = B} books items (End worker io outcome) = ⊤

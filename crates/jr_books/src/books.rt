@@ -1,4 +1,4 @@
-use jr_model::{Outcome, Ticket, Verdict};
+use jr_model::{IoId, Outcome, Ticket, Verdict};
 
 /// What a worker completed: how it ended, and what the worker said of it where it judges its own checks.
 #[derive(Clone, Copy, Debug, PartialEq, Eq)]
@@ -6,4 +6,11 @@ pub struct Done {
     pub ticket: Ticket,
     pub outcome: Outcome,
     pub verdict: Option<Verdict>,
+}
+
+/// What a verifier said of a check.
+#[derive(Clone, Copy, Debug, PartialEq, Eq)]
+pub struct Said {
+    pub io: IoId,
+    pub verdict: Verdict,
 }

@@ -11,7 +11,7 @@ use Rattle.jr_model.specs.Quiet.{quiet_report}
 use Rattle.jr_model.specs.Report.{all_totals, report_of}
 use Rattle.jr_plan.specs.Files.{are_apart}
 use Rattle.jr_traces.specs.Traces.{trace_of}
-use Rattle.jr_crew.specs.declared.faults.RunFault.TheVariants as run
+use Rattle.jr_staff.specs.declared.faults.RunFault.TheVariants as run
 use Rattle.jr_books.specs.declared.books.Done.{Done}
 use Rattle.jr_crew.specs.Whole.{IsRun, IsCrewRun, IsEndedRun, IsEndedCrewRun}
 use Rattle.jr_cli.specs.declared.faults.CliFault.{CliFault}

@@ -2,7 +2,7 @@
 use Rattle.std.specs.Prelude.{ℕ, List, codes}
 use Rattle.jr_text.specs.FaultTexts.{text_fault_text}
 use Rattle.jr_options.specs.FaultTexts.{job_fault_text}
-use Rattle.jr_crew.specs.FaultTexts.{run_fault_text}
+use Rattle.jr_staff.specs.FaultTexts.{run_fault_text}
 use Rattle.jr_traces.specs.FaultTexts.{trace_fault_text}
 use Rattle.jr_cli.specs.declared.faults.CliFault.{CliFault}
 use Rattle.jr_cli.specs.declared.faults.CliFault.TheVariants as fault

@@ -2,7 +2,7 @@
 use Rattle.std.proofs.Common.{◌≡◌, ℕ, zero, suc, ◌+◌, ◌-◌, List, [], ◌∷◌, ◌++◌, length, map, replicate, Bool, true, false, cond, not, ◌&&◌, ◌||◌, refl, sym, ◌∙◌, ap, subst, arith, append_assoc}
 use Rattle.std.specs.Prelude.{Option, Some, None, slice_get, filter_map, ◌==◌, IsTrue}
 use Rattle.std.specs.Bool.{MatchBool}
-use Rattle.std.specs.List.{list_all, enumerate_from, cons_option}
+use Rattle.std.specs.List.{enumerate_from, cons_option}
 use Rattle.std.specs.Option.{option_or}
 use Rattle.std.proofs.lemmas.Bool.{and_parts, eq-eqb, eqb-true}
 use Rattle.jr_model.specs.declared.events.Event.{Event}
@@ -16,9 +16,10 @@ use Rattle.jr_model.specs.declared.tickets.TicketKind.TheVariants as ticket
 use Rattle.jr_model.specs.declared.workloads.Draw.{Draw}
 use Rattle.jr_model.specs.History.{started, end_of, outcome_of, ended_whole, is_judged, flies}
 use Rattle.jr_model.specs.Judgement.{verdict_of}
-use Rattle.jr_model.specs.Legal.{is_legal, is_void, legal_after, may_happen, end_fits, outcome_fits}
+use Rattle.jr_model.specs.Legal.{is_legal, is_void, legal_after, may_happen, end_fits, outcome_fits, verdict_fits}
 use Rattle.jr_model.specs.Machine.{verdict_on, bytes_read}
 use Rattle.jr_model.specs.Plan.{Plan, SubJob}
+use Rattle.jr_model.specs.Races.{has_raced}
 use Rattle.jr_model.specs.Replies.{EngineState, FileBytes, covers, asked, next_reply}
 use Rattle.jr_model.specs.Tied.{KnownEngine, called, IsOnBytes, TiedAlong}
 use Rattle.jr_model.proofs.MachineLaws.{got_front}
@@ -34,13 +35,11 @@ use Rattle.jr_laws_bytes.proofs.Memories.{covers_piece}
 use Rattle.jr_laws_steps.proofs.StartedLemmas.{started-append, same_some}
 use Rattle.jr_tickets.specs.Kept.{tickets_of}
 use Rattle.jr_tickets.specs.Tickets.{ticket_of}
-use Rattle.jr_tickets.proofs.OwnTickets.{got_ticket}
 use Rattle.jr_board.proofs.Serving.{content_is, verdict_is}
 use Rattle.jr_books.specs.declared.books.Done.{Done}
-use Rattle.jr_books.specs.Numbers.{is_workers, is_own_verdict}
 use Rattle.jr_books.specs.Books.{verdict_by, verdict_in, done_with, done_by}
 use Rattle.jr_crew.specs.Runs.{known_engine}
-use Rattle.jr_crew.specs.Working.{IsCalledFor, AreCallsFor}
+use Rattle.jr_crew.specs.Crews.{IsCalledFor, AreCallsFor}
 use Rattle.jr_crew.proofs.Calling.{IsCall, is_call}
 use Rattle.jr_crew.proofs.Turning.{asked_room_for}
 use Rattle.jr_crew.proofs.Tying.{IsNextCall}
@@ -50,7 +49,7 @@ abbrev pub AreSaidOn : Plan → Bool → List Event → ℕ → List Event → L
 AreSaidOn plan inline history worker before kept =
     inline ≡ true → (io : ℕ) (s : Started) (v : GivenVerdict) → slice_get (started history) io ≡ Some s → s.worker ≡ worker → ended_whole (outcome_of before io) ≡ true → verdict_in history io ≡ Some v → is_void v ≡ false → verdict_on plan s (bytes_read kept io) ≡ v
 
-or_nothing : {X : Type 0} (o : Option X) → option_or o None ≡ o
+pub or_nothing : {X : Type 0} (o : Option X) → option_or o None ≡ o
 or_nothing None = refl
 or_nothing (Some x) = refl
 
@@ -66,7 +65,7 @@ said_other plan inline history worker before e kept none said so io s v at by en
     said so io s v at by (ap ended_whole (sym (outcome_other before e io (none io))) ∙ ended) given plain
 
 -- what has no verdict has none
-unjudged_none : (before : List Event) (io : ℕ) → is_judged before io ≡ false → verdict_in before io ≡ None
+pub unjudged_none : (before : List Event) (io : ℕ) → is_judged before io ≡ false → verdict_in before io ≡ None
 unjudged_none [] io h = refl
 unjudged_none (Issue w dir write piece ∷ before) io h = unjudged_none before io h
 unjudged_none (Probe w write piece ∷ before) io h = unjudged_none before io h
@@ -84,10 +83,10 @@ starter worker outcome None fits = cc
 starter worker outcome (Some s) fits =
     (s, refl, eqb-true s.worker worker (and_parts (s.worker == worker) (outcome_fits outcome s.piece.len) fits).0)
 
--- whose ticket it is
-owner : (worker : ℕ) (o : Option Ticket) → is_workers worker o ≡ true → (t : Ticket) × (o ≡ Some t) × (t.worker ≡ worker)
-owner worker None h = cc
-owner worker (Some t) h = (t, refl, eqb-true t.worker worker h)
+-- what may be said something of was started
+said_of_one : (plan : Plan) (raced : Bool) (v : GivenVerdict) (o : Option Started) → verdict_fits plan raced v o ≡ true → (s : Started) × (o ≡ Some s)
+said_of_one plan raced v None fits = cc
+said_of_one plan raced v (Some s) fits = (s, refl)
 
 ticket_at : (plan : Plan) (n : ℕ) (ios : List Started) (k : ℕ) (s : Started) → slice_get ios k ≡ Some s → slice_get (map (ticket_of plan) (enumerate_from n ios)) k ≡ Some (ticket_of plan (n + k, s))
 ticket_at plan n [] k s at = cc
@@ -142,21 +141,24 @@ module _ (plan : Plan) (inline : Bool) (history : List Event) (worker : ℕ) (pl
       IsTrue engine.is_known → CoversFiles plan engine.memory → AreSaidOn plan inline history worker before kept → AreCallsFor inline engine (filter_map (done_by plan inline history worker) events) final → Follows events engine kept final
 
   -- the verdict on a check of this worker's is that on its bytes
-  on_bytes : (before events : List Event) (w io : ℕ) (v : GivenVerdict) (engine : EngineState) (kept : List (ℕ × List ℕ)) → before ++ Verdict w io v ∷ events ≡ history → ended_whole (outcome_of before io) ≡ true → is_judged before io ≡ false → inline ≡ true → is_workers w (slice_get (tickets_of plan history) io) ≡ true → AreSaidOn plan inline history worker before kept → IsOnBytes plan worker (started history) (known_engine engine kept) io v
-  on_bytes before events w io v engine kept same whole unjudged so own said =
-      let t = owner w (slice_get (tickets_of plan history) io) own in
-      let s = got_ticket plan 0 (started history) io t.0 t.1 in
+  on_bytes : (before events : List Event) (w io : ℕ) (v : GivenVerdict) (engine : EngineState) (kept : List (ℕ × List ℕ)) → before ++ Verdict w io v ∷ events ≡ history → ended_whole (outcome_of before io) ≡ true → is_judged before io ≡ false → inline ≡ true → verdict_fits plan (has_raced before io) v (slice_get (started before) io) ≡ true → AreSaidOn plan inline history worker before kept → IsOnBytes plan worker (started history) (known_engine engine kept) io v
+  on_bytes before events w io v engine kept same whole unjudged so fits said =
+      let one = said_of_one plan (has_raced before io) v (slice_get (started before) io) fits in
+      let there : slice_get (started history) io ≡ Some one.0 =
+      ap (λ (h : List Event). slice_get (started h) io) (sym same)
+      ∙ ap (λ (ios : List Started). slice_get ios io) (started-append before (Verdict w io v ∷ events))
+      ∙ got_front (started before) (started (Verdict w io v ∷ events)) io one.0 one.1 in
       let given : verdict_in history io ≡ Some v =
       ap (λ (h : List Event). verdict_in h io) (sym same)
       ∙ first_given-append (verdict_by io) before (Verdict w io v ∷ events)
       ∙ ap (λ (o : Option GivenVerdict). option_or o (verdict_in (Verdict w io v ∷ events) io)) (unjudged_none before io unjudged)
       ∙ ap (λ (b : Bool). option_or (cond b (Some v) None) (verdict_in events io)) (eq-eqb io io refl) in (
-        s.0,
-        s.1,
-        only_if (s.0.worker == worker && not (is_void v)) (verdict_on plan s.0 (bytes_read kept io) ≡ v)
-            (λ (mine : (s.0.worker == worker && not (is_void v)) ≡ true).
-            let parts = and_parts (s.0.worker == worker) (not (is_void v)) mine in
-            said so io s.0 v s.1 (eqb-true s.0.worker worker parts.0) whole given (not_true (is_void v) parts.1)),
+        one.0,
+        there,
+        only_if (one.0.worker == worker && not (is_void v)) (verdict_on plan one.0 (bytes_read kept io) ≡ v)
+            (λ (mine : (one.0.worker == worker && not (is_void v)) ≡ true).
+            let parts = and_parts (one.0.worker == worker) (not (is_void v)) mine in
+            said so io one.0 v there (eqb-true one.0.worker worker parts.0) whole given (not_true (is_void v) parts.1)),
       )
 
   -- one call of this worker's engine
@@ -268,48 +270,46 @@ module _ (plan : Plan) (inline : Bool) (history : List Event) (worker : ℕ) (pl
       )
 
   -- along the rest of the history
-  pub walk : (events before : List Event) → before ++ events ≡ history → legal_after plan before events ≡ true → (inline ≡ true → list_all (is_own_verdict (tickets_of plan history)) events ≡ true) → (final engine : EngineState) (kept : List (ℕ × List ℕ)) → Goes before events final engine kept
-  walk [] before same legal own final engine kept known covered said calls = (kept, ap (λ (e : EngineState). known_engine e kept) calls)
-  walk (Issue w dir write piece ∷ events) before same legal own final engine kept known covered said calls =
+  pub walk : (events before : List Event) → before ++ events ≡ history → legal_after plan before events ≡ true → (final engine : EngineState) (kept : List (ℕ × List ℕ)) → Goes before events final engine kept
+  walk [] before same legal final engine kept known covered said calls = (kept, ap (λ (e : EngineState). known_engine e kept) calls)
+  walk (Issue w dir write piece ∷ events) before same legal final engine kept known covered said calls =
       let e = Issue w dir write piece in
       walk events (before ++ e ∷ []) (append_assoc before (e ∷ []) events ∙ same)
-      (and_parts (may_happen plan before e) (legal_after plan (before ++ e ∷ []) events) legal).1 own final engine kept known covered
+      (and_parts (may_happen plan before e) (legal_after plan (before ++ e ∷ []) events) legal).1 final engine kept known covered
       (said_other plan inline history worker before e kept (λ io. refl) said) calls
-  walk (Probe w write piece ∷ events) before same legal own final engine kept known covered said calls =
+  walk (Probe w write piece ∷ events) before same legal final engine kept known covered said calls =
       let e = Probe w write piece in
       walk events (before ++ e ∷ []) (append_assoc before (e ∷ []) events ∙ same)
-      (and_parts (may_happen plan before e) (legal_after plan (before ++ e ∷ []) events) legal).1 own final engine kept known covered
+      (and_parts (may_happen plan before e) (legal_after plan (before ++ e ∷ []) events) legal).1 final engine kept known covered
       (said_other plan inline history worker before e kept (λ io. refl) said) calls
-  walk (Skip w write ∷ events) before same legal own final engine kept known covered said calls =
+  walk (Skip w write ∷ events) before same legal final engine kept known covered said calls =
       let e = Skip w write in
       walk events (before ++ e ∷ []) (append_assoc before (e ∷ []) events ∙ same)
-      (and_parts (may_happen plan before e) (legal_after plan (before ++ e ∷ []) events) legal).1 own final engine kept known covered
+      (and_parts (may_happen plan before e) (legal_after plan (before ++ e ∷ []) events) legal).1 final engine kept known covered
       (said_other plan inline history worker before e kept (λ io. refl) said) calls
-  walk (Verdict w io v ∷ events) before same legal own final engine kept known covered said calls =
+  walk (Verdict w io v ∷ events) before same legal final engine kept known covered said calls =
       let e = Verdict w io v in
-      let tickets = tickets_of plan history in
       let may = and_parts (may_happen plan before e) (legal_after plan (before ++ e ∷ []) events) legal in
-      let mine = λ (so : inline ≡ true). and_parts (is_own_verdict tickets e) (list_all (is_own_verdict tickets) events) (own so) in
-      let parts = judged_parts (ended_whole (outcome_of before io)) (is_judged before io) _ may.0 in
+      let parts = judged_parts (ended_whole (outcome_of before io)) (is_judged before io) (verdict_fits plan (has_raced before io) v (slice_get (started before) io)) may.0 in
       let rest =
-      walk events (before ++ e ∷ []) (append_assoc before (e ∷ []) events ∙ same) may.1 (λ so. (mine so).1) final engine kept known covered
+      walk events (before ++ e ∷ []) (append_assoc before (e ∷ []) events ∙ same) may.1 final engine kept known covered
       (said_other plan inline history worker before e kept (λ id. refl) said) calls in (
         rest.0,
         (
           only_if inline (IsOnBytes plan worker (started history) (known_engine engine kept) io v)
-              (λ so. on_bytes before events w io v engine kept same parts.0 parts.1 so (mine so).0 said),
+              (λ so. on_bytes before events w io v engine kept same parts.0 parts.1 so parts.2 said),
           rest.1,
         ),
       )
     where
-      judged_parts : (a b c : Bool) → (a && not b && c) ≡ true → (a ≡ true) × (b ≡ false)
-      judged_parts true false c h = (refl, refl)
+      judged_parts : (a b c : Bool) → (a && not b && c) ≡ true → (a ≡ true) × (b ≡ false) × (c ≡ true)
+      judged_parts true false c h = (refl, refl, h)
       judged_parts true true c h = cc
       judged_parts false b c h = cc
-  walk (End w io outcome ∷ events) before same legal own final engine kept known covered said calls =
+  walk (End w io outcome ∷ events) before same legal final engine kept known covered said calls =
       let e = End w io outcome in
       let may = and_parts (may_happen plan before e) (legal_after plan (before ++ e ∷ []) events) legal in
       let s = ends_started before events w io outcome same may.0 in
       end_goes before events w io outcome s.0 engine final kept s.1 s.2 known covered said (w == worker) refl calls
       (λ next more known' covered' said' calls'.
-      walk events (before ++ e ∷ []) (append_assoc before (e ∷ []) events ∙ same) may.1 own final next more known' covered' said' calls')
+      walk events (before ++ e ∷ []) (append_assoc before (e ∷ []) events ∙ same) may.1 final next more known' covered' said' calls')

@@ -9,7 +9,9 @@ use Rattle.jr_model.specs.Replies.{EngineState}
 use Rattle.jr_model.specs.PlanFacts.{IsPlanned}
 use Rattle.jr_laws_steps.proofs.CountLaws.{started_few}
 use Rattle.jr_laws_steps.proofs.StartedFew.{started_small}
+use Rattle.jr_books.specs.Books.{dones_of}
 use Rattle.jr_desk.specs.DeskState.{DeskState}
+use Rattle.jr_crew.specs.Crews.{AreCallsFor}
 use Rattle.jr_crew.specs.Runs.{IsCovering}
 use Rattle.jr_crew.specs.Turns.{IsBetweenTurns, IsTurn, IsLastTurn}
 use Rattle.jr_crew.specs.Whole.{IsEndedRun, IsRun}
@@ -68,12 +70,13 @@ module _ (plan own : Plan) (history after : List Event) (old engine next : Engin
       last_keeps plan history old engine next planned sofar after here.chosen here.engine
 
 -- between two turns all that was started has come to its end
-pub ended_run : (plan : Plan) (history : List Event) (old engine : EngineState) → IsSoFar plan history old engine → IsEndedRun plan history old engine
-ended_run plan history old engine sofar = record {
+pub ended_run : (plan : Plan) (history : List Event) (old engine : EngineState) → IsSoFar plan history old engine → AreCallsFor true old (dones_of plan true history 0) engine → IsEndedRun plan history old engine
+ended_run plan history old engine sofar called = record {
   legal = sofar.legal;
   settled = record { flown = settled_rests history sofar.settled; judged = settled_judged history sofar.settled };
   alone = sofar.alone;
   unraced = sofar.unraced;
+  called = called;
   calls = sofar.calls;
   failures = sofar.failures;
   tied = λ covering. let tied = sofar.tied covering in (tied.read_back, tied.tied);
@@ -86,6 +89,7 @@ whole_run plan history old engine ended complete = record {
   complete = complete;
   alone = ended.alone;
   unraced = ended.unraced;
+  called = ended.called;
   calls = ended.calls;
   failures = ended.failures;
   tied = ended.tied;

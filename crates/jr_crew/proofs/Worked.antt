@@ -1,7 +1,6 @@
 -- What a worker's own book says of its engine, as it grows and as a whole.
 use Rattle.std.proofs.Common.{◌≡◌, ℕ, ◌+◌, ◌<◌, List, [], ◌∷◌, ◌++◌, length, Bool, true, false, cond, refl, sym, ◌∙◌, ap, subst, arith}
-use Rattle.std.specs.Prelude.{All, ◌&&◌, None, Option, Some, count_by, is_some, map, not, replicate, slice_index_or, take}
-use mathlib.Core.Bool.{beq}
+use Rattle.std.specs.Prelude.{All, ◌&&◌, None, Option, Some, count_by, is_some, map, replicate, slice_index_or, take}
 use Rattle.std.proofs.lemmas.List.{map-append, take_more}
 use Rattle.std.proofs.lemmas.List.Elements.{All-push, All-same}
 use Rattle.jr_model.specs.declared.events.Outcome.{Outcome}
@@ -12,9 +11,12 @@ use Rattle.jr_model.specs.declared.tickets.Ticket.{Ticket}
 use Rattle.jr_engines.specs.Answers.{Answers, AnswerParts, is_failed}
 use Rattle.jr_header.specs.Served.{answer_verdict, asked_with, is_to_judge}
 use Rattle.jr_books.specs.declared.books.Done.{Done}
-use Rattle.jr_crew.specs.Crews.{is_failed_done}
+use Rattle.jr_crew.specs.Crews.{is_failed_done, IsCalledFor, AreCallsFor, IsSaidOf}
+use Rattle.jr_handover.specs.declared.parcel.Parcel.TheVariants.{Check}
 use Rattle.jr_handover.specs.declared.parcel.PassState.{PassState}
-use Rattle.jr_crew.specs.Working.{IsCalledFor, AreCallsFor, IsAnswered, AreAnswered, IsSaidOf, IsDoneOf, AreDone, CanBeServed, handed_on, all_handed_on}
+use Rattle.jr_handover.specs.PassStates.{with_put}
+use Rattle.jr_staff.specs.Parts.{IsPutter, one_part}
+use Rattle.jr_crew.specs.Working.{IsAnswered, AreAnswered, IsDoneOf, AreDone, IsWork, CanBeServed, handed_on, all_handed_on}
 use Rattle.jr_crew.proofs.Counting.{count-cons}
 
 -- one more call
@@ -111,9 +113,50 @@ said_by inline answer (Some verdict) judged saying =
       is = ap (λ (b : Bool). cond b (Some verdict) None) judged;
     }
 
--- what is no other flag is the same
-pub same_flag : (a b : Bool) → not (beq a b) ≡ false → a ≡ b
-same_flag true true no_other = refl
-same_flag true false no_other = cc
-same_flag false true no_other = cc
-same_flag false false no_other = refl
+-- answers behind others
+answered_more : (before : EngineState) (answers : List AnswerParts) (middle : EngineState) (more : List AnswerParts) (after : EngineState) → AreAnswered before answers middle → AreAnswered middle more after → AreAnswered before (answers ++ more) after
+answered_more before [] middle more after are rest = subst (λ (e : EngineState). AreAnswered e more after) are rest
+answered_more before (first ∷ answers) middle more after are rest = (are.0, are.1, answered_more are.0 answers middle more after are.2 rest)
+
+-- what a book has of them
+done_more : (inline : Bool) (answers : List AnswerParts) (old book : List Done) (more : List AnswerParts) (new : List Done) → AreDone inline answers old book → AreDone inline more book new → AreDone inline (answers ++ more) old new
+done_more inline [] old book more new are rest = subst (λ (b : List Done). AreDone inline more b new) are rest
+done_more inline (first ∷ answers) old book more new are rest =
+    (are.0, are.1, done_more inline answers (old ++ are.0 ∷ []) book more new are.2 rest)
+
+-- what is handed on of them
+handed_more : (inline : Bool) (answers more : List AnswerParts) (first : PassState) → all_handed_on inline (answers ++ more) first ≡ all_handed_on inline more (all_handed_on inline answers first)
+handed_more inline [] more first = refl
+handed_more inline (answer ∷ answers) more first = handed_more inline answers more (handed_on inline answer first)
+
+-- nothing is done yet
+pub no_work : (inline : Bool) (engine : EngineState) (pass : PassState) (book : List Done) → book ≡ [] → IsWork inline engine pass book engine pass
+no_work inline engine pass book none = record { answers = []; answered = refl; done = none; handed = refl }
+
+-- more was answered, written, and handed over
+pub worked_on : (inline : Bool) (before : EngineState) (first : PassState) (old : List Done) (middle : EngineState) (pass : PassState) (more : List AnswerParts) (after : EngineState) (new : List Done) (last : PassState) → IsWork inline before first old middle pass → AreAnswered middle more after → AreDone inline more old new → last ≡ all_handed_on inline more pass → IsWork inline before first new after last
+worked_on inline before first old middle pass more after new last work are done handed = record {
+  answers = work.answers ++ more;
+  answered = answered_more before work.answers middle more after work.answered are;
+  done = done_more inline work.answers [] old more new work.done done;
+  handed = handed ∙ ap (all_handed_on inline more) work.handed ∙ sym (handed_more inline work.answers more first);
+}
+
+-- what is handed on is put, and nothing is taken
+one_putter : (inline : Bool) (answer : AnswerParts) (pass : PassState) → IsPutter pass → IsPutter (handed_on inline answer pass)
+one_putter inline answer pass is = by (is_to_judge answer) inline
+  where
+    by : (judged here : Bool) → IsPutter (cond judged (cond here pass (with_put pass (Check answer))) pass)
+    by true true = is
+    by true false = record { parts = is.parts; of = is.of; taken = is.taken }
+    by false here = is
+
+putters : (inline : Bool) (answers : List AnswerParts) (pass : PassState) → IsPutter pass → IsPutter (all_handed_on inline answers pass)
+putters inline [] pass is = is
+putters inline (answer ∷ answers) pass is = putters inline answers (handed_on inline answer pass) (one_putter inline answer pass is)
+
+-- a worker puts and takes nothing
+pub work_puts : (inline : Bool) (before : EngineState) (first : PassState) (book : List Done) (after : EngineState) (last : PassState) → first ≡ one_part → IsWork inline before first book after last → IsPutter last
+work_puts inline before first book after last begins work =
+    subst IsPutter (sym (work.handed ∙ ap (all_handed_on inline work.answers) begins))
+    (putters inline work.answers one_part (record { parts = refl; of = refl; taken = refl }))

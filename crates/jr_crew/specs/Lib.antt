@@ -1,8 +1,5 @@
 pub mod Crews
 pub mod Ends
-pub mod FaultTexts
-pub mod Faults
-pub mod Halts
 pub mod Runs
 pub mod Turns
 pub mod Whole

@@ -8,19 +8,22 @@ use Rattle.jr_model.specs.Races.{has_raced}
 use Rattle.jr_model.specs.Replies.{EngineState}
 use Rattle.jr_tickets.specs.Kept.{tickets_of}
 use Rattle.jr_books.specs.declared.books.Done.{Done}
+use Rattle.jr_books.specs.Books.{dones_of}
 use Rattle.jr_books.specs.Numbers.{judges_inline, is_own_verdict, is_numbered}
 use Rattle.jr_books.specs.Settled.{HasSettled}
-use Rattle.jr_crew.specs.Crews.{IsWorkers}
+use Rattle.jr_crew.specs.Crews.{AreCallsFor, IsWorkers}
 use Rattle.jr_crew.specs.Ends.{ends_of, failed_ends_of}
 use Rattle.jr_crew.specs.Runs.{IsCovering, IsTiedRun}
 
 -- the history is that of a run of one worker over an engine that was so before, and is so after: whole and legal, each event by
--- worker 0, one I/O after another, with a call for each end, and where the engine's memory is known these calls are what was completed
+-- worker 0, one I/O after another, with a call for each end, each verdict that on the bytes of its call's answer, and where the
+-- engine's memory is known these calls are what was completed
 pub record IsRun (plan : Plan) (history : List Event) (before after : EngineState) : Type 0 where
   pub legal : is_legal plan history ≡ true
   pub complete : is_complete plan history ≡ true
   pub alone : list_all (is_numbered 1 0) history ≡ true
   pub unraced : (io : ℕ) → has_raced history io ≡ false
+  pub called : AreCallsFor true before (dones_of plan true history 0) after
   pub calls : after.calls ≡ before.calls + ends_of history
   pub failures : after.failures ≡ before.failures + failed_ends_of history
   pub tied : IsCovering plan before → IsTiedRun plan history before after
@@ -44,6 +47,7 @@ pub record IsEndedRun (plan : Plan) (history : List Event) (before after : Engin
   pub settled : HasSettled history
   pub alone : list_all (is_numbered 1 0) history ≡ true
   pub unraced : (io : ℕ) → has_raced history io ≡ false
+  pub called : AreCallsFor true before (dones_of plan true history 0) after
   pub calls : after.calls ≡ before.calls + ends_of history
   pub failures : after.failures ≡ before.failures + failed_ends_of history
   pub tied : IsCovering plan before → IsTiedRun plan history before after

@@ -1,7 +1,5 @@
--- Internal: what a worker's own book says of the calls of its engine (of this project).
-use Rattle.std.specs.Prelude.{◌≡◌, Bool, true, false, ◌&&◌, List, [], ◌∷◌, ◌++◌, replicate, Option, Some, None, if◌then◌else◌, ⊤}
-use Rattle.jr_model.specs.declared.events.Verdict.{Verdict}
-use Rattle.jr_model.specs.Legal.{is_void}
+-- Internal: what a worker's own book says of the answers of its engine, and what it handed over (of this project).
+use Rattle.std.specs.Prelude.{◌≡◌, Bool, true, List, [], ◌∷◌, ◌++◌, replicate, if◌then◌else◌, ⊤}
 use Rattle.jr_model.specs.declared.tickets.Ticket.{Ticket}
 use Rattle.jr_model.specs.Replies.{EngineState}
 use Rattle.jr_model.specs.Tickets.{ticket_fits}
@@ -9,30 +7,11 @@ use Rattle.jr_engines.specs.Answers.{AnswerParts, Answers}
 use Rattle.jr_handover.specs.declared.parcel.PassState.{PassState}
 use Rattle.jr_handover.specs.declared.parcel.Parcel.TheVariants.{Check}
 use Rattle.jr_handover.specs.PassStates.{with_put}
-use Rattle.jr_header.specs.Served.{ExpectsOwn, asked_with, is_to_judge, answer_verdict}
+use Rattle.jr_header.specs.Served.{ExpectsOwn, asked_with, is_to_judge}
 use Rattle.jr_books.specs.declared.books.Done.{Done}
+use Rattle.jr_crew.specs.Crews.{IsSaidOf}
 use Rattle.jr_crew.specs.declared.held.Started.{Started}
 use Rattle.jr_crew.specs.declared.held.Started.TheVariants as start
-
--- this is said of an answer: nothing where it isn't judged here, and else its verdict, unless the check raced
-pub record IsSaidOf (inline : Bool) (answer : AnswerParts) (verdict : Option Verdict) : Type 0 where
-  pub said : Verdict
-  pub true_of : is_void said ≡ false → said ≡ answer_verdict answer
-  pub is : verdict ≡ (if inline && is_to_judge answer then Some said else None)
-
--- the engine was called once for what was done, with a buffer of zeros or the write's bytes; the outcome is the answer's, and
--- so is the verdict where the worker judges and the check didn't race
-pub record IsCalledFor (inline : Bool) (before : EngineState) (done : Done) (after : EngineState) : Type 0 where
-  pub answer : AnswerParts
-  pub asked : Answers before done.ticket (asked_with done.ticket.kind done.ticket (replicate done.ticket.piece.len 0)) answer after
-  pub outcome : done.outcome ≡ answer.outcome
-  pub verdict : IsSaidOf inline answer done.verdict
-
--- the engine was called for each item of the book, one after another
-abbrev pub AreCallsFor : Bool → EngineState → List Done → EngineState → Type 0
-AreCallsFor inline before [] after = after ≡ before
-AreCallsFor inline before (done ∷ book) after =
-    (middle : EngineState) × IsCalledFor inline before done middle × AreCallsFor inline middle book after
 
 -- what a worker has put into the hand-over once this is settled: one parcel more where a check that ended whole is for others
 abbrev pub handed_on : Bool → AnswerParts → PassState → PassState
@@ -74,3 +53,10 @@ abbrev pub AreDone : Bool → List AnswerParts → List Done → List Done → T
 AreDone inline [] old new = new ≡ old
 AreDone inline (answer ∷ answers) old new =
     (done : Done) × IsDoneOf inline answer done × AreDone inline answers (old ++ done ∷ []) new
+
+-- what a worker did: its engine gave these answers, one after another, its book has them, and those for others it handed over
+pub record IsWork (inline : Bool) (before : EngineState) (old : PassState) (book : List Done) (after : EngineState) (new : PassState) : Type 0 where
+  pub answers : List AnswerParts
+  pub answered : AreAnswered before answers after
+  pub done : AreDone inline answers [] book
+  pub handed : new ≡ all_handed_on inline answers old

@@ -1,36 +1,39 @@
-ghost use Rattle.std.specs.Prelude.{◌≡◌, ℕ, ◌+◌, ◌<◌, ◌++◌, true, [], Some, None, Ok, Err, IfOk, IfErr, OnOk, IsTrue, IsFalse, map};
+ghost use Rattle.std.specs.Prelude.{◌≡◌, ℕ, ◌+◌, ◌<◌, true, false, [], Some, None, Ok, Err, All, Contains, IfOk, IfErr, OnOk, IsTrue, IsFalse, map};
 ghost use Rattle.std.specs.Prelude.{replicate, length, slice_get, slice_index_or};
 ghost use Rattle.std.specs.List.{list_all};
 ghost use Rattle.jr_model.specs.Legal.{is_legal, is_complete};
 ghost use Rattle.jr_tickets.specs.Kept.{tickets_of};
-ghost use Rattle.jr_books.specs.Books.{dones_of};
+ghost use Rattle.jr_model.specs.declared.events.Verdict.{Verdict as GivenVerdict};
+ghost use Rattle.jr_books.specs.Books.{IsVerdictIn, dones_of};
 ghost use Rattle.jr_books.specs.Numbers.{judges_inline, is_own_verdict, is_numbered};
-ghost use Rattle.jr_crew.specs.Faults.{IsRefusal, IsUnmanned};
+ghost use Rattle.jr_staff.specs.Faults.{IsRefusal, IsUnmanned};
 ghost use Rattle.jr_books.specs.Settled.{HasSettled};
 ghost use Rattle.jr_crew.specs.Whole.{IsCrewRun, IsEndedCrewRun};
 ghost use Rattle.jr_handover.specs.declared.parcel.Parcel.TheVariants.{Stop};
-ghost use Rattle.jr_handover.specs.Passes.{pass_state};
-ghost use Rattle.jr_crew.specs.Working.{AreCallsFor};
+ghost use Rattle.jr_handover.specs.PassStates.{first_state};
+ghost use Rattle.jr_handover.specs.Passes.{IsPassOf, pass_state};
+ghost use Rattle.jr_staff.specs.Judging.{IsJudging, IsSourced};
+ghost use Rattle.jr_staff.specs.Parts.{IsLess, IsMore, IsPutter, one_part};
+ghost use Rattle.jr_crew.specs.Working.{IsWork};
 
-use crate::channels::ChannelEnd;
-use crate::faults::RunFault;
-use crate::halts::Halt;
-use crate::held::{Naming, Shared};
-use crate::shares::Shares;
-use crate::staff::{Verifier, Worker, push, room_for, verifiers_for, workers_for};
+use crate::held::Shared;
 use crate::verifier::verify;
-use crate::watch::{StopFlag, Watch, is_asked};
 use crate::work::{Post, work};
-use jr_books::{Account, Done, are_books, are_numbered, are_own_verdicts, has_settled};
+use jr_books::{Account, Done, are_books, are_numbered, are_own_verdicts, are_said, has_settled};
 use jr_desk::Desk;
 use jr_engines::Engine;
-use jr_handover::Handoff;
+use jr_handover::{Handoff, Pass};
+use jr_model::Event;
 use jr_plan::Plan;
+use jr_staff::{
+    Books, ChannelEnd, Ended, Halt, Judged, Judgements, Judges, Naming, RunFault, Seat, Shares,
+    StopFlag, Verifiers, Watch, Worked, Worker, books_of, is_asked, room_for, staff_for,
+};
 use std::alloc::Global;
 use std::marker::Brand;
 use std::sync::Wait;
 use std::thread;
-use std::thread::Threads;
+use std::thread::{PromisedHandle, Threads};
 
 /// What a run gives: the desk with its history, and of each worker its engine and its book.
 #[derive(Drop)]
@@ -67,18 +70,24 @@ pub fn run<R: Threads + Wait + Sync>(
     if engines.is_empty() {
         return Err(RunFault::NoEngine);
     }
-    run_as::<Brand, R>(rt, alloc, plan, engines, watch)
+    let (handoff, pass) = Handoff::new(rt, alloc, room_for(plan.verifiers()))?;
+    run_as::<Brand, R>(rt, alloc, plan, engines, watch, &handoff, pass)
 }
 
-// The same, where the plan has its name.
+// The same, where the plan and the hand-over have their names.
 fn run_as<P: Naming + Send + Sync, R: Threads + Wait + Sync>(
     rt: &R,
     alloc: Global,
     plan: Plan,
     engines: Vec<Box<dyn Engine + Send>>,
     watch: Watch<'_>,
+    handoff: &Handoff,
+    pass: Pass,
 ) -> Result<Ran, RunFault>
-    requires { plan ≡ P.plan }
+    requires plan { plan ≡ P.plan }
+    requires handoff { P.handoff ≡ Some handoff.now }
+    requires pass { IsPassOf handoff.now pass }
+    requires first { pass_state pass ≡ first_state }
     ensures plan { IfOk result (λ ran. ran.desk.plan ≡ plan) }
     ensures ended { IfOk result (λ ran. IsEndedCrewRun plan ran.desk.history (map (λ engine. state engine) engines.items)
         (map (λ engine. state engine) ran.engines.items) (map (λ book. book.items) ran.books.items)) }
@@ -90,13 +99,10 @@ fn run_as<P: Naming + Send + Sync, R: Threads + Wait + Sync>(
 {
     // Its contract says what holds of every plan.
     plan.facts();
-    let wanted = plan.verifiers();
-    let (handoff, pass) = Handoff::new(rt, alloc, room_for(wanted))?;
-    let mut channel = ChannelEnd::new(&handoff, pass);
-    let verifiers = verifiers_for(alloc, engines.len(), wanted, &mut channel)?;
-    let workers = workers_for(alloc, engines, &mut channel)?;
-    let (desk, worked) = run_manned::<P, R>(rt, alloc, plan, workers, verifiers, channel, watch)?;
-    let (engines, books) = gathered(alloc, &desk, watch.stop, worked)?;
+    let channel = ChannelEnd::<P>::new(handoff, pass);
+    let (workers, verifiers) = staff_for(alloc, engines, plan.verifiers(), channel)?;
+    let (desk, ended, judgements) = run_manned::<P, R>(rt, alloc, plan, workers, verifiers, watch)?;
+    let (engines, books) = gathered(alloc, &desk, watch.stop, ended, judgements)?;
     Ok(Ran {
         desk,
         engines,
@@ -104,46 +110,53 @@ fn run_as<P: Naming + Send + Sync, R: Threads + Wait + Sync>(
     })
 }
 
-// Runs a plan that has its name with these workers and verifiers: the desk, and what the workers bring back, where nothing
-// ended the run before its time.
+// Runs a plan that has its name with these workers and verifiers: the desk, and what they bring back, where nothing ended the run
+// before its time.
 fn run_manned<'a, P: Naming + Send + Sync, R: Threads + Wait + Sync>(
     rt: &R,
     alloc: Global,
     plan: Plan,
-    workers: Vec<Worker<'a>>,
-    verifiers: Vec<Verifier<'a>>,
-    channel: ChannelEnd<'a>,
+    workers: Vec<Worker<'a, P>>,
+    verifiers: Verifiers<'a, P>,
     watch: Watch<'_>,
-) -> Result<(Desk, Vec<Worked>), RunFault>
-    requires { plan ≡ P.plan }
-    ensures plan { IfOk result (λ both. both.0.plan ≡ plan) }
-    ensures len { IfOk result (λ both. length both.1.items ≡ length workers.entry.items) }
-    ensures each { IfOk result (λ both. (i : ℕ) (worker : _) (one : _) → i < length workers.entry.items
-        → IfOk (slice_index_or both.1.items i one).book
-        (λ book. AreCallsFor (judges_inline plan) (state (slice_index_or workers.entry.items i worker).engine)
-        book.items (state (slice_index_or both.1.items i one).engine))) }
-    ensures failed { IfErr result (IsRefusal (length verifiers.entry.items)) }
+) -> Result<(Desk, Vec<Ended<P>>, Judgements<'a, P>), RunFault>
+    requires plan { plan ≡ P.plan }
+    requires workers { verifiers.workers ≡ length workers.items }
+    ensures plan { IfOk result (λ all. all.0.plan ≡ plan) }
+    ensures len { IfOk result (λ all. length all.1.items ≡ length workers.entry.items) }
+    ensures workers { IfOk result (λ all. all.2.workers ≡ length all.1.items) }
+    ensures each { IfOk result (λ all. (i : ℕ) (worker : _) (one : _) → i < length workers.entry.items
+        → IfOk (slice_index_or all.1.items i one).1.book
+        (λ book. IsWork (judges_inline plan) (state (slice_index_or workers.entry.items i worker).0) one_part
+        book.items (state (slice_index_or all.1.items i one).0) (pass_state (slice_index_or all.1.items i one).1.part.pass))) }
+    ensures judged { IfOk result (λ all. All (λ one. IfOk one.book (λ book. IsJudging (pass_state one.part.pass) book.items)) all.2.all.items) }
+    ensures failed { IfErr result (IsRefusal (length verifiers.entry.all.items)) }
 {
     let inline = judges_inline(&plan);
     let shares = Shares::new(alloc, &plan, workers.len())?;
     let shared = Shared::<P>::new(Desk::new(alloc, plan)?, shares, watch);
-    let worked = man(rt, &shared, alloc, inline, workers, verifiers, channel);
+    let brought = man(rt, &shared, alloc, inline, workers, verifiers);
     let (desk, halt) = shared.into_parts();
     if let Some(halt) = halt {
         return Err(RunFault::from(halt));
     }
-    Ok((desk, worked?))
+    let (ended, judgements) = brought?;
+    Ok((desk, ended, judgements))
 }
 
-// The engines and the books, where what the workers say that they completed is what the desk holds.
-fn gathered(
+// The engines and the books, where what all threads say is what the desk holds.
+fn gathered<'a, P: Naming>(
     alloc: Global,
     desk: &Desk,
     stop: Option<&StopFlag>,
-    worked: Vec<Worked>,
+    ended: Vec<Ended<P>>,
+    judgements: Judgements<'a, P>,
 ) -> Result<(Vec<Box<dyn Engine + Send>>, Vec<Vec<Done>>), Halt>
-    ensures engines { IfOk result (λ both. both.0.items ≡ map (λ one. one.engine) worked.items) }
-    ensures books { IfOk result (λ both. map Ok both.1.items ≡ map (λ one. one.book) worked.items) }
+    requires workers { judgements.workers ≡ length ended.items }
+    requires ended { All (λ one. IfOk one.1.book (λ book. IsPutter (pass_state one.1.part.pass))) ended.items }
+    requires judged { All (λ one. IfOk one.book (λ book. IsJudging (pass_state one.part.pass) book.items)) judgements.all.items }
+    ensures engines { IfOk result (λ both. both.0.items ≡ map (λ one. one.0) ended.items) }
+    ensures books { IfOk result (λ both. map Ok both.1.items ≡ map (λ one. one.1.book) ended.items) }
     ensures legal { OnOk result (is_legal desk.now.plan desk.now.history ≡ true) }
     ensures settled { OnOk result (HasSettled desk.now.history) }
     ensures complete { stop.entry ≡ None → OnOk result (is_complete desk.now.plan desk.now.history ≡ true) }
@@ -152,11 +165,18 @@ fn gathered(
     ensures each { IfOk result (λ both. (i : ℕ) (book : _) → slice_get both.1.items i ≡ Some book
         → book.items ≡ dones_of desk.now.plan (judges_inline desk.now.plan) desk.now.history i) }
     ensures numbered { IfOk result (λ both. list_all (is_numbered (length both.1.items) desk.now.plan.verifiers) desk.now.history ≡ true) }
+    ensures sourced { judges_inline desk.now.plan ≡ false → OnOk result ((w io : ℕ) (v : GivenVerdict)
+        → Contains desk.now.history (Event.Verdict w io v) → IsSourced (map (λ one. (pass_state one.1.part.pass).put) ended.items) io v) }
 {
     let inline = judges_inline(desk.plan());
-    let (engines, books) = sorted_out(alloc, worked)?;
+    let books = books_of(alloc, ended, judgements)?;
     check(alloc, desk, stop, inline, &books)?;
-    Ok((engines, books))
+    let Books {
+        engines,
+        dones,
+        said: _,
+    } = books;
+    Ok((engines, dones))
 }
 
 // Whether workers judge their own checks.
@@ -166,13 +186,6 @@ fn judges_inline(plan: &Plan) -> bool
     plan.verifiers() == 0
 }
 
-// What a worker brings back: its engine, and what it completed.
-#[derive(Drop)]
-pub struct Worked {
-    pub engine: Box<dyn Engine + Send>,
-    pub book: Result<Vec<Done>, Halt>,
-}
-
 // Lets the verifiers judge and the workers work at once, and waits for them. Once the workers are back, each verifier that was
 // started is told to stop.
 fn man<'a, P: Naming + Send + Sync, R: Threads + Wait + Sync>(
@@ -180,52 +193,87 @@ fn man<'a, P: Naming + Send + Sync, R: Threads + Wait + Sync>(
     shared: &Shared<'_, P>,
     alloc: Global,
     inline: bool,
-    workers: Vec<Worker<'a>>,
-    verifiers: Vec<Verifier<'a>>,
-    channel: ChannelEnd<'a>,
-) -> Result<Vec<Worked>, RunFault>
-    ensures failed { IfErr result (IsUnmanned (length verifiers.entry.items)) }
-    ensures len { IfOk result (λ worked. length worked.items ≡ length workers.entry.items) }
-    ensures each { IfOk result (λ worked. (i : ℕ) (worker : _) (one : _) → i < length workers.entry.items
-        → IfOk (slice_index_or worked.items i one).book
-        (λ book. AreCallsFor inline (state (slice_index_or workers.entry.items i worker).engine)
-        book.items (state (slice_index_or worked.items i one).engine))) }
+    workers: Vec<Worker<'a, P>>,
+    verifiers: Verifiers<'a, P>,
+) -> Result<(Vec<Ended<P>>, Judgements<'a, P>), RunFault>
+    requires { verifiers.workers ≡ length workers.items }
+    ensures failed { IfErr result (IsUnmanned (length verifiers.entry.all.items)) }
+    ensures len { IfOk result (λ both. length both.0.items ≡ length workers.entry.items) }
+    ensures workers { IfOk result (λ both. both.1.workers ≡ length both.0.items) }
+    ensures each { IfOk result (λ both. (i : ℕ) (worker : _) (one : _) → i < length workers.entry.items
+        → IfOk (slice_index_or both.0.items i one).1.book
+        (λ book. IsWork inline (state (slice_index_or workers.entry.items i worker).0) one_part
+        book.items (state (slice_index_or both.0.items i one).0) (pass_state (slice_index_or both.0.items i one).1.part.pass))) }
+    ensures judged { IfOk result (λ both. All (λ one. IfOk one.book (λ book. IsJudging (pass_state one.part.pass) book.items)) both.1.all.items) }
 {
     thread::scope(
         thread::scope_env(),
         rt,
-        move |scope| -> Result<Vec<Worked>, RunFault>
-            ensures failed { IfErr result (IsUnmanned (length verifiers.entry.items)) }
-            ensures len { IfOk result (λ worked. length worked.items ≡ length workers.entry.items) }
-            ensures each { IfOk result (λ worked. (i : ℕ) (worker : _) (one : _) → i < length workers.entry.items
-                → IfOk (slice_index_or worked.items i one).book
-                (λ book. AreCallsFor inline (state (slice_index_or workers.entry.items i worker).engine)
-                book.items (state (slice_index_or worked.items i one).engine))) }
+        move |scope| -> Result<(Vec<Ended<P>>, Judgements<P>), RunFault>
+            requires workers { verifiers.workers ≡ length workers.items }
+            requires whole { IsLess (verifiers.workers + length verifiers.all.items) first_state (pass_state verifiers.channel.pass) }
+            ensures failed { IfErr result (IsUnmanned (length verifiers.entry.all.items)) }
+            ensures len { IfOk result (λ both. length both.0.items ≡ length workers.entry.items) }
+            ensures workers { IfOk result (λ both. both.1.workers ≡ length both.0.items) }
+            ensures each { IfOk result (λ both. (i : ℕ) (worker : _) (one : _) → i < length workers.entry.items
+                → IfOk (slice_index_or both.0.items i one).1.book
+                (λ book. IsWork inline (state (slice_index_or workers.entry.items i worker).0) one_part
+                book.items (state (slice_index_or both.0.items i one).0) (pass_state (slice_index_or both.0.items i one).1.part.pass))) }
+            ensures judged { IfOk result (λ both. All (λ one. IfOk one.book (λ book. IsJudging (pass_state one.part.pass) book.items)) both.1.all.items) }
         {
+            let Verifiers {
+                all,
+                channel,
+                workers: count,
+            } = verifiers;
             let mut channel = channel;
-            let wanted = verifiers.len();
-            let mut started: usize = 0;
-            for verifier in verifiers {
-                let Verifier { number, channel } = verifier;
-                if scope
-                    .spawn(move || verify(rt, shared, alloc, number, channel))
-                    .is_ok()
-                {
-                    started = started.saturating_add(1);
+            let wanted = all.len();
+            let mut started = Vec::with_capacity(alloc, wanted)?;
+            for verifier in all {
+                let judging = scope.spawn_with(
+                    Judges,
+                    move || -> Judged<P>
+                        ensures { IfOk result.book (λ book. IsJudging (pass_state result.part.pass) book.items) }
+                    { verify(rt, shared, alloc, verifier) },
+                );
+                if let Ok(handle) = judging {
+                    started.push_reserved(handle);
                 }
             }
-            // (where none is wanted, none can be wanting)
-            let are_judged = wanted == 0 || started == wanted;
-            let worked = work_all(rt, shared, alloc, inline, workers, are_judged);
-            stop_all(rt, &mut channel, started);
-            worked
+            let are_judged = started.len() == wanted;
+            let ended = work_all(rt, shared, alloc, inline, workers, are_judged);
+            stop_all(rt, &mut channel, started.len());
+            let judged = join_all(rt, started);
+            Ok((
+                ended?,
+                Judgements {
+                    all: judged?,
+                    channel,
+                    workers: count,
+                },
+            ))
         },
     )
 }
 
+// Waits for the verifiers.
+fn join_all<P: Naming, R: Threads>(
+    rt: &R,
+    started: Vec<PromisedHandle<Judged<P>, Judges>>,
+) -> Result<Vec<Judged<P>>, RunFault>
+    ensures len { IfOk result (λ judged. length judged.items ≡ length started.items) }
+    ensures judged { IfOk result (λ judged. All (λ one. IfOk one.book (λ book. IsJudging (pass_state one.part.pass) book.items)) judged.items) }
+    ensures memory { IfErr result (λ fault. fault ≡ RunFault.Memory) }
+{
+    match thread::join_promised(rt, started) {
+        Ok(judged) => Ok(judged),
+        Err(_) => Err(RunFault::Memory),
+    }
+}
+
 // Tells so many verifiers that nothing more comes.
-fn stop_all<R: Wait>(rt: &R, channel: &mut ChannelEnd<'_>, verifiers: usize)
-    ensures { (pass_state channel.new.pass).put ≡ (pass_state channel.old.pass).put ++ replicate verifiers Stop }
+fn stop_all<P: Naming, R: Wait>(rt: &R, channel: &mut ChannelEnd<'_, P>, verifiers: usize)
+    ensures { IsMore 0 (replicate verifiers Stop) [] (pass_state channel.old.pass) (pass_state channel.new.pass) }
 {
     for told in 0..verifiers {
         channel.stop(rt);
@@ -238,28 +286,29 @@ fn work_all<'a, P: Naming + Send + Sync, R: Threads + Wait + Sync>(
     shared: &Shared<'_, P>,
     alloc: Global,
     inline: bool,
-    workers: Vec<Worker<'a>>,
+    workers: Vec<Worker<'a, P>>,
     are_judged: bool,
-) -> Result<Vec<Worked>, RunFault>
+) -> Result<Vec<Ended<P>>, RunFault>
     ensures thread { IsFalse are_judged → result ≡ Err RunFault.Thread }
     ensures memory { IsTrue are_judged → IfErr result (λ fault. fault ≡ RunFault.Memory) }
-    ensures len { IfOk result (λ worked. length worked.items ≡ length workers.entry.items) }
-    ensures each { IfOk result (λ worked. (i : ℕ) (worker : _) (one : _) → i < length workers.entry.items
-        → IfOk (slice_index_or worked.items i one).book
-        (λ book. AreCallsFor inline (state (slice_index_or workers.entry.items i worker).engine)
-        book.items (state (slice_index_or worked.items i one).engine))) }
+    ensures len { IfOk result (λ ended. length ended.items ≡ length workers.entry.items) }
+    ensures each { IfOk result (λ ended. (i : ℕ) (worker : _) (one : _) → i < length workers.entry.items
+        → IfOk (slice_index_or ended.items i one).1.book
+        (λ book. IsWork inline (state (slice_index_or workers.entry.items i worker).0) one_part
+        book.items (state (slice_index_or ended.items i one).0) (pass_state (slice_index_or ended.items i one).1.part.pass))) }
 {
     if !are_judged {
         return Err(RunFault::Thread);
     }
-    let worked = thread::map_vec(
+    let ended = thread::map_vec(
         rt,
         workers,
-        &|worker: Worker| -> Worked
-            ensures { IfOk result.book (λ book. AreCallsFor inline (state worker.entry.engine) book.items (state result.engine)) }
+        &|worker: Worker<P>| -> Ended<P>
+            ensures { IfOk result.1.book (λ book. IsWork inline (state worker.entry.0) one_part book.items
+                (state result.0) (pass_state result.1.part.pass)) }
         { worked_by(rt, shared, alloc, inline, worker) },
     )?;
-    Ok(worked)
+    Ok(ended)
 }
 
 // Lets one worker work.
@@ -268,15 +317,13 @@ fn worked_by<'a, P: Naming, R: Wait>(
     shared: &Shared<'_, P>,
     alloc: Global,
     inline: bool,
-    worker: Worker<'a>,
-) -> Worked
-    ensures { IfOk result.book (λ book. AreCallsFor inline (state worker.entry.engine) book.items (state result.engine)) }
+    worker: Worker<'a, P>,
+) -> Ended<P>
+    ensures { IfOk result.1.book (λ book. IsWork inline (state worker.entry.0) one_part book.items
+        (state result.0) (pass_state result.1.part.pass)) }
 {
-    let Worker {
-        number,
-        engine,
-        channel,
-    } = worker;
+    let (engine, seat) = worker;
+    let Seat { number, channel } = seat;
     let mut engine = engine;
     let mut channel = channel;
     let post = Post {
@@ -286,52 +333,39 @@ fn worked_by<'a, P: Naming, R: Wait>(
         number,
     };
     let book = work(rt, &post, &mut channel, &mut *engine);
-    Worked { engine, book }
+    let part = channel.into_part();
+    (engine, Worked { book, part })
 }
 
-// The engines and the books, where no worker met a fault.
-fn sorted_out(
-    alloc: Global,
-    worked: Vec<Worked>,
-) -> Result<(Vec<Box<dyn Engine + Send>>, Vec<Vec<Done>>), Halt>
-    ensures engines { IfOk result (λ both. both.0.items ≡ map (λ one. one.engine) worked.items) }
-    ensures books { IfOk result (λ both. map Ok both.1.items ≡ map (λ one. one.book) worked.items) }
-{
-    let mut engines = Vec::new(alloc);
-    let mut books = Vec::new(alloc);
-    for one in worked {
-        let Worked { engine, book } = one;
-        push(&mut engines, engine)?;
-        push(&mut books, book?)?;
-    }
-    Ok((engines, books))
-}
-
-// Compares what the workers say that they completed with what the desk holds.
+// Compares what all threads say with what the desk holds.
 fn check(
     alloc: Global,
     desk: &Desk,
     stop: Option<&StopFlag>,
     inline: bool,
-    books: &[Vec<Done>],
+    books: &Books,
 ) -> Result<(), Halt>
     ensures legal { OnOk result (is_legal desk.now.plan desk.now.history ≡ true) }
     ensures settled { OnOk result (HasSettled desk.now.history) }
     ensures complete { stop.entry ≡ None → OnOk result (is_complete desk.now.plan desk.now.history ≡ true) }
     ensures own { IsTrue inline
         → OnOk result (list_all (is_own_verdict (tickets_of desk.now.plan desk.now.history)) desk.now.history ≡ true) }
-    ensures each { OnOk result ((i : ℕ) (book : _) → slice_get books.now i ≡ Some book
+    ensures each { OnOk result ((i : ℕ) (book : _) → slice_get books.now.dones.items i ≡ Some book
         → book.items ≡ dones_of desk.now.plan inline desk.now.history i) }
-    ensures numbered { OnOk result (list_all (is_numbered (length books.now) desk.now.plan.verifiers) desk.now.history ≡ true) }
+    ensures numbered { OnOk result (list_all (is_numbered (length books.now.dones.items) desk.now.plan.verifiers) desk.now.history ≡ true) }
+    ensures said { IsFalse inline → OnOk result (All (IsVerdictIn books.now.said.items (λ book. book.items)) desk.now.history) }
 {
     let account = Account::new(desk.plan(), desk.history(), desk.tickets());
     if !has_ended(desk, &account, stop) || (inline && !are_own_verdicts(&account)) {
         return Err(Halt::Books);
     }
-    if !are_numbered(&account, books.len()) {
+    if !are_numbered(&account, books.dones.len()) {
         return Err(Halt::Books);
     }
-    if !are_books(alloc, &account, inline, books)? {
+    if !are_books(alloc, &account, inline, &books.dones)? {
+        return Err(Halt::Books);
+    }
+    if !inline && !are_said(alloc, desk.history(), books.dones.len(), &books.said)? {
         return Err(Halt::Books);
     }
     Ok(())

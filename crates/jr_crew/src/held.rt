@@ -4,35 +4,19 @@ ghost use Rattle.jr_model.specs.Machine.{said_of};
 ghost use Rattle.jr_model.specs.Races.{has_raced};
 ghost use Rattle.jr_header.specs.Served.{answer_verdict};
 ghost use Rattle.jr_board.specs.Takes.{HandsOutOwn, is_fitting};
-ghost use Rattle.jr_crew.specs.Halts.{first_cause};
+ghost use Rattle.jr_staff.specs.Halts.{first_cause};
 ghost use Rattle.jr_crew.specs.Working.{CanBeServed, CanStart};
 
-use crate::halts::Halt;
-use crate::progress::{note_start, note_verdict};
 use crate::settled::{Settled, Told};
-use crate::shares::{MOST_BYTES, MOST_IOS, Shares};
-use crate::staff::push;
-use crate::watch::{Watch, is_asked};
 use jr_desk::{Desk, DeskFault, Take};
 use jr_header::{Ruling, Served};
 use jr_model::{Event, Ticket, Verdict};
-use std::marker::{Brand, PhantomData};
+use jr_staff::{
+    Halt, MOST_BYTES, MOST_IOS, Naming, Shares, Watch, is_asked, note_start, note_verdict, push,
+};
+use std::marker::PhantomData;
 use std::sync::{Condvar, Mutex, MutexGuard, Wait};
 use std::thread;
-
-// The plan of a run. Each run picks its own.
-pub trait Naming {
-    ghost use Rattle.jr_model.specs.Plan.{Plan};
-
-    ghost plan: { Plan };
-}
-
-impl Naming for Brand {
-    ghost use Rattle.std.specs.Prelude.{[]};
-    ghost use Rattle.jr_model.specs.declared.workloads.EngineKind.TheVariants as kind;
-
-    ghost plan = { record { clones = []; files = []; engine = kind.Null; verifiers = 0 } };
-}
 
 // What lies under the lock: the desk of that plan, why the run was ended before its time, if it was, how many I/Os and checks workers
 // have in hand, and how many workers wait for some.
@@ -70,9 +54,16 @@ impl<P: Naming> Held<P> {
     {
         self.end(one.served)?;
         self.in_hand = self.in_hand.saturating_sub(1);
+        self.judge_one(worker, one)
+    }
+
+    // Takes in the verdict, where there is a ruling.
+    fn judge_one<'a>(&mut self, by: u32, one: &Settled<'a>) -> Result<Told<'a>, DeskFault>
+        ensures { IfOk result (λ told. told.served.now ≡ one.now.served.now) }
+    {
         let said = match &one.ruling {
             None => None,
-            Some(ruling) => Some(self.judge(worker, ruling)?),
+            Some(ruling) => Some(self.judge(by, ruling)?),
         };
         Ok(Told {
             served: one.served,
@@ -213,7 +204,8 @@ impl<'p, P: Naming> Shared<'p, P> {
         tickets: &mut Vec<Ticket>,
     ) -> Result<Step, Halt>
         requires { All CanBeServed tickets.old.items }
-        ensures { OnOk result (All CanBeServed tickets.new.items) }
+        ensures next { OnOk result (All CanBeServed tickets.new.items) }
+        ensures memory { IfErr result (λ halt. halt ≡ Halt.Memory) }
     {
         let mut held = self.enter(rt);
         for _ in rt.forever() {
@@ -261,7 +253,8 @@ impl<'p, P: Naming> Shared<'p, P> {
         tickets: &mut Vec<Ticket>,
     ) -> Result<Step, Halt>
         requires { All CanBeServed tickets.old.items }
-        ensures { OnOk result (All CanBeServed tickets.new.items) }
+        ensures next { OnOk result (All CanBeServed tickets.new.items) }
+        ensures memory { IfErr result (λ halt. halt ≡ Halt.Memory) }
     {
         let step = self.take_share(held, worker, tickets)?;
         if let Step::End = step {
@@ -279,7 +272,8 @@ impl<'p, P: Naming> Shared<'p, P> {
         tickets: &mut Vec<Ticket>,
     ) -> Result<Step, Halt>
         requires { All CanBeServed tickets.old.items }
-        ensures { OnOk result (All CanBeServed tickets.new.items) }
+        ensures next { OnOk result (All CanBeServed tickets.new.items) }
+        ensures memory { IfErr result (λ halt. halt ≡ Halt.Memory) }
     {
         let mut bytes: u64 = 0;
         for taken in 0..MOST_IOS {
@@ -310,7 +304,8 @@ impl<'p, P: Naming> Shared<'p, P> {
 
     // Starts one I/O or check, if one may be started.
     fn start(&self, held: &mut Held<P>, worker: u32) -> Result<Started, Halt>
-        ensures { IfOk result CanStart }
+        ensures can { IfOk result CanStart }
+        ensures memory { IfErr result (λ halt. halt ≡ Halt.Memory) }
     {
         if is_asked(self.watch.stop) {
             return Ok(Started::Nothing(Step::End));
@@ -329,14 +324,21 @@ impl<'p, P: Naming> Shared<'p, P> {
     }
 
     // Takes in the verdicts on checks, one after another.
-    pub fn judge<R: Wait>(&self, rt: &R, by: u32, settled: &[Settled<'_>]) -> Result<(), Halt> {
+    pub fn judge<'a, R: Wait>(
+        &self,
+        rt: &R,
+        by: u32,
+        settled: &[Settled<'a>],
+        told: &mut Vec<Told<'a>>,
+    ) -> Result<(), Halt>
+        ensures { OnOk result (map (λ one. one.served.now) told.new.items
+            ≡ map (λ one. one.served.now) told.old.items ++ map (λ one. one.served.now) settled.now) }
+    {
         let mut held = self.enter(rt);
         for one in settled {
-            let Some(ruling) = &one.ruling else {
-                return Err(Halt::Books);
-            };
-            let said = held.judge(by, ruling)?;
-            note_verdict(self.watch.progress, one.served.ticket().piece.len, said);
+            let said = held.judge_one(by, one)?;
+            note_said(&self.watch, &said);
+            push(told, said)?;
         }
         self.changed.notify_all();
         Ok(())

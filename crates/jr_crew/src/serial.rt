@@ -9,15 +9,14 @@ ghost use Rattle.jr_crew.specs.Runs.{IsFresh};
 ghost use Rattle.jr_crew.specs.Turns.{IsBetweenTurns, IsOpen, IsNext, IsCarriedOut, IsTurn, IsLastTurn, judged_by};
 ghost use Rattle.jr_crew.specs.Whole.{IsRun, IsEndedRun};
 
-use crate::faults::RunFault;
-use crate::progress::{Progress, note_start, note_verdict};
-use crate::rooms::make_room;
-use crate::watch::{StopFlag, Watch, is_asked};
 use jr_desk::{Desk, Take};
 use jr_engines::Engine;
 use jr_header::{Served, rule, serve_own};
 use jr_model::{Event, Ticket};
 use jr_plan::Plan;
+use jr_staff::{
+    Progress, RunFault, StopFlag, Watch, is_asked, make_room, note_start, note_verdict,
+};
 use std::alloc::Global;
 use std::mem;
 

@@ -1,14 +1,15 @@
-ghost use Rattle.std.specs.Prelude.{◌≡◌, ◌++◌, ◌&&◌, false, map, OnOk, Some, None, is_some, if◌then◌else◌};
+ghost use Rattle.std.specs.Prelude.{◌≡◌, ◌++◌, ◌&&◌, All, List, false, map, IsTrue, OnOk, Some, None, is_some, if◌then◌else◌};
 ghost use Rattle.jr_model.specs.declared.events.Verdict.{Verdict};
 ghost use Rattle.jr_model.specs.Legal.{is_void};
+ghost use Rattle.jr_handover.specs.declared.parcel.Parcel.{Parcel};
 ghost use Rattle.jr_header.specs.Served.{answer_verdict, is_to_judge};
+ghost use Rattle.jr_staff.specs.Judging.{AreChecksOf, IsSaidOfOne};
 ghost use Rattle.jr_crew.specs.Working.{AreDone};
 
-use crate::halts::Halt;
-use crate::staff::push;
-use jr_books::Done;
+use jr_books::{Done, Said};
 use jr_header::{Ruling, Served, rule};
 use jr_model::Verdict;
+use jr_staff::{Halt, push};
 
 // A ticket that was carried out, with the ruling on it where it is judged here and is a check that ended whole.
 #[derive(Drop)]
@@ -70,7 +71,7 @@ pub(crate) fn note_all(inline: bool, told: &[Told<'_>], book: &mut Vec<Done>) ->
     ensures { OnOk result (AreDone inline (map (λ one. one.served.now) told.now) book.old.items book.new.items) }
 {
     for one in told {
-        if one.inline != inline {
+        if !is_same_flag(one.inline, inline) {
             return Err(Halt::Books);
         }
         let done = Done {
@@ -79,6 +80,30 @@ pub(crate) fn note_all(inline: bool, told: &[Told<'_>], book: &mut Vec<Done>) ->
             verdict: one.said,
         };
         push(book, done)?;
+    }
+    Ok(())
+}
+
+fn is_same_flag(a: bool, b: bool) -> bool
+    ensures { IsTrue result → a ≡ b }
+{
+    match (a, b) {
+        (true, true) | (false, false) => true,
+        (true, false) | (false, true) => false,
+    }
+}
+
+// Writes what the desk has taken in into a verifier's book.
+pub(crate) fn note_said(told: &[Told<'_>], book: &mut Vec<Said>) -> Result<(), Halt>
+    ensures { OnOk result ((parcels : List Parcel) → AreChecksOf parcels (map (λ one. one.served.now) told.now)
+        → All (IsSaidOfOne parcels) book.old.items → All (IsSaidOfOne parcels) book.new.items) }
+{
+    for one in told {
+        let Some(verdict) = one.said else {
+            return Err(Halt::Books);
+        };
+        let io = one.served.ticket().id;
+        push(book, Said { io, verdict })?;
     }
     Ok(())
 }

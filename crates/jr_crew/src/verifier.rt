@@ -1,10 +1,15 @@
-use crate::channels::ChannelEnd;
-use crate::halts::Halt;
-use crate::held::{Naming, Shared};
-use crate::settled::settle_all;
-use crate::staff::push;
+ghost use Rattle.std.specs.Prelude.{◌≡◌, [], All, Contains, IfOk, List, OnOk};
+ghost use Rattle.jr_handover.specs.declared.parcel.Parcel.{Parcel};
+ghost use Rattle.jr_handover.specs.Passes.{pass_state};
+ghost use Rattle.jr_staff.specs.Judging.{AreChecksOf, IsJudging, IsSaidOfOne};
+ghost use Rattle.jr_staff.specs.Parts.{IsTaker, one_part};
+
+use crate::held::Shared;
+use crate::settled::{note_said, settle_all};
+use jr_books::Said;
 use jr_handover::Parcel;
 use jr_header::Served;
+use jr_staff::{ChannelEnd, Halt, Judged, Naming, Verifier, push};
 use std::alloc::Global;
 use std::sync::Wait;
 
@@ -17,16 +22,23 @@ pub(crate) fn verify<P: Naming, R: Wait>(
     rt: &R,
     shared: &Shared<'_, P>,
     alloc: Global,
-    number: u32,
-    channel: ChannelEnd<'_>,
-) {
+    verifier: Verifier<'_, P>,
+) -> Judged<P>
+    ensures { IfOk result.book (λ book. IsJudging (pass_state result.part.pass) book.items) }
+{
+    let Verifier { number, channel } = verifier;
     let mut channel = channel;
     let mut goes_on = true;
-    if let Err(halt) = work(rt, shared, alloc, number, &mut channel, &mut goes_on) {
-        shared.stop(rt, halt);
+    let book = work(rt, shared, alloc, number, &mut channel, &mut goes_on);
+    if let Err(halt) = &book {
+        shared.stop(rt, *halt);
         if goes_on {
             drop_all(rt, &mut channel);
         }
+    }
+    Judged {
+        book,
+        part: channel.into_part(),
     }
 }
 
@@ -36,27 +48,35 @@ fn work<P: Naming, R: Wait>(
     shared: &Shared<'_, P>,
     alloc: Global,
     number: u32,
-    channel: &mut ChannelEnd<'_>,
+    channel: &mut ChannelEnd<'_, P>,
     goes_on: &mut bool,
-) -> Result<(), Halt> {
+) -> Result<Vec<Said>, Halt>
+    requires { pass_state channel.old.pass ≡ one_part }
+    ensures { IfOk result (λ book. IsJudging (pass_state channel.new.pass) book.items) }
+{
     let mut served = Vec::new(alloc);
+    let mut book = Vec::new(alloc);
     for _ in rt.forever() {
         served.clear();
         *goes_on = gather(rt, channel, &mut served)?;
-        judge(rt, shared, alloc, number, &served)?;
+        judge(rt, shared, alloc, number, &served, &mut book)?;
         if !*goes_on {
-            return Ok(());
+            return Ok(book);
         }
     }
     unreachable!()
 }
 
 // Takes what was handed over, up to so many checks. It waits for the first of them alone. A stop is the last thing that it takes.
-fn gather<R: Wait>(
+fn gather<P: Naming, R: Wait>(
     rt: &R,
-    channel: &mut ChannelEnd<'_>,
+    channel: &mut ChannelEnd<'_, P>,
     served: &mut Vec<Served>,
-) -> Result<bool, Halt> {
+) -> Result<bool, Halt>
+    requires { served.old.items ≡ [] }
+    ensures taker { IsTaker (pass_state channel.old.pass) (pass_state channel.new.pass) }
+    ensures checks { OnOk result (AreChecksOf (pass_state channel.new.pass).taken served.new.items) }
+{
     let mut next = channel.take(rt);
     for _ in 1..MOST_CHECKS {
         if !keep(next, served)? {
@@ -71,7 +91,10 @@ fn gather<R: Wait>(
 }
 
 // Puts a check to the others; a stop is none.
-fn keep(parcel: Parcel, served: &mut Vec<Served>) -> Result<bool, Halt> {
+fn keep(parcel: Parcel, served: &mut Vec<Served>) -> Result<bool, Halt>
+    ensures { OnOk result ((parcels : List Parcel) → Contains parcels parcel
+        → AreChecksOf parcels served.old.items → AreChecksOf parcels served.new.items) }
+{
     match parcel {
         Parcel::Check(one) => {
             push(served, one)?;
@@ -81,23 +104,29 @@ fn keep(parcel: Parcel, served: &mut Vec<Served>) -> Result<bool, Halt> {
     }
 }
 
-// Judges checks with no lock held, and tells the desk all at once.
+// Judges checks with no lock held, tells the desk all at once, and writes what it said into the book.
 fn judge<P: Naming, R: Wait>(
     rt: &R,
     shared: &Shared<'_, P>,
     alloc: Global,
     number: u32,
     served: &[Served],
-) -> Result<(), Halt> {
+    book: &mut Vec<Said>,
+) -> Result<(), Halt>
+    ensures { OnOk result ((parcels : List Parcel) → AreChecksOf parcels served.now
+        → All (IsSaidOfOne parcels) book.old.items → All (IsSaidOfOne parcels) book.new.items) }
+{
     if served.is_empty() {
         return Ok(());
     }
     let mut settled = Vec::new(alloc);
     settle_all(true, served, &mut settled)?;
-    shared.judge(rt, number, &settled)
+    let mut told = Vec::with_capacity(alloc, settled.len())?;
+    shared.judge(rt, number, &settled, &mut told)?;
+    note_said(&told, book)
 }
 
-fn drop_all<R: Wait>(rt: &R, channel: &mut ChannelEnd<'_>) {
+fn drop_all<P: Naming, R: Wait>(rt: &R, channel: &mut ChannelEnd<'_, P>) {
     for _ in rt.forever() {
         if let Parcel::Stop = channel.take(rt) {
             return;

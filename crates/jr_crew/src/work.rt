@@ -3,18 +3,16 @@ ghost use Rattle.jr_model.specs.Replies.{EngineState};
 ghost use Rattle.jr_model.specs.Tickets.{ticket_fits};
 ghost use Rattle.jr_handover.specs.Passes.{pass_state};
 ghost use Rattle.jr_header.specs.Served.{ExpectsOwn};
-ghost use Rattle.jr_crew.specs.Working.{AreAnswered, AreCallsFor, AreDone, CanBeServed, IsAnswered, all_handed_on};
+ghost use Rattle.jr_handover.specs.declared.parcel.PassState.{PassState};
+ghost use Rattle.jr_crew.specs.Working.{AreAnswered, AreDone, CanBeServed, IsAnswered, IsWork, all_handed_on};
 
-use crate::channels::ChannelEnd;
-use crate::halts::Halt;
-use crate::held::{Naming, Shared, Step};
-use crate::rooms::make_room;
+use crate::held::{Shared, Step};
 use crate::settled::{note_all, settle_all};
-use crate::staff::push;
 use jr_books::Done;
 use jr_engines::Engine;
 use jr_header::{Served, serve_own};
 use jr_model::Ticket;
+use jr_staff::{ChannelEnd, Halt, Naming, make_room, push};
 use std::alloc::Global;
 use std::sync::Wait;
 
@@ -32,10 +30,11 @@ pub struct Post<'a, P: Naming> {
 pub(crate) fn work<P: Naming, R: Wait>(
     rt: &R,
     post: &Post<'_, P>,
-    channel: &mut ChannelEnd<'_>,
+    channel: &mut ChannelEnd<'_, P>,
     engine: &mut dyn Engine,
 ) -> Result<Vec<Done>, Halt>
-    ensures { IfOk result (λ book. AreCallsFor post.now.inline (state engine.old) book.items (state engine.new)) }
+    ensures { IfOk result (λ book. IsWork post.now.inline (state engine.old) (pass_state channel.old.pass) book.items
+        (state engine.new) (pass_state channel.new.pass)) }
 {
     let book = work_on(rt, post, channel, engine);
     if let Err(halt) = &book {
@@ -55,10 +54,11 @@ pub struct Load {
 fn work_on<P: Naming, R: Wait>(
     rt: &R,
     post: &Post<'_, P>,
-    channel: &mut ChannelEnd<'_>,
+    channel: &mut ChannelEnd<'_, P>,
     engine: &mut dyn Engine,
 ) -> Result<Vec<Done>, Halt>
-    ensures { IfOk result (λ book. AreCallsFor post.now.inline (state engine.old) book.items (state engine.new)) }
+    ensures { IfOk result (λ book. IsWork post.now.inline (state engine.old) (pass_state channel.old.pass) book.items
+        (state engine.new) (pass_state channel.new.pass)) }
 {
     let mut load = Load {
         tickets: Vec::new(post.alloc),
@@ -78,17 +78,18 @@ fn work_on<P: Naming, R: Wait>(
 
 // Carries out what a worker took with no lock held, tells the desk all of it at once, and takes what is next. Checks for others are
 // handed over before the worker may wait.
-#[tactic(auto, using(crate::proofs::Worked::calls_done))]
+#[tactic(auto, using(crate::proofs::Worked::worked_on))]
 fn carry_out<P: Naming, R: Wait>(
     rt: &R,
     post: &Post<'_, P>,
-    channel: &mut ChannelEnd<'_>,
+    channel: &mut ChannelEnd<'_, P>,
     engine: &mut dyn Engine,
     load: &mut Load,
 ) -> Result<Step, Halt>
     requires { All CanBeServed load.old.tickets.items }
-    ensures called { OnOk result ((before : EngineState) → AreCallsFor post.now.inline before load.old.book.items (state engine.old)
-        → AreCallsFor post.now.inline before load.new.book.items (state engine.new)) }
+    ensures worked { OnOk result ((before : EngineState) (first : PassState)
+        → IsWork post.now.inline before first load.old.book.items (state engine.old) (pass_state channel.old.pass)
+        → IsWork post.now.inline before first load.new.book.items (state engine.new) (pass_state channel.new.pass)) }
     ensures next { OnOk result (All CanBeServed load.new.tickets.items) }
 {
     let served = serve_all(post.alloc, engine, &load.tickets, &mut load.buffers)?;
@@ -156,10 +157,10 @@ fn settle<P: Naming, R: Wait>(
 
 // Hands over the checks that others judge, and keeps all other buffers.
 #[tactic(auto, using(crate::proofs::Worked::handed_all))]
-fn part_with<R: Wait>(
+fn part_with<P: Naming, R: Wait>(
     rt: &R,
     inline: bool,
-    channel: &mut ChannelEnd<'_>,
+    channel: &mut ChannelEnd<'_, P>,
     served: Vec<Served>,
     buffers: &mut Vec<Vec<u8>>,
 ) -> Result<(), Halt>

@@ -54,7 +54,7 @@ impl Handoff {
         Ok(Pass { seat })
     }
 
-    /// Takes in the pass of a thread that has ended: its lists come behind this one's. Runs don't need it, tests call it.
+    /// Takes in the pass of a thread that has ended: its lists come behind this one's.
     pub fn join(&self, pass: &mut Pass, other: Pass)
         requires pass { IsPassOf self.now pass.old }
         requires other { IsPassOf self.now other }
@@ -139,7 +139,7 @@ impl Handoff {
         }
     }
 
-    /// What holds once every pass was joined into this one. Runs don't need it, tests call it.
+    /// What holds once every pass was joined into this one.
     pub fn account(&self, pass: &mut Pass)
         requires pass { IsPassOf self.now pass.old }
         requires whole { IsWhole (pass_state pass.old) }

@@ -4,6 +4,7 @@ use Rattle.jr_model.specs.Legal.{is_complete}
 use Rattle.jr_desk.specs.DeskState.{DeskState}
 use Rattle.jr_crew.proofs.Running.{first_sofar, between, few_calls, goes_on, leaves_less, comes_to_end, ended_run, whole_run, left_incomplete}
 use Rattle.jr_crew.proofs.Serially.{serial_first, serial_turn, serial_last}
+use Rattle.jr_crew.proofs.Serials.{first_called, goes_called, ends_called}
 use Rattle.jr_crew.proofs.serial.run_serial.Goals as goal
 
 pub turns-init : goal.turns-init
@@ -13,6 +14,7 @@ turns-init g c =
       plan = ap (λ (d : DeskState). d.plan) is;
       going = ap (λ (d : DeskState). d.is_stopped) is;
       sofar = first_sofar c.args.plan c.in_ok-desk.desk.history _ (ap (λ (d : DeskState). d.history) is);
+      called = first_called c.args.plan c.in_ok-desk.desk.history _ (ap (λ (d : DeskState). d.history) is);
       serial = λ fresh. serial_first c.args.plan c.in_ok-desk.desk.history _ c.facts.ensures (ap (λ (d : DeskState). d.history) is) fresh;
     }
 
@@ -40,6 +42,7 @@ turns-preserved g c =
       plan = c.in_ok-turn.ensures.plan ∙ kept.plan;
       going = c.in_ok-turn.ensures.stop ∙ kept.going;
       sofar = goes_on c.args.plan c.turns.desk.plan c.turns.desk.history c.turn.new.desk.history _ _ _ kept.planned kept.plan kept.sofar turn;
+      called = goes_called c.args.plan c.turns.desk.plan c.turns.desk.history c.turn.new.desk.history _ _ _ kept.planned kept.plan kept.sofar.legal turn kept.called;
       serial = λ fresh. serial_turn c.args.plan c.turns.desk.plan c.turns.desk.history c.turn.new.desk.history _ _ kept.planned kept.plan kept.sofar.legal turn (kept.serial fresh) kept.sofar.settled;
     }
 
@@ -55,6 +58,7 @@ returns-then-not-branch-clause-ended g c =
     let last = rw c.if-not-branch.true at c.in_ok-turn.ensures.turn in
     ended_run c.args.plan c.turn.new.desk.history _ _
     (comes_to_end c.args.plan c.turns.desk.plan c.turns.desk.history c.turn.new.desk.history _ _ _ kept.planned kept.plan kept.sofar last)
+    (ends_called c.args.plan c.turns.desk.plan c.turns.desk.history c.turn.new.desk.history _ _ _ kept.planned kept.plan kept.sofar.legal last kept.called)
 
 pub returns-then-not-branch-clause-run : goal.returns-then-not-branch-clause-run
 returns-then-not-branch-clause-run g c complete =
@@ -80,7 +84,7 @@ pub returns-then-is_left-clause-going : goal.returns-then-is_left-clause-going
 returns-then-is_left-clause-going g c = c.turns.invariant.going
 
 pub returns-then-is_left-clause-ended : goal.returns-then-is_left-clause-ended
-returns-then-is_left-clause-ended g c = ended_run c.args.plan c.turns.desk.history _ _ c.turns.invariant.sofar
+returns-then-is_left-clause-ended g c = ended_run c.args.plan c.turns.desk.history _ _ c.turns.invariant.sofar c.turns.invariant.called
 
 pub returns-then-is_left-clause-run : goal.returns-then-is_left-clause-run
 returns-then-is_left-clause-run g c complete =

@@ -3,14 +3,14 @@ use Rattle.jr_crew.specs.Working.{CanStart}
 use Rattle.jr_crew.proofs.Worked.{taken}
 use Rattle.jr_crew.proofs.held.Shared.take_share.Goals as goal
 
-pub returns-then-taken-of : goal.returns-then-taken-of
-returns-then-taken-of g c =
+pub returns-then-taken-of-clause-next : goal.returns-then-taken-of-clause-next
+returns-then-taken-of-clause-next g c =
     taken c.loop-taken.tickets.items c.push.new.all.items c.in-Ticket.ticket c.loop-taken.invariant
-    (subst CanStart c.in-Ticket.is c.in_ok-ticket.ensures)
+    (subst CanStart c.in-Ticket.is c.in_ok-ticket.ensures.can)
     c.in_ok-push-in-Ticket.ensures.ok
 
 pub loop-taken-preserved : goal.loop-taken-preserved
 loop-taken-preserved g c =
     taken c.loop-taken.tickets.items c.push.new.all.items c.in-Ticket.ticket c.loop-taken.invariant
-    (subst CanStart c.in-Ticket.is c.in_ok-ticket.ensures)
+    (subst CanStart c.in-Ticket.is c.in_ok-ticket.ensures.can)
     c.in_ok-push-in-Ticket.ensures.ok

@@ -1,0 +1,5 @@
+pub mod FaultTexts
+pub mod Faults
+pub mod Halts
+pub mod Judging
+pub mod Parts

@@ -1,0 +1,25 @@
+// Who carries out a run: what workers and verifiers begin with and what they bring back, each with its part of the hand-over, and what
+// another thread has of a run. The parts come together at the end: what verifiers took is what workers put.
+#![tactic(auto)]
+
+mod brought;
+mod channels;
+mod faults;
+mod halts;
+mod naming;
+mod progress;
+mod rooms;
+mod shares;
+mod staff;
+mod watch;
+
+pub use brought::{Books, Ended, Judged, Judgements, Judges, Worked, books_of};
+pub use channels::{ChannelEnd, Part};
+pub use faults::RunFault;
+pub use halts::Halt;
+pub use naming::Naming;
+pub use progress::{Progress, note_start, note_verdict};
+pub use rooms::make_room;
+pub use shares::{MOST_BYTES, MOST_IOS, Shares};
+pub use staff::{Seat, Verifier, Verifiers, Worker, push, room_for, staff_for};
+pub use watch::{StopFlag, Watch, is_asked};
