@@ -428,6 +428,29 @@ def signalled(program, room, chance, stops):
     return it.returncode, out, err
 
 
+def a_signal_at_the_end_does_no_harm(program, room):
+    """A short run, and signals one after another until it has ended: the launcher's own last moments are among theirs."""
+    needs_perl()
+    with_job(room, PLAIN.replace("size=64m", "size=4k").replace("loops=900", "loops=1"))
+    plain = subprocess.run([program, "job"], cwd=room, capture_output=True, check=True, timeout=SECONDS)
+    for _ in range(60):
+        with subprocess.Popen(
+            [START, program, LAUNCH, "job"],
+            cwd=room,
+            stdin=subprocess.DEVNULL,
+            stdout=subprocess.PIPE,
+            stderr=subprocess.DEVNULL,
+            preexec_fn=lambda: signal.signal(signal.SIGUSR1, signal.SIG_IGN),
+        ) as it:
+            # (it isn't waited for before, so that nobody else has its number)
+            while not os.waitid(os.P_PID, it.pid, os.WEXITED | os.WNOHANG | os.WNOWAIT):
+                os.kill(it.pid, signal.SIGUSR1)
+                # (perl takes no more than 120 signals between two of its steps)
+                time.sleep(0.0002)
+            out = it.communicate(timeout=SECONDS)[0]
+        expect((it.returncode, out) == (0, plain.stdout), f"another report, or status {it.returncode}: {out}")
+
+
 def a_thousand_signals_do_no_harm(program, room):
     """From before the launcher is there until behind the program's end."""
     needs_perl()
@@ -456,6 +479,7 @@ CASES = [
     other_values_are_refused,
     at_a_terminal,
     five_signals_print_five_lines,
+    a_signal_at_the_end_does_no_harm,
     a_thousand_signals_do_no_harm,
 ]
 
