@@ -317,11 +317,12 @@ def lost_rewrite(place, kind, other):
 
 
 def order_of_lines(place, workers):
-    """Bad reads and miscompares stand in one order, by clone, pass and number."""
-    jobs = "ioengine=null\nbs=2k\nsize=4k\nverify=pattern\nverify_pattern=1\nfilename=f\n[a]\nrw=write\n[b]\nrw=read\n[c]\nrw=write\n"
-    ended = place.run(jobs, workers)
-    line = f"{{}}: clone={{}} pass=0 number={{}} file={place.jobs}/f offset={{}} length=2048 what=byte:0\n"
-    lines = [line.format(word, clone, it, it * 2048) for clone, word in enumerate(("miscompare", "badread", "miscompare")) for it in (0, 1)]
+    """Bad reads and miscompares stand in one order, by clone, pass and number. (Two writers of one file would overwrite each other's blocks.)"""
+    jobs = "ioengine=null\nbs=2k\nsize=4k\nverify=pattern\nverify_pattern=1\n[a]\nfilename=f\nrw=write\n[b]\nfilename=f\nrw=read\n"
+    ended = place.run(f"{jobs}[c]\nfilename=g\nrw=write\n", workers)
+    line = f"{{}}: clone={{}} pass=0 number={{}} file={place.jobs}/{{}} offset={{}} length=2048 what=byte:0\n"
+    told = ("miscompare", "f"), ("badread", "f"), ("miscompare", "g")
+    lines = [line.format(word, clone, it, name, it * 2048) for clone, (word, name) in enumerate(told) for it in (0, 1)]
     checks = {"checks": 2, "bad": 2}
     writes, reads = {"writes": 2, "wbytes": 4096, **checks}, {"reads": 2, "rbytes": 4096, **checks}
     same("run", ended, said(1, total("a", **writes), total("b", 1, **reads), total("c", 2, **writes), *lines))
