@@ -1,13 +1,9 @@
--- What follows from the definitions of a round, and how they agree with what the kit's ordered set says.
+-- What follows from the definitions of a round, and how they agree with what a search of its writes answers.
 use Rattle.std.proofs.Common.{◌≡◌, ℕ, ◌+◌, ◌<◌, ◌≤◌, ◌==◌, Bool, true, false, not, ◌&&◌, List, [], ◌∷◌, ◌++◌, length, refl, ap, sym, ◌∙◌, arith}
-use Rattle.std.specs.Prelude.{min, filter, find, slice_get, if◌then◌else◌}
-use Rattle.std.specs.BTreeMap.{is_at}
-use Rattle.std.specs.BTreeMap.Range.{range_contains}
-use Rattle.std.specs.declared.ops.Bound.TheVariants.{Excluded, Unbounded}
-use Rattle.std.specs.BTreeSet.{insert_key}
+use Rattle.std.specs.Prelude.{min, filter, find, remove, HoldsAt, if◌then◌else◌}
+use Rattle.std.specs.List.Sorted.{IsPartitionPoint}
 use Rattle.std.specs.declared.cmp.Ordering.TheVariants.{Less, Equal, Greater}
 use Rattle.std.specs.Ordering.{is_eq, nat_cmp, ordering_then}
-use Rattle.std.specs.Set.{remove_key}
 use Rattle.std.specs.declared.cmp.Ordering.{Ordering}
 use Rattle.std.proofs.lemmas.Bool.{and_parts, eqb-true}
 use Rattle.std.proofs.lemmas.Bool.Decides.{nat_tests}
@@ -30,10 +26,6 @@ and_assoc : (a b c : Bool) → (a && (b && c)) ≡ (a && b && c)
 and_assoc true b c = refl
 and_assoc false b c = refl
 
-and_true : (a : Bool) → (a && true) ≡ a
-and_true true = refl
-and_true false = refl
-
 -- two writes tie in the order exactly where they are one
 pub is_eq-write_order : (a b : WriteId) → is_eq (write_order a b) ≡ same_write a b
 is_eq-write_order a b =
@@ -45,8 +37,12 @@ is_eq-write_order a b =
     ∙ ap (λ c. (a.clone == b.clone) && (a.pass == b.pass) && c) (is_eq-nat_cmp a.number b.number)
 
 -- a write that was passed is taken out wherever it stands
-pub remove_write : (write : WriteId) (writes : List WriteId) → IsInOrder writes → remove_key (is_at (write_order write)) writes ≡ filter (λ (other : WriteId). not (same_write write other)) writes
-remove_write write writes h = keys.remove_key-is write_order_total write (same_write write) (is_eq-write_order write) writes h
+pub removed_write : (write : WriteId) (writes : List WriteId) (place : ℕ) → IsInOrder writes → place < length writes → HoldsAt (λ other. write_order other write ≡ Equal) writes place → remove writes place ≡ filter (λ (other : WriteId). not (same_write write other)) writes
+removed_write write writes place = keys.found_removed write_order_total write (same_write write) (is_eq-write_order write) writes place
+
+-- a write that a search does not find is not there to take out
+pub absent_write : (write : WriteId) (writes : List WriteId) (place : ℕ) → IsPartitionPoint (λ other. write_order other write ≡ Less) (λ other. write_order other write ≡ Greater) writes place → filter (λ (other : WriteId). not (same_write write other)) writes ≡ writes
+absent_write write writes place = keys.missed_kept write_order_total write (same_write write) (is_eq-write_order write) writes place
 
 -- a round that is closed has nothing to check
 nothing_left : {X : Type 0} (xs : List X) → (length xs == 0) ≡ true → xs ≡ []
@@ -64,23 +60,27 @@ with_one_more : WriteId → Round → Round
 with_one_more write now = record now { count = min now.limit (now.count + 1); to_check = now.to_check ++ write ∷ [] }
 
 -- what the call `written` leaves
-added-to : (round : Round) (write : WriteId) (begins : Bool) (count : ℕ) (writes : List WriteId) → begins ≡ is_closed round → writes ≡ insert_key write_order round.to_check write → comes_last round write ≡ true → count ≡ min round.limit ((if begins then 0 else round.count) + 1) → record { limit = round.limit; count = count; exhausted = if begins then false else round.exhausted; to_check = writes } ≡ with_written round write
+added-to : (round : Round) (write : WriteId) (begins : Bool) (count : ℕ) (writes : List WriteId) → begins ≡ is_closed round → writes ≡ round.to_check ++ write ∷ [] → count ≡ min round.limit ((if begins then 0 else round.count) + 1) → record { limit = round.limit; count = count; exhausted = if begins then false else round.exhausted; to_check = writes } ≡ with_written round write
 unfolding with_one_more
-added-to round write true count writes b k last n =
+added-to round write true count writes b k n =
     let empty : round.to_check ≡ [] = nothing_left round.to_check (and_parts (is_due round) (length round.to_check == 0) (sym b)).1 in
-    let one : writes ≡ write ∷ [] = k ∙ ap (λ ws. insert_key write_order ws write) empty in
+    let one : writes ≡ write ∷ [] = k ∙ ap (λ (ws : List WriteId). ws ++ write ∷ []) empty in
     rw (n, one) (ap (with_one_more write) (sym (filling-closed round (sym b))))
-added-to round write false count writes b k last n =
-    let more : writes ≡ round.to_check ++ write ∷ [] = k ∙ keys.insert_key-last write_order_total write round.to_check last in
-    rw (n, more) (ap (with_one_more write) (sym (filling-open round (sym b))))
+added-to round write false count writes b k n =
+    rw (n, k) (ap (with_one_more write) (sym (filling-open round (sym b))))
 
 -- the same, where the round is another's view
-pub added : (old round : Round) (write : WriteId) (begins : Bool) (count : ℕ) (writes : List WriteId) → old ≡ round → begins ≡ is_closed round → writes ≡ insert_key write_order old.to_check write → comes_last round write ≡ true → count ≡ min old.limit ((if begins then 0 else old.count) + 1) → record { limit = old.limit; count = count; exhausted = if begins then false else old.exhausted; to_check = writes } ≡ with_written round write
-added old round write begins count writes same b k last n =
-    added-to old write begins count writes (b ∙ ap is_closed (sym same)) k (ap (λ r. comes_last r write) same ∙ last) n
+pub added : (old round : Round) (write : WriteId) (begins : Bool) (count : ℕ) (writes : List WriteId) → old ≡ round → begins ≡ is_closed round → writes ≡ old.to_check ++ write ∷ [] → count ≡ min old.limit ((if begins then 0 else old.count) + 1) → record { limit = old.limit; count = count; exhausted = if begins then false else old.exhausted; to_check = writes } ≡ with_written round write
+added old round write begins count writes same b k n =
+    added-to old write begins count writes (b ∙ ap is_closed (sym same)) k n
     ∙ ap (λ r. with_written r write) same
 
-due-later : (round : Round) (write : WriteId) → is_due round ≡ true → next_to_check_after round write ≡ find (is_before write) round.to_check
+-- the writes stay in order where one that comes after them all is added
+pub added_in_order : (old round : Round) (write : WriteId) (writes : List WriteId) → old ≡ round → IsInOrder old.to_check → comes_last round write ≡ true → writes ≡ old.to_check ++ write ∷ [] → IsInOrder writes
+added_in_order old round write writes same in_order last k = rw k (keys.sorted_push write_order write old.to_check in_order (ap (λ r. comes_last r write) same ∙ last))
+
+-- in a round that is due, the next write to check is the first after it in order
+pub due-later : (round : Round) (write : WriteId) → is_due round ≡ true → next_to_check_after round write ≡ find (is_before write) round.to_check
 due-later round write e = rw e
 
 -- one write more is counted, as far as the limit
@@ -89,9 +89,3 @@ counted limit n h = omega arith
 
 pub counted_out : (limit n : ℕ) → n ≤ limit → limit ≤ n → n ≡ min limit (n + 1)
 counted_out limit n h g = omega arith
-
--- the first of the writes that a range behind a write has
-pub later_than : (round : Round) (write : WriteId) → is_due round ≡ true → slice_get (filter (range_contains write_order (Excluded write) Unbounded) round.to_check) 0 ≡ next_to_check_after round write
-later_than round write e =
-    keys.find-is (range_contains write_order (Excluded write) Unbounded) (is_before write) (λ other. and_true (is_before write other)) round.to_check
-    ∙ sym (due-later round write e)

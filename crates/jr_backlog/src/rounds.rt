@@ -4,9 +4,8 @@ ghost use Rattle.jr_backlog.specs.Rounds.{next_to_check_after, takes_writes, wit
 
 use jr_model::{Memory, WriteId};
 use std::alloc::Global;
-use std::collections::BTreeSet;
+use std::collections::VecDeque;
 use std::marker::Model;
-use std::ops::Bound;
 
 /// The rounds of a clone's writes, one after another: a round is filled with writes until it is
 /// due, and is closed once each of them was passed, that is, checked or skipped.
@@ -16,7 +15,8 @@ pub struct Rounds {
     // The round's writes, counted no further than the limit.
     count: u32,
     exhausted: bool,
-    to_check: BTreeSet<WriteId>,
+    // In order: a write that is added comes behind all others.
+    to_check: VecDeque<WriteId>,
 }
 
 // Clauses see the current round.
@@ -26,9 +26,9 @@ impl Model for Rounds {
 
     ghost Value = { Round };
 
-    ghost view = { λ r. record { limit = r.limit; count = r.count; exhausted = r.exhausted; to_check = r.to_check.keys } };
+    ghost view = { λ r. record { limit = r.limit; count = r.count; exhausted = r.exhausted; to_check = r.to_check.items } };
 
-    ghost invariant = { λ r. (r.count ≤ r.limit) × IsInOrder r.to_check.keys };
+    ghost invariant = { λ r. (r.count ≤ r.limit) × IsInOrder r.to_check.items };
 }
 
 impl Rounds {
@@ -41,7 +41,7 @@ impl Rounds {
             limit,
             count: 0,
             exhausted: false,
-            to_check: BTreeSet::new(alloc),
+            to_check: VecDeque::new(alloc),
         }
     }
 
@@ -54,7 +54,7 @@ impl Rounds {
         ensures err { OnErr result (self.new ≡ self.old) }
     {
         let begins = self.closed();
-        self.to_check.insert(write)?;
+        self.to_check.push_back(write)?;
         if begins {
             self.count = 0;
             self.exhausted = false;
@@ -91,7 +91,7 @@ impl Rounds {
         ensures value { result ≡ next_to_check self.now }
         ensures in_order { IsInOrder self.now.to_check }
     {
-        let first = self.to_check.first().copied();
+        let first = self.to_check.front().copied();
         if self.due() { first } else { None }
     }
 
@@ -100,8 +100,11 @@ impl Rounds {
         ensures value { result ≡ next_to_check_after self.now write.now }
         ensures in_order { IsInOrder self.now.to_check }
     {
-        let later = (Bound::Excluded(*write), Bound::Unbounded);
-        let next = self.to_check.range(later).next().copied();
+        let place = match self.to_check.binary_search(write) {
+            Ok(place) => place + 1,
+            Err(place) => place,
+        };
+        let next = self.to_check.get(place).copied();
         if self.due() { next } else { None }
     }
 
@@ -110,7 +113,9 @@ impl Rounds {
         requires { IsTrue (is_to_check self.old write) }
         ensures { self.new ≡ with_passed self.old write }
     {
-        self.to_check.remove(&write);
+        if let Ok(place) = self.to_check.binary_search(&write) {
+            let _ = self.to_check.remove(place);
+        }
     }
 
     /// The round is due, and each of its writes was passed.

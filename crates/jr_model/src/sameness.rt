@@ -21,7 +21,8 @@ pub fn is_same(a: &Ticket, b: &Ticket) -> bool
         && is_same_expected(&a.expected, &b.expected)
 }
 
-fn is_same_kind(a: TicketKind, b: TicketKind) -> bool
+/// Whether two kinds of ticket are one.
+pub fn is_same_kind(a: TicketKind, b: TicketKind) -> bool
     ensures yes { IsTrue result → a ≡ b }
     ensures no { IsFalse result → ¬ a ≡ b }
 {
@@ -46,7 +47,8 @@ pub fn same_piece(a: &Piece, b: &Piece) -> bool
     a.file == b.file && a.offset == b.offset && a.len == b.len
 }
 
-fn is_same_method(a: &Method, b: &Method) -> bool
+/// Whether blocks are made and verified in one way.
+pub fn is_same_method(a: &Method, b: &Method) -> bool
     ensures yes { IsTrue result → a.now ≡ b.now }
     ensures no { IsFalse result → ¬ a.now ≡ b.now }
 {
@@ -73,7 +75,8 @@ fn is_same_pattern(a: &Option<Pattern>, b: &Option<Pattern>) -> bool
     }
 }
 
-fn is_same_expected(a: &Expected, b: &Expected) -> bool
+/// Whether bytes are judged by the same.
+pub fn is_same_expected(a: &Expected, b: &Expected) -> bool
     ensures yes { IsTrue result → a.now ≡ b.now }
     ensures no { IsFalse result → ¬ a.now ≡ b.now }
 {

@@ -19,10 +19,9 @@ use Rattle.jr_model.specs.declared.events.WriteId.{WriteId}
 use Rattle.jr_model.specs.History.{same_write, write_order}
 use Rattle.jr_model.specs.Pieces.{pieces_overlap}
 use Rattle.jr_model.proofs.Equality.{eq_write, is_at-write_order, write_order_total}
-use Rattle.jr_writes.specs.declared.logs.Logged.{Logged}
+use Rattle.jr_writes.specs.declared.kept.Kept.{Kept}
 use Rattle.jr_writes.specs.declared.spots.Spot.{Spot}
-use Rattle.jr_writes.specs.Index.{IsIndexed, NoneOverlaps, StandsHere, is_kept, piece_at, place_of, place_order, spot_of, stays}
-use Rattle.jr_writes.specs.LoggedWrites.{lies_apart, logged, settled}
+use Rattle.jr_writes.specs.Index.{IsIndexed, NoneOverlaps, StandsHere, is_kept, kept_of, piece_at, place_of, place_order, spot_of, stays}
 use Rattle.jr_writes.proofs.EntryLemmas.{filter-insert_entry, filter-remove_entry}
 use Rattle.jr_writes.proofs.Overlaps.{overlap_back, same_place}
 
@@ -58,7 +57,7 @@ put_at : {X : Type 0} (b : Bool) (y : X) (o : Option X) (x : X) → cond b (Some
 put_at true y o x h = inl (refl, same_Some y x h)
 put_at false y o x h = inr (refl, h)
 
-module _ (kept : Option WriteId) (entry_of left_of : WriteId → Option Logged) (spot_in left_in : ℕ × ℕ → Option Spot) (place : ℕ × ℕ) (spot : Spot)
+module _ (kept : Option WriteId) (entry_of left_of : WriteId → Option Kept) (spot_in left_in : ℕ × ℕ → Option Spot) (place : ℕ × ℕ) (spot : Spot)
     (index : IsIndexed kept entry_of spot_in) (at : spot_in place ≡ Some spot)
     (without : (q : WriteId) → left_of q ≡ cond (is_at (write_order spot.write) q) None (entry_of q))
     (gone : (q : ℕ × ℕ) → left_in q ≡ cond (is_at (place_order place) q) None (spot_in q)) where
@@ -66,7 +65,7 @@ module _ (kept : Option WriteId) (entry_of left_of : WriteId → Option Logged) 
   was_in : (q : ℕ × ℕ) (t : Spot) → left_in q ≡ Some t → (is_at (place_order place) q ≡ false) × (spot_in q ≡ Some t)
   was_in q t h = left_at (is_at (place_order place) q) (spot_in q) t (sym (gone q) ∙ h)
 
-  still_stands : (write : WriteId) (entry : Logged) → left_of write ≡ Some entry → left_in (place_of entry.piece) ≡ Some (spot_of write entry.piece)
+  still_stands : (write : WriteId) (entry : Kept) → left_of write ≡ Some entry → left_in (place_of entry.piece) ≡ Some (spot_of write entry.piece)
   still_stands write entry h =
       let was = left_at (is_at (write_order spot.write) write) (entry_of write) entry (sym (without write) ∙ h) in
       let stood = index.stands write entry was.1 in
@@ -89,10 +88,10 @@ module _ (kept : Option WriteId) (entry_of left_of : WriteId → Option Logged) 
       (λ same.
       let one : spot.write ≡ t.write = write_same spot.write t.write same in
       let pieces : piece_at place spot ≡ piece_at q t =
-      same_Some (piece_at place spot) (piece_at q t) (sym here ∙ ap (λ (w : WriteId). option_map (λ (e : Logged). e.piece) (entry_of w)) one ∙ back) in
+      same_Some (piece_at place spot) (piece_at q t) (sym here ∙ ap (λ (w : WriteId). option_map (λ (e : Kept). e.piece) (entry_of w)) one ∙ back) in
       let places : place ≡ q = same_place place q (ap (λ (x : Piece). x.file) pieces) (ap (λ (x : Piece). x.offset) pieces) in
       both (is_at (place_order place) q) (ap (λ (x : ℕ × ℕ). is_at (place_order place) x) (sym places) ∙ place_itself place) was.0) in
-      ap (λ (o : Option Logged). option_map (λ (e : Logged). e.piece) o)
+      ap (λ (o : Option Kept). option_map (λ (e : Kept). e.piece) o)
       (without t.write ∙ ap (λ (b : Bool). cond b None (entry_of t.write)) other)
       ∙ back
 
@@ -110,20 +109,20 @@ module _ (kept : Option WriteId) (entry_of left_of : WriteId → Option Logged) 
   pub StandsHere-removed : (piece : Piece) → StandsHere kept piece spot_in → StandsHere kept piece left_in
   StandsHere-removed piece here q t h = here q t (was_in q t h).1
 
-module _ (entry_of new_of : WriteId → Option Logged) (spot_in new_in : ℕ × ℕ → Option Spot) (write : WriteId) (entry : Logged)
+module _ (entry_of new_of : WriteId → Option Kept) (spot_in new_in : ℕ × ℕ → Option Spot) (write : WriteId) (entry : Kept)
     (index : IsIndexed None entry_of spot_in) (fresh : entry_of write ≡ None) (free : spot_in (place_of entry.piece) ≡ None) (filled : 1 ≤ entry.piece.len)
     (with : (q : WriteId) → new_of q ≡ cond (is_at (write_order write) q) (Some entry) (entry_of q))
     (put : (q : ℕ × ℕ) → new_in q ≡ cond (is_at (place_order (place_of entry.piece)) q) (Some (spot_of write entry.piece)) (spot_in q)) where
   is_in : (q : ℕ × ℕ) (t : Spot) → new_in q ≡ Some t → ((is_at (place_order (place_of entry.piece)) q ≡ true) × (spot_of write entry.piece ≡ t)) ⊎ ((is_at (place_order (place_of entry.piece)) q ≡ false) × (spot_in q ≡ Some t))
   is_in q t h = put_at (is_at (place_order (place_of entry.piece)) q) (spot_of write entry.piece) (spot_in q) t (sym (put q) ∙ h)
 
-  now_stands : (w : WriteId) (e : Logged) → new_of w ≡ Some e → new_in (place_of e.piece) ≡ Some (spot_of w e.piece)
+  now_stands : (w : WriteId) (e : Kept) → new_of w ≡ Some e → new_in (place_of e.piece) ≡ Some (spot_of w e.piece)
   now_stands w e h =
       ⊎_elim
       (λ (here : (is_at (write_order write) w ≡ true) × (entry ≡ e)).
       let one : write ≡ w = write_same write w here.0 in
       put (place_of e.piece)
-      ∙ ap (λ (x : Logged). cond (is_at (place_order (place_of entry.piece)) (place_of x.piece)) (Some (spot_of write entry.piece)) (spot_in (place_of x.piece))) (sym here.1)
+      ∙ ap (λ (x : Kept). cond (is_at (place_order (place_of entry.piece)) (place_of x.piece)) (Some (spot_of write entry.piece)) (spot_in (place_of x.piece))) (sym here.1)
       ∙ ap (λ (b : Bool). cond b (Some (spot_of write entry.piece)) (spot_in (place_of entry.piece))) (place_itself (place_of entry.piece))
       ∙ (λ i. Some (spot_of (one i) ((here.1 i).piece))))
       (λ (there : (is_at (write_order write) w ≡ false) × (entry_of w ≡ Some e)).
@@ -139,8 +138,8 @@ module _ (entry_of new_of : WriteId → Option Logged) (spot_in new_in : ℕ × 
       ⊎_elim
       (λ (here : (is_at (place_order (place_of entry.piece)) q ≡ true) × (spot_of write entry.piece ≡ t)).
       let place : place_of entry.piece ≡ q = place_same (place_of entry.piece) q here.0 in
-      ap (λ (s : Spot). option_map (λ (e : Logged). e.piece) (new_of s.write)) (sym here.1)
-      ∙ ap (λ (o : Option Logged). option_map (λ (e : Logged). e.piece) o) (with write ∙ ap (λ (b : Bool). cond b (Some entry) (entry_of write)) (write_itself write))
+      ap (λ (s : Spot). option_map (λ (e : Kept). e.piece) (new_of s.write)) (sym here.1)
+      ∙ ap (λ (o : Option Kept). option_map (λ (e : Kept). e.piece) o) (with write ∙ ap (λ (b : Bool). cond b (Some entry) (entry_of write)) (write_itself write))
       ∙ (λ i. Some (piece_at (place i) (here.1 i))))
       (λ (there : (is_at (place_order (place_of entry.piece)) q ≡ false) × (spot_in q ≡ Some t)).
       let back = index.leads_back q t there.1 in
@@ -148,8 +147,8 @@ module _ (entry_of new_of : WriteId → Option Logged) (spot_in new_in : ℕ × 
       false_from_ne_true (is_at (write_order write) t.write)
       (λ same.
       let one : write ≡ t.write = write_same write t.write same in
-      none-some (piece_at q t) (ap (λ (o : Option Logged). option_map (λ (e : Logged). e.piece) o) (sym fresh ∙ ap entry_of one) ∙ back)) in
-      ap (λ (o : Option Logged). option_map (λ (e : Logged). e.piece) o) (with t.write ∙ ap (λ (b : Bool). cond b (Some entry) (entry_of t.write)) other) ∙ back)
+      none-some (piece_at q t) (ap (λ (o : Option Kept). option_map (λ (e : Kept). e.piece) o) (sym fresh ∙ ap entry_of one) ∙ back)) in
+      ap (λ (o : Option Kept). option_map (λ (e : Kept). e.piece) o) (with t.write ∙ ap (λ (b : Bool). cond b (Some entry) (entry_of t.write)) other) ∙ back)
       (is_in q t h)
 
   -- it isn't the new one
@@ -185,10 +184,10 @@ module _ (entry_of new_of : WriteId → Option Logged) (spot_in new_in : ℕ × 
       λ i. piece_at (sym place i) (sym here.1 i))
       (λ (there : (is_at (place_order (place_of entry.piece)) q ≡ false) × (spot_in q ≡ Some t)).
       let one : write ≡ t.write = eq_write write t.write same in
-      absurd (none-some (piece_at q t) (ap (λ (o : Option Logged). option_map (λ (e : Logged). e.piece) o) (sym fresh ∙ ap entry_of one) ∙ index.leads_back q t there.1)))
+      absurd (none-some (piece_at q t) (ap (λ (o : Option Kept). option_map (λ (e : Kept). e.piece) o) (sym fresh ∙ ap entry_of one) ∙ index.leads_back q t there.1)))
       (is_in q t h)
 
-module _ (kept : Option WriteId) (piece : Piece) (entry_of : WriteId → Option Logged) (spot_in : ℕ × ℕ → Option Spot)
+module _ (kept : Option WriteId) (piece : Piece) (entry_of : WriteId → Option Kept) (spot_in : ℕ × ℕ → Option Spot)
     (index : IsIndexed kept entry_of spot_in) (here : StandsHere kept piece spot_in) (none : NoneOverlaps kept piece spot_in) where
   all_apart : (p q : ℕ × ℕ) (s t : Spot) → spot_in p ≡ Some s → spot_in q ≡ Some t → pieces_overlap (piece_at p s) (piece_at q t) ≡ true → p ≡ q
   all_apart p q s t x y shared =
@@ -225,7 +224,7 @@ module _ (kept : Option WriteId) (piece : Piece) (entry_of : WriteId → Option 
     };
   }
 
-  one_stays : (write : WriteId) (entry : Logged) → entry_of write ≡ Some entry → stays kept piece (write, entry) ≡ true
+  one_stays : (write : WriteId) (entry : Kept) → entry_of write ≡ Some entry → stays kept piece (write, entry) ≡ true
   one_stays write entry at =
       by (is_kept kept write) (pieces_overlap piece entry.piece) (λ other. none (place_of entry.piece) (spot_of write entry.piece) (index.stands write entry at) other)
     where
@@ -235,22 +234,22 @@ module _ (kept : Option WriteId) (piece : Piece) (entry_of : WriteId → Option 
       by false false h = refl
 
 -- and all entries stay
-pub all_stay : (kept : Option WriteId) (piece : Piece) (writes : BTreeMap WriteId Logged) (spot_in : ℕ × ℕ → Option Spot) → IsOrdered write_order writes → IsIndexed kept (logged writes.entries) spot_in → StandsHere kept piece spot_in → NoneOverlaps kept piece spot_in → All (λ e. stays kept piece e ≡ true) writes.entries
+pub all_stay : (kept : Option WriteId) (piece : Piece) (writes : BTreeMap WriteId Kept) (spot_in : ℕ × ℕ → Option Spot) → IsOrdered write_order writes → IsIndexed kept (kept_of writes.entries) spot_in → StandsHere kept piece spot_in → NoneOverlaps kept piece spot_in → All (λ e. stays kept piece e ≡ true) writes.entries
 all_stay kept piece writes spot_in ordered index here none =
-    All-weaker (λ (e : WriteId × Logged). logged writes.entries e.0 ≡ Some e.1) (λ (e : WriteId × Logged). stays kept piece e ≡ true)
-    (λ e at. one_stays kept piece (logged writes.entries) spot_in index here none e.0 e.1 at)
+    All-weaker (λ (e : WriteId × Kept). kept_of writes.entries e.0 ≡ Some e.1) (λ (e : WriteId × Kept). stays kept piece e ≡ true)
+    (λ e at. one_stays kept piece (kept_of writes.entries) spot_in index here none e.0 e.1 at)
     writes.entries
     (All-found write_order_total writes ordered)
 
 -- an entry with this piece
-found_piece : (o : Option Logged) (piece : Piece) → option_map (λ e. e.piece) o ≡ Some piece → (e : Logged) × (o ≡ Some e) × (e.piece ≡ piece)
+found_piece : (o : Option Kept) (piece : Piece) → option_map (λ e. e.piece) o ≡ Some piece → (e : Kept) × (o ≡ Some e) × (e.piece ≡ piece)
 found_piece None piece h = absurd (none-some piece h)
 found_piece (Some e) piece h = (e, refl, same_Some e.piece piece h)
 
 -- what stays is the same without a write whose piece overlaps
-pub filter-removed : (kept : Option WriteId) (piece : Piece) (es : List (WriteId × Logged)) (place : ℕ × ℕ) (spot : Spot) → option_map (λ e. e.piece) (logged es spot.write) ≡ Some (piece_at place spot) → is_kept kept spot.write ≡ false → pieces_overlap piece (piece_at place spot) ≡ true → filter (stays kept piece) (remove_entry (is_at (write_order spot.write)) es) ≡ filter (stays kept piece) es
+pub filter-removed : (kept : Option WriteId) (piece : Piece) (es : List (WriteId × Kept)) (place : ℕ × ℕ) (spot : Spot) → option_map (λ e. e.piece) (kept_of es spot.write) ≡ Some (piece_at place spot) → is_kept kept spot.write ≡ false → pieces_overlap piece (piece_at place spot) ≡ true → filter (stays kept piece) (remove_entry (is_at (write_order spot.write)) es) ≡ filter (stays kept piece) es
 filter-removed kept piece es place spot back other shared =
-    let found = found_piece (logged es spot.write) (piece_at place spot) back in
+    let found = found_piece (kept_of es spot.write) (piece_at place spot) back in
     filter-remove_entry (stays kept piece) (is_at (write_order spot.write)) es found.0 found.1
     (λ k here.
     dropped (is_kept kept k) (pieces_overlap piece found.0.piece)
@@ -262,13 +261,13 @@ filter-removed kept piece es place spot back other shared =
     dropped false true x y = refl
     dropped false false x y = absurd (both false y refl)
 
-module _ (write : WriteId) (entry : Logged) (es : List (WriteId × Logged)) (ordered : IsStrictlySortedBy write_order (keys_of es)) (fresh : logged es write ≡ None) where
-  -- what stays of the entries with a new one is what settling it makes
-  pub filter-inserted : filter (stays (Some write) entry.piece) (insert_entry write_order es write entry) ≡ settled es write entry.piece entry.expected
+module _ (write : WriteId) (entry : Kept) (es : List (WriteId × Kept)) (ordered : IsStrictlySortedBy write_order (keys_of es)) (fresh : kept_of es write ≡ None) where
+  -- what stays of the entries with a new one is the new one and what of the others lies apart from it
+  pub filter-inserted : filter (stays (Some write) entry.piece) (insert_entry write_order es write entry) ≡ insert_entry write_order (filter (stays None entry.piece) es) write entry
   filter-inserted =
-      filter-insert_entry write_order_total write entry (stays (Some write) entry.piece) (λ e. lies_apart entry.piece e.1)
-      (ap (λ (b : Bool). b || lies_apart entry.piece entry) (sym (is_at-write_order write write) ∙ write_itself write))
-      (λ e other. ap (λ (b : Bool). b || lies_apart entry.piece e.1) (differs e.0 other))
+      filter-insert_entry write_order_total write entry (stays (Some write) entry.piece) (stays None entry.piece)
+      (ap (λ (b : Bool). b || stays None entry.piece (write, entry)) (sym (is_at-write_order write write) ∙ write_itself write))
+      (λ e other. ap (λ (b : Bool). b || stays None entry.piece e) (differs e.0 other))
       es ordered fresh
     where
       differs : (w : WriteId) → (write_order write w ≡ Equal → ⊥) → same_write write w ≡ false

@@ -10,10 +10,9 @@ use Rattle.jr_model.specs.declared.events.WriteId.{WriteId}
 use Rattle.jr_model.specs.Pieces.{pieces_overlap}
 use Rattle.jr_model.specs.History.{write_order}
 use Rattle.jr_model.proofs.Equality.{is_at-write_order}
-use Rattle.jr_writes.specs.declared.logs.Logged.{Logged}
+use Rattle.jr_writes.specs.declared.kept.Kept.{Kept}
 use Rattle.jr_writes.specs.declared.spots.Spot.{Spot}
-use Rattle.jr_writes.specs.Index.{IsIndexed, StandsHere, piece_at, place_of, place_order, spot_of, stays}
-use Rattle.jr_writes.specs.LoggedWrites.{logged, settled}
+use Rattle.jr_writes.specs.Index.{IsIndexed, StandsHere, kept_of, piece_at, place_of, place_order, spot_of, stays}
 use Rattle.jr_writes.proofs.IndexLemmas.{IsIndexed-inserted, IsIndexed-removed, StandsHere-inserted, filter-inserted, filter-removed, place_itself, write_same}
 use Rattle.jr_writes.proofs.Overlaps.{overlap_from_parts}
 
@@ -31,7 +30,7 @@ none_both : {X : Type 0} (b : Bool) (o : Option X) → o ≡ None → cond b Non
 none_both true o h = refl
 none_both false o h = h
 
-module _ (entry_of : WriteId → Option Logged) (spot_in : ℕ × ℕ → Option Spot) (write : WriteId) (entry : Logged) (older : Spot)
+module _ (entry_of : WriteId → Option Kept) (spot_in : ℕ × ℕ → Option Spot) (write : WriteId) (entry : Kept) (older : Spot)
     (index : IsIndexed None entry_of spot_in) (fresh : entry_of write ≡ None) (at : spot_in (place_of entry.piece) ≡ Some older) (filled : 1 ≤ entry.piece.len) where
   -- the older write isn't the new one
   older_differs : is_at (write_order write) older.write ≡ false
@@ -40,12 +39,12 @@ module _ (entry_of : WriteId → Option Logged) (spot_in : ℕ × ℕ → Option
       (λ same.
       let one : write ≡ older.write = write_same write older.write same in
       none-some (piece_at (place_of entry.piece) older)
-      (ap (λ (o : Option Logged). option_map (λ (e : Logged). e.piece) o) (sym fresh ∙ ap entry_of one) ∙ index.leads_back (place_of entry.piece) older at))
+      (ap (λ (o : Option Kept). option_map (λ (e : Kept). e.piece) o) (sym fresh ∙ ap entry_of one) ∙ index.leads_back (place_of entry.piece) older at))
 
-  module _ (new_of : WriteId → Option Logged) (new_in : ℕ × ℕ → Option Spot)
+  module _ (new_of : WriteId → Option Kept) (new_in : ℕ × ℕ → Option Spot)
       (with : (q : WriteId) → new_of q ≡ cond (is_at (write_order older.write) q) None (cond (is_at (write_order write) q) (Some entry) (entry_of q)))
       (put : (q : ℕ × ℕ) → new_in q ≡ cond (is_at (place_order (place_of entry.piece)) q) (Some (spot_of write entry.piece)) (spot_in q)) where
-    abbrev left_of : WriteId → Option Logged
+    abbrev left_of : WriteId → Option Kept
     left_of q = cond (is_at (write_order older.write) q) None (entry_of q)
 
     abbrev left_in : ℕ × ℕ → Option Spot
@@ -68,7 +67,7 @@ module _ (entry_of : WriteId → Option Logged) (spot_in : ℕ × ℕ → Option
         let one : older.write ≡ q = write_same older.write q x in
         let two : write ≡ q = write_same write q y in
         none-some (piece_at (place_of entry.piece) older)
-        (ap (λ (o : Option Logged). option_map (λ (e : Logged). e.piece) o) (sym fresh ∙ ap entry_of (two ∙ sym one)) ∙ index.leads_back (place_of entry.piece) older at))
+        (ap (λ (o : Option Kept). option_map (λ (e : Kept). e.piece) o) (sym fresh ∙ ap entry_of (two ∙ sym one)) ∙ index.leads_back (place_of entry.piece) older at))
 
     in_is : (q : ℕ × ℕ) → new_in q ≡ cond (is_at (place_order (place_of entry.piece)) q) (Some (spot_of write entry.piece)) (left_in q)
     in_is q = put q ∙ again (is_at (place_order (place_of entry.piece)) q) (spot_of write entry.piece) (spot_in q)
@@ -79,17 +78,17 @@ module _ (entry_of : WriteId → Option Logged) (spot_in : ℕ × ℕ → Option
     pub StandsHere-over : StandsHere (Some write) entry.piece new_in
     StandsHere-over = StandsHere-inserted left_of new_of left_in new_in write entry left left_fresh left_free filled new_is in_is
 
-module _ (write : WriteId) (entry : Logged) (older : Spot) (es : List (WriteId × Logged)) (spot_in : ℕ × ℕ → Option Spot)
-    (ordered : IsStrictlySortedBy write_order (keys_of es)) (index : IsIndexed None (logged es) spot_in) (fresh : logged es write ≡ None)
+module _ (write : WriteId) (entry : Kept) (older : Spot) (es : List (WriteId × Kept)) (spot_in : ℕ × ℕ → Option Spot)
+    (ordered : IsStrictlySortedBy write_order (keys_of es)) (index : IsIndexed None (kept_of es) spot_in) (fresh : kept_of es write ≡ None)
     (at : spot_in (place_of entry.piece) ≡ Some older) (filled : 1 ≤ entry.piece.len)
-    (new : List (WriteId × Logged)) (put : new ≡ insert_entry write_order es write entry)
-    (with : (q : WriteId) → logged new q ≡ cond (is_at (write_order write) q) (Some entry) (logged es q)) where
-  -- what stays of the entries is what settling the new write makes, also without the older one
-  pub filter-over : filter (stays (Some write) entry.piece) (remove_entry (is_at (write_order older.write)) new) ≡ settled es write entry.piece entry.expected
+    (new : List (WriteId × Kept)) (put : new ≡ insert_entry write_order es write entry)
+    (with : (q : WriteId) → kept_of new q ≡ cond (is_at (write_order write) q) (Some entry) (kept_of es q)) where
+  -- what stays of the entries is the same without the older one
+  pub filter-over : filter (stays (Some write) entry.piece) (remove_entry (is_at (write_order older.write)) new) ≡ insert_entry write_order (filter (stays None entry.piece) es) write entry
   filter-over =
       filter-removed (Some write) entry.piece new (place_of entry.piece) older
-      (ap (λ (o : Option Logged). option_map (λ (e : Logged). e.piece) o)
-      (with older.write ∙ ap (λ (b : Bool). cond b (Some entry) (logged es older.write)) differs)
+      (ap (λ (o : Option Kept). option_map (λ (e : Kept). e.piece) o)
+      (with older.write ∙ ap (λ (b : Bool). cond b (Some entry) (kept_of es older.write)) differs)
       ∙ index.leads_back (place_of entry.piece) older at)
       (sym (is_at-write_order write older.write) ∙ differs)
       shared
@@ -97,7 +96,7 @@ module _ (write : WriteId) (entry : Logged) (older : Spot) (es : List (WriteId �
       ∙ filter-inserted write entry es ordered fresh
     where
       differs : is_at (write_order write) older.write ≡ false
-      differs = older_differs (logged es) spot_in write entry older index fresh at filled
+      differs = older_differs (kept_of es) spot_in write entry older index fresh at filled
 
       shared : pieces_overlap entry.piece (piece_at (place_of entry.piece) older) ≡ true
       shared =

@@ -1,5 +1,5 @@
 -- Internal: how the places of the settled pieces lead to their writes and back.
-use Rattle.std.specs.Prelude.{◌≡◌, ℕ, ◌≤◌, Bool, true, false, ◌||◌, List, Option, Some, None, IsSome, MatchOption}
+use Rattle.std.specs.Prelude.{◌≡◌, ℕ, ◌≤◌, Bool, true, false, not, ◌||◌, List, Option, Some, None, IsSome, MatchOption}
 use Rattle.std.specs.declared.cmp.Ordering.{Ordering}
 use Rattle.std.specs.declared.cmp.Ordering.TheVariants.{Less}
 use Rattle.std.specs.Option.{option_map}
@@ -8,11 +8,14 @@ use Rattle.std.specs.Map.{lookup}
 use Rattle.std.specs.BTreeMap.{is_at}
 use Rattle.jr_model.specs.declared.blocks.Piece.{Piece}
 use Rattle.jr_model.specs.declared.events.WriteId.{WriteId}
-use Rattle.jr_model.specs.History.{same_write}
+use Rattle.jr_model.specs.History.{same_write, write_order}
 use Rattle.jr_model.specs.Pieces.{piece_end, pieces_overlap}
-use Rattle.jr_writes.specs.declared.logs.Logged.{Logged}
+use Rattle.jr_writes.specs.declared.kept.Kept.{Kept}
 use Rattle.jr_writes.specs.declared.spots.Spot.{Spot}
-use Rattle.jr_writes.specs.LoggedWrites.{lies_apart}
+
+-- what is kept of a write
+abbrev pub kept_of : List (WriteId × Kept) → WriteId → Option Kept
+kept_of writes write = lookup (is_at (write_order write)) writes
 
 -- where a piece begins: its file and its offset
 abbrev pub place_of : Piece → ℕ × ℕ
@@ -40,8 +43,8 @@ is_kept None write = false
 is_kept (Some kept) write = same_write kept write
 
 -- the entry is of the kept write, or shares no byte with the piece
-abbrev pub stays : Option WriteId → Piece → WriteId × Logged → Bool
-stays kept piece e = is_kept kept e.0 || lies_apart piece e.1
+abbrev pub stays : Option WriteId → Piece → WriteId × Kept → Bool
+stays kept piece e = is_kept kept e.0 || not (pieces_overlap piece e.1.piece)
 
 -- no piece is empty, and no two share a byte; the kept write's may share bytes with others
 pub record AreDisjoint (kept : Option WriteId) (spot_in : ℕ × ℕ → Option Spot) : Type 0 where
@@ -50,9 +53,9 @@ pub record AreDisjoint (kept : Option WriteId) (spot_in : ℕ × ℕ → Option 
       → is_kept kept s.write ≡ false → is_kept kept t.write ≡ false
       → pieces_overlap (piece_at p s) (piece_at q t) ≡ true → p ≡ q
 
--- each logged piece stands at its place, what stands at a place leads back to its write, and the pieces are disjoint
-pub record IsIndexed (kept : Option WriteId) (entry_of : WriteId → Option Logged) (spot_in : ℕ × ℕ → Option Spot) : Type 0 where
-  pub stands : (write : WriteId) (entry : Logged) → entry_of write ≡ Some entry
+-- each kept piece stands at its place, what stands at a place leads back to its write, and the pieces are disjoint
+pub record IsIndexed (kept : Option WriteId) (entry_of : WriteId → Option Kept) (spot_in : ℕ × ℕ → Option Spot) : Type 0 where
+  pub stands : (write : WriteId) (entry : Kept) → entry_of write ≡ Some entry
       → spot_in (place_of entry.piece) ≡ Some (spot_of write entry.piece)
   pub leads_back : (place : ℕ × ℕ) (spot : Spot) → spot_in place ≡ Some spot
       → option_map (λ e. e.piece) (entry_of spot.write) ≡ Some (piece_at place spot)

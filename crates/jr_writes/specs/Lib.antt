@@ -1,3 +1,4 @@
 pub mod Index
+pub mod KeptEntries
 pub mod LogSteps
 pub mod LoggedWrites

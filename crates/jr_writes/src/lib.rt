@@ -2,6 +2,7 @@
 // what their checks compare with.
 #![tactic(auto)]
 
+mod kept;
 mod logs;
 mod spots;
 

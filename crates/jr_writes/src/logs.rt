@@ -1,3 +1,4 @@
+use crate::kept::{Kept, place_expected};
 use crate::spots::{Spot, put, take_out};
 use jr_model::{Expected, Memory, Piece, WriteId};
 use std::alloc::Global;
@@ -16,8 +17,10 @@ pub struct Logged {
 /// unsettled since.
 #[derive(Drop)]
 pub struct WriteLog {
-    writes: BTreeMap<WriteId, Logged>,
+    writes: BTreeMap<WriteId, Kept>,
     spots: BTreeMap<(u32, u64), Spot>,
+    // What checks compare with: each that differs from the one before it, once.
+    expected: Vec<Expected>,
 }
 
 impl fmt::Debug for WriteLog {
@@ -35,15 +38,17 @@ impl Model for WriteLog {
 
     ghost Value = { List (Name × Entry) };
 
-    ghost use Rattle.jr_writes.specs.Index.{IsIndexed, place_order, spot_at};
+    ghost use Rattle.jr_writes.specs.Index.{IsIndexed, kept_of, place_order, spot_at};
+    ghost use Rattle.jr_writes.specs.KeptEntries.{ArePlaced, entries_of};
     ghost use Rattle.jr_model.specs.History.{write_order};
-    ghost use Rattle.jr_writes.specs.LoggedWrites.{logged};
 
-    ghost view = { λ log. log.writes.entries };
+    ghost view = { λ log. entries_of log.expected.items log.writes.entries };
 
-    // The writes and their places are in order, and the pieces of the places are disjoint.
+    // The writes and their places are in order, the pieces of the places are disjoint, and what the
+    // checks of each write compare with is known.
     ghost invariant = { λ log. IsOrdered write_order log.writes × IsOrdered place_order log.spots
-        × IsIndexed None (logged log.writes.entries) (spot_at log.spots.entries) };
+        × IsIndexed None (kept_of log.writes.entries) (spot_at log.spots.entries)
+        × ArePlaced log.expected.items log.writes.entries };
 }
 
 impl WriteLog {
@@ -61,6 +66,7 @@ impl WriteLog {
         WriteLog {
             writes: BTreeMap::new(alloc),
             spots: BTreeMap::new(alloc),
+            expected: Vec::new(alloc),
         }
     }
 
@@ -75,7 +81,9 @@ impl WriteLog {
             else if_apart piece (logged self.old other))) }
         ensures err { OnErr result (self.new ≡ self.old) }
     {
-        put(&mut self.writes, &mut self.spots, write, piece, expected)?;
+        let place = place_expected(&mut self.expected, expected)?;
+        let entry = Kept { piece, place };
+        put(&mut self.writes, &mut self.spots, write, entry)?;
         take_out(&mut self.writes, &mut self.spots, &piece, Some(write));
         Ok(())
     }
@@ -101,7 +109,7 @@ impl WriteLog {
         ensures { option_copied result ≡ option_map (λ entry. entry.expected) (logged self.now write.now) }
     {
         match self.writes.get(write) {
-            Some(entry) => Some(&entry.expected),
+            Some(kept) => self.expected.get(kept.place),
             None => None,
         }
     }

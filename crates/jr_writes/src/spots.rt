@@ -1,13 +1,12 @@
 ghost use Rattle.std.specs.Prelude.{◌≡◌, ◌^◌, ◌<◌, ◌≤◌, Some, None, filter, OnOk, OnErr};
-ghost use Rattle.std.specs.BTreeMap.{IsOrdered};
+ghost use Rattle.std.specs.BTreeMap.{IsOrdered, insert_entry};
 ghost use Rattle.jr_model.specs.Pieces.{piece_end};
 ghost use Rattle.jr_model.specs.History.{write_order};
 ghost use Rattle.jr_writes.specs.Index.{AreDisjoint, IsIndexed, IsLastBefore, IsLastOther, IsOverlapped, StandsHere, is_kept};
-ghost use Rattle.jr_writes.specs.Index.{piece_at, place_order, spot_at, stays};
-ghost use Rattle.jr_writes.specs.LoggedWrites.{logged, settled};
+ghost use Rattle.jr_writes.specs.Index.{kept_of, piece_at, place_order, spot_at, stays};
 
-use crate::logs::Logged;
-use jr_model::{Expected, Memory, Piece, WriteId, overlaps};
+use crate::kept::Kept;
+use jr_model::{Memory, Piece, WriteId, overlaps};
 use std::collections::BTreeMap;
 
 // The write whose piece begins at a place, and the piece's length.
@@ -20,29 +19,28 @@ pub struct Spot {
 // Puts a new write into both maps, in place of one whose piece begins where its piece does. Pieces
 // that it overlaps stay.
 pub(crate) fn put(
-    writes: &mut BTreeMap<WriteId, Logged>,
+    writes: &mut BTreeMap<WriteId, Kept>,
     spots: &mut BTreeMap<(u32, u64), Spot>,
     write: WriteId,
-    piece: Piece,
-    expected: Expected,
+    entry: Kept,
 ) -> Result<(), Memory>
-    requires filled { 1 ≤ piece.len }
-    requires fresh { logged writes.old.entries write ≡ None }
-    requires indexed { IsIndexed None (logged writes.old.entries) (spot_at spots.old.entries) }
-    ensures entries { OnOk result (filter (stays (Some write) piece) writes.new.entries
-        ≡ settled writes.old.entries write piece expected) }
-    ensures indexed { OnOk result (IsIndexed (Some write) (logged writes.new.entries) (spot_at spots.new.entries)) }
-    ensures stands { OnOk result (StandsHere (Some write) piece (spot_at spots.new.entries)) }
+    requires filled { 1 ≤ entry.piece.len }
+    requires fresh { kept_of writes.old.entries write ≡ None }
+    requires indexed { IsIndexed None (kept_of writes.old.entries) (spot_at spots.old.entries) }
+    ensures entries { OnOk result (filter (stays (Some write) entry.piece) writes.new.entries
+        ≡ insert_entry write_order (filter (stays None entry.piece) writes.old.entries) write entry) }
+    ensures indexed { OnOk result (IsIndexed (Some write) (kept_of writes.new.entries) (spot_at spots.new.entries)) }
+    ensures stands { OnOk result (StandsHere (Some write) entry.piece (spot_at spots.new.entries)) }
     ensures err { OnErr result ((writes.new.entries ≡ writes.old.entries) × (spots.new.entries ≡ spots.old.entries)) }
     ensures ordered { IsOrdered write_order writes.new }
     ensures was_ordered { IsOrdered write_order writes.old }
 {
-    writes.insert(write, Logged { piece, expected })?;
+    writes.insert(write, entry)?;
     let spot = Spot {
         write,
-        len: piece.len,
+        len: entry.piece.len,
     };
-    match spots.insert((piece.file, piece.offset), spot) {
+    match spots.insert((entry.piece.file, entry.piece.offset), spot) {
         Ok(None) => Ok(()),
         Ok(Some(older)) => {
             let _ = writes.remove(&older.write);
@@ -57,17 +55,17 @@ pub(crate) fn put(
 
 // Takes out every write, other than the kept one, whose piece shares a byte with this one.
 pub(crate) fn take_out(
-    writes: &mut BTreeMap<WriteId, Logged>,
+    writes: &mut BTreeMap<WriteId, Kept>,
     spots: &mut BTreeMap<(u32, u64), Spot>,
     piece: &Piece,
     kept: Option<WriteId>,
 )
     requires fits { piece_end piece.now < 2 ^ 64 }
-    requires indexed { IsIndexed kept (logged writes.old.entries) (spot_at spots.old.entries) }
+    requires indexed { IsIndexed kept (kept_of writes.old.entries) (spot_at spots.old.entries) }
     requires stands { StandsHere kept piece.now (spot_at spots.old.entries) }
     requires ordered { IsOrdered write_order writes.old }
     ensures entries { writes.new.entries ≡ filter (stays kept piece.now) writes.old.entries }
-    ensures indexed { IsIndexed None (logged writes.new.entries) (spot_at spots.new.entries) }
+    ensures indexed { IsIndexed None (kept_of writes.new.entries) (spot_at spots.new.entries) }
     ensures ordered { IsOrdered write_order writes.new }
     ensures places_ordered { IsOrdered place_order spots.new }
 {

@@ -1,8 +1,7 @@
 use Rattle.std.proofs.Common.{ap, sym, ◌∙◌, filter}
 use Rattle.jr_writes.proofs.EntryLemmas.{filter_all}
 use Rattle.jr_writes.proofs.IndexLemmas.{IsIndexed-removed, IsIndexed-whole, StandsHere-removed, all_stay, filter-removed}
-use Rattle.jr_writes.specs.Index.{spot_at, stays}
-use Rattle.jr_writes.specs.LoggedWrites.{logged}
+use Rattle.jr_writes.specs.Index.{kept_of, spot_at, stays}
 use Rattle.jr_writes.proofs.spots.take_out.Goals as goal
 
 pub loop-place-preserved : goal.loop-place-preserved
@@ -11,8 +10,8 @@ loop-place-preserved c =
     let kept = c.args.kept in
     let piece = c.args.piece.now in
     let was = c.loop-place.invariant in
-    let entry_of = logged c.loop-place.writes.entries in
-    let left_of = logged c.remove-in-Some.new.self.entries in
+    let entry_of = kept_of c.loop-place.writes.entries in
+    let left_of = kept_of c.remove-in-Some.new.self.entries in
     let spot_in = spot_at c.loop-place.spots.entries in
     let left_in = spot_at c.remove.new.self.entries in
     let without = c.remove-in-Some.ensures.updates.0 in
@@ -38,4 +37,4 @@ returns-clause-entries c =
 pub returns-clause-indexed : goal.returns-clause-indexed
 returns-clause-indexed c =
     let was = c.loop-place.invariant in
-    IsIndexed-whole c.args.kept c.args.piece.now (logged c.loop-place.writes.entries) (spot_at c.loop-place.spots.entries) was.indexed was.stands c.in_default.ensures.found
+    IsIndexed-whole c.args.kept c.args.piece.now (kept_of c.loop-place.writes.entries) (spot_at c.loop-place.spots.entries) was.indexed was.stands c.in_default.ensures.found
