@@ -49,6 +49,11 @@ mapped : {X Y : Type 0} (f : X → Y) (o : Option X) (y : Y) → option_map f o 
 mapped f None y h = cc
 mapped f (Some x) y h = (x, refl, same_some (f x) y h)
 
+-- what is made of something is something
+pub some_mapped : {X Y : Type 0} (f : X → Y) (o : Option X) → is_some (option_map f o) ≡ is_some o
+some_mapped f None = refl
+some_mapped f (Some x) = refl
+
 -- the piece of a ticket that was handed out can be looked for in flight
 pub handed_fits : (plan : Plan) (board : Board) (id : ℕ) (piece : Piece) → IsBoard plan board
     → option_map (λ (ticket : Ticket). ticket.piece) (slice_get (tickets_of plan board.history.items) id) ≡ Some piece

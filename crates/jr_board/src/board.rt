@@ -5,10 +5,10 @@ use jr_tallies::Tallies;
 use jr_tickets::TicketTable;
 use jr_writes::WriteLog;
 
-// What happened in a run, and what is kept of it, so that no call looks at the whole history.
+/// What happened in a run, and what is kept of it, so that no call looks at the whole history.
 #[derive(Drop)]
 pub struct Board {
-    // All events, the oldest first. It is appended to alone.
+    /// All events, the oldest first. It is appended to alone.
     pub history: Vec<Event>,
     pub tickets: TicketTable,
     pub flying: Flying,

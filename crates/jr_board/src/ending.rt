@@ -20,7 +20,7 @@ use crate::written::log_end;
 use jr_model::{Event, Expected, Memory, Outcome, Ticket, TicketKind, Verdict};
 use jr_plan::Plan;
 
-// Takes in how an I/O or check ended.
+/// Takes in how an I/O or check ended.
 pub fn end(
     plan: &Plan,
     board: &mut Board,
@@ -57,7 +57,7 @@ pub fn end(
     Ok(())
 }
 
-// Takes in the verdict on a check that ended whole.
+/// Takes in the verdict on a check that ended whole.
 pub fn judge(
     plan: &Plan,
     board: &mut Board,

@@ -74,7 +74,7 @@ pub(crate) fn open_phase(plan: &Plan, board: &Board) -> u32
     phase
 }
 
-// Whether nothing is in flight, no verdict is missing, and each clone is finished or halted.
+/// Whether nothing is in flight, no verdict is missing, and each clone is finished or halted.
 pub fn is_complete(plan: &Plan, board: &Board) -> bool
     requires { IsBoard plan.now board.now }
     ensures { result ≡ is_complete plan.now board.now.history.items }

@@ -8,6 +8,7 @@ ghost use Rattle.jr_model.specs.Machine.{seed_of_draw};
 ghost use Rattle.jr_model.specs.Plan.{Plan as Planned, SubJob as Clone, clone_of};
 ghost use Rattle.jr_laws_log.specs.Flying.{dir_of};
 ghost use Rattle.jr_board.specs.Boards.{IsBoard, IsReady, left_of};
+ghost use Rattle.jr_board.specs.WriteLogs.{judged_by};
 ghost use Rattle.jr_tickets.specs.Tickets.{ticket_of};
 ghost use Rattle.jr_board.specs.declared.standings.Standing.{Standing as Stood};
 
@@ -91,10 +92,12 @@ pub(crate) fn probe(
     worker: u32,
     write: WriteId,
     piece: Piece,
+    expected: Expected,
 ) -> Ticket
     requires board { IsBoard plan.now board.old }
     requires ready { IsReady plan.now board.old }
     requires may { may_happen plan.now board.old.history.items (Probe worker write piece) ≡ true }
+    requires judged { judged_by board.old.log (Probe worker write piece) ≡ Some expected }
     ensures board { IsBoard plan.now board.new }
     ensures history { board.new.history.items ≡ board.old.history.items ++ Probe worker write piece ∷ [] }
     ensures ticket { result ≡ ticket_of plan.now (
@@ -114,11 +117,7 @@ pub(crate) fn probe(
         piece,
         seed: seed_of(board, write),
         method: job.method(),
-        expected: board
-            .log
-            .expected(&write)
-            .copied()
-            .unwrap_or(Expected::Nothing),
+        expected,
     };
     board.history.push_reserved(Event::Probe {
         worker,

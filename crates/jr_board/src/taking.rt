@@ -24,7 +24,7 @@ use jr_tickets::TicketTable;
 use jr_writes::WriteLog;
 use std::alloc::Global;
 
-// Before anything happened.
+/// Before anything happened.
 pub fn new_board(alloc: Global, plan: &Plan) -> Result<Board, Memory>
     ensures board { IfOk result (IsBoard plan.now) }
     ensures history { IfOk result (λ board. board.history.items ≡ []) }
@@ -43,7 +43,7 @@ pub fn new_board(alloc: Global, plan: &Plan) -> Result<Board, Memory>
     })
 }
 
-// Asks for all memory that a take can want. What happened is the same, whether it is refused or not.
+/// Asks for all memory that a take can want. What happened is the same, whether it is refused or not.
 pub fn prepare(alloc: Global, plan: &Plan, board: &mut Board) -> Result<(), Memory>
     requires { IsBoard plan.now board.old }
     ensures board { IsBoard plan.now board.new }
@@ -58,7 +58,7 @@ pub fn prepare(alloc: Global, plan: &Plan, board: &mut Board) -> Result<(), Memo
     Ok(())
 }
 
-// Starts the next I/O or check for a worker, if one may be started; writes that are not checked are skipped on the way.
+/// Starts the next I/O or check for a worker, if one may be started; writes that are not checked are skipped on the way.
 pub fn start_next(plan: &Plan, board: &mut Board, worker: u32) -> Option<Ticket>
     requires board { IsBoard plan.now board.old }
     requires ready { IsReady plan.now board.old }
@@ -67,10 +67,10 @@ pub fn start_next(plan: &Plan, board: &mut Board, worker: u32) -> Option<Ticket>
         × (result ≡ ticket_for plan.now (length (started board.old.history.items)) io) }
 {
     'choices: loop {
-        let Some(step) = choose(plan, board, worker) else {
+        let Some(chosen) = choose(plan, board, worker) else {
             return None;
         };
-        match step {
+        match chosen.event {
             Event::Skip { write, .. } => skip(plan, board, worker, write),
             Event::Issue {
                 kind,
@@ -79,7 +79,7 @@ pub fn start_next(plan: &Plan, board: &mut Board, worker: u32) -> Option<Ticket>
                 ..
             } => return Some(issue(plan, board, worker, kind, write, piece)),
             Event::Probe { write, piece, .. } => {
-                return Some(probe(plan, board, worker, write, piece));
+                return Some(probe(plan, board, worker, write, piece, chosen.expected));
             }
             // These two are no choice.
             Event::End { .. } => return None,
@@ -120,7 +120,7 @@ fn left_in(standings: &[Standing]) -> usize
     left
 }
 
-// The answer to a take that handed out this ticket, if it did.
+/// The answer to a take that handed out this ticket, if it did.
 pub fn answer_to(plan: &Plan, board: &Board, ticket: &Option<Ticket>) -> Take
     requires { IsBoard plan.now board.now }
     ensures { result ≡ answer_with (is_complete plan.now board.now.history.items) ticket.now }

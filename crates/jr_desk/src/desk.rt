@@ -14,7 +14,7 @@ ghost use Rattle.jr_tallies.specs.Tallying.{miscompare_of};
 
 use jr_board::{Board, Take, answer_to, end, is_complete, judge, new_board, prepare, start_next};
 use jr_header::{Ruling, Served};
-use jr_model::{DeskFault, Event, Ticket, Totals, Verdict, is_same};
+use jr_model::{DeskFault, Event, Ticket, Totals, Verdict};
 use jr_plan::Plan;
 use jr_tallies::Bad;
 use jr_tickets::TicketTable;
@@ -102,15 +102,15 @@ impl Desk {
             { history = self.old.history ++ Event.End served.now.ticket.worker served.now.ticket.id served.now.outcome ∷ [] }) }
         ensures err { OnErr result (self.new ≡ self.old) }
     {
-        let ticket = *served.ticket();
-        self.check_own(&ticket)?;
+        let ticket = served.ticket();
+        self.check_own(ticket)?;
         if self.has_ended(ticket.id) {
             return Err(DeskFault::Twice);
         }
         end(
             &self.plan,
             &mut self.board,
-            &ticket,
+            ticket,
             served.outcome(),
             served.expected(),
         )?;
@@ -132,8 +132,8 @@ impl Desk {
             }) }
         ensures err { OnErr result (self.new ≡ self.old) }
     {
-        let ticket = *ruling.served().ticket();
-        self.check_own(&ticket)?;
+        let ticket = ruling.served().ticket();
+        self.check_own(ticket)?;
         if self.is_judged(ticket.id) {
             return Err(DeskFault::Twice);
         }
@@ -141,7 +141,7 @@ impl Desk {
             return Err(DeskFault::WrongKind);
         }
         let verdict = self.said_of(ruling);
-        judge(&self.plan, &mut self.board, by, &ticket, verdict)?;
+        judge(&self.plan, &mut self.board, by, ticket, verdict)?;
         Ok(())
     }
 
@@ -255,9 +255,10 @@ impl Desk {
         if self.is_stopped {
             return Err(DeskFault::Stopped);
         }
-        match self.ticket_at(ticket.id) {
-            Some(own) if is_same(&own, ticket) => Ok(()),
-            _ => Err(DeskFault::Stranger),
+        if self.board.tickets.is_own(&self.plan, ticket) {
+            Ok(())
+        } else {
+            Err(DeskFault::Stranger)
         }
     }
 }

@@ -74,7 +74,10 @@ fn hand_out(
     holds(rt, table.ticket(plan, id).is_none(), "no ticket yet");
     holds(rt, table.seed(id).is_none(), "no seed yet");
     holds(rt, table.piece(id).is_none(), "no piece yet");
+    holds(rt, table.worker(id).is_none(), "no worker yet");
+    holds(rt, table.kind(id).is_none(), "no kind yet");
     let ticket = tickets.get(id as usize).ok_or("no ticket")?;
+    holds(rt, !table.is_own(plan, ticket), "not its own yet");
     table.reserve()?;
     holds(rt, table.headers.len() < 9, "few headers");
     table.hand(ticket);
@@ -92,7 +95,10 @@ fn assert_handed(
     for (number, ticket) in tickets.iter().enumerate().take(id as usize + 1) {
         let own = table.ticket(plan, number as u32).ok_or("not there")?;
         same(rt, (number, is_same(&own, ticket)), (number, true));
+        same(rt, (number, table.is_own(plan, ticket)), (number, true));
         same(rt, table.seed(number as u32), Some(1_000_000_007));
+        same(rt, table.worker(number as u32), Some(ticket.worker));
+        same(rt, table.kind(number as u32), Some(ticket.kind));
         same(rt, table.piece(number as u32), Some(ticket.piece));
     }
     Ok(())
@@ -114,7 +120,20 @@ fn tickets_come_back_as_they_were_handed_out(rt: HostRuntime) -> Result<(), Fail
         hand_out(&rt, &plan, &mut table, &tickets, id)?;
     }
     same(&rt, table.headers.len(), 2);
+    assert_strangers(&rt, &plan, &table, &tickets[1]);
     Ok(())
+}
+
+// A ticket that differs from this one in one part is a stranger's.
+fn assert_strangers(rt: &impl Abort, plan: &Plan, table: &TicketTable, own: &Ticket) {
+    let expected = Expected::Header([8; 64]);
+    let other_worker = Ticket { worker: 9, ..*own };
+    let other_seed = Ticket { seed: 9, ..*own };
+    let other_header = Ticket { expected, ..*own };
+    let other_number = Ticket { id: 4, ..*own };
+    for stranger in [other_worker, other_seed, other_header, other_number] {
+        holds(rt, !table.is_own(plan, &stranger), "a stranger's");
+    }
 }
 
 fn end(rt: &impl Abort, table: &mut TicketTable, id: u32, outcome: Outcome, raced: bool) {

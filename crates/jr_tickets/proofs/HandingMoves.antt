@@ -313,6 +313,20 @@ seed_found plan history handed id is =
     ap (λ (ls : List Launch). option_map (λ (launch : Launch). launch.seed) (slice_get ls id)) is.launches
     ∙ kept_at (λ (launch : Launch). launch.seed) (λ (t : Ticket). t.seed) (λ n t. refl) 0 (tickets_of plan history) id
 
+pub worker_found : (plan : Plan) (history : List Event) (handed : TicketTable) (id : ℕ) → IsHanded plan history handed
+    → option_map (λ (launch : Launch). launch.worker) (slice_get handed.launches.items id)
+    ≡ option_map (λ (t : Ticket). t.worker) (slice_get (tickets_of plan history) id)
+worker_found plan history handed id is =
+    ap (λ (ls : List Launch). option_map (λ (launch : Launch). launch.worker) (slice_get ls id)) is.launches
+    ∙ kept_at (λ (launch : Launch). launch.worker) (λ (t : Ticket). t.worker) (λ n t. refl) 0 (tickets_of plan history) id
+
+pub kind_found : (plan : Plan) (history : List Event) (handed : TicketTable) (id : ℕ) → IsHanded plan history handed
+    → option_map (λ (launch : Launch). launch.kind) (slice_get handed.launches.items id)
+    ≡ option_map (λ (t : Ticket). t.kind) (slice_get (tickets_of plan history) id)
+kind_found plan history handed id is =
+    ap (λ (ls : List Launch). option_map (λ (launch : Launch). launch.kind) (slice_get ls id)) is.launches
+    ∙ kept_at (λ (launch : Launch). launch.kind) (λ (t : Ticket). t.kind) (λ n t. refl) 0 (tickets_of plan history) id
+
 pub piece_found : (plan : Plan) (history : List Event) (handed : TicketTable) (id : ℕ) → IsHanded plan history handed
     → option_map launched_piece (slice_get handed.launches.items id)
     ≡ option_map (λ (t : Ticket). t.piece) (slice_get (tickets_of plan history) id)

@@ -1,10 +1,13 @@
-ghost use Rattle.std.specs.Prelude.{◌≡◌, slice_get};
+ghost use Rattle.std.specs.Prelude.{◌≡◌, IsTrue, IsFalse, slice_get};
 ghost use Rattle.jr_model.specs.Content.{expected_pattern};
 ghost use Rattle.jr_model.specs.Plan.{clone_of};
 ghost use Rattle.jr_tickets.specs.Handing.{expected_again, header_expected, headers_again, launch_of, launched_piece, ticket_again};
 ghost use Rattle.jr_tickets.specs.Tickets.{method_of};
 
-use jr_model::{Expected, IoId, Method, Piece, Ticket, TicketKind, VerifyKind, WriteId};
+use jr_model::{
+    Expected, IoId, Method, Piece, Ticket, TicketKind, VerifyKind, WriteId, is_same_expected,
+    is_same_kind, is_same_method, same_piece, same_write,
+};
 use jr_plan::Plan;
 
 /// What is kept of the ticket of an I/O or check: all that the plan doesn't say.
@@ -64,6 +67,20 @@ impl Launch {
             method,
             expected: self.expected(&method, headers),
         }
+    }
+
+    // Whether this ticket is the one of its number, as it would be made again. Nothing is made but what its bytes are judged by.
+    pub(crate) fn is_of(&self, plan: &Plan, headers: &[[u8; 64]], ticket: &Ticket) -> bool
+        ensures yes { IsTrue result → ticket_again plan.now headers.now ticket.now.id self.now ≡ ticket.now }
+        ensures no { IsFalse result → ¬ ticket_again plan.now headers.now ticket.now.id self.now ≡ ticket.now }
+    {
+        self.worker == ticket.worker
+            && self.seed == ticket.seed
+            && is_same_kind(self.kind, ticket.kind)
+            && same_write(&self.write, &ticket.write)
+            && same_piece(&self.piece(), &ticket.piece)
+            && is_same_method(&method_in(plan, self.write.clone), &ticket.method)
+            && is_same_expected(&self.expected(&ticket.method, headers), &ticket.expected)
     }
 
     // What its bytes are judged by.

@@ -1,4 +1,4 @@
-ghost use Rattle.std.specs.Prelude.{◌≡◌, ◌<◌, ◌^◌, ◌++◌, ℕ, true, false, List, [], length, slice_get, is_some, Some, OnOk, vec_len, vec_capacity};
+ghost use Rattle.std.specs.Prelude.{◌≡◌, ◌<◌, ◌^◌, ◌++◌, ℕ, true, false, List, [], length, slice_get, is_some, Some, OnOk, IsTrue, IsFalse, vec_len, vec_capacity};
 ghost use Rattle.std.specs.Option.{option_map, option_to_list};
 ghost use Rattle.jr_model.specs.declared.events.Event.{Event};
 ghost use Rattle.jr_model.specs.declared.events.Event.TheVariants.{End, Verdict};
@@ -9,12 +9,12 @@ ghost use Rattle.jr_model.specs.Legal.{is_legal};
 ghost use Rattle.jr_model.specs.Plan.{Plan as Planned};
 ghost use Rattle.jr_model.specs.Races.{has_raced};
 ghost use Rattle.jr_tickets.specs.Handing.{IsHanded, header_in};
-ghost use Rattle.jr_tickets.specs.Kept.{tickets_of};
+ghost use Rattle.jr_tickets.specs.Kept.{IsOwn, tickets_of};
 ghost use Rattle.jr_laws_steps.specs.Nexts.{IsNext, grown};
 ghost use Rattle.jr_tickets.specs.Tickets.{ticket_of};
 
 use crate::launches::Launch;
-use jr_model::{Expected, IoId, Memory, Outcome, Piece, Ticket};
+use jr_model::{Expected, IoId, Memory, Outcome, Piece, Ticket, TicketKind};
 use jr_plan::Plan;
 use std::alloc::Global;
 
@@ -88,6 +88,17 @@ impl TicketTable {
         }
     }
 
+    /// Whether this ticket is the one that was handed out under its number.
+    pub fn is_own(&self, plan: &Plan, ticket: &Ticket) -> bool
+        ensures yes { (history : List Event) → IsHanded plan.now history self.now → IsTrue result → IsOwn plan.now history ticket.now }
+        ensures no { (history : List Event) → IsHanded plan.now history self.now → IsFalse result → ¬ IsOwn plan.now history ticket.now }
+    {
+        match self.launch(ticket.id) {
+            None => false,
+            Some(launch) => launch.is_of(plan, &self.headers, ticket),
+        }
+    }
+
     /// The seed of the ticket of this number, if it was handed out.
     pub fn seed(&self, id: IoId) -> Option<u64>
         ensures { (plan : Planned) (history : List Event) → IsHanded plan history self.now
@@ -96,6 +107,28 @@ impl TicketTable {
         match self.launch(id) {
             None => None,
             Some(launch) => Some(launch.seed),
+        }
+    }
+
+    /// The worker that it was handed out to.
+    pub fn worker(&self, id: IoId) -> Option<u32>
+        ensures { (plan : Planned) (history : List Event) → IsHanded plan history self.now
+            → result ≡ option_map (λ ticket. ticket.worker) (slice_get (tickets_of plan history) id) }
+    {
+        match self.launch(id) {
+            None => None,
+            Some(launch) => Some(launch.worker),
+        }
+    }
+
+    /// Its kind.
+    pub fn kind(&self, id: IoId) -> Option<TicketKind>
+        ensures { (plan : Planned) (history : List Event) → IsHanded plan history self.now
+            → result ≡ option_map (λ ticket. ticket.kind) (slice_get (tickets_of plan history) id) }
+    {
+        match self.launch(id) {
+            None => None,
+            Some(launch) => Some(launch.kind),
         }
     }
 

@@ -22,8 +22,8 @@ overflow_add-counts c =
     let counted = counts_at plan board c.args.clone counts c.requires.board c.requires.there c.index-counts.ensures in
     omega (arith, few plan board c.requires.board c.args.clone own c.clone_at-job.ensures.value stood at counts counted)
 
-pub returns-then-counts : goal.returns-then-counts
-returns-then-counts c job there =
+pub returns-then-counts-clause-step : goal.returns-then-counts-clause-step
+returns-then-counts-clause-step c job there =
     let plan = c.args.plan.now in
     let board = c.args.board.now in
     let stood = c.index-standing.result.now in
@@ -49,8 +49,8 @@ is_under_way-requires c =
     let at = standing_at plan board c.args.clone stood c.requires.board c.requires.there c.index-standing.ensures in
     (c.requires.ready.standings c.args.clone own stood c.clone_at-job.ensures.value at).settled
 
-pub returns-then-counts-gt0 : goal.returns-then-counts-gt0
-returns-then-counts-gt0 c job there =
+pub returns-then-counts-gt0-clause-step : goal.returns-then-counts-gt0-clause-step
+returns-then-counts-gt0-clause-step c job there =
     let plan = c.args.plan.now in
     let board = c.args.board.now in
     let stood = c.index-standing.result.now in
@@ -76,8 +76,8 @@ round_step-requires-clause-settled c =
     let at = standing_at plan board c.args.clone stood c.requires.board c.requires.there c.index-standing.ensures in
     (c.requires.ready.standings c.args.clone own stood c.clone_at-job.ensures.value at).settled
 
-pub returns-then-is_under_way : goal.returns-then-is_under_way
-returns-then-is_under_way c job there =
+pub returns-then-is_under_way-clause-step : goal.returns-then-is_under_way-clause-step
+returns-then-is_under_way-clause-step c job there =
     let plan = c.args.plan.now in
     let board = c.args.board.now in
     let stood = c.index-standing.result.now in
@@ -91,15 +91,15 @@ returns-then-is_under_way c job there =
     let rounds : has_rounds job ≡ true = ap has_rounds (sym same) ∙ sym c.has_rounds.ensures ∙ c.if-has_rounds.true in
     let settled = (c.requires.ready.standings c.args.clone job stood there at).settled in
     let waits = sym c.is_under_way.ensures ∙ c.if-is_under_way.true in
-    c.round_step.ensures c.args.clone job there at rounds (c.declines.ensures ∙ ap (λ (j : SubJob). j.declines) same)
+    c.round_step.ensures.step c.args.clone job there at rounds (c.declines.ensures ∙ ap (λ (j : SubJob). j.declines) same)
     (runs_on plan board c.requires.board c.args.clone job there stood at counts counted c.if-counts.false)
     (waits_now plan board c.requires.board c.args.clone job there stood at counts counted c.args.worker c.if-counts.false room rounds
     settled waits)
     ∙ checks_first plan board c.requires.board c.args.clone job there stood at counts counted c.args.worker c.if-counts.false room rounds
     settled waits c.if-counts-gt0.false
 
-pub returns-then-phase : goal.returns-then-phase
-returns-then-phase c job there =
+pub returns-then-phase-clause-step : goal.returns-then-phase-clause-step
+returns-then-phase-clause-step c job there =
     let plan = c.args.plan.now in
     let board = c.args.board.now in
     let stood = c.index-standing.result.now in
@@ -136,8 +136,8 @@ next_issue-requires-clause-runs c job there =
     let counted = counts_at plan board c.args.clone counts c.requires.board c.requires.there c.index-counts.ensures in
     runs_on plan board c.requires.board c.args.clone job there stood at counts counted c.if-counts.false
 
-pub returns : goal.returns
-returns c job there =
+pub returns-clause-step : goal.returns-clause-step
+returns-clause-step c job there =
     let plan = c.args.plan.now in
     let board = c.args.board.now in
     let stood = c.index-standing.result.now in
@@ -158,5 +158,5 @@ returns c job there =
       | else-has_rounds-via-else-has_rounds w ↦ no_rounds plan board c.requires.board c.args.clone job there stood at counts counted
           c.args.worker c.if-counts.false room (ap has_rounds (sym same) ∙ sym c.has_rounds.ensures ∙ w.if-has_rounds.false)
     ] in
-    c.next_issue.ensures job stood there at
+    c.next_issue.ensures.step job stood there at
     ∙ issues_next plan board c.requires.board c.args.clone job there stood at counts counted c.args.worker c.if-counts.false room none

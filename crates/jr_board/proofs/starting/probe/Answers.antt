@@ -1,4 +1,4 @@
-use Rattle.std.proofs.Common.{◌≡◌, ℕ, length, refl, sym, ◌∙◌, ap, arith}
+use Rattle.std.proofs.Common.{◌≡◌, length, refl, sym, ◌∙◌, ap, arith}
 use Rattle.std.specs.Prelude.{Option, unwrap_or}
 use Rattle.std.proofs.lemmas.Option.{slice_get_within}
 use Rattle.jr_model.specs.declared.blocks.Dir.TheVariants.{Read}
@@ -92,11 +92,10 @@ returns-clause-ticket c =
     let read = same_some c.clone_at-job.result.now job (sym c.clone_at-job.ensures.value ∙ planned) in
     let at = stands_at plan board write.clone job standing is planned c.index_mut.ensures.value in
     ticket_made plan (length (started history)) worker kind.Probe write piece c.count-id.result c.seed_of.result c.method.result
-    c.unwrap_or.result (c.count-id.ensures plan history is.tickets)
+    c.args.expected (c.count-id.ensures plan history is.tickets)
     (c.seed_of.ensures plan job standing is planned at (sym here.0) here.1)
     (method_planned plan write.clone job c.method.result planned (c.method.ensures ∙ ap (λ (j : SubJob). j.method) read))
-    (c.unwrap_or.ensures
-    ∙ ap (λ (o : Option Expected). unwrap_or o expected.Nothing) (c.copied.ensures ∙ c.expected.ensures)
+    (sym (ap (λ (o : Option Expected). unwrap_or o expected.Nothing) c.requires.judged)
     ∙ probe_expects plan board worker write piece job probed.0.draw standing.pass is probed.0.named probed.1
     stands.in_pass.within (sym here.0) c.requires.may)
 

@@ -24,7 +24,7 @@ pub returns-then-is_judged-clause-taken_in : goal.returns-then-is_judged-clause-
 returns-then-is_judged-clause-taken_in c own free =
     let desk = c.args.self.now in
     let t = c.args.ruling.now.ticket in
-    let same : c.ticket.result.now ≡ t = c.ticket.ensures.value ∙ ap (λ (a : AnswerParts). a.ticket) c.served.ensures.value in
+    let same : c.ticket-ticket.result.now ≡ t = c.ticket-ticket.ensures.value ∙ ap (λ (a : AnswerParts). a.ticket) c.served.ensures.value in
     absurd (judge_refused_twice desk.is_stopped (is_judged desk.history t.id) (ended_whole (outcome_of desk.history t.id))
     (ap (λ (x : Ticket). is_judged desk.history x.id) (sym same) ∙ sym c.is_judged.ensures ∙ c.if-is_judged.true) free)
 
@@ -32,7 +32,7 @@ pub returns-then-not-has_ended_whole-clause-taken_in : goal.returns-then-not-has
 returns-then-not-has_ended_whole-clause-taken_in c own free =
     let desk = c.args.self.now in
     let t = c.args.ruling.now.ticket in
-    let same : c.ticket.result.now ≡ t = c.ticket.ensures.value ∙ ap (λ (a : AnswerParts). a.ticket) c.served.ensures.value in
+    let same : c.ticket-ticket.result.now ≡ t = c.ticket-ticket.ensures.value ∙ ap (λ (a : AnswerParts). a.ticket) c.served.ensures.value in
     absurd (judge_refused_kind desk.is_stopped (is_judged desk.history t.id) (ended_whole (outcome_of desk.history t.id))
     (ap (λ (x : Ticket). ended_whole (outcome_of desk.history x.id)) (sym same) ∙ sym c.has_ended_whole.ensures ∙ c.if-not-has_ended_whole.true) free)
 
@@ -40,8 +40,8 @@ pub judge-requires-clause-may : goal.judge-requires-clause-may
 judge-requires-clause-may c =
     let desk = c.args.self.now in
     let ruling = c.args.ruling.now in
-    let t = c.ticket.result.now in
-    let same : t ≡ ruling.ticket = c.ticket.ensures.value ∙ ap (λ (a : AnswerParts). a.ticket) c.served.ensures.value in
+    let t = c.ticket-ticket.result.now in
+    let same : t ≡ ruling.ticket = c.ticket-ticket.ensures.value ∙ ap (λ (a : AnswerParts). a.ticket) c.served.ensures.value in
     let unjudged : is_judged desk.history t.id ≡ false = sym c.is_judged.ensures ∙ c.if-is_judged.false in
     let whole : ended_whole (outcome_of desk.history t.id) ≡ true = sym c.has_ended_whole.ensures ∙ c.if-not-has_ended_whole.false in
     let planned : IsPlanned desk.plan = subst (λ (d : DeskState). IsPlanned d.plan) c.self.view_is c.self.invariant.planned in
@@ -63,8 +63,8 @@ judge-requires-clause-may c =
 pub returns-in_err-judge-clause-refused : goal.returns-in_err-judge-clause-refused
 returns-in_err-judge-clause-refused c =
     let desk = c.args.self.now in
-    let t = c.ticket.result.now in
-    let same : t ≡ c.args.ruling.now.ticket = c.ticket.ensures.value ∙ ap (λ (a : AnswerParts). a.ticket) c.served.ensures.value in
+    let t = c.ticket-ticket.result.now in
+    let same : t ≡ c.args.ruling.now.ticket = c.ticket-ticket.ensures.value ∙ ap (λ (a : AnswerParts). a.ticket) c.served.ensures.value in
     judge_accepts desk c.args.ruling.now.ticket _
     (subst (λ (x : Ticket). IsOwn desk.plan desk.history x) same c.in_ok-check_own.ensures.ok)
     (not_stopped desk.is_stopped (λ (stopped : desk.is_stopped ≡ true). ok_err (c.in_ok-check_own.ensures.stopped stopped)))
@@ -74,8 +74,8 @@ returns-in_err-judge-clause-refused c =
 pub returns-clause-refused : goal.returns-clause-refused
 returns-clause-refused c =
     let desk = c.args.self.now in
-    let t = c.ticket.result.now in
-    let same : t ≡ c.args.ruling.now.ticket = c.ticket.ensures.value ∙ ap (λ (a : AnswerParts). a.ticket) c.served.ensures.value in
+    let t = c.ticket-ticket.result.now in
+    let same : t ≡ c.args.ruling.now.ticket = c.ticket-ticket.ensures.value ∙ ap (λ (a : AnswerParts). a.ticket) c.served.ensures.value in
     judge_accepts desk c.args.ruling.now.ticket _
     (subst (λ (x : Ticket). IsOwn desk.plan desk.history x) same c.in_ok-check_own.ensures.ok)
     (not_stopped desk.is_stopped (λ (stopped : desk.is_stopped ≡ true). ok_err (c.in_ok-check_own.ensures.stopped stopped)))
@@ -85,8 +85,8 @@ returns-clause-refused c =
 pub returns-clause-ok : goal.returns-clause-ok
 returns-clause-ok c =
     let desk = c.args.self.now in
-    let t = c.ticket.result.now in
-    let same : t ≡ c.args.ruling.now.ticket = c.ticket.ensures.value ∙ ap (λ (a : AnswerParts). a.ticket) c.served.ensures.value in
+    let t = c.ticket-ticket.result.now in
+    let same : t ≡ c.args.ruling.now.ticket = c.ticket-ticket.ensures.value ∙ ap (λ (a : AnswerParts). a.ticket) c.served.ensures.value in
     let given : c.said_of-verdict.result ≡ said_of (has_raced desk.history c.args.ruling.now.ticket.id) (answer_verdict c.args.ruling.now) =
     c.said_of-verdict.ensures.verdict
     (subst (λ (x : Ticket). ended_whole (outcome_of desk.history x.id) ≡ true) same (sym c.has_ended_whole.ensures ∙ c.if-not-has_ended_whole.false))
