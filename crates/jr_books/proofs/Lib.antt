@@ -1,3 +1,4 @@
+pub mod BookLemmas
 pub mod Following
 pub mod Settling
 pub mod Tables

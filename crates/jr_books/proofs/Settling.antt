@@ -1,6 +1,7 @@
 -- Where each I/O and check has come to its end, nothing is in flight and no verdict is missing.
 use Rattle.std.proofs.Common.{◌≡◌, ℕ, ◌+◌, List, Bool, true, false, cond, ◌&&◌, not, refl, ◌∙◌, ap, subst, arith}
 use Rattle.std.specs.Prelude.{Option, Some, None, slice_get, is_none, is_some}
+use Rattle.std.specs.Option.{option_map}
 use Rattle.std.proofs.lemmas.Bool.{and_parts}
 use Rattle.jr_model.specs.declared.events.Event.{Event}
 use Rattle.jr_model.specs.declared.events.Outcome.{Outcome}
@@ -9,9 +10,9 @@ use Rattle.jr_model.specs.History.{started, outcome_of, if_flying, if_awaiting, 
 use Rattle.jr_laws_steps.proofs.PlaceLemmas.{keeps_none}
 use Rattle.jr_laws_steps.proofs.StartedLemmas.{same_some}
 use Rattle.jr_model.specs.declared.tickets.Ticket.{Ticket}
+use Rattle.jr_model.specs.declared.tickets.TicketKind.{TicketKind}
 use Rattle.jr_model.specs.Plan.{Plan}
 use Rattle.jr_tickets.specs.Kept.{tickets_of}
-use Rattle.jr_tickets.specs.Tickets.{ticket_of}
 use Rattle.jr_tickets.proofs.HandingMoves.{ticket_started}
 use Rattle.jr_books.specs.Settled.{HasSettled, is_settled}
 
@@ -41,13 +42,15 @@ all_settled history each = record {
       (λ id io at. let same : id ≡ 0 + id = omega arith in subst (λ (n : ℕ). if_awaiting history (n, io) ≡ None) same (judged history id io (each id io at)));
 }
 
--- a ticket is of a check where what was started is one
+-- an I/O has the kind that it was started with
 module _ (plan : Plan) (history : List Event) (id : ℕ) (io : Started) (at : slice_get (started history) id ≡ Some io) where
-  pub kind_of_ticket : (ticket : Ticket) → Some ticket ≡ slice_get (tickets_of plan history) id → is_judged_kind ticket.kind ≡ is_judged_kind io.kind
-  kind_of_ticket ticket is =
-      ap (λ (t : Ticket). is_judged_kind t.kind) (same_some ticket (ticket_of plan (id, io)) (is ∙ ticket_started plan history id io at))
+  pub kind_started : option_map (λ ticket. ticket.kind) (slice_get (tickets_of plan history) id) ≡ Some io.kind
+  kind_started = ap (option_map (λ (t : Ticket). t.kind)) (ticket_started plan history id io at)
 
-  pub has_its_ticket : {A : Type 0} → None ≡ slice_get (tickets_of plan history) id → A
+  pub kind_of_ticket : (kind : TicketKind) → Some kind ≡ option_map (λ ticket. ticket.kind) (slice_get (tickets_of plan history) id) → is_judged_kind kind ≡ is_judged_kind io.kind
+  kind_of_ticket kind is = ap is_judged_kind (same_some kind io.kind (is ∙ kind_started))
+
+  pub has_its_ticket : {A : Type 0} → None ≡ option_map (λ ticket. ticket.kind) (slice_get (tickets_of plan history) id) → A
   has_its_ticket none =
-      let there : None ≡ Some (ticket_of plan (id, io)) = none ∙ ticket_started plan history id io at in
+      let there : None ≡ Some io.kind = none ∙ kind_started in
       cc

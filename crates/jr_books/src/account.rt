@@ -28,11 +28,12 @@ impl<'a> Model for Account<'a> {
 }
 
 impl<'a> Account<'a> {
-    ghost use Rattle.std.specs.Prelude.{◌≡◌, true, length, slice_get, Some};
+    ghost use Rattle.std.specs.Prelude.{◌≡◌, true, length, slice_get, Some, IsTrue, IsFalse};
+    ghost use Rattle.std.specs.Option.{option_map};
     ghost use Rattle.jr_model.specs.declared.events.Started.{Started as StartedIo};
     ghost use Rattle.jr_model.specs.History.{started, is_judged_kind};
     ghost use Rattle.jr_model.specs.Legal.{is_legal};
-    ghost use Rattle.jr_tickets.specs.Kept.{tickets_of};
+    ghost use Rattle.jr_tickets.specs.Kept.{IsOwn, tickets_of};
     ghost use Rattle.jr_books.specs.Settled.{is_settled};
 
     /// The account of a run of this plan.
@@ -68,6 +69,21 @@ impl<'a> Account<'a> {
         self.tickets.ticket(self.plan, id)
     }
 
+    /// Whether this ticket is the one that was handed out under its number.
+    pub fn is_own(&self, ticket: &Ticket) -> bool
+        ensures yes { IsTrue result → IsOwn self.now.plan self.now.history ticket.now }
+        ensures no { IsFalse result → ¬ IsOwn self.now.plan self.now.history ticket.now }
+    {
+        self.tickets.is_own(self.plan, ticket)
+    }
+
+    /// The worker that the I/O of this number was handed out to, if it was handed out.
+    pub fn worker(&self, id: IoId) -> Option<u32>
+        ensures { result ≡ option_map (λ ticket. ticket.worker) (slice_get (tickets_of self.now.plan self.now.history) id) }
+    {
+        self.tickets.worker(id)
+    }
+
     /// How many I/Os and checks were started.
     pub fn count(&self) -> usize
         ensures { result ≡ length (started self.now.history) }
@@ -91,10 +107,16 @@ impl<'a> Account<'a> {
     fn gets_verdict(&self, id: IoId) -> bool
         ensures { (io : StartedIo) → slice_get (started self.now.history) id ≡ Some io → result ≡ is_judged_kind io.kind }
     {
-        match self.ticket_at(id) {
-            Some(ticket) => is_judged_kind(ticket.kind),
+        match self.kind(id) {
+            Some(kind) => is_judged_kind(kind),
             None => false,
         }
+    }
+
+    fn kind(&self, id: IoId) -> Option<TicketKind>
+        ensures { result ≡ option_map (λ ticket. ticket.kind) (slice_get (tickets_of self.now.plan self.now.history) id) }
+    {
+        self.tickets.kind(id)
     }
 }
 

@@ -2,22 +2,33 @@ ghost use Rattle.std.specs.Prelude.{◌≡◌, ℕ, [], IsTrue, IfOk, IfSome, Op
 ghost use Rattle.std.specs.Option.{option_or};
 ghost use Rattle.std.specs.List.{list_all};
 ghost use Rattle.jr_model.specs.declared.events.Verdict.{Verdict as GivenVerdict};
+ghost use Rattle.jr_model.specs.History.{started};
 ghost use Rattle.jr_tickets.specs.Kept.{tickets_of};
-ghost use Rattle.jr_books.specs.Accounts.{IsTableOf, AreFollowed, AreMoved, IsMoved, AreGonePast};
-ghost use Rattle.jr_books.specs.Books.{verdict_by, verdict_in, done_by, done_with, dones_of};
+ghost use Rattle.jr_books.specs.declared.books.Done.{Done as Completed};
+ghost use Rattle.jr_books.specs.Accounts.{IsTableOf, AreFollowed, AreMoved, IsMoved, AreGonePast, completed_by};
+ghost use Rattle.jr_books.specs.Books.{verdict_by, verdict_in, done_by, dones_of};
 
 use crate::account::Account;
+use crate::book::Book;
 use crate::books::Done;
-use jr_model::{Event, Memory, Outcome, Verdict, is_same};
+use jr_model::{Event, IoId, Memory, Outcome, Verdict};
 use std::alloc::Global;
 
-// The verdict on each check, at its number.
-pub(crate) fn verdicts_of(alloc: Global, history: &[Event]) -> Result<Vec<Option<Verdict>>, Memory>
-    ensures table { IfOk result (λ table. IsTableOf table.items history.now) }
-    ensures len { IfOk result (λ table. length table.items ≡ length history.now) }
+// How an I/O ended, with the verdict on it where workers judge.
+#[derive(Clone, Copy)]
+pub struct Ending {
+    pub io: IoId,
+    pub outcome: Outcome,
+    pub verdict: Option<Verdict>,
+}
+
+// The verdict on each check, at its number: a place for each I/O that was started.
+fn verdicts_of(alloc: Global, account: &Account<'_>) -> Result<Vec<Option<Verdict>>, Memory>
+    ensures table { IfOk result (λ table. IsTableOf table.items account.now.history) }
+    ensures len { IfOk result (λ table. length table.items ≡ length (started account.now.history)) }
 {
-    let mut table = vec![in alloc; None; history.len()]?;
-    note_verdicts(table.as_mut_slice(), history);
+    let mut table = vec![in alloc; None; account.count()]?;
+    note_verdicts(table.as_mut_slice(), account.history());
     Ok(table)
 }
 
@@ -53,12 +64,12 @@ pub fn are_books(
     alloc: Global,
     account: &Account<'_>,
     inline: bool,
-    books: &[Vec<Done>],
+    books: &[Book],
 ) -> Result<bool, Memory>
     ensures { IfOk result (λ are. IsTrue are → (i : ℕ) (book : _) → slice_get books.now i ≡ Some book
-        → book.items ≡ dones_of account.now.plan inline account.now.history i) }
+        → book ≡ dones_of account.now.plan inline account.now.history i) }
 {
-    let table = verdicts_of(alloc, account.history())?;
+    let table = verdicts_of(alloc, account)?;
     let mut places = vec![in alloc; 0; books.len()]?;
     Ok(are_followed(account, &table, inline, books, places.as_mut_slice()))
 }
@@ -68,13 +79,13 @@ fn are_followed(
     account: &Account<'_>,
     table: &[Option<Verdict>],
     inline: bool,
-    books: &[Vec<Done>],
+    books: &[Book],
     places: &mut [usize],
 ) -> bool
     requires table { IsTableOf table.now account.now.history }
-    requires first { AreFollowed books.now (λ book. book.items) (done_by account.now.plan inline account.now.history) places.old [] }
+    requires first { AreFollowed books.now (done_by account.now.plan inline account.now.history) places.old [] }
     ensures { IsTrue result → (i : ℕ) (book : _) → slice_get books.now i ≡ Some book
-        → book.items ≡ dones_of account.now.plan inline account.now.history i }
+        → book ≡ dones_of account.now.plan inline account.now.history i }
 {
     if !follow_all(account, table, inline, books, places, account.history()) {
         return false;
@@ -87,14 +98,14 @@ fn follow_all(
     account: &Account<'_>,
     table: &[Option<Verdict>],
     inline: bool,
-    books: &[Vec<Done>],
+    books: &[Book],
     places: &mut [usize],
     events: &[Event],
 ) -> bool
     requires table { IsTableOf table.now account.now.history }
-    requires first { AreFollowed books.now (λ book. book.items) (done_by account.now.plan inline account.now.history) places.old [] }
+    requires first { AreFollowed books.now (done_by account.now.plan inline account.now.history) places.old [] }
     ensures { IsTrue result
-        → AreFollowed books.now (λ book. book.items) (done_by account.now.plan inline account.now.history) places.new events.now }
+        → AreFollowed books.now (done_by account.now.plan inline account.now.history) places.new events.now }
 {
     for event in events {
         if !follows(account, table, inline, books, places, event) {
@@ -109,46 +120,74 @@ fn follows(
     account: &Account<'_>,
     table: &[Option<Verdict>],
     inline: bool,
-    books: &[Vec<Done>],
+    books: &[Book],
     places: &mut [usize],
     event: &Event,
 ) -> bool
     requires { IsTableOf table.now account.now.history }
     ensures { IsTrue result
-        → AreMoved books.now (λ book. book.items) (done_by account.now.plan inline account.now.history) places.old places.new event.now }
+        → AreMoved books.now (done_by account.now.plan inline account.now.history) places.old places.new event.now }
 {
     match *event {
         Event::End {
             worker,
             io,
             outcome,
-        } => match completed(account, table, inline, io, outcome) {
-            Some(done) => moves(books, places, worker as usize, &done),
+        } => match ending_of(table, inline, io, outcome) {
+            Some(ending) => moves(account, books, places, worker as usize, &ending),
             None => false,
         },
         _ => true,
     }
 }
 
-// Goes past this in one of the books, if it stands there.
-fn moves(books: &[Vec<Done>], places: &mut [usize], at: usize, done: &Done) -> bool
-    ensures { IsTrue result → IsMoved books.now (λ book. book.items) places.old places.new at done.now }
+// Goes past this in one of the books, if what it completed stands there.
+fn moves(
+    account: &Account<'_>,
+    books: &[Book],
+    places: &mut [usize],
+    at: usize,
+    ending: &Ending,
+) -> bool
+    ensures { IsTrue result → (done : Completed) × IsMoved books.now places.old places.new at done
+        × (Some done ≡ completed_by account.now.plan account.now.history ending.now) }
 {
     if at >= books.len() || at >= places.len() {
         return false;
     }
     let place = places[at];
     let book = &books[at];
-    if place >= book.len() || !is_same_done(&book[place], done) {
+    if place >= book.len() || !stands_at(account, book, place, ending) {
         return false;
     }
     places[at] = place + 1;
     true
 }
 
+// Whether what it completed stands at that place of the book.
+fn stands_at(account: &Account<'_>, book: &Book, place: usize, ending: &Ending) -> bool
+    ensures { IsTrue result → (done : Completed) × (slice_get book.now place ≡ Some done)
+        × (Some done ≡ completed_by account.now.plan account.now.history ending.now) }
+{
+    match book.done_at(place) {
+        Some(done) => is_completed(account, &done, ending),
+        None => false,
+    }
+}
+
+// Whether this is what it completed.
+fn is_completed(account: &Account<'_>, done: &Done, ending: &Ending) -> bool
+    ensures { IsTrue result → Some done.now ≡ completed_by account.now.plan account.now.history ending.now }
+{
+    done.ticket.id == ending.io
+        && is_same_outcome(done.outcome, ending.outcome)
+        && is_same_verdict(done.verdict, ending.verdict)
+        && account.is_own(&done.ticket)
+}
+
 // Whether nothing is left in any book.
-fn are_gone_past(books: &[Vec<Done>], places: &[usize]) -> bool
-    ensures { IsTrue result → AreGonePast books.now (λ book. book.items) places.now }
+fn are_gone_past(books: &[Book], places: &[usize]) -> bool
+    ensures { IsTrue result → AreGonePast books.now places.now }
 {
     if places.len() != books.len() {
         return false;
@@ -161,63 +200,32 @@ fn are_gone_past(books: &[Vec<Done>], places: &[usize]) -> bool
     true
 }
 
-// What was completed by the end of this I/O, where it was handed out.
-fn completed(
-    account: &Account<'_>,
-    table: &[Option<Verdict>],
-    inline: bool,
-    io: u32,
-    outcome: Outcome,
-) -> Option<Done>
-    requires { IsTableOf table.now account.now.history }
-    ensures { let said = if inline then verdict_in account.now.history io else None in
-        IfSome result (λ done. Some done ≡ done_with outcome said (slice_get (tickets_of account.now.plan account.now.history) io)) }
+// The same as the history has it.
+fn ending_of(table: &[Option<Verdict>], inline: bool, io: IoId, outcome: Outcome) -> Option<Ending>
+    ensures { (history : _) → IsTableOf table.now history
+        → IfSome result (λ ending. ending ≡ record {
+          io = io;
+          outcome = outcome;
+          verdict = if inline then verdict_in history io else None;
+        }) }
 {
-    let verdict = verdict_for(account, table, inline, io)?;
-    done_with(account, io, outcome, verdict)
+    let verdict = verdict_for(table, inline, io)?;
+    Some(Ending {
+        io,
+        outcome,
+        verdict,
+    })
 }
 
-fn done_with(
-    account: &Account<'_>,
-    io: u32,
-    outcome: Outcome,
-    verdict: Option<Verdict>,
-) -> Option<Done>
-    ensures { result ≡ done_with outcome verdict (slice_get (tickets_of account.now.plan account.now.history) io) }
+// The verdict on a check, where workers judge. A check that was started has a place in the table.
+fn verdict_for(table: &[Option<Verdict>], inline: bool, io: IoId) -> Option<Option<Verdict>>
+    ensures { (history : _) → IsTableOf table.now history
+        → IfSome result (λ said. said ≡ (if inline then verdict_in history io else None)) }
 {
-    match account.ticket_at(io) {
-        Some(ticket) => Some(Done {
-            ticket,
-            outcome,
-            verdict,
-        }),
-        None => None,
-    }
-}
-
-// The verdict on a check, where workers judge. A check has a number below the length of the history.
-fn verdict_for(
-    account: &Account<'_>,
-    table: &[Option<Verdict>],
-    inline: bool,
-    io: u32,
-) -> Option<Option<Verdict>>
-    requires { IsTableOf table.now account.now.history }
-    ensures { IfSome result (λ said. said ≡ (if inline then verdict_in account.now.history io else None)) }
-{
-    let _ = account;
     if !inline {
         return Some(None);
     }
     table.get(io as usize).copied()
-}
-
-fn is_same_done(a: &Done, b: &Done) -> bool
-    ensures { IsTrue result → a.now ≡ b.now }
-{
-    is_same(&a.ticket, &b.ticket)
-        && is_same_outcome(a.outcome, b.outcome)
-        && is_same_verdict(a.verdict, b.verdict)
 }
 
 fn is_same_outcome(a: Outcome, b: Outcome) -> bool

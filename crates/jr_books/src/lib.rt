@@ -4,13 +4,16 @@
 
 mod account;
 mod accounts;
+mod book;
 mod books;
+mod entries;
 mod numbers;
 mod said;
 mod settled;
 
 pub use account::Account;
 pub use accounts::are_books;
+pub use book::Book;
 pub use books::{Done, Said};
 pub use numbers::{are_numbered, are_own_verdicts};
 pub use said::are_said;

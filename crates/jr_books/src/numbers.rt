@@ -20,8 +20,8 @@ fn is_own_verdict(account: &Account<'_>, event: &Event) -> bool
     ensures { result ≡ is_own_verdict (tickets_of account.now.plan account.now.history) event.now }
 {
     match *event {
-        Event::Verdict { worker, io, .. } => match account.ticket_at(io) {
-            Some(ticket) => ticket.worker == worker,
+        Event::Verdict { worker, io, .. } => match account.worker(io) {
+            Some(own) => own == worker,
             None => false,
         },
         _ => true,

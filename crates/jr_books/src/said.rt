@@ -74,7 +74,7 @@ fn is_same_said(a: &Said, b: &Said) -> bool
     a.io == b.io && is_same_verdict(a.verdict, b.verdict)
 }
 
-fn is_same_verdict(a: Verdict, b: Verdict) -> bool
+pub(crate) fn is_same_verdict(a: Verdict, b: Verdict) -> bool
     ensures { IsTrue result → a ≡ b }
 {
     a == b

@@ -21,7 +21,7 @@ ghost use Rattle.jr_cli.specs.Status.{status_of, is_unclean};
 use crate::ended::Ended;
 use crate::faults::CliFault;
 use crate::found::faults_found;
-use jr_crew::{RunFault, Watch, run, run_serial};
+use jr_crew::{RunFault, Watch, run_booked, run_serial};
 use jr_desk::Desk;
 use jr_engines::Engine;
 use jr_faults::Faults;
@@ -131,7 +131,7 @@ pub fn execute<R: Threads + Wait + Sync, W: Write, V: Write>(
 {
     // Its contract says what holds of every plan.
     plan.facts();
-    let ran = run(rt, alloc, plan, engines, watch)?;
+    let ran = run_booked(rt, alloc, plan, engines, watch)?;
     let faults = faults_found(alloc, &ran.desk)?;
     let told = print_report(alloc, ran.desk, faults, out)?;
     if let Some(events) = events {

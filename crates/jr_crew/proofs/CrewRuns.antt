@@ -1,6 +1,6 @@
--- What a run of many workers gives, by the states of its engines and the items of its books.
+-- What a run of many workers gives, by the states of its engines and its books.
 use Rattle.std.proofs.Common.{◌≡◌, ℕ, List, length, map, true, sym, ◌∙◌, subst}
-use Rattle.std.specs.Prelude.{Some, slice_get}
+use Rattle.std.specs.Prelude.{Option, Some, None, slice_get}
 use Rattle.std.specs.List.{list_all}
 use Rattle.std.proofs.lemmas.List.{length-map}
 use Rattle.jr_model.specs.declared.events.Event.{Event}
@@ -10,34 +10,33 @@ use Rattle.jr_model.specs.Replies.{EngineState}
 use Rattle.jr_books.specs.declared.books.Done.{Done}
 use Rattle.jr_books.specs.Numbers.{is_numbered, judges_inline}
 use Rattle.jr_books.specs.Settled.{HasSettled}
+use Rattle.jr_desk.specs.DeskState.{DeskState}
 use Rattle.jr_crew.specs.Crews.{IsWorkers}
-use Rattle.jr_crew.specs.Whole.{IsCrewRun, IsEndedCrewRun}
+use Rattle.jr_crew.specs.Whole.{IsBooked, IsCrewRun, IsEndedCrewRun}
 use Rattle.jr_crew.proofs.Crewing.{AreOwn, got_mapped}
 
-pub crew_run : {E B : Type 0} (state : E → EngineState) (dones : B → List Done) (engines afters : List E) (books : List B) (plan : Plan) (history : List Event)
+pub crew_run : {E : Type 0} (state : E → EngineState) (engines afters : List E) (books : List (List Done)) (plan : Plan) (history : List Event)
     → is_legal plan history ≡ true
     → HasSettled history
     → list_all (is_numbered (length engines) plan.verifiers) history ≡ true
     → (judges_inline plan ≡ true → AreOwn plan history)
     → length afters ≡ length engines
     → length books ≡ length engines
-    → ((i : ℕ) (before after : E) (book : B) → slice_get engines i ≡ Some before → slice_get afters i ≡ Some after → slice_get books i ≡ Some book → IsWorkers plan history i (state before) (state after) (dones book))
-    → IsEndedCrewRun plan history (map state engines) (map state afters) (map dones books)
-crew_run {E = E} {B = B} state dones engines afters books plan history legal settled numbered own afters_count books_count each = record {
+    → ((i : ℕ) (before after : E) (book : List Done) → slice_get engines i ≡ Some before → slice_get afters i ≡ Some after → slice_get books i ≡ Some book → IsWorkers plan history i (state before) (state after) book)
+    → IsEndedCrewRun plan history (map state engines) (map state afters) books
+crew_run state engines afters books plan history legal settled numbered own afters_count books_count each = record {
   legal = legal;
   settled = settled;
   numbered = subst (λ (n : ℕ). list_all (is_numbered n plan.verifiers) history ≡ true) (sym (length-map engines state)) numbered;
   own = own;
   engines_count = length-map afters state ∙ afters_count ∙ sym (length-map engines state);
-  books_count = length-map books dones ∙ books_count ∙ sym (length-map engines state);
-  each = λ (i : ℕ) (before after : EngineState) (book : List Done) (at_before : slice_get (map state engines) i ≡ Some before) (at_after : slice_get (map state afters) i ≡ Some after) (at_book : slice_get (map dones books) i ≡ Some book).
+  books_count = books_count ∙ sym (length-map engines state);
+  each = λ (i : ℕ) (before after : EngineState) (book : List Done) (at_before : slice_get (map state engines) i ≡ Some before) (at_after : slice_get (map state afters) i ≡ Some after) (at_book : slice_get books i ≡ Some book).
       let b = got_mapped state engines i before at_before in
       let a = got_mapped state afters i after at_after in
-      let d = got_mapped dones books i book at_book in
       subst (λ (e : EngineState). IsWorkers plan history i e after book) b.2
       (subst (λ (e : EngineState). IsWorkers plan history i (state b.0) e book) a.2
-      (subst (λ (ds : List Done). IsWorkers plan history i (state b.0) (state a.0) ds) d.2
-      (each i b.0 a.0 d.0 b.1 a.1 d.1)));
+      (each i b.0 a.0 book b.1 a.1 at_book));
 }
 
 -- where it is complete it is a whole one
@@ -50,4 +49,13 @@ whole_crew_run plan history befores afters books ended complete = record {
   engines_count = ended.engines_count;
   books_count = ended.books_count;
   each = ended.each;
+}
+
+-- what the run answers, where the desk is of its plan
+pub booked : {S : Type 0} (plan : Plan) (stop : Option S) (desk : DeskState) (befores afters : List EngineState) (books : List (List Done)) → desk.plan ≡ plan → IsEndedCrewRun plan desk.history befores afters books → (stop ≡ None → is_complete desk.plan desk.history ≡ true) → IsBooked plan stop desk befores afters books
+booked plan stop desk befores afters books same ended complete = record {
+  planned = same;
+  ended = ended;
+  run = whole_crew_run plan desk.history befores afters books ended;
+  unasked = λ unasked. subst (λ (p : Plan). is_complete p desk.history ≡ true) same (complete unasked);
 }

@@ -23,7 +23,7 @@ use Rattle.jr_books.specs.Settled.{HasSettled}
 use Rattle.jr_staff.specs.Judging.{IsSourced}
 use Rattle.jr_staff.specs.Parts.{IsPutter, one_part}
 use Rattle.jr_crew.specs.Runs.{IsCovering}
-use Rattle.jr_crew.specs.Working.{AreDone, IsWork, all_handed_on}
+use Rattle.jr_crew.specs.Working.{AreDone, AreWorks, IsWork, all_handed_on}
 use Rattle.jr_crew.proofs.Judged.{IsPutBy, calls_judged}
 use Rattle.jr_crew.proofs.Matching.{AreSaidOn, walk}
 use Rattle.jr_staff.proofs.PartLemmas.{if_ok}
@@ -111,41 +111,39 @@ got_within (x ∷ xs) zero below = (x, refl)
 got_within (x ∷ xs) (suc k) below = got_within xs k (omega (arith, below))
 
 -- the same of each place of a run's lists
-module _ {E J W B F : Type 0} (state : E → EngineState) (engine_in : J → E) (engine_of : W → E) (book_of : W → Result B F) (pass_of : W → PassState) (dones : B → List Done) (jobs : List J) (worked : List W) (plan : Plan) where
+module _ {E J W F : Type 0} (state : E → EngineState) (engine_in : J → E) (engine_of : W → E) (book_of : W → Result (List Done) F) (pass_of : W → PassState) (jobs : List J) (worked : List W) (plan : Plan) where
   -- each worker's work
-  abbrev pub AreWorks : Type 0
-  AreWorks =
-      (i : ℕ) (j : J) (w : W) → i < length jobs
-      → IfOk (book_of (slice_index_or worked i w)) (λ book. IsWork (judges_inline plan) (state (engine_in (slice_index_or jobs i j))) one_part (dones book) (state (engine_of (slice_index_or worked i w))) (pass_of (slice_index_or worked i w)))
+  abbrev pub AreTheirs : Type 0
+  AreTheirs = AreWorks (judges_inline plan) jobs worked (λ j. state (engine_in j)) (λ w. state (engine_of w)) book_of pass_of
 
-  work_of : AreWorks → (i : ℕ) (j : J) (w : W) (book : B) → slice_get jobs i ≡ Some j → slice_get worked i ≡ Some w → book_of w ≡ Ok book → IsWork (judges_inline plan) (state (engine_in j)) one_part (dones book) (state (engine_of w)) (pass_of w)
+  work_of : AreTheirs → (i : ℕ) (j : J) (w : W) (book : List Done) → slice_get jobs i ≡ Some j → slice_get worked i ≡ Some w → book_of w ≡ Ok book → IsWork (judges_inline plan) (state (engine_in j)) one_part book (state (engine_of w)) (pass_of w)
   work_of works i j w book at_job at_worked is_book =
       let here : slice_index_or jobs i j ≡ j = get_or_from_slice_get jobs i j j at_job in
       let there : slice_index_or worked i w ≡ w = get_or_from_slice_get worked i w w at_worked in
-      subst (λ (r : Result B F). IfOk r (λ b. IsWork (judges_inline plan) (state (engine_in j)) one_part (dones b) (state (engine_of w)) (pass_of w))) is_book
-      (subst (λ (k : J). IfOk (book_of w) (λ b. IsWork (judges_inline plan) (state (engine_in k)) one_part (dones b) (state (engine_of w)) (pass_of w))) here
-      (subst (λ (y : W). IfOk (book_of y) (λ b. IsWork (judges_inline plan) (state (engine_in (slice_index_or jobs i j))) one_part (dones b) (state (engine_of y)) (pass_of y))) there
-      (works i j w (slice_get_within jobs i j at_job))))
+      subst (λ (r : Result (List Done) F). IfOk r (λ b. IsWork (judges_inline plan) (state (engine_in j)) one_part b (state (engine_of w)) (pass_of w))) is_book
+      (subst (λ (k : J). IfOk (book_of w) (λ b. IsWork (judges_inline plan) (state (engine_in k)) one_part b (state (engine_of w)) (pass_of w))) here
+      (subst (λ (y : W). IfOk (book_of y) (λ b. IsWork (judges_inline plan) (state (engine_in (slice_index_or jobs i j))) one_part b (state (engine_of y)) (pass_of y))) there
+      (works.each i j w (slice_get_within jobs i j at_job))))
 
   -- whoever met no fault took nothing
-  pub all_putters : AreWorks → length worked ≡ length jobs → All (λ w. IfOk (book_of w) (λ book. IsPutter (pass_of w))) worked
+  pub all_putters : AreTheirs → length worked ≡ length jobs → All (λ w. IfOk (book_of w) (λ book. IsPutter (pass_of w))) worked
   all_putters works size i w below =
       let j = got_within jobs i (omega (arith, below, size)) in
       let ended = slice_index_or worked i w in
       if_ok (book_of ended)
-      (λ book. IsWork (judges_inline plan) (state (engine_in (slice_index_or jobs i j.0))) one_part (dones book) (state (engine_of ended)) (pass_of ended))
+      (λ book. IsWork (judges_inline plan) (state (engine_in (slice_index_or jobs i j.0))) one_part book (state (engine_of ended)) (pass_of ended))
       (λ book. IsPutter (pass_of ended))
-      (λ book work. work_puts (judges_inline plan) (state (engine_in (slice_index_or jobs i j.0))) one_part (dones book) (state (engine_of ended)) (pass_of ended) refl work)
-      (works i j.0 w (omega (arith, below, size)))
+      (λ book work. work_puts (judges_inline plan) (state (engine_in (slice_index_or jobs i j.0))) one_part book (state (engine_of ended)) (pass_of ended) refl work)
+      (works.each i j.0 w (omega (arith, below, size)))
 
   -- the book of a worker that has ended
-  its_book : (books : List B) → map Ok books ≡ map book_of worked → (i : ℕ) (w : W) → slice_get worked i ≡ Some w → (book : B) × (slice_get books i ≡ Some book) × (book_of w ≡ Ok book)
+  its_book : (books : List (List Done)) → map Ok books ≡ map book_of worked → (i : ℕ) (w : W) → slice_get worked i ≡ Some w → (book : List Done) × (slice_get books i ≡ Some book) × (book_of w ≡ Ok book)
   its_book books books_are i w at_worked =
       let its : slice_get (map Ok books) i ≡ Some (book_of w) =
-      ap (λ (rs : List (Result B F)). slice_get rs i) books_are ∙ slice_get-map book_of worked i ∙ ap (option_map book_of) at_worked in
+      ap (λ (rs : List (Result (List Done) F)). slice_get rs i) books_are ∙ slice_get-map book_of worked i ∙ ap (option_map book_of) at_worked in
       let book = got_mapped Ok books i (book_of w) its in (book.0, book.1, sym book.2)
 
-  work_at : (books : List B) (history : List Event) → AreWorks → length worked ≡ length jobs → map Ok books ≡ map book_of worked → ((i : ℕ) (book : B) → slice_get books i ≡ Some book → dones book ≡ dones_of plan (judges_inline plan) history i) → (i : ℕ) (put : List Parcel) → slice_get (map (λ w. (pass_of w).put) worked) i ≡ Some put → IsWorkAt plan history i put
+  work_at : (books : List (List Done)) (history : List Event) → AreTheirs → length worked ≡ length jobs → map Ok books ≡ map book_of worked → ((i : ℕ) (book : List Done) → slice_get books i ≡ Some book → book ≡ dones_of plan (judges_inline plan) history i) → (i : ℕ) (put : List Parcel) → slice_get (map (λ w. (pass_of w).put) worked) i ≡ Some put → IsWorkAt plan history i put
   work_at books history works size books_are same i put at =
       let w = got_mapped (λ w. (pass_of w).put) worked i put at in
       let book = its_book books books_are i w.0 w.1 in
@@ -153,14 +151,14 @@ module _ {E J W B F : Type 0} (state : E → EngineState) (engine_in : J → E) 
       let j = got_within jobs i (omega (arith, within, size)) in record {
         before = state (engine_in j.0);
         after = state (engine_of w.0);
-        dones = dones book.0;
+        dones = book.0;
         pass = pass_of w.0;
         put = w.2;
         same = same i book.0 book.1;
         work = work_of works i j.0 w.0 book.0 j.1 w.1 book.2;
       }
 
-  pub each_part : (books : List B) (history : List Event) (engines afters : List E) → IsPlanned plan → is_legal plan history ≡ true → HasSettled history → (judges_inline plan ≡ false → (w io : ℕ) (v : GivenVerdict) → Contains history (Verdict w io v) → IsSourced (map (λ w. (pass_of w).put) worked) io v) → map engine_in jobs ≡ engines → length worked ≡ length jobs → AreWorks → afters ≡ map engine_of worked → map Ok books ≡ map book_of worked → ((i : ℕ) (book : B) → slice_get books i ≡ Some book → dones book ≡ dones_of plan (judges_inline plan) history i) → (i : ℕ) (before after : E) (book : B) → slice_get engines i ≡ Some before → slice_get afters i ≡ Some after → slice_get books i ≡ Some book → IsWorkers plan history i (state before) (state after) (dones book)
+  pub each_part : (books : List (List Done)) (history : List Event) (engines afters : List E) → IsPlanned plan → is_legal plan history ≡ true → HasSettled history → (judges_inline plan ≡ false → (w io : ℕ) (v : GivenVerdict) → Contains history (Verdict w io v) → IsSourced (map (λ w. (pass_of w).put) worked) io v) → map engine_in jobs ≡ engines → length worked ≡ length jobs → AreTheirs → afters ≡ map engine_of worked → map Ok books ≡ map book_of worked → ((i : ℕ) (book : List Done) → slice_get books i ≡ Some book → book ≡ dones_of plan (judges_inline plan) history i) → (i : ℕ) (before after : E) (book : List Done) → slice_get engines i ≡ Some before → slice_get afters i ≡ Some after → slice_get books i ≡ Some book → IsWorkers plan history i (state before) (state after) book
   each_part books history engines afters planned legal settled sourced jobs_are size works afters_are books_are same i before after book at_before at_after at_book =
       let j = got_mapped engine_in jobs i before (ap (λ (es : List E). slice_get es i) jobs_are ∙ at_before) in
       let w = got_mapped engine_of worked i after (ap (λ (es : List E). slice_get es i) (sym afters_are) ∙ at_after) in
@@ -174,17 +172,17 @@ module _ {E J W B F : Type 0} (state : E → EngineState) (engine_in : J → E) 
       let at : IsWorkAt plan history i put = record {
         before = state (engine_in j.0);
         after = state (engine_of w.0);
-        dones = dones book;
+        dones = book;
         pass = pass_of w.0;
         put = refl;
         same = same i book at_book;
         work = work;
       } in
-      subst (λ (e : E). IsWorkers plan history i (state before) (state e) (dones book)) w.2
-      (subst (λ (e : E). IsWorkers plan history i (state e) (state (engine_of w.0)) (dones book)) j.2
-      (its_part plan history i (state (engine_in j.0)) (state (engine_of w.0)) (dones book) planned legal
+      subst (λ (e : E). IsWorkers plan history i (state before) (state e) book) w.2
+      (subst (λ (e : E). IsWorkers plan history i (state e) (state (engine_of w.0)) book) j.2
+      (its_part plan history i (state (engine_in j.0)) (state (engine_of w.0)) book planned legal
       (called_part plan history legal settled (map (λ w. (pass_of w).put) worked) (work_at books history works size books_are same) sourced i put there at)
-      (work_calls (judges_inline plan) (state (engine_in j.0)) (dones book) (state (engine_of w.0)) (pass_of w.0) work)
+      (work_calls (judges_inline plan) (state (engine_in j.0)) book (state (engine_of w.0)) (pass_of w.0) work)
       (same i book at_book)))
 
 -- each of a run's lists has a place for each engine

@@ -1,5 +1,5 @@
 -- Believed: what a run that answers a desk has done, with one worker and with several, whole or asked to stop (of this project).
-use Rattle.std.specs.Prelude.{◌≡◌, ℕ, ◌+◌, true, false, List, length, slice_get, Some}
+use Rattle.std.specs.Prelude.{◌≡◌, ℕ, ◌+◌, true, false, List, length, slice_get, Option, Some, None}
 use Rattle.std.specs.List.{list_all}
 use Rattle.jr_model.specs.declared.events.Event.{Event}
 use Rattle.jr_model.specs.Legal.{is_legal, is_complete}
@@ -11,6 +11,7 @@ use Rattle.jr_books.specs.declared.books.Done.{Done}
 use Rattle.jr_books.specs.Books.{dones_of}
 use Rattle.jr_books.specs.Numbers.{judges_inline, is_own_verdict, is_numbered}
 use Rattle.jr_books.specs.Settled.{HasSettled}
+use Rattle.jr_desk.specs.DeskState.{DeskState}
 use Rattle.jr_crew.specs.Crews.{AreCallsFor, IsWorkers}
 use Rattle.jr_crew.specs.Ends.{ends_of, failed_ends_of}
 use Rattle.jr_crew.specs.Runs.{IsCovering, IsTiedRun}
@@ -62,3 +63,11 @@ pub record IsEndedCrewRun (plan : Plan) (history : List Event) (befores afters :
   pub books_count : length books ≡ length befores
   pub each : (i : ℕ) (before after : EngineState) (dones : List Done) → slice_get befores i ≡ Some before → slice_get afters i ≡ Some after
       → slice_get books i ≡ Some dones → IsWorkers plan history i before after dones
+
+-- what a run of many workers answers: the desk is of this plan, all that was started has come to its end, and a run that is complete, or that
+-- nobody can stop, is a whole one
+pub record IsBooked {S : Type 0} (plan : Plan) (stop : Option S) (desk : DeskState) (befores afters : List EngineState) (books : List (List Done)) : Type 0 where
+  pub planned : desk.plan ≡ plan
+  pub ended : IsEndedCrewRun plan desk.history befores afters books
+  pub run : is_complete plan desk.history ≡ true → IsCrewRun plan desk.history befores afters books
+  pub unasked : stop ≡ None → is_complete plan desk.history ≡ true

@@ -1,5 +1,5 @@
 -- Internal: what a worker's own book says of the answers of its engine, and what it handed over (of this project).
-use Rattle.std.specs.Prelude.{◌≡◌, Bool, true, List, [], ◌∷◌, ◌++◌, replicate, if◌then◌else◌, ⊤}
+use Rattle.std.specs.Prelude.{◌≡◌, ◌<◌, ℕ, Bool, true, List, [], ◌∷◌, ◌++◌, length, replicate, slice_index_or, if◌then◌else◌, ⊤, Result, IfOk}
 use Rattle.jr_model.specs.declared.tickets.Ticket.{Ticket}
 use Rattle.jr_model.specs.Replies.{EngineState}
 use Rattle.jr_model.specs.Tickets.{ticket_fits}
@@ -8,6 +8,7 @@ use Rattle.jr_handover.specs.declared.parcel.PassState.{PassState}
 use Rattle.jr_handover.specs.declared.parcel.Parcel.TheVariants.{Check}
 use Rattle.jr_handover.specs.PassStates.{with_put}
 use Rattle.jr_header.specs.Served.{ExpectsOwn, asked_with, is_to_judge}
+use Rattle.jr_staff.specs.Parts.{one_part}
 use Rattle.jr_books.specs.declared.books.Done.{Done}
 use Rattle.jr_crew.specs.Crews.{IsSaidOf}
 use Rattle.jr_crew.specs.declared.held.Started.{Started}
@@ -60,3 +61,9 @@ pub record IsWork (inline : Bool) (before : EngineState) (old : PassState) (book
   pub answered : AreAnswered before answers after
   pub done : AreDone inline answers [] book
   pub handed : new ≡ all_handed_on inline answers old
+
+-- what each of these workers did: its engine began and ended so, and with its part of the hand-over and its book, if it has one, that is work
+pub record AreWorks {J W F : Type 0} (inline : Bool) (jobs : List J) (worked : List W) (start : J → EngineState) (finish : W → EngineState) (book_of : W → Result (List Done) F) (pass_of : W → PassState) : Type 0 where
+  pub each : (i : ℕ) (j : J) (w : W) → i < length jobs
+      → IfOk (book_of (slice_index_or worked i w)) (λ book. IsWork inline (start (slice_index_or jobs i j)) one_part book
+      (finish (slice_index_or worked i w)) (pass_of (slice_index_or worked i w)))

@@ -8,18 +8,18 @@ ghost use Rattle.jr_books.specs.Books.{IsVerdictIn, dones_of};
 ghost use Rattle.jr_books.specs.Numbers.{judges_inline, is_own_verdict, is_numbered};
 ghost use Rattle.jr_staff.specs.Faults.{IsRefusal, IsUnmanned};
 ghost use Rattle.jr_books.specs.Settled.{HasSettled};
-ghost use Rattle.jr_crew.specs.Whole.{IsCrewRun, IsEndedCrewRun};
+ghost use Rattle.jr_crew.specs.Whole.{IsBooked};
 ghost use Rattle.jr_handover.specs.declared.parcel.Parcel.TheVariants.{Stop};
 ghost use Rattle.jr_handover.specs.PassStates.{first_state};
 ghost use Rattle.jr_handover.specs.Passes.{IsPassOf, pass_state};
 ghost use Rattle.jr_staff.specs.Judging.{IsJudging, IsSourced};
 ghost use Rattle.jr_staff.specs.Parts.{IsLess, IsMore, IsPutter, one_part};
-ghost use Rattle.jr_crew.specs.Working.{IsWork};
+ghost use Rattle.jr_crew.specs.Working.{AreWorks, IsWork};
 
 use crate::held::Shared;
 use crate::verifier::verify;
 use crate::work::{Post, work};
-use jr_books::{Account, Done, are_books, are_numbered, are_own_verdicts, are_said, has_settled};
+use jr_books::{Account, Book, are_books, are_numbered, are_own_verdicts, are_said, has_settled};
 use jr_desk::Desk;
 use jr_engines::Engine;
 use jr_handover::{Handoff, Pass};
@@ -35,36 +35,27 @@ use std::sync::Wait;
 use std::thread;
 use std::thread::{PromisedHandle, Threads};
 
-/// What a run gives: the desk with its history, and of each worker its engine and its book.
+/// What `run_booked` gives: what `run` does, with books that take less memory.
 #[derive(Drop)]
-pub struct Ran {
+pub struct Booked {
     pub desk: Desk,
     pub engines: Vec<Box<dyn Engine + Send>>,
-    pub books: Vec<Vec<Done>>,
+    pub books: Vec<Book>,
 }
 
-/// Runs a plan with one worker an engine, numbered from 0, and as many verifiers as the plan wants, numbered on from them; all
-/// work at once. Without verifiers each worker judges its own checks. A `Progress` tells another thread how far the run is.
-pub fn run<R: Threads + Wait + Sync>(
+/// Runs a plan as `run` does. The books take some 72 bytes for each I/O, and are made into lists of `Done` only on request: this is for
+/// who wants the desk alone, as the program does.
+pub fn run_booked<R: Threads + Wait + Sync>(
     rt: &R,
     alloc: Global,
     plan: Plan,
     engines: Vec<Box<dyn Engine + Send>>,
     watch: Watch<'_>,
-) -> Result<Ran, RunFault>
-    ensures plan { IfOk result (λ ran. ran.desk.plan ≡ plan) }
-
-    // All that was started has come to its end; and a run that is complete, or that nobody can stop, is a whole one.
-    ensures ended { IfOk result (λ ran. IsEndedCrewRun plan ran.desk.history (map (λ engine. state engine) engines.items)
-        (map (λ engine. state engine) ran.engines.items) (map (λ book. book.items) ran.books.items)) }
-    ensures run { IfOk result (λ ran. is_complete plan ran.desk.history ≡ true
-        → IsCrewRun plan ran.desk.history (map (λ engine. state engine) engines.items)
-        (map (λ engine. state engine) ran.engines.items) (map (λ book. book.items) ran.books.items)) }
-    ensures unasked { watch.entry.stop ≡ None → IfOk result (λ ran. is_complete plan ran.desk.history ≡ true) }
+) -> Result<Booked, RunFault>
+    ensures booked { IfOk result (λ ran. IsBooked plan watch.entry.stop ran.desk (map (λ engine. state engine) engines.items)
+        (map (λ engine. state engine) ran.engines.items) ran.books.items) }
     ensures none { engines.items ≡ [] → result ≡ Err RunFault.NoEngine }
     ensures no_engine { IfErr result (λ fault. fault ≡ RunFault.NoEngine → engines.items ≡ []) }
-
-    // All but verifiers can do without a thread of their own.
     ensures thread { IfErr result (λ fault. fault ≡ RunFault.Thread → 0 < plan.verifiers) }
 {
     if engines.is_empty() {
@@ -83,18 +74,13 @@ fn run_as<P: Naming + Send + Sync, R: Threads + Wait + Sync>(
     watch: Watch<'_>,
     handoff: &Handoff,
     pass: Pass,
-) -> Result<Ran, RunFault>
+) -> Result<Booked, RunFault>
     requires plan { plan ≡ P.plan }
     requires handoff { P.handoff ≡ Some handoff.now }
     requires pass { IsPassOf handoff.now pass }
     requires first { pass_state pass ≡ first_state }
-    ensures plan { IfOk result (λ ran. ran.desk.plan ≡ plan) }
-    ensures ended { IfOk result (λ ran. IsEndedCrewRun plan ran.desk.history (map (λ engine. state engine) engines.items)
-        (map (λ engine. state engine) ran.engines.items) (map (λ book. book.items) ran.books.items)) }
-    ensures run { IfOk result (λ ran. is_complete plan ran.desk.history ≡ true
-        → IsCrewRun plan ran.desk.history (map (λ engine. state engine) engines.items)
-        (map (λ engine. state engine) ran.engines.items) (map (λ book. book.items) ran.books.items)) }
-    ensures unasked { watch.entry.stop ≡ None → IfOk result (λ ran. is_complete plan ran.desk.history ≡ true) }
+    ensures booked { IfOk result (λ ran. IsBooked plan watch.entry.stop ran.desk (map (λ engine. state engine) engines.items)
+        (map (λ engine. state engine) ran.engines.items) ran.books.items) }
     ensures failed { IfErr result (IsRefusal plan.verifiers) }
 {
     // Its contract says what holds of every plan.
@@ -103,7 +89,7 @@ fn run_as<P: Naming + Send + Sync, R: Threads + Wait + Sync>(
     let (workers, verifiers) = staff_for(alloc, engines, plan.verifiers(), channel)?;
     let (desk, ended, judgements) = run_manned::<P, R>(rt, alloc, plan, workers, verifiers, watch)?;
     let (engines, books) = gathered(alloc, &desk, watch.stop, ended, judgements)?;
-    Ok(Ran {
+    Ok(Booked {
         desk,
         engines,
         books,
@@ -125,10 +111,8 @@ fn run_manned<'a, P: Naming + Send + Sync, R: Threads + Wait + Sync>(
     ensures plan { IfOk result (λ all. all.0.plan ≡ plan) }
     ensures len { IfOk result (λ all. length all.1.items ≡ length workers.entry.items) }
     ensures workers { IfOk result (λ all. all.2.workers ≡ length all.1.items) }
-    ensures each { IfOk result (λ all. (i : ℕ) (worker : _) (one : _) → i < length workers.entry.items
-        → IfOk (slice_index_or all.1.items i one).1.book
-        (λ book. IsWork (judges_inline plan) (state (slice_index_or workers.entry.items i worker).0) one_part
-        book.items (state (slice_index_or all.1.items i one).0) (pass_state (slice_index_or all.1.items i one).1.part.pass))) }
+    ensures each { IfOk result (λ all. AreWorks (judges_inline plan) workers.entry.items all.1.items (λ worker. state worker.0) (λ one. state one.0)
+        (λ one. one.1.book) (λ one. pass_state one.1.part.pass)) }
     ensures judged { IfOk result (λ all. All (λ one. IfOk one.book (λ book. IsJudging (pass_state one.part.pass) book.items)) all.2.all.items) }
     ensures failed { IfErr result (IsRefusal (length verifiers.entry.all.items)) }
 {
@@ -151,7 +135,7 @@ fn gathered<'a, P: Naming>(
     stop: Option<&StopFlag>,
     ended: Vec<Ended<P>>,
     judgements: Judgements<'a, P>,
-) -> Result<(Vec<Box<dyn Engine + Send>>, Vec<Vec<Done>>), Halt>
+) -> Result<(Vec<Box<dyn Engine + Send>>, Vec<Book>), Halt>
     requires workers { judgements.workers ≡ length ended.items }
     requires ended { All (λ one. IfOk one.1.book (λ book. IsPutter (pass_state one.1.part.pass))) ended.items }
     requires judged { All (λ one. IfOk one.book (λ book. IsJudging (pass_state one.part.pass) book.items)) judgements.all.items }
@@ -163,7 +147,7 @@ fn gathered<'a, P: Naming>(
     ensures own { judges_inline desk.now.plan ≡ true
         → OnOk result (list_all (is_own_verdict (tickets_of desk.now.plan desk.now.history)) desk.now.history ≡ true) }
     ensures each { IfOk result (λ both. (i : ℕ) (book : _) → slice_get both.1.items i ≡ Some book
-        → book.items ≡ dones_of desk.now.plan (judges_inline desk.now.plan) desk.now.history i) }
+        → book ≡ dones_of desk.now.plan (judges_inline desk.now.plan) desk.now.history i) }
     ensures numbered { IfOk result (λ both. list_all (is_numbered (length both.1.items) desk.now.plan.verifiers) desk.now.history ≡ true) }
     ensures sourced { judges_inline desk.now.plan ≡ false → OnOk result ((w io : ℕ) (v : GivenVerdict)
         → Contains desk.now.history (Event.Verdict w io v) → IsSourced (map (λ one. (pass_state one.1.part.pass).put) ended.items) io v) }
@@ -200,10 +184,8 @@ fn man<'a, P: Naming + Send + Sync, R: Threads + Wait + Sync>(
     ensures failed { IfErr result (IsUnmanned (length verifiers.entry.all.items)) }
     ensures len { IfOk result (λ both. length both.0.items ≡ length workers.entry.items) }
     ensures workers { IfOk result (λ both. both.1.workers ≡ length both.0.items) }
-    ensures each { IfOk result (λ both. (i : ℕ) (worker : _) (one : _) → i < length workers.entry.items
-        → IfOk (slice_index_or both.0.items i one).1.book
-        (λ book. IsWork inline (state (slice_index_or workers.entry.items i worker).0) one_part
-        book.items (state (slice_index_or both.0.items i one).0) (pass_state (slice_index_or both.0.items i one).1.part.pass))) }
+    ensures each { IfOk result (λ both. AreWorks inline workers.entry.items both.0.items (λ worker. state worker.0) (λ one. state one.0)
+        (λ one. one.1.book) (λ one. pass_state one.1.part.pass)) }
     ensures judged { IfOk result (λ both. All (λ one. IfOk one.book (λ book. IsJudging (pass_state one.part.pass) book.items)) both.1.all.items) }
 {
     thread::scope(
@@ -215,10 +197,8 @@ fn man<'a, P: Naming + Send + Sync, R: Threads + Wait + Sync>(
             ensures failed { IfErr result (IsUnmanned (length verifiers.entry.all.items)) }
             ensures len { IfOk result (λ both. length both.0.items ≡ length workers.entry.items) }
             ensures workers { IfOk result (λ both. both.1.workers ≡ length both.0.items) }
-            ensures each { IfOk result (λ both. (i : ℕ) (worker : _) (one : _) → i < length workers.entry.items
-                → IfOk (slice_index_or both.0.items i one).1.book
-                (λ book. IsWork inline (state (slice_index_or workers.entry.items i worker).0) one_part
-                book.items (state (slice_index_or both.0.items i one).0) (pass_state (slice_index_or both.0.items i one).1.part.pass))) }
+            ensures each { IfOk result (λ both. AreWorks inline workers.entry.items both.0.items (λ worker. state worker.0) (λ one. state one.0)
+                (λ one. one.1.book) (λ one. pass_state one.1.part.pass)) }
             ensures judged { IfOk result (λ both. All (λ one. IfOk one.book (λ book. IsJudging (pass_state one.part.pass) book.items)) both.1.all.items) }
         {
             let Verifiers {
@@ -292,10 +272,8 @@ fn work_all<'a, P: Naming + Send + Sync, R: Threads + Wait + Sync>(
     ensures thread { IsFalse are_judged → result ≡ Err RunFault.Thread }
     ensures memory { IsTrue are_judged → IfErr result (λ fault. fault ≡ RunFault.Memory) }
     ensures len { IfOk result (λ ended. length ended.items ≡ length workers.entry.items) }
-    ensures each { IfOk result (λ ended. (i : ℕ) (worker : _) (one : _) → i < length workers.entry.items
-        → IfOk (slice_index_or ended.items i one).1.book
-        (λ book. IsWork inline (state (slice_index_or workers.entry.items i worker).0) one_part
-        book.items (state (slice_index_or ended.items i one).0) (pass_state (slice_index_or ended.items i one).1.part.pass))) }
+    ensures each { IfOk result (λ ended. AreWorks inline workers.entry.items ended.items (λ worker. state worker.0) (λ one. state one.0)
+        (λ one. one.1.book) (λ one. pass_state one.1.part.pass)) }
 {
     if !are_judged {
         return Err(RunFault::Thread);
@@ -304,7 +282,7 @@ fn work_all<'a, P: Naming + Send + Sync, R: Threads + Wait + Sync>(
         rt,
         workers,
         &|worker: Worker<P>| -> Ended<P>
-            ensures { IfOk result.1.book (λ book. IsWork inline (state worker.entry.0) one_part book.items
+            ensures { IfOk result.1.book (λ book. IsWork inline (state worker.entry.0) one_part book
                 (state result.0) (pass_state result.1.part.pass)) }
         { worked_by(rt, shared, alloc, inline, worker) },
     )?;
@@ -319,7 +297,7 @@ fn worked_by<'a, P: Naming, R: Wait>(
     inline: bool,
     worker: Worker<'a, P>,
 ) -> Ended<P>
-    ensures { IfOk result.1.book (λ book. IsWork inline (state worker.entry.0) one_part book.items
+    ensures { IfOk result.1.book (λ book. IsWork inline (state worker.entry.0) one_part book
         (state result.0) (pass_state result.1.part.pass)) }
 {
     let (engine, seat) = worker;
@@ -351,7 +329,7 @@ fn check(
     ensures own { IsTrue inline
         → OnOk result (list_all (is_own_verdict (tickets_of desk.now.plan desk.now.history)) desk.now.history ≡ true) }
     ensures each { OnOk result ((i : ℕ) (book : _) → slice_get books.now.dones.items i ≡ Some book
-        → book.items ≡ dones_of desk.now.plan inline desk.now.history i) }
+        → book ≡ dones_of desk.now.plan inline desk.now.history i) }
     ensures numbered { OnOk result (list_all (is_numbered (length books.now.dones.items) desk.now.plan.verifiers) desk.now.history ≡ true) }
     ensures said { IsFalse inline → OnOk result (All (IsVerdictIn books.now.said.items (λ book. book.items)) desk.now.history) }
 {

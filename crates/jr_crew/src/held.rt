@@ -15,17 +15,19 @@ use jr_staff::{
     Halt, MOST_BYTES, MOST_IOS, Naming, Shares, Watch, is_asked, note_start, note_verdict, push,
 };
 use std::marker::PhantomData;
+use std::sync::atomic::{AtomicU64, Ordering};
 use std::sync::{Condvar, Mutex, MutexGuard, Wait};
 use std::thread;
 
 // What lies under the lock: the desk of that plan, why the run was ended before its time, if it was, how many I/Os and checks workers
-// have in hand, and how many workers wait for some.
+// have in hand, and how many workers wait for some. One of these may have been called that hasn't come yet.
 #[derive(Drop)]
 pub struct Held<P: Naming> {
     desk: Desk,
     halt: Option<Halt>,
     in_hand: u64,
     waiting: u64,
+    is_called: bool,
     of: PhantomData<P>,
     ghost plan_is: { desk.plan ≡ P.plan },
 }
@@ -102,6 +104,7 @@ impl<P: Naming> Held<P> {
             halt,
             in_hand: _,
             waiting: _,
+            is_called: _,
             of: _,
         } = self;
         (desk, halt)
@@ -139,11 +142,12 @@ pub enum Step {
     End,
 }
 
-// The desk under its lock, what those wait on that can't go on, how much a worker takes at once, and what another thread has of the
-// run.
+// The desk under its lock, how many come for the lock and haven't got it, what those sleep on that can't go on, how much a worker takes
+// at once, and what another thread has of the run.
 #[derive(Drop)]
 pub struct Shared<'p, P: Naming> {
     held: Mutex<Held<P>>,
+    coming: AtomicU64,
     changed: Condvar,
     shares: Shares,
     watch: Watch<'p>,
@@ -158,10 +162,12 @@ impl<'p, P: Naming> Shared<'p, P> {
             halt: None,
             in_hand: 0,
             waiting: 0,
+            is_called: false,
             of: PhantomData,
         };
         Shared {
             held: Mutex::new(held),
+            coming: AtomicU64::new(0),
             changed: Condvar::new(),
             shares,
             watch,
@@ -174,6 +180,7 @@ impl<'p, P: Naming> Shared<'p, P> {
     {
         let Shared {
             held,
+            coming: _,
             changed: _,
             shares: _,
             watch: _,
@@ -181,8 +188,19 @@ impl<'p, P: Naming> Shared<'p, P> {
         held.into_inner().into_parts()
     }
 
-    // Takes the lock, and looks for a while whether it is free before it waits for it.
+    // Takes the lock. Who doesn't get it at once comes until it has it: nobody is counted who has the lock.
     fn enter<R: Wait>(&self, rt: &R) -> MutexGuard<'_, Held<P>> {
+        if let Some(held) = self.held.try_lock() {
+            return held;
+        }
+        self.coming.fetch_add(1, Ordering::Relaxed);
+        let held = self.come(rt);
+        self.coming.fetch_sub(1, Ordering::Relaxed);
+        held
+    }
+
+    // Looks for a while whether the lock is free before it waits for it.
+    fn come<R: Wait>(&self, rt: &R) -> MutexGuard<'_, Held<P>> {
         for look in 0..LOOKS {
             if let Some(held) = self.held.try_lock() {
                 return held;
@@ -210,15 +228,21 @@ impl<'p, P: Naming> Shared<'p, P> {
         let mut held = self.enter(rt);
         for _ in rt.forever() {
             match self.share(&mut held, worker, tickets)? {
-                Step::Wait => {
-                    held.waiting = held.waiting.saturating_add(1);
-                    held = self.changed.wait(rt, held);
-                    held.waiting = held.waiting.saturating_sub(1);
-                }
+                Step::Wait => held = self.sleep(rt, held),
                 step => return Ok(step),
             }
         }
         unreachable!()
+    }
+
+    // Gives the lock away, sleeps until something changes, and takes it again.
+    fn sleep<'a, R: Wait>(&self, rt: &R, held: MutexGuard<'a, Held<P>>) -> MutexGuard<'a, Held<P>> {
+        let mut held = held;
+        held.waiting = held.waiting.saturating_add(1);
+        let mut held = self.changed.wait(rt, held);
+        held.waiting = held.waiting.saturating_sub(1);
+        held.is_called = false;
+        held
     }
 
     // Takes in how a worker's tickets ended, in their order, and takes what is next for the worker. The lock is taken once for all of
@@ -295,9 +319,15 @@ impl<'p, P: Naming> Shared<'p, P> {
         Ok(Step::Go)
     }
 
-    // Wakes one that may take what this worker left; where workers have as much in hand as all depths allow, nothing is left.
-    fn wake_next(&self, held: &Held<P>) {
-        if held.in_hand < self.shares.depths() {
+    // Wakes one that may take what this worker left. Where workers have as much in hand as all depths allow, nothing is left; and where
+    // one was called already, or another comes for the lock, that one takes it.
+    fn wake_next(&self, held: &mut Held<P>) {
+        if held.in_hand < self.shares.depths()
+            && held.waiting > 0
+            && !held.is_called
+            && self.coming.load(Ordering::Relaxed) == 0
+        {
+            held.is_called = true;
             self.changed.notify_one();
         }
     }

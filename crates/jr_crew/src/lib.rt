@@ -3,12 +3,14 @@
 
 mod crew;
 mod held;
+mod ran;
 mod serial;
 mod settled;
 mod verifier;
 mod work;
 
-pub use crew::{Ran, run};
-pub use jr_books::Done;
+pub use crew::{Booked, run_booked};
+pub use jr_books::{Book, Done};
 pub use jr_staff::{Progress, RunFault, StopFlag, Watch};
+pub use ran::{Ran, run};
 pub use serial::run_serial;

@@ -6,7 +6,7 @@ ghost use Rattle.jr_header.specs.Served.{answer_verdict, is_to_judge};
 ghost use Rattle.jr_staff.specs.Judging.{AreChecksOf, IsSaidOfOne};
 ghost use Rattle.jr_crew.specs.Working.{AreDone};
 
-use jr_books::{Done, Said};
+use jr_books::{Book, Done, Said};
 use jr_header::{Ruling, Served, rule};
 use jr_model::Verdict;
 use jr_staff::{Halt, push};
@@ -67,8 +67,8 @@ pub(crate) fn settle_all<'a>(
 }
 
 // Writes what the desk has taken in into a worker's book.
-pub(crate) fn note_all(inline: bool, told: &[Told<'_>], book: &mut Vec<Done>) -> Result<(), Halt>
-    ensures { OnOk result (AreDone inline (map (λ one. one.served.now) told.now) book.old.items book.new.items) }
+pub(crate) fn note_all(inline: bool, told: &[Told<'_>], book: &mut Book) -> Result<(), Halt>
+    ensures { OnOk result (AreDone inline (map (λ one. one.served.now) told.now) book.old book.new) }
 {
     for one in told {
         if !is_same_flag(one.inline, inline) {
@@ -79,7 +79,7 @@ pub(crate) fn note_all(inline: bool, told: &[Told<'_>], book: &mut Vec<Done>) ->
             outcome: one.served.outcome(),
             verdict: one.said,
         };
-        push(book, done)?;
+        book.push(&done)?;
     }
     Ok(())
 }

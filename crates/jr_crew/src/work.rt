@@ -8,7 +8,7 @@ ghost use Rattle.jr_crew.specs.Working.{AreAnswered, AreDone, CanBeServed, IsAns
 
 use crate::held::{Shared, Step};
 use crate::settled::{note_all, settle_all};
-use jr_books::Done;
+use jr_books::Book;
 use jr_engines::Engine;
 use jr_header::{Served, serve_own};
 use jr_model::Ticket;
@@ -32,8 +32,8 @@ pub(crate) fn work<P: Naming, R: Wait>(
     post: &Post<'_, P>,
     channel: &mut ChannelEnd<'_, P>,
     engine: &mut dyn Engine,
-) -> Result<Vec<Done>, Halt>
-    ensures { IfOk result (λ book. IsWork post.now.inline (state engine.old) (pass_state channel.old.pass) book.items
+) -> Result<Book, Halt>
+    ensures { IfOk result (λ book. IsWork post.now.inline (state engine.old) (pass_state channel.old.pass) book
         (state engine.new) (pass_state channel.new.pass)) }
 {
     let book = work_on(rt, post, channel, engine);
@@ -48,7 +48,7 @@ pub(crate) fn work<P: Naming, R: Wait>(
 pub struct Load {
     pub tickets: Vec<Ticket>,
     pub buffers: Vec<Vec<u8>>,
-    pub book: Vec<Done>,
+    pub book: Book,
 }
 
 fn work_on<P: Naming, R: Wait>(
@@ -56,14 +56,14 @@ fn work_on<P: Naming, R: Wait>(
     post: &Post<'_, P>,
     channel: &mut ChannelEnd<'_, P>,
     engine: &mut dyn Engine,
-) -> Result<Vec<Done>, Halt>
-    ensures { IfOk result (λ book. IsWork post.now.inline (state engine.old) (pass_state channel.old.pass) book.items
+) -> Result<Book, Halt>
+    ensures { IfOk result (λ book. IsWork post.now.inline (state engine.old) (pass_state channel.old.pass) book
         (state engine.new) (pass_state channel.new.pass)) }
 {
     let mut load = Load {
         tickets: Vec::new(post.alloc),
         buffers: Vec::new(post.alloc),
-        book: Vec::new(post.alloc),
+        book: Book::new(post.alloc),
     };
     let mut step = Step::Wait;
     for _ in rt.forever() {
@@ -88,8 +88,8 @@ fn carry_out<P: Naming, R: Wait>(
 ) -> Result<Step, Halt>
     requires { All CanBeServed load.old.tickets.items }
     ensures worked { OnOk result ((before : EngineState) (first : PassState)
-        → IsWork post.now.inline before first load.old.book.items (state engine.old) (pass_state channel.old.pass)
-        → IsWork post.now.inline before first load.new.book.items (state engine.new) (pass_state channel.new.pass)) }
+        → IsWork post.now.inline before first load.old.book (state engine.old) (pass_state channel.old.pass)
+        → IsWork post.now.inline before first load.new.book (state engine.new) (pass_state channel.new.pass)) }
     ensures next { OnOk result (All CanBeServed load.new.tickets.items) }
 {
     let served = serve_all(post.alloc, engine, &load.tickets, &mut load.buffers)?;
@@ -142,7 +142,7 @@ fn settle<P: Naming, R: Wait>(
     load: &mut Load,
 ) -> Result<Step, Halt>
     requires { All CanBeServed load.old.tickets.items }
-    ensures done { OnOk result (AreDone post.now.inline served.now load.old.book.items load.new.book.items) }
+    ensures done { OnOk result (AreDone post.now.inline served.now load.old.book load.new.book) }
     ensures next { OnOk result (All CanBeServed load.new.tickets.items) }
 {
     let mut settled = Vec::new(post.alloc);

@@ -9,29 +9,29 @@ use crate::channels::{ChannelEnd, Part};
 use crate::halts::Halt;
 use crate::naming::Naming;
 use crate::staff::push;
-use jr_books::{Done, Said};
+use jr_books::{Book, Said};
 use jr_engines::Engine;
 use std::alloc::Global;
 use std::thread::Promise;
 
-// What a worker brings back beside its engine: what it completed, and its part of the hand-over.
+/// What a worker brings back beside its engine: what it completed, and its part of the hand-over.
 #[derive(Drop)]
 pub struct Worked<P: Naming> {
-    pub book: Result<Vec<Done>, Halt>,
+    pub book: Result<Book, Halt>,
     pub part: Part<P>,
 }
 
-// A worker that has ended: its engine, and the rest.
+/// A worker that has ended: its engine, and the rest.
 pub type Ended<P> = (Box<dyn Engine + Send>, Worked<P>);
 
-// What a verifier brings back: what it said of the checks that it took, and its part of the hand-over.
+/// What a verifier brings back: what it said of the checks that it took, and its part of the hand-over.
 #[derive(Drop)]
 pub struct Judged<P: Naming> {
     pub book: Result<Vec<Said>, Halt>,
     pub part: Part<P>,
 }
 
-// What is known of it once its thread has ended.
+/// What is known of it once its thread has ended.
 #[derive(Clone, Copy)]
 pub struct Judges;
 
@@ -43,8 +43,8 @@ impl<P: Naming> Promise<Judged<P>> for Judges {
     ghost kept_by = { λ promise judged. IfOk judged.book (λ book. IsJudging (pass_state judged.part.pass) book.items) };
 }
 
-// What the verifiers bring back, and the part of the hand-over that was given to nobody: with those of the verifiers and of so many
-// workers it is the whole.
+/// What the verifiers bring back, and the part of the hand-over that was given to nobody: with those of the verifiers and of so many
+/// workers it is the whole.
 #[derive(Drop)]
 pub struct Judgements<'a, P: Naming> {
     pub all: Vec<Judged<P>>,
@@ -56,15 +56,15 @@ pub struct Judgements<'a, P: Naming> {
     pub ghost taken: { (pass_state channel.pass).taken ≡ [] },
 }
 
-// The engines, and what each worker and each verifier says.
+/// The engines, and what each worker and each verifier says.
 #[derive(Drop)]
 pub struct Books {
     pub engines: Vec<Box<dyn Engine + Send>>,
-    pub dones: Vec<Vec<Done>>,
+    pub dones: Vec<Book>,
     pub said: Vec<Vec<Said>>,
 }
 
-// The engines and all books, where nobody met a fault. All parts of the hand-over come together: what a verifier took was put.
+/// The engines and all books, where nobody met a fault. All parts of the hand-over come together: what a verifier took was put.
 pub fn books_of<P: Naming>(
     alloc: Global,
     ended: Vec<Ended<P>>,
@@ -99,7 +99,7 @@ fn worked_books<P: Naming>(
     alloc: Global,
     channel: &mut ChannelEnd<'_, P>,
     ended: Vec<Ended<P>>,
-) -> Result<(Vec<Box<dyn Engine + Send>>, Vec<Vec<Done>>), Halt>
+) -> Result<(Vec<Box<dyn Engine + Send>>, Vec<Book>), Halt>
     requires of { (pass_state channel.old.pass).of ≡ PARTS }
     requires ended { All (λ one. IfOk one.1.book (λ book. IsPutter (pass_state one.1.part.pass))) ended.items }
     ensures engines { IfOk result (λ both. both.0.items ≡ map (λ one. one.0) ended.items) }

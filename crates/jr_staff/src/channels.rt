@@ -9,7 +9,7 @@ use jr_header::Served;
 use std::marker::PhantomData;
 use std::sync::Wait;
 
-// What one thread has of the hand-over: the channel, which is that of the run, and its own pass.
+/// What one thread has of the hand-over: the channel, which is that of the run, and its own pass.
 #[derive(Drop)]
 pub struct ChannelEnd<'a, P: Naming> {
     pub handoff: &'a Handoff,
@@ -19,7 +19,7 @@ pub struct ChannelEnd<'a, P: Naming> {
     ghost one: { P.handoff ≡ Some handoff.now },
 }
 
-// What is left of it once its thread has ended: a part of the run's hand-over.
+/// What is left of it once its thread has ended: a part of the run's hand-over.
 #[derive(Drop)]
 pub struct Part<P: Naming> {
     pub pass: Pass,
@@ -34,6 +34,7 @@ impl<'a, P: Naming> ChannelEnd<'a, P> {
     ghost use Rattle.jr_handover.specs.Passes.{pass_state};
     ghost use Rattle.jr_staff.specs.Parts.{IsLess, IsMore, one_part};
 
+    /// The end that has this pass of the hand-over.
     pub fn new(handoff: &'a Handoff, pass: Pass) -> ChannelEnd<'a, P>
         requires pass { IsPassOf handoff.now pass }
         requires one { P.handoff ≡ Some handoff.now }
@@ -46,7 +47,7 @@ impl<'a, P: Naming> ChannelEnd<'a, P> {
         }
     }
 
-    // An end for another thread, with one of this one's parts.
+    /// An end for another thread, with one of this one's parts.
     #[tactic(auto, using(crate::proofs::PartLemmas::one_less, crate::proofs::PartLemmas::one_given))]
     pub fn another(&mut self) -> Result<ChannelEnd<'a, P>, Halt>
         requires parts { 1 < (pass_state self.old.pass).parts }
@@ -58,7 +59,7 @@ impl<'a, P: Naming> ChannelEnd<'a, P> {
         Ok(ChannelEnd::new(self.handoff, pass))
     }
 
-    // What its thread leaves when it ends.
+    /// What its thread leaves when it ends.
     pub fn into_part(self) -> Part<P>
         ensures { result.pass ≡ self.entry.pass }
     {
@@ -73,7 +74,7 @@ impl<'a, P: Naming> ChannelEnd<'a, P> {
         }
     }
 
-    // Takes in the part of a thread that has ended.
+    /// Takes in the part of a thread that has ended.
     pub fn join(&mut self, part: Part<P>)
         requires { (pass_state self.old.pass).of ≡ (pass_state part.pass).of }
         ensures { let more = pass_state part.pass in
@@ -83,7 +84,7 @@ impl<'a, P: Naming> ChannelEnd<'a, P> {
         self.handoff.join(&mut self.pass, pass);
     }
 
-    // What holds once all other ends were joined into this one: what was taken was put.
+    /// What holds once all other ends were joined into this one: what was taken was put.
     pub fn account(&mut self)
         requires { IsWhole (pass_state self.old.pass) }
         ensures same { pass_state self.new.pass ≡ pass_state self.old.pass }
@@ -92,28 +93,28 @@ impl<'a, P: Naming> ChannelEnd<'a, P> {
         self.handoff.account(&mut self.pass);
     }
 
-    // Hands over a check that ended whole, and waits while there is no room.
+    /// Hands over a check that ended whole, and waits while there is no room.
     pub fn put<R: Wait>(&mut self, rt: &R, served: Served)
         ensures { pass_state self.new.pass ≡ with_put (pass_state self.old.pass) (Parcel.Check served) }
     {
         self.handoff.put(rt, &mut self.pass, Parcel::Check(served));
     }
 
-    // Tells one verifier that nothing more comes.
+    /// Tells one verifier that nothing more comes.
     pub fn stop<R: Wait>(&mut self, rt: &R)
         ensures { pass_state self.new.pass ≡ with_put (pass_state self.old.pass) Parcel.Stop }
     {
         self.handoff.put(rt, &mut self.pass, Parcel::Stop);
     }
 
-    // Takes what was handed over first, and waits while there is nothing.
+    /// Takes what was handed over first, and waits while there is nothing.
     pub fn take<R: Wait>(&mut self, rt: &R) -> Parcel
         ensures { pass_state self.new.pass ≡ with_taken (pass_state self.old.pass) result }
     {
         self.handoff.take(rt, &mut self.pass)
     }
 
-    // Takes it if it is there, and waits for nothing.
+    /// Takes it if it is there, and waits for nothing.
     pub fn take_now<R: Wait>(&mut self, rt: &R) -> Option<Parcel>
         ensures taken { IfSome result (λ parcel. pass_state self.new.pass ≡ with_taken (pass_state self.old.pass) parcel) }
         ensures none { IfNone result (pass_state self.new.pass ≡ pass_state self.old.pass) }

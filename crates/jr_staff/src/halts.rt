@@ -5,16 +5,16 @@ use crate::faults::RunFault;
 use jr_model::{DeskFault, Memory};
 use std::alloc::AllocError;
 
-// Why a run that had begun was ended before its time.
+/// Why a run that had begun was ended before its time.
 #[derive(Clone, Copy, Debug, PartialEq, Eq)]
 pub enum Halt {
-    // A request for memory was refused.
+    /// A request for memory was refused.
     Memory,
-    // What was done isn't what the desk holds.
+    /// What was done isn't what the desk holds.
     Books,
 }
 
-// What the run answers.
+/// What the run answers.
 pub fn fault_of(halt: Halt) -> RunFault
     ensures fault { result ≡ fault_of halt }
     ensures engines { result ≡ RunFault.NoEngine → ⊥ }

@@ -1,6 +1,6 @@
 use std::marker::Brand;
 
-// The plan of a run, and its hand-over. Each run picks its own.
+/// The plan of a run, and its hand-over. Each run picks its own.
 pub trait Naming {
     ghost use Rattle.std.specs.Prelude.{Option};
     ghost use Rattle.jr_model.specs.Plan.{Plan};

@@ -2,12 +2,13 @@ use jr_model::{Memory, Ticket};
 use jr_plan::Plan;
 use std::alloc::Global;
 
-// No worker takes more I/Os at once than these, and none behind so many bytes: then the lock costs little beside the I/O.
+/// No worker takes more I/Os at once than these.
 pub const MOST_IOS: u64 = 16;
 
+/// A worker that took so many bytes takes no more at once: then the lock costs little beside the I/O.
 pub const MOST_BYTES: u64 = 256 << 10;
 
-// How many I/Os a worker takes at once: what the depths give to each worker.
+/// How many I/Os a worker takes at once: what the depths give to each worker.
 #[derive(Drop)]
 pub struct Shares {
     workers: u64,
@@ -24,6 +25,7 @@ struct Deep {
 }
 
 impl Shares {
+    /// Those of this plan's clones, for so many workers. Only memory can be wanting.
     pub fn new(alloc: Global, plan: &Plan, workers: usize) -> Result<Shares, Memory> {
         let mut by_clone = Vec::new(alloc);
         let mut by_phase = Vec::new(alloc);
@@ -54,8 +56,8 @@ impl Shares {
         })
     }
 
-    // The share of a worker that took this ticket: what all clones of its phase have for each worker. Where others wait for something to
-    // do it is what its clone alone has, so that they get the rest.
+    /// The share of a worker that took this ticket: what all clones of its phase have for each worker. Where others wait for something to
+    /// do it is what its clone alone has, so that they get the rest.
     pub fn of(&self, ticket: &Ticket, others_wait: bool) -> u64 {
         let Some(clone) = self.by_clone.get(ticket.write.clone as usize) else {
             return 1;
@@ -68,12 +70,12 @@ impl Shares {
 
     fn for_each(&self, depth: u64) -> u64 {
         match depth.checked_div(self.workers) {
-            Some(share) => share,
+            Some(share) => share.max(1),
             None => depth,
         }
     }
 
-    // No more I/Os than these are in flight at any time.
+    /// No more I/Os than these are in flight at any time.
     pub fn depths(&self) -> u64 {
         self.depths
     }

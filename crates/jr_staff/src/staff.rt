@@ -9,7 +9,7 @@ use crate::naming::Naming;
 use jr_engines::Engine;
 use std::alloc::Global;
 
-// What a worker begins with beside its engine: its number, and its part of the hand-over.
+/// What a worker begins with beside its engine: its number, and its part of the hand-over.
 #[derive(Drop)]
 pub struct Seat<'a, P: Naming> {
     pub number: u32,
@@ -17,10 +17,10 @@ pub struct Seat<'a, P: Naming> {
     pub ghost part: { pass_state channel.pass ≡ one_part },
 }
 
-// A worker: its engine, and the rest.
+/// A worker: its engine, and the rest.
 pub type Worker<'a, P> = (Box<dyn Engine + Send>, Seat<'a, P>);
 
-// What a verifier begins with: its number, and its part of the hand-over.
+/// What a verifier begins with: its number, and its part of the hand-over.
 #[derive(Drop)]
 pub struct Verifier<'a, P: Naming> {
     pub number: u32,
@@ -28,8 +28,8 @@ pub struct Verifier<'a, P: Naming> {
     pub ghost part: { pass_state channel.pass ≡ one_part },
 }
 
-// The verifiers, and the part of the hand-over that was given to nobody: with those of the verifiers and of so many workers it is the
-// whole.
+/// The verifiers, and the part of the hand-over that was given to nobody: with those of the verifiers and of so many workers it is the
+/// whole.
 #[derive(Drop)]
 pub struct Verifiers<'a, P: Naming> {
     pub all: Vec<Verifier<'a, P>>,
@@ -38,7 +38,7 @@ pub struct Verifiers<'a, P: Naming> {
     pub ghost whole: { IsLess (workers + length all.items) first_state (pass_state channel.pass) },
 }
 
-// A worker for each engine, and so many verifiers.
+/// A worker for each engine, and so many verifiers.
 pub fn staff_for<'a, P: Naming>(
     alloc: Global,
     engines: Vec<Box<dyn Engine + Send>>,
@@ -107,7 +107,7 @@ fn verifiers_for<'a, P: Naming>(
     Ok(all)
 }
 
-// How many parcels the hand-over holds: four for each verifier.
+/// How many parcels the hand-over holds: four for each verifier.
 pub fn room_for(verifiers: u32) -> usize
     ensures least { 1 ≤ result }
     ensures room { 1 ≤ verifiers → result ≡ 4 * verifiers }
@@ -138,7 +138,7 @@ fn number_behind(first: u32, place: u32) -> Result<u32, Halt>
     }
 }
 
-// Puts it behind the last one.
+/// Puts it behind the last one.
 pub fn push<X: Drop>(all: &mut Vec<X>, one: X) -> Result<(), Halt>
     ensures ok { OnOk result (all.new.items ≡ all.old.items ++ one ∷ []) }
     ensures err { OnErr result (all.new.items ≡ all.old.items) }

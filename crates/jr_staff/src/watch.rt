@@ -48,7 +48,7 @@ impl<'a> Watch<'a> {
     }
 }
 
-// Whether the run was asked to stop.
+/// Whether the run was asked to stop.
 pub fn is_asked(stop: Option<&StopFlag>) -> bool
     ensures { stop.entry ≡ None → result ≡ false }
 {

@@ -9,7 +9,7 @@ pub returns : goal.returns
 returns c all =
     let args = c.args in
     let by = done_by args.account.now.plan args.inline args.account.now.history in
-    follow_last args.books.now (λ book. book.items) by c.follow_all.new.places args.account.now.history
-    (subst (λ (events : List Event). AreFollowed args.books.now (λ book. book.items) by c.follow_all.new.places events) c.history.ensures
+    follow_last args.books.now by c.follow_all.new.places args.account.now.history
+    (subst (λ (events : List Event). AreFollowed args.books.now by c.follow_all.new.places events) c.history.ensures
     (c.follow_all.ensures c.if-not-follow_all.false))
     (c.are_gone_past.ensures all)

@@ -5,4 +5,4 @@ use Rattle.jr_books.proofs.accounts.are_gone_past.Given as goal
 -- nothing is left in the books so far
 abbrev pub invariant-loop-i : goal.invariant-loop-i
 invariant-loop-i l =
-    (k : ℕ) (book : _) → k < l.i → slice_get l.books k ≡ Some book → slice_get l.places k ≡ Some (length book.items)
+    (k : ℕ) (book : _) → k < l.i → slice_get l.books k ≡ Some book → slice_get l.places k ≡ Some (length book)

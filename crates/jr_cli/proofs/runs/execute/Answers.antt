@@ -9,13 +9,13 @@ use Rattle.jr_cli.proofs.runs.execute.Goals.{in-Some+in_ok-print_trace, in_defau
 pub returns-clause-ended : goal.returns-clause-ended
 returns-clause-ended g c =
     let ran = c.in_ok-ran.ran in
-    let done = c.in_ok-ran.ensures in
+    let done = c.in_ok-ran.ensures.booked in
     let history = ran.desk.history in
     let told = c.in_ok-told.ensures in
-    let reported = reported_on ran.desk.plan c.args.plan history history _ _ _ done.plan refl told.reported in
-    let found = faults_on ran.desk.plan c.args.plan history c.in_ok-faults.faults c.in_ok-told.told.faults done.plan c.in_ok-faults.ensures told.faults in
-    let kept = desk_on ran.desk c.in_ok-told.told.desk c.args.plan done.plan told.desk in
-    let left = interrupted_on ran.desk.plan c.args.plan history _ done.plan told.interrupted in
+    let reported = reported_on ran.desk.plan c.args.plan history history _ _ _ done.planned refl told.reported in
+    let found = faults_on ran.desk.plan c.args.plan history c.in_ok-faults.faults c.in_ok-told.told.faults done.planned c.in_ok-faults.ensures told.faults in
+    let kept = desk_on ran.desk c.in_ok-told.told.desk c.args.plan done.planned told.desk in
+    let left = interrupted_on ran.desk.plan c.args.plan history _ done.planned told.interrupted in
     elim c.match-events.branch [
       | in-Some+in_ok-print_trace w ↦
           rw (w.events-is, w.in-Some.is) (history, _, _, done.ended, left, (reported, rw told.desk at w.in_ok-print_trace.ensures.printed, found, kept))
@@ -25,13 +25,13 @@ returns-clause-ended g c =
 pub returns-clause-run : goal.returns-clause-run
 returns-clause-run g c whole =
     let ran = c.in_ok-ran.ran in
-    let done = c.in_ok-ran.ensures in
+    let done = c.in_ok-ran.ensures.booked in
     let history = ran.desk.history in
     let told = c.in_ok-told.ensures in
-    let reported = reported_on ran.desk.plan c.args.plan history history _ _ _ done.plan refl told.reported in
-    let found = faults_on ran.desk.plan c.args.plan history c.in_ok-faults.faults c.in_ok-told.told.faults done.plan c.in_ok-faults.ensures told.faults in
-    let kept = desk_on ran.desk c.in_ok-told.told.desk c.args.plan done.plan told.desk in
-    let run = done.run (complete_on ran.desk.plan c.args.plan history _ done.plan told.interrupted whole) in
+    let reported = reported_on ran.desk.plan c.args.plan history history _ _ _ done.planned refl told.reported in
+    let found = faults_on ran.desk.plan c.args.plan history c.in_ok-faults.faults c.in_ok-told.told.faults done.planned c.in_ok-faults.ensures told.faults in
+    let kept = desk_on ran.desk c.in_ok-told.told.desk c.args.plan done.planned told.desk in
+    let run = done.run (complete_on ran.desk.plan c.args.plan history _ done.planned told.interrupted whole) in
     elim c.match-events.branch [
       | in-Some+in_ok-print_trace w ↦
           rw (w.events-is, w.in-Some.is) (history, _, _, run, (reported, rw told.desk at w.in_ok-print_trace.ensures.printed, found, kept))
@@ -41,15 +41,15 @@ returns-clause-run g c whole =
 pub returns-clause-unasked : goal.returns-clause-unasked
 returns-clause-unasked g c unasked =
     let ran = c.in_ok-ran.ran in
-    let done = c.in_ok-ran.ensures in
-    uninterrupted_on ran.desk.plan c.args.plan ran.desk.history _ done.plan c.in_ok-told.ensures.interrupted (done.unasked unasked)
+    let done = c.in_ok-ran.ensures.booked in
+    uninterrupted_on ran.desk.plan c.args.plan ran.desk.history _ done.planned c.in_ok-told.ensures.interrupted (done.unasked unasked)
 
 pub returns-clause-quiet : goal.returns-clause-quiet
 returns-clause-quiet g c whole none =
     let ran = c.in_ok-ran.ran in
-    let done = c.in_ok-ran.ensures in
+    let done = c.in_ok-ran.ensures.booked in
     let told = c.in_ok-told.ensures in
-    let complete = complete_on ran.desk.plan c.args.plan ran.desk.history _ done.plan told.interrupted whole in
+    let complete = complete_on ran.desk.plan c.args.plan ran.desk.history _ done.planned told.interrupted whole in
     quietly_reported c.args.plan ran.desk.history _ _ _ c.facts.ensures
     (unraced c.args.plan (numbered_of c.args.plan c.facts.ensures) none ran.desk.history done.ended.legal) done.ended.legal complete
-    (reported_on ran.desk.plan c.args.plan ran.desk.history ran.desk.history _ _ _ done.plan refl told.reported)
+    (reported_on ran.desk.plan c.args.plan ran.desk.history ran.desk.history _ _ _ done.planned refl told.reported)

@@ -4,4 +4,4 @@ use Rattle.jr_crew.proofs.settled.note_all.Given as goal
 
 -- the book has those so far
 abbrev pub invariant-loop-one : goal.invariant-loop-one
-invariant-loop-one l = AreDone l.inline (map (λ one. one.served.now) (take l.one-index l.told)) l.initial.book.items l.book.items
+invariant-loop-one l = AreDone l.inline (map (λ one. one.served.now) (take l.one-index l.told)) l.initial.book l.book

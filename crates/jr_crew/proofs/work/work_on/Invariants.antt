@@ -7,5 +7,5 @@ use Rattle.jr_crew.proofs.work.work_on.Given as goal
 abbrev pub invariant-loop : goal.invariant-loop
 invariant-loop g l =
     All CanBeServed l.load.tickets.items
-    × IsWork l.post.inline ((goal.Engine-dyn g l.fn.engine.now).state l.fn.engine.now.1) (pass_state l.fn.channel.pass) l.load.book.items
+    × IsWork l.post.inline ((goal.Engine-dyn g l.fn.engine.now).state l.fn.engine.now.1) (pass_state l.fn.channel.pass) l.load.book
     ((goal.Engine-dyn g l.engine.now).state l.engine.now.1) (pass_state l.channel.pass)

@@ -1,5 +1,5 @@
 use Rattle.std.specs.Prelude.{Some}
-use Rattle.jr_crew.proofs.crew.run.Given as goal
+use Rattle.jr_crew.proofs.crew.run_booked.Given as goal
 
 -- the run's name for its plan and its hand-over
 abbrev pub ghosts-run_as : goal.ghosts-run_as
