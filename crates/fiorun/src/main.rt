@@ -9,6 +9,7 @@ use jr_cli::{
 use jr_engines::Engine;
 use jr_notes::{job_notes, plan_notes};
 use jr_plan::Plan;
+use machine::Machine;
 use places::Wanted;
 use running::{Ran, SharedRun, Turn, add, boxed, run_memory, run_plan, shares};
 use show::Screen;
@@ -17,14 +18,12 @@ use std::env::Env;
 use std::fs::{File, Files};
 use std::io::{BufWriter, Write};
 use std::process::ExitCode;
-use std::sync::Wait;
-use std::thread::Threads;
-use std::time::Clock;
 use std::{env, fs, io};
 use stops::{Stop, tell_all};
 
 mod asked;
 mod files;
+mod machine;
 mod outputs;
 mod places;
 mod remarks;
@@ -81,18 +80,10 @@ fn held<R: Files>(
 }
 
 // Does what the words ask for, but for a run over a shared memory. They may ask for notes.
-fn begin<
-    R: Env
-        + Files<File = File>
-        + Input
-        + Print
-        + Screen
-        + AllocGlobal
-        + Clock
-        + Threads
-        + Wait
-        + Sync,
->(rt: &R, has_notes: &mut bool) -> Result<Turn, Stop> {
+fn begin<R: Env + Files<File = File> + Input + Print + Machine>(
+    rt: &R,
+    has_notes: &mut bool,
+) -> Result<Turn, Stop> {
     let words = words_of(rt)?;
     match choose(rt.alloc(), words.as_slice()) {
         Ok(choice) => {
@@ -110,14 +101,26 @@ fn words_of<R: Env + AllocGlobal>(rt: &R) -> Result<Vec<String>, CliFault> {
     }
 }
 
-fn perform<
-    R: Files<File = File> + Input + Print + Screen + AllocGlobal + Clock + Threads + Wait + Sync,
->(rt: &R, choice: &Choice<'_>, has_notes: bool) -> Result<Turn, Stop> {
+fn perform<R: Files<File = File> + Input + Print + Machine>(
+    rt: &R,
+    choice: &Choice<'_>,
+    has_notes: bool,
+) -> Result<Turn, Stop> {
     let text = job_text(rt, choice.job)?;
     let plan = job_plan(rt.alloc(), text.as_slice(), choice.section, has_notes)?;
     if has_notes && let Ok(notes) = plan_notes(rt.alloc(), text.as_slice(), choice.section) {
         tell_all(rt, notes.as_slice());
     }
+    carry_out(rt, choice, text.as_slice(), plan)
+}
+
+// Prints the plan, checks a trace of it or runs it, as the words say.
+fn carry_out<R: Files<File = File> + Print + Machine>(
+    rt: &R,
+    choice: &Choice<'_>,
+    text: &[u8],
+    plan: Plan,
+) -> Result<Turn, Stop> {
     let Ok(mut out) = BufWriter::new(rt.alloc(), io::writer(rt)) else {
         return Err(Stop::from(CliFault::Memory));
     };
@@ -130,7 +133,7 @@ fn perform<
         return Ok(Turn::Ended(0));
     }
     let workers = workers_of(&plan, choice.workers);
-    let Ok(wishes) = wishes(rt.alloc(), text.as_slice(), choice, &plan) else {
+    let Ok(wishes) = wishes(rt.alloc(), text, choice, &plan) else {
         return Err(Stop::from(CliFault::Memory));
     };
     run_plan(rt, choice, wishes.as_slice(), plan, workers, &mut out)

@@ -3,6 +3,7 @@ ghost use Rattle.std.specs.Prelude.{◌≤◌, ◌^◌};
 
 use crate::asked::{Asked, asked_by};
 use crate::files::{Taken, is_taken, take_files};
+use crate::machine::Machine;
 use crate::places::Wanted;
 use crate::show::{Extent, Pace, Screen, Wiper, shown};
 use crate::stops::Stop;
@@ -16,8 +17,6 @@ use std::alloc::Global;
 use std::fs::{File, Files};
 use std::io::BufWriter;
 use std::sync::{Arc, Wait};
-use std::thread::Threads;
-use std::time::Clock;
 use std::{fs, io};
 
 // How far the program gets by itself: to its end with this status, to the end of a run, or to a run whose workers share a memory.
@@ -74,10 +73,7 @@ fn trace_file<R: Files + AllocGlobal>(
 }
 
 // Runs the plan, but for one over a memory that several workers share, and tells where it found what.
-pub fn run_plan<
-    R: Files<File = File> + Screen + AllocGlobal + Clock + Threads + Wait + Sync,
-    V: io::Write,
->(
+pub fn run_plan<R: Files<File = File> + Machine, V: io::Write>(
     rt: &R,
     choice: &Choice<'_>,
     wishes: &[Wish],
@@ -106,10 +102,7 @@ fn told<R: Files + Screen + AllocGlobal>(rt: &R, wanted: Wanted, turn: Turn) -> 
 }
 
 // Runs the plan over its kind of engine.
-fn run_engines<
-    R: Files<File = File> + Screen + AllocGlobal + Clock + Threads + Wait + Sync,
-    V: io::Write,
->(
+fn run_engines<R: Files<File = File> + Machine, V: io::Write>(
     rt: &R,
     choice: &Choice<'_>,
     wishes: &[Wish],
@@ -125,38 +118,70 @@ fn run_engines<
     if workers == 1 && plan.verifiers() == 0 {
         return Ok(Turn::Ran(run_alone(rt, choice, &asked, wishes, plan, out)?));
     }
-    let trace = choice.trace;
     match plan.engine() {
         EngineKind::File => {
-            let files = take_files(rt, &plan, choice, wishes)?;
-            let events = trace_file(rt, trace)?;
-            let engines = file_engines(rt, &files, workers)?;
-            let ended = run_files(rt, &asked, plan, engines, events, out)?;
-            Ok(Turn::Ran(files.settled(rt, ended)?))
+            let ran = crew_over_files(rt, choice, &asked, wishes, plan, workers, out)?;
+            Ok(Turn::Ran(ran))
         }
-        EngineKind::Memory => {
-            let events = trace_file(rt, trace)?;
-            Ok(Turn::Shared(SharedRun {
-                plan,
-                workers,
-                events,
-                asked,
-                wanted: None,
-            }))
-        }
+        EngineKind::Memory => Ok(Turn::Shared(shared_run(rt, choice, asked, plan, workers)?)),
         EngineKind::Null => {
-            let events = trace_file(rt, trace)?;
-            let ended = run_nulls(rt, &asked, plan, workers, events, out)?;
-            Ok(Turn::Ran(Ran::new(rt.alloc(), ended)))
+            let ran = crew_over_nothing(rt, choice, &asked, plan, workers, out)?;
+            Ok(Turn::Ran(ran))
         }
     }
 }
 
+// Runs the plan over the system's files with so many workers.
+fn crew_over_files<R: Files<File = File> + Machine, V: io::Write>(
+    rt: &R,
+    choice: &Choice<'_>,
+    asked: &Asked,
+    wishes: &[Wish],
+    plan: Plan,
+    workers: u32,
+    out: &mut V,
+) -> Result<Ran, Stop> {
+    let files = take_files(rt, &plan, choice, wishes)?;
+    let events = trace_file(rt, choice.trace)?;
+    let engines = file_engines(rt, &files, workers)?;
+    let ended = run_files(rt, asked, plan, engines, events, out)?;
+    files.settled(rt, ended)
+}
+
+// A run with so many workers over a memory that they share is still to come.
+fn shared_run<R: Files<File = File> + AllocGlobal>(
+    rt: &R,
+    choice: &Choice<'_>,
+    asked: Arc<Asked, Global>,
+    plan: Plan,
+    workers: u32,
+) -> Result<SharedRun, Stop> {
+    let events = trace_file(rt, choice.trace)?;
+    Ok(SharedRun {
+        plan,
+        workers,
+        events,
+        asked,
+        wanted: None,
+    })
+}
+
+// Runs the plan over nothing with so many workers.
+fn crew_over_nothing<R: Files<File = File> + Machine, V: io::Write>(
+    rt: &R,
+    choice: &Choice<'_>,
+    asked: &Asked,
+    plan: Plan,
+    workers: u32,
+    out: &mut V,
+) -> Result<Ran, Stop> {
+    let events = trace_file(rt, choice.trace)?;
+    let ended = run_nulls(rt, asked, plan, workers, events, out)?;
+    Ok(Ran::new(rt.alloc(), ended))
+}
+
 // Runs the plan with one worker, which judges its own checks.
-fn run_alone<
-    R: Files<File = File> + Screen + AllocGlobal + Clock + Threads + Wait + Sync,
-    V: io::Write,
->(
+fn run_alone<R: Files<File = File> + Machine, V: io::Write>(
     rt: &R,
     choice: &Choice<'_>,
     asked: &Asked,
@@ -164,32 +189,50 @@ fn run_alone<
     plan: Plan,
     out: &mut V,
 ) -> Result<Ran, Stop> {
-    let trace = choice.trace;
     match plan.engine() {
-        EngineKind::File => {
-            let files = take_files(rt, &plan, choice, wishes)?;
-            let mut engine = files.engine(rt, 0)?;
-            files.begin(rt, &engine);
-            let events = trace_file(rt, trace)?;
-            let ended = run_over(rt, asked, events, plan, &mut engine, out)?;
-            files.settled(rt, ended)
-        }
-        EngineKind::Memory => {
-            let mut engine = match MemoryEngine::new(rt.alloc(), &plan) {
-                Ok(engine) => engine,
-                Err(_) => return Err(Stop::from(CliFault::Memory)),
-            };
-            let events = trace_file(rt, trace)?;
-            let ended = run_over(rt, asked, events, plan, &mut engine, out)?;
-            Ok(Ran::new(rt.alloc(), ended))
-        }
-        EngineKind::Null => {
-            let mut engine = NullEngine::new();
-            let events = trace_file(rt, trace)?;
-            let ended = run_over(rt, asked, events, plan, &mut engine, out)?;
-            Ok(Ran::new(rt.alloc(), ended))
-        }
+        EngineKind::File => alone_over_files(rt, choice, asked, wishes, plan, out),
+        EngineKind::Memory => match MemoryEngine::new(rt.alloc(), &plan) {
+            Ok(engine) => {
+                let mut engine = engine;
+                alone_over(rt, choice, asked, plan, &mut engine, out)
+            }
+            Err(_) => Err(Stop::from(CliFault::Memory)),
+        },
+        EngineKind::Null => alone_over(rt, choice, asked, plan, &mut NullEngine::new(), out),
     }
+}
+
+// The same over the system's files.
+fn alone_over_files<R: Files<File = File> + Machine, V: io::Write>(
+    rt: &R,
+    choice: &Choice<'_>,
+    asked: &Asked,
+    wishes: &[Wish],
+    plan: Plan,
+    out: &mut V,
+) -> Result<Ran, Stop> {
+    let files = take_files(rt, &plan, choice, wishes)?;
+    let mut engine = files.engine(rt, 0)?;
+    files.begin(rt, &engine);
+    let events = trace_file(rt, choice.trace)?;
+    let ended = run_over(rt, asked, events, plan, &mut engine, out)?;
+    files.settled(rt, ended)
+}
+
+// The same over an engine that needs no files.
+fn alone_over<R: Files<File = File> + Machine, V: io::Write>(
+    rt: &R,
+    choice: &Choice<'_>,
+    asked: &Asked,
+    plan: Plan,
+    engine: &mut dyn Engine,
+    out: &mut V,
+) -> Result<Ran, Stop>
+    requires { (state engine.old).calls ≤ 2 ^ 63 }
+{
+    let events = trace_file(rt, choice.trace)?;
+    let ended = run_over(rt, asked, events, plan, engine, out)?;
+    Ok(Ran::new(rt.alloc(), ended))
 }
 
 // The engines of so many workers over the files, which the first of them drops from the system's cache.
@@ -225,7 +268,7 @@ pub fn add<X: Drop>(all: &mut Vec<X>, one: X) -> Result<(), CliFault> {
 }
 
 // Runs the plan over this engine with one worker, and writes the report and then the trace where one is asked for.
-fn run_over<R: Screen + AllocGlobal + Clock + Threads + Wait + Sync, V: io::Write>(
+fn run_over<R: Machine, V: io::Write>(
     rt: &R,
     asked: &Asked,
     events: Option<BufWriter<File>>,
@@ -259,7 +302,7 @@ fn run_over<R: Screen + AllocGlobal + Clock + Threads + Wait + Sync, V: io::Writ
 }
 
 // Runs the plan over the system's files, with a worker for each of these engines.
-fn run_files<R: Screen + AllocGlobal + Clock + Threads + Wait + Sync, V: io::Write>(
+fn run_files<R: Machine, V: io::Write>(
     rt: &R,
     asked: &Asked,
     plan: Plan,
@@ -275,7 +318,7 @@ fn run_files<R: Screen + AllocGlobal + Clock + Threads + Wait + Sync, V: io::Wri
 }
 
 // Runs the plan over nothing, with so many workers.
-fn run_nulls<R: Screen + AllocGlobal + Clock + Threads + Wait + Sync, V: io::Write>(
+fn run_nulls<R: Machine, V: io::Write>(
     rt: &R,
     asked: &Asked,
     plan: Plan,
@@ -307,7 +350,7 @@ pub fn shares<R: Wait + Clone + Drop>(
 }
 
 // Runs the job over the shares of a memory, writes its report to standard output, and tells where it found what.
-pub fn run_memory<R: Files + Print + Screen + AllocGlobal + Clock + Threads + Wait + Sync>(
+pub fn run_memory<R: Files + Print + Machine>(
     rt: &R,
     job: SharedRun,
     engines: Vec<Box<dyn Engine + Send>>,
@@ -331,7 +374,7 @@ pub fn run_memory<R: Files + Print + Screen + AllocGlobal + Clock + Threads + Wa
 }
 
 // Runs the plan with a worker for each engine, and writes the report and then the trace where one is asked for.
-fn run_with<R: Screen + AllocGlobal + Clock + Threads + Wait + Sync, V: io::Write>(
+fn run_with<R: Machine, V: io::Write>(
     rt: &R,
     asked: &Asked,
     plan: Plan,

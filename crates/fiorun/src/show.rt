@@ -136,22 +136,22 @@ fn checked_percent(clone: &SubJob) -> u64 {
 
 // What is shown of a run.
 #[derive(Clone, Copy)]
-struct Line {
+struct Gauge {
     percent: u64,
     ios: u64,
     checks: u64,
     bad: u64,
 }
 
-impl Line {
-    fn of(meter: &Meter) -> Line {
+impl Gauge {
+    fn of(meter: &Meter) -> Gauge {
         let progress = &meter.progress;
         // (what counts fewer is read first, so that no number of a line is above one that it can't be above)
         let bad = progress.bad();
         let checks = progress.checks();
         let bytes = progress.bytes().saturating_add(progress.checked_bytes());
         let percent = meter.extent.percent(bytes).min(100);
-        Line {
+        Gauge {
             percent,
             ios: progress.ios(),
             checks,
@@ -160,7 +160,7 @@ impl Line {
     }
 }
 
-impl fmt::Display for Line {
+impl fmt::Display for Gauge {
     fn fmt<W: fmt::Write>(&self, f: &mut fmt::Formatter<W>) -> fmt::Result {
         write!(
             f,
@@ -213,7 +213,7 @@ impl Meter {
     fn draw<R: Eprint + Wait>(&self, rt: &R) {
         let mut stage = self.stage.lock(rt);
         if *stage != Stage::Over {
-            let _ = eprint!(rt; "{WIPED}{}", Line::of(self));
+            let _ = eprint!(rt; "{WIPED}{}", Gauge::of(self));
             *stage = Stage::Drawn;
         }
     }
@@ -226,7 +226,7 @@ impl Meter {
         }
         let front = if *stage == Stage::Drawn { WIPED } else { "" };
         let seconds = self.passed(rt).as_secs();
-        let _ = eprintln!(rt; "{front}{}, after {seconds} s", Line::of(self));
+        let _ = eprintln!(rt; "{front}{}, after {seconds} s", Gauge::of(self));
         *stage = Stage::Blank;
     }
 
