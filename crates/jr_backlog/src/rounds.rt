@@ -1,8 +1,11 @@
-ghost use Rattle.std.specs.Prelude.{◌≡◌, length, IsTrue, OnOk, OnErr};
+ghost use Rattle.std.specs.Prelude.{◌≡◌, ◌<◌, ◌-◌, ◌^◌, length, HoldsAt, IfErr, IfOk, IsTrue, OnOk, OnErr};
+ghost use Rattle.std.specs.List.Sorted.{IsPartitionPoint};
+ghost use Rattle.std.specs.declared.cmp.Ordering.TheVariants.{Less, Equal, Greater};
+ghost use Rattle.jr_model.specs.History.{write_order};
 ghost use Rattle.jr_backlog.specs.Rounds.{comes_last, is_closed, is_due, is_to_check, IsInOrder, new_round, next_to_check};
 ghost use Rattle.jr_backlog.specs.Rounds.{next_to_check_after, takes_writes, with_exhausted, with_passed, with_written};
 
-use jr_model::{Memory, WriteId};
+use jr_model::{Memory, WriteId, same_write};
 use std::alloc::Global;
 use std::collections::VecDeque;
 use std::marker::Model;
@@ -100,7 +103,7 @@ impl Rounds {
         ensures value { result ≡ next_to_check_after self.now write.now }
         ensures in_order { IsInOrder self.now.to_check }
     {
-        let place = match self.to_check.binary_search(write) {
+        let place = match self.place_of(write) {
             Ok(place) => place + 1,
             Err(place) => place,
         };
@@ -113,7 +116,7 @@ impl Rounds {
         requires { IsTrue (is_to_check self.old write) }
         ensures { self.new ≡ with_passed self.old write }
     {
-        if let Ok(place) = self.to_check.binary_search(&write) {
+        if let Ok(place) = self.place_of(&write) {
             let _ = self.to_check.remove(place);
         }
     }
@@ -123,5 +126,59 @@ impl Rounds {
         ensures { result ≡ is_closed self.now }
     {
         self.due() && self.to_check.is_empty()
+    }
+
+    // Where a write stands among those to check, or where it would. Writes that were issued in a row have numbers in a row: so it is looked
+    // for as far behind the first, and then as far before the last, as their numbers are apart, before it is searched for.
+    fn place_of(&self, write: &WriteId) -> Result<usize, usize>
+        ensures bound { IfOk result (λ place. place < length self.now.to_check) }
+        ensures few { IfOk result (λ place. place < 2 ^ 64 - 1) }
+        ensures found { IfOk result (HoldsAt (λ other. write_order other write.now ≡ Equal) self.now.to_check) }
+        ensures missed { IfErr result (IsPartitionPoint (λ other. write_order other write.now ≡ Less)
+            (λ other. write_order other write.now ≡ Greater) self.now.to_check) }
+    {
+        let near_first = self.behind_first(write);
+        if self.is_at(near_first, write) {
+            return Ok(near_first);
+        }
+        let near_last = self.before_last(write);
+        if self.is_at(near_last, write) {
+            return Ok(near_last);
+        }
+        match self.to_check.binary_search(write) {
+            Ok(place) => Ok(place),
+            Err(place) => Err(place),
+        }
+    }
+
+    // As far behind the first as the numbers are apart.
+    fn behind_first(&self, write: &WriteId) -> usize {
+        match self.to_check.front() {
+            Some(first) => write.number.saturating_sub(first.number) as usize,
+            None => 0,
+        }
+    }
+
+    // As far before the last as the numbers are apart.
+    fn before_last(&self, write: &WriteId) -> usize {
+        let last_place = self.to_check.len().saturating_sub(1);
+        match self.to_check.back() {
+            Some(last) => last_place.saturating_sub(
+                last.number.saturating_sub(write.number) as usize,
+            ),
+            None => 0,
+        }
+    }
+
+    // Whether the write stands at this place.
+    fn is_at(&self, place: usize, write: &WriteId) -> bool
+        ensures within { IsTrue result → place < length self.now.to_check }
+        ensures few { IsTrue result → place < 2 ^ 64 - 1 }
+        ensures found { IsTrue result → HoldsAt (λ other. write_order other write.now ≡ Equal) self.now.to_check place }
+    {
+        match self.to_check.get(place) {
+            Some(other) => same_write(other, write),
+            None => false,
+        }
     }
 }
