@@ -26,12 +26,12 @@ impl Model for DeferredRounds {
 }
 
 impl DeferredRounds {
-    ghost use Rattle.std.specs.Prelude.{◌≡◌, not, ◌&&◌, length, IfSome, IsTrue, OnOk, OnErr};
+    ghost use Rattle.std.specs.Prelude.{◌≡◌, not, ◌&&◌, length, IfSome, IsTrue, OnOk, OnErr, slice_get};
     ghost use Rattle.jr_backlog.specs.Rounds.{comes_last, is_closed, is_due, is_to_check, IsInOrder, new_round};
     ghost use Rattle.jr_backlog.specs.Rounds.{next_to_check, next_to_check_after, takes_writes, with_passed};
     ghost use Rattle.jr_backlog.specs.Deferred.{is_settled, round_now, settled_round, with_draw};
 
-    /// A first round that has no write. A round is due after `limit` writes; where `limit` is 0, only once all draws were
+    /// A first round that has no write. A round is due after `limit` writes; if `limit` is 0, only once all draws were
     /// issued.
     pub fn new(alloc: Global, limit: u32) -> DeferredRounds
         ensures { result ≡ settled_round (new_round limit) }
@@ -93,7 +93,7 @@ impl DeferredRounds {
         self.rounds.left()
     }
 
-    /// The first write to check, once the round is due.
+    /// The first write to check, once the round is due. The desk asks `write_at`; only tests call this.
     pub fn next_check(&self) -> Option<WriteId>
         requires { IsTrue (is_settled self.now) }
         ensures value { result ≡ next_to_check self.now.round }
@@ -102,13 +102,21 @@ impl DeferredRounds {
         self.rounds.next_check()
     }
 
-    /// The first write to check after this one, once the round is due.
+    /// The first write to check after this one, once the round is due. The desk asks `write_at`; only tests call this.
     pub fn next_after(&self, write: &WriteId) -> Option<WriteId>
         requires { IsTrue (is_settled self.now) }
         ensures value { result ≡ next_to_check_after self.now.round write.now }
         ensures in_order { IsInOrder self.now.round.to_check }
     {
         self.rounds.next_after(write)
+    }
+
+    /// The write to check at this place, counted from 0, whether the round is due or not.
+    pub fn write_at(&self, place: usize) -> Option<WriteId>
+        requires { IsTrue (is_settled self.now) }
+        ensures { result ≡ slice_get self.now.round.to_check place }
+    {
+        self.rounds.write_at(place)
     }
 
     /// Takes out a write that was checked or skipped.

@@ -1,4 +1,4 @@
-ghost use Rattle.std.specs.Prelude.{◌≡◌, ◌<◌, ◌-◌, ◌^◌, length, HoldsAt, IfErr, IfOk, IsTrue, OnOk, OnErr};
+ghost use Rattle.std.specs.Prelude.{◌≡◌, ◌<◌, ◌-◌, ◌^◌, length, HoldsAt, IfErr, IfOk, IsTrue, OnOk, OnErr, slice_get};
 ghost use Rattle.std.specs.List.Sorted.{IsPartitionPoint};
 ghost use Rattle.std.specs.declared.cmp.Ordering.TheVariants.{Less, Equal, Greater};
 ghost use Rattle.jr_model.specs.History.{write_order};
@@ -35,7 +35,7 @@ impl Model for Rounds {
 }
 
 impl Rounds {
-    /// A first round that has no write. A round is due after `limit` writes; where `limit` is 0,
+    /// A first round that has no write. A round is due after `limit` writes; if `limit` is 0,
     /// only once all draws were issued.
     pub fn new(alloc: Global, limit: u32) -> Rounds
         ensures { result ≡ new_round limit }
@@ -48,7 +48,7 @@ impl Rounds {
         }
     }
 
-    /// Adds a write that was issued. It begins the next round where this one is closed. The only
+    /// Adds a write that was issued. It begins the next round if this one is closed. The only
     /// call that takes memory.
     pub fn written(&mut self, write: WriteId) -> Result<(), Memory>
         requires room { IsTrue (takes_writes self.old) }
@@ -109,6 +109,13 @@ impl Rounds {
         };
         let next = self.to_check.get(place).copied();
         if self.due() { next } else { None }
+    }
+
+    /// The write to check at this place, counted from 0, whether the round is due or not.
+    pub fn write_at(&self, place: usize) -> Option<WriteId>
+        ensures { result ≡ slice_get self.now.to_check place }
+    {
+        self.to_check.get(place).copied()
     }
 
     /// Takes out a write that was checked or skipped.

@@ -1,11 +1,10 @@
 -- What a board says of a clone's next step.
 use Rattle.std.proofs.Common.{◌≡◌, ℕ, suc, ◌+◌, ◌<◌, List, length, drop, Bool, true, false, cond, ◌&&◌}
-use Rattle.std.proofs.Common.{refl, sym, ◌∙◌, ap, subst, arith, length-drop}
-use Rattle.std.specs.Prelude.{Option, Some, None, slice_get, ◌==◌, filter, find, is_some, if◌then◌else◌}
+use Rattle.std.proofs.Common.{refl, sym, ◌∙◌, ap, subst, arith}
+use Rattle.std.specs.Prelude.{Option, Some, None, slice_get, ◌==◌, is_some}
 use Rattle.std.specs.List.{list_any, enumerate_from}
 use Rattle.std.specs.Option.{option_map}
-use Rattle.std.proofs.lemmas.Bool.{and_parts, and_from, eq-eqb}
-use Rattle.std.proofs.lemmas.Option.{slice_get_within}
+use Rattle.std.proofs.lemmas.Bool.{and_from, eq-eqb}
 use Rattle.jr_model.specs.declared.blocks.Piece.{Piece}
 use Rattle.jr_model.specs.declared.events.Event.{Event}
 use Rattle.jr_model.specs.declared.events.Started.{Started}
@@ -13,14 +12,13 @@ use Rattle.jr_model.specs.declared.events.WriteId.{WriteId}
 use Rattle.jr_model.specs.declared.tickets.Ticket.{Ticket}
 use Rattle.jr_model.specs.declared.workloads.Draw.{Draw}
 use Rattle.jr_model.specs.Draws.{draws_of_job}
-use Rattle.jr_model.specs.History.{started, first_given, same_write, write_order}
+use Rattle.jr_model.specs.History.{started, first_given, same_write}
 use Rattle.jr_model.specs.LastWrite.{is_intact}
 use Rattle.jr_model.specs.Legal.{is_halted, takes_up}
 use Rattle.jr_model.specs.Plan.{Plan, SubJob, clone_of}
 use Rattle.jr_model.specs.Rounds.{has_rounds}
 use Rattle.jr_model.specs.Tickets.{piece_fits}
-use Rattle.jr_model.proofs.Equality.{write_order_total}
-use Rattle.jr_backlog.specs.Rounds.{Round, is_before, is_due, IsInOrder, next_to_check, next_to_check_after}
+use Rattle.jr_backlog.specs.Rounds.{Round}
 use Rattle.jr_backlog.specs.CurrentRound.{current_round}
 use Rattle.jr_backlog.specs.Deferred.{is_settled}
 use Rattle.jr_writes.specs.declared.logs.Logged.{Logged}
@@ -30,7 +28,7 @@ use Rattle.jr_laws_steps.proofs.PlaceLemmas.{made_at, any_at}
 use Rattle.jr_laws_steps.proofs.StartedLemmas.{same_some}
 use Rattle.jr_laws_log.proofs.DrawLaws.{log_is_intact_of_draws}
 use Rattle.jr_laws_rounds.specs.Rounds.{HasRound}
-use Rattle.jr_laws_rounds.specs.Standing.{is_under_way, take_up_write}
+use Rattle.jr_laws_rounds.specs.Standing.{take_up_write}
 use Rattle.jr_laws_rounds.proofs.StandingLists.{numbered_at}
 use Rattle.jr_tickets.specs.Kept.{tickets_of}
 use Rattle.jr_tickets.specs.Tickets.{ticket_of}
@@ -41,7 +39,7 @@ use Rattle.jr_board.specs.declared.standings.Standing.{Standing}
 use Rattle.jr_board.specs.Boards.{IsBoard}
 use Rattle.jr_board.specs.Standings.{IsStanding, name_of}
 use Rattle.jr_board.specs.WriteLogs.{checked_by}
-use Rattle.jr_board.proofs.ChoiceLists.{given_here, given_behind, given_nowhere, after_is_behind, first_after}
+use Rattle.jr_board.proofs.ChoiceLists.{given_here, given_behind, given_nowhere}
 use Rattle.jr_board.proofs.ChoiceMoves.{IsLeft, left_write}
 use Rattle.jr_board.proofs.StandingMoves.{settled_is}
 
@@ -151,37 +149,15 @@ module _ (plan : Plan) (board : Board) (is : IsBoard plan board) (c : ℕ) (job 
             by entry true = refl
             by entry false = refl
 
--- the write to check at a place, once the round is due
-abbrev pub to_check_at : Round → ℕ → Option WriteId
-to_check_at round k = if is_due round then slice_get round.to_check k else None
-
--- how many writes are still to look at: this one and those behind it
-abbrev pub writes_from : Round → Option WriteId → ℕ
-writes_from round None = 0
-writes_from round (Some write) = suc (length (filter (is_before write) round.to_check))
-
--- nothing is given of the writes to check that are before this one
-pub record IsSearched (plan : Plan) (board : Board) (standing : Standing) (worker : ℕ) (declines : Bool) (next : Option WriteId) : Type 0 where
-  pub order : IsInOrder standing.rounds.round.to_check
-  pub place : ℕ
-  pub is : next ≡ to_check_at standing.rounds.round place
+-- nothing is given of the writes to check that stand before this place
+pub record IsSearched (plan : Plan) (board : Board) (standing : Standing) (worker : ℕ) (declines : Bool) (place : ℕ) : Type 0 where
   pub none : (c : ℕ) (job : SubJob) → clone_of plan c ≡ Some job → slice_get board.standings.items c ≡ Some standing
       → has_rounds job ≡ true → declines ≡ job.declines → is_halted board.history.items job ≡ false
       → first_given (take_up_write plan board.history.items worker job) standing.rounds.round.to_check
       ≡ first_given (take_up_write plan board.history.items worker job) (drop place standing.rounds.round.to_check)
 
-pub search_starts : (plan : Plan) (board : Board) (standing : Standing) (worker : ℕ) (declines : Bool) (next : Option WriteId)
-    → IsInOrder standing.rounds.round.to_check → next ≡ next_to_check standing.rounds.round → IsSearched plan board standing worker declines next
-search_starts plan board standing worker declines next order first = record {
-  order = order;
-  place = 0;
-  is = first;
-  none = λ c job there at rounds waits runs. refl;
-}
-
-some_of : {X : Type 0} (b : Bool) (o : Option X) (x : X) → Some x ≡ cond b o None → (b ≡ true) × (o ≡ Some x)
-some_of true o x h = (refl, sym h)
-some_of false o x h = cc
+pub search_starts : (plan : Plan) (board : Board) (standing : Standing) (worker : ℕ) (declines : Bool) → IsSearched plan board standing worker declines 0
+search_starts plan board standing worker declines = record { none = λ c job there at rounds waits runs. refl }
 
 -- what the call gives for a write of a clone's round
 abbrev pub Gives : Plan → Board → Standing → ℕ → Bool → WriteId → Option Event → Type 0
@@ -192,12 +168,10 @@ Gives plan board standing worker declines write step =
     → step ≡ take_up_write plan board.history.items worker job write
 
 module _ (plan : Plan) (board : Board) (is : IsBoard plan board) (standing : Standing) (settled : is_settled standing.rounds ≡ true)
-    (worker : ℕ) (declines : Bool) (write : WriteId) (sofar : IsSearched plan board standing worker declines (Some write)) where
+    (worker : ℕ) (declines : Bool) (place : ℕ) (write : WriteId) (here : slice_get standing.rounds.round.to_check place ≡ Some write)
+    (sofar : IsSearched plan board standing worker declines place) where
   abbrev pub round : Round
   round = standing.rounds.round
-
-  here : (is_due round ≡ true) × (slice_get round.to_check sofar.place ≡ Some write)
-  here = some_of (is_due round) (slice_get round.to_check sofar.place) write sofar.is
 
   same_self : same_write write write ≡ true
   same_self =
@@ -213,41 +187,16 @@ module _ (plan : Plan) (board : Board) (is : IsBoard plan board) (standing : Sta
       given c job there at rounds waits runs
       (subst (λ (r : Round). list_any (same_write write) r.to_check ≡ true)
       (round_is plan board is c job there standing at rounds runs settled)
-      (any_at (same_write write) round.to_check sofar.place write here.1 same_self))
+      (any_at (same_write write) round.to_check place write here same_self))
 
-  next_is : (next : Option WriteId) → next ≡ next_to_check_after round write → next ≡ slice_get round.to_check (suc sofar.place)
-  next_is next after =
-      after ∙ ap (λ b. cond b (find (is_before write) round.to_check) None) here.0
-      ∙ first_after write_order write_order_total round.to_check sofar.place write sofar.order here.1
-
-  pub search_on : (step : Option Event) (next : Option WriteId) → Gives plan board standing worker declines write step → is_some step ≡ false
-      → next ≡ next_to_check_after round write → IsSearched plan board standing worker declines next
-  search_on step next given nothing after = record {
-    order = sofar.order;
-    place = suc sofar.place;
-    is = next_is next after ∙ sym (ap (λ b. cond b (slice_get round.to_check (suc sofar.place)) None) here.0);
+  pub search_on : (step : Option Event) → Gives plan board standing worker declines write step → is_some step ≡ false
+      → IsSearched plan board standing worker declines (suc place)
+  search_on step given nothing = record {
     none = λ c job there at rounds waits runs.
-        given_behind (take_up_write plan board.history.items worker job) round.to_check sofar.place write here.1
+        given_behind (take_up_write plan board.history.items worker job) round.to_check place write here
         (sofar.none c job there at rounds waits runs)
         (ap is_some (sym (gives step given c job there at rounds waits runs)) ∙ nothing);
   }
-
-  behind : (next : Option WriteId) → next ≡ slice_get round.to_check (suc sofar.place)
-      → writes_from round next < suc (length (drop (suc sofar.place) round.to_check))
-  behind None over = omega arith
-  behind (Some other) there =
-      let rest : length (filter (is_before other) round.to_check) ≡ length (drop (suc (suc sofar.place)) round.to_check) =
-      ap length (after_is_behind write_order write_order_total round.to_check (suc sofar.place) other sofar.order (sym there)) in
-      let within : suc sofar.place < length round.to_check = slice_get_within round.to_check (suc sofar.place) other (sym there) in
-      omega (arith, rest, within, length-drop (suc sofar.place) round.to_check, length-drop (suc (suc sofar.place)) round.to_check)
-
-  pub search_smaller : (next : Option WriteId) → next ≡ next_to_check_after round write
-      → writes_from round next < writes_from round (Some write)
-  search_smaller next after =
-      let rest : length (filter (is_before write) round.to_check) ≡ length (drop (suc sofar.place) round.to_check) =
-      ap length (after_is_behind write_order write_order_total round.to_check sofar.place write sofar.order here.1) in
-      let fewer = behind next (next_is next after) in
-      omega (arith, rest, fewer)
 
   pub search_found : (step : Option Event) → Gives plan board standing worker declines write step → is_some step ≡ true → (c : ℕ) (job : SubJob)
       → clone_of plan c ≡ Some job → slice_get board.standings.items c ≡ Some standing → has_rounds job ≡ true → declines ≡ job.declines
@@ -255,23 +204,21 @@ module _ (plan : Plan) (board : Board) (is : IsBoard plan board) (standing : Sta
       → step ≡ first_given (take_up_write plan board.history.items worker job) (current_round job board.history.items).to_check
   search_found step given some c job there at rounds waits runs =
       let its = gives step given c job there at rounds waits runs in
-      its ∙ sym (given_here (take_up_write plan board.history.items worker job) round.to_check sofar.place write here.1
+      its ∙ sym (given_here (take_up_write plan board.history.items worker job) round.to_check place write here
       (sofar.none c job there at rounds waits runs) (ap is_some (sym its) ∙ some))
       ∙ ap (λ (r : Round). first_given (take_up_write plan board.history.items worker job) r.to_check)
       (round_is plan board is c job there standing at rounds runs settled)
 
 -- nothing is given of the whole round where the search is over
 pub search_over : (plan : Plan) (board : Board) (is : IsBoard plan board) (standing : Standing)
-    (settled : is_settled standing.rounds ≡ true) (worker : ℕ) (declines : Bool) (sofar : IsSearched plan board standing worker declines None) (c : ℕ) (job : SubJob)
+    (settled : is_settled standing.rounds ≡ true) (worker : ℕ) (declines : Bool) (place : ℕ) → slice_get standing.rounds.round.to_check place ≡ None
+    → IsSearched plan board standing worker declines place → (c : ℕ) (job : SubJob)
     → clone_of plan c ≡ Some job → slice_get board.standings.items c ≡ Some standing → has_rounds job ≡ true → declines ≡ job.declines
-    → is_halted board.history.items job ≡ false → is_under_way (current_round job board.history.items) ≡ true
+    → is_halted board.history.items job ≡ false
     → None ≡ first_given (take_up_write plan board.history.items worker job) (current_round job board.history.items).to_check
-search_over plan board is standing settled worker declines sofar c job there at rounds same_wait runs waits =
+search_over plan board is standing settled worker declines place past sofar c job there at rounds same_wait runs =
     let round = standing.rounds.round in
     let same = round_is plan board is c job there standing at rounds runs settled in
-    let due : is_due round ≡ true = ap is_due same ∙ (and_parts (is_due (current_round job board.history.items)) _ waits).0 in
-    let past : slice_get round.to_check sofar.place
-    ≡ None = sym (sofar.is ∙ ap (λ b. cond b (slice_get round.to_check sofar.place) None) due) in
-    sym (given_nowhere (take_up_write plan board.history.items worker job) round.to_check sofar.place past
+    sym (given_nowhere (take_up_write plan board.history.items worker job) round.to_check place past
     (sofar.none c job there at rounds same_wait runs))
     ∙ ap (λ (r : Round). first_given (take_up_write plan board.history.items worker job) r.to_check) same

@@ -98,13 +98,14 @@ fn round_step(
         ≡ first_given (take_up_write plan.now board.now.history.items worker job) (current_round job board.now.history.items).to_check }
     ensures judged { IfSome result (λ chosen. judged_by board.now.log chosen.event ≡ Some chosen.expected) }
 {
-    let mut next = standing.rounds.next_check();
-    while let Some(write) = next {
+    for place in 0..standing.rounds.left() {
+        let Some(write) = standing.rounds.write_at(place) else {
+            return None;
+        };
         let step = take_up(plan, board, standing, worker, declines, write);
         if step.is_some() {
             return step;
         }
-        next = standing.rounds.next_after(&write);
     }
     None
 }

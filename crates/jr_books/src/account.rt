@@ -91,7 +91,7 @@ impl<'a> Account<'a> {
         self.tickets.count()
     }
 
-    /// Whether the I/O of this number has ended, and has its verdict where it gets one and ended whole.
+    /// Whether the I/O of this number has ended, and has its verdict if it gets one and ended whole.
     pub fn is_settled(&self, id: IoId) -> bool
         requires { is_legal self.now.plan self.now.history ≡ true }
         ensures { (io : StartedIo) → slice_get (started self.now.history) id ≡ Some io

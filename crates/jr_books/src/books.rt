@@ -1,6 +1,6 @@
 use jr_model::{IoId, Outcome, Ticket, Verdict};
 
-/// What a worker completed: how it ended, and what the worker said of it where it judges its own checks.
+/// What a worker completed: how it ended, and what the worker said of it if it judges its own checks.
 #[derive(Clone, Copy, Debug, PartialEq, Eq)]
 pub struct Done {
     pub ticket: Ticket,

@@ -4,7 +4,7 @@ use jr_faults::Faults;
 /// How a run ended that has its report.
 #[derive(Debug, Drop)]
 pub struct Ended {
-    /// 1 where a block came back wrong or an I/O failed, else 0.
+    /// 1 if a block came back wrong or an I/O failed, else 0.
     pub found: u8,
     /// It was asked to stop, and did so before it was complete.
     pub is_interrupted: bool,

@@ -36,7 +36,7 @@ pub enum CliFault {
 impl CliFault {
     ghost use Rattle.jr_cli.specs.Status.{status_of_fault};
 
-    /// The exit status of a program that ends with it: 2 where the words or the job file were
+    /// The exit status of a program that ends with it: 2 if the words or the job file were
     /// refused, 3 for memory, files and threads.
     pub fn status(&self) -> u8
         ensures { result ≡ status_of_fault self.now }

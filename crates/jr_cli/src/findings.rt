@@ -109,7 +109,7 @@ impl<'a> Findings<'a> {
         &self.faults
     }
 
-    /// 1 where a block came back wrong or an I/O failed, else 0.
+    /// 1 if a block came back wrong or an I/O failed, else 0.
     pub fn found(&self) -> u8
         ensures { result ≡ status_of (all_totals self.now.plan self.now.history) }
     {

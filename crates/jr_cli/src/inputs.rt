@@ -34,7 +34,7 @@ pub fn read_trace<R: Read + Drop>(alloc: Global, reader: R) -> Result<Vec<u8>, C
     }
 }
 
-/// Want of memory where the system says so, else the given fault.
+/// Want of memory if the system says so, else the given fault.
 pub fn memory_or(error: &io::Error, fault: CliFault) -> CliFault
     ensures memory { error_kind error.now ≡ ErrorKind.OutOfMemory → result ≡ CliFault.Memory }
     ensures other { error_kind error.now ≢ ErrorKind.OutOfMemory → result ≡ fault }

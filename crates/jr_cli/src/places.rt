@@ -31,7 +31,7 @@ impl Model for BlockSize {
 }
 
 impl BlockSize {
-    /// The size of so many bytes, where it is one.
+    /// The size of so many bytes, if it is one.
     pub fn new(bytes: u64) -> Option<BlockSize>
         ensures { SomeIff result (is_block_size bytes ≡ true) bytes }
     {

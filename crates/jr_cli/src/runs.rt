@@ -49,8 +49,8 @@ pub fn read_job(alloc: Global, text: &[u8], only: Option<&str>) -> Result<Plan, 
     Ok(plan)
 }
 
-/// Runs a plan with one worker, writes the report and then the trace where one is asked for, and says what was found, the run's
-/// faults among it. Where the run is asked to stop, report and trace are of what it did until then.
+/// Runs a plan with one worker, writes the report and then the trace if one is asked for, and says what was found, the run's
+/// faults among it. If the run is asked to stop, report and trace are of what it did until then.
 pub fn execute_serial<W: Write, V: Write>(
     alloc: Global,
     plan: Plan,
@@ -95,7 +95,7 @@ pub fn execute_serial<W: Write, V: Write>(
     Ok(ended)
 }
 
-/// Runs a plan with one worker an engine, all at once, writes the report and then the trace where one is asked for, and says what
+/// Runs a plan with one worker an engine, all at once, writes the report and then the trace if one is asked for, and says what
 /// was found, as `execute_serial` does.
 pub fn execute<R: Threads + Wait + Sync, W: Write, V: Write>(
     rt: &R,

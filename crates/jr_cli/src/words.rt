@@ -40,9 +40,9 @@ pub(crate) const VERSION: &str = "0.1.0\nlogic dac8208d650f15bf";
 /// What the words of the command line ask for.
 #[derive(Clone, Copy, Debug, PartialEq, Eq)]
 pub struct Choice<'a> {
-    /// The job file; standard input where none is named.
+    /// The job file; standard input if none is named.
     pub job: Option<&'a str>,
-    /// The name of the jobs to run; all where none is given.
+    /// The name of the jobs to run; all if none is given.
     pub section: Option<&'a str>,
     /// Print the plan in place of running it.
     pub parse_only: bool,
@@ -56,7 +56,7 @@ pub struct Choice<'a> {
     pub cached: bool,
     /// Write block devices that are in use.
     pub allow_mounted_write: bool,
-    /// Say what a fault is about, also where standard error is no terminal.
+    /// Say what a fault is about, also if standard error is no terminal.
     pub notes: bool,
     /// The pipes by which the launcher is asked to drop the cached pages of a file (`bin/launch`).
     pub drop_pipes: Option<&'a str>,
@@ -68,7 +68,7 @@ pub struct Choice<'a> {
     pub bad_blocks: Option<&'a str>,
     /// How many bytes a block of that list has, in digits.
     pub bad_blocks_size: Option<&'a str>,
-    /// Show a map of each file, also where standard output is no terminal.
+    /// Show a map of each file, also if standard output is no terminal.
     pub map: bool,
     /// Print how far the run is each so many seconds, from 1 to 86400.
     pub progress: Option<u32>,

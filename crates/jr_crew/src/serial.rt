@@ -20,7 +20,7 @@ use jr_staff::{
 use std::alloc::Global;
 use std::mem;
 
-/// Runs a plan with one worker, 0, which waits for nobody and judges its own checks. Where it is asked to stop it does so between
+/// Runs a plan with one worker, 0, which waits for nobody and judges its own checks. If it is asked to stop it does so between
 /// two I/Os: the desk says whether the run is complete.
 pub fn run_serial(
     alloc: Global,

@@ -117,7 +117,7 @@ impl Desk {
         Ok(())
     }
 
-    /// Takes in the verdict on a check that ended whole; `by` is the worker or verifier that judged. Where the check raced its verdict
+    /// Takes in the verdict on a check that ended whole; `by` is the worker or verifier that judged. If the check raced its verdict
     /// is `Void`, whatever the ruling says.
     pub fn judge(&mut self, by: u32, ruling: &Ruling<'_>) -> Result<(), DeskFault>
         // Refused as the machine refuses it, and else only for want of memory.
@@ -145,7 +145,7 @@ impl Desk {
         Ok(())
     }
 
-    /// What `judge` takes in by this ruling, where the check ended whole and has no verdict: `Void` where it raced, and else the
+    /// What `judge` takes in by this ruling, if the check ended whole and has no verdict: `Void` if it raced, and else the
     /// ruling's verdict.
     pub fn said_of(&self, ruling: &Ruling<'_>) -> Verdict
         ensures verdict { ended_whole (outcome_of self.now.history ruling.now.ticket.id) ≡ true → is_judged self.now.history ruling.now.ticket.id ≡ false

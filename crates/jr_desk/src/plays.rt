@@ -37,7 +37,7 @@ impl fmt::Debug for Played {
 /// Runs a list of steps over a memory of its own, each End with its scripted reply.
 ///
 /// The replies and the history are the machine's, and so are the totals. An End or a verdict of an I/O that
-/// wasn't handed out is refused as a stranger's, a second one is refused, where the engine isn't called again,
+/// wasn't handed out is refused as a stranger's, a second one is refused without another call of the engine,
 /// and so is a verdict on what is no check that ended whole. Once stopped, every End and verdict is refused.
 /// Any want of memory ends the play.
 pub fn play(alloc: Global, plan: Plan, steps: &[Step]) -> Result<Played, Memory>

@@ -7,7 +7,7 @@ use std::os::unix::fs::{FileTypeExt, MetadataExt};
 use std::rt::Files;
 use std::{fs, io};
 
-/// By what this device, a partition of it, or the disk that it is a partition of is in use. Where the kernel's tables can't be read
+/// By what this device, a partition of it, or the disk that it is a partition of is in use. If the kernel's tables can't be read
 /// nothing is. The one error is want of memory.
 pub fn use_of<R: Files>(rt: &R, alloc: Global, device: DeviceNumbers) -> io::Result<Option<Use>> {
     let family = family_of(rt, alloc, device)?;

@@ -18,7 +18,7 @@ const MOUNT_POINT: usize = 4;
 // More than any such text has that is of use here.
 const MOST_READ: u64 = 1 << 20;
 
-/// What the system answers for a file, or nothing where it can't be read. The one error is want of memory.
+/// What the system answers for a file, or nothing if it can't be read. The one error is want of memory.
 pub(crate) fn text_of<R: Files>(rt: &R, alloc: Global, path: &str) -> io::Result<Vec<u8>> {
     match File::open(rt, path) {
         Ok(file) => taken(alloc, file),
@@ -26,7 +26,7 @@ pub(crate) fn text_of<R: Files>(rt: &R, alloc: Global, path: &str) -> io::Result
     }
 }
 
-/// The names in a folder, each ended by a NUL, or nothing where it can't be read. A link is followed where the path ends in a slash.
+/// The names in a folder, each ended by a NUL, or nothing if it can't be read. A link is followed if the path ends in a slash.
 /// The one error is want of memory.
 pub(crate) fn names_of<R: Files>(rt: &R, alloc: Global, path: &str) -> io::Result<Vec<u8>> {
     match rt.open_dir(path) {
@@ -93,7 +93,7 @@ fn is_driverless(numbers: &[u8]) -> bool
     }
 }
 
-/// What is mounted, as the mount names it: a device, where the file system is on one.
+/// What is mounted, as the mount names it: a device, if the file system is on one.
 pub(crate) fn source_of(line: &[u8]) -> Option<&[u8]>
     ensures { option_map (λ field. field.now) result ≡ source_of line.now }
 {

@@ -57,7 +57,7 @@ fn says(section: &Section, only: Option<&str>, name: &str, wanted: bool, globals
         && flag_from(globals, section.lines()) == wanted
 }
 
-/// Whether a planned job of this name says direct=1, or where 0 is wanted direct=0 or nothing.
+/// Whether a planned job of this name says direct=1, or if 0 is wanted direct=0 or nothing.
 pub(crate) fn has_job(sections: &[Section], only: Option<&str>, name: &str, wanted: bool) -> bool
     ensures { result ≡ has_job (option_copied only.entry) name.now wanted false sections.now }
 {

@@ -7,7 +7,7 @@ use crate::faults::EngineFault;
 /// What carries out reads and writes of files: a device, a memory, or nothing at all.
 ///
 /// A file is named by its place in the plan's list of files. Contracts see the calls made and failed and,
-/// where they are known, the memory and the replies to its calls (`EngineState`).
+/// if they are known, the memory and the replies to its calls (`EngineState`).
 pub trait Engine: Drop {
     ghost state: { Self → EngineState };
 

@@ -24,7 +24,7 @@ pub struct Claims {
     pub devices_in_use: bool,
 }
 
-/// Takes the plan's files for a run, to be shared by its engines: each is opened, and made where it is missing; no two are one; no
+/// Takes the plan's files for a run, to be shared by its engines: each is opened, and made if it is missing; no two are one; no
 /// block device that a clone writes is in use; each is locked for this run alone, or among runs that only read it; and only then
 /// is each extended that is too short, by one zero byte at its end.
 ///
@@ -32,7 +32,7 @@ pub struct Claims {
 /// isn't locked.
 ///
 /// In a file that a clone checks, what was written through these engines is read only once the file was synced, unless `reads`
-/// is `Cached`: a read fails where the system couldn't write all of it to the device, and so does each later one.
+/// is `Cached`: a read fails if the system couldn't write all of it to the device, and so does each later one.
 pub fn claim<R: Files<File = File>>(
     rt: &R,
     alloc: Global,
@@ -45,7 +45,7 @@ pub fn claim<R: Files<File = File>>(
     claim_direct(rt, alloc, plan, claims, Directs::none())
 }
 
-/// The same, where some of the files are to go past the system's cache. What is read of those comes from the device, with no sync before;
+/// The same, but some of the files go past the system's cache. What is read of those comes from the device, with no sync before;
 /// those that can't go past it are as the others.
 ///
 /// Refused is also a file whose file system takes no such calls, and one of which a clone would use parts of sectors.

@@ -33,9 +33,9 @@ impl Directs<'_> {
     }
 }
 
-/// The file, past the system's cache where that is wanted and the launcher can have it so.
+/// The file, past the system's cache if that is wanted and the launcher can have it so.
 ///
-/// It is refused where its file system takes no direct calls, and where a clone would use parts of sectors.
+/// It is refused if its file system takes no direct calls, and if a clone would use parts of sectors.
 pub(crate) fn as_wanted<R: Files>(
     rt: &R,
     alloc: Global,

@@ -13,7 +13,7 @@ use std::io;
 use std::marker::Model;
 use std::rt::Files;
 
-/// An engine over open files, those of the system where nothing else is said.
+/// An engine over open files, those of the system if nothing else is said.
 ///
 /// Bytes go between the caller's buffer and the file with no copy between, unless the file is direct. Of a file of the system nothing
 /// is claimed of them: others may change it too.

@@ -20,8 +20,8 @@ use std::path::Path;
 use std::rt::Files;
 use std::{fs, io};
 
-/// Opens this file of the plan, for reading alone where no clone writes it, and past the system's cache where that is wanted; and adds
-/// its path to `made` where it had to be made. One that is only read and checked has to be there.
+/// Opens this file of the plan, for reading alone if no clone writes it, and past the system's cache if that is wanted; and adds
+/// its path to `made` if it had to be made. One that is only read and checked has to be there.
 pub(crate) fn opened_file<R: Files<File = File>>(
     rt: &R,
     alloc: Global,

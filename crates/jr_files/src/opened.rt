@@ -13,7 +13,7 @@ use std::sync::atomic::{AtomicBool, Ordering};
 
 /// An open file of the system, as several engines share it: where it was written, and whether the system lost any of it.
 ///
-/// A read comes from the device where a `Dropper` is given. Without one the system may answer it out of its own cache.
+/// A read comes from the device if a `Dropper` is given. Without one the system may answer it out of its own cache.
 #[derive(Drop)]
 pub struct OpenedFile {
     file: File,
@@ -92,7 +92,7 @@ impl OpenedFile {
     }
 
     /// Locks the file for as long as it is open, alone or among others that share it. Whether no other handle has locked it
-    /// otherwise: where its file system has no locks none has.
+    /// otherwise: if its file system has no locks none has.
     pub fn lock(&self, alone: bool) -> bool {
         let locked = if alone {
             self.file.try_lock()
@@ -107,7 +107,7 @@ impl OpenedFile {
         lengthen(&mut &self.file, high)
     }
 
-    /// The same where it is open for reading alone: it is opened anew by its name, and only if it is too short.
+    /// The same if it is open for reading alone: it is opened anew by its name, and only if it is too short.
     pub fn lengthen_by_name<R: Files>(&self, rt: &R, name: &str, high: u64) -> io::Result<()> {
         if (&self.file).seek(SeekFrom::End(0))? < high {
             extend(rt, name, high)?;

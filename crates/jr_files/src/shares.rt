@@ -98,7 +98,7 @@ impl SharedFile {
         self.file.lengthen(high)
     }
 
-    /// The same of a file that is open for reading alone: it is opened anew by its name, and only where it is too short.
+    /// The same of a file that is open for reading alone: it is opened anew by its name, and only if it is too short.
     pub(crate) fn lengthen_by_name<R: Files>(
         &self,
         rt: &R,
@@ -118,7 +118,7 @@ impl FileEngine<SharedFile> {
         self.share_with(alloc, None)
     }
 
-    /// The same, where what a check reads is dropped from the system's cache before. No other engine may have this dropper.
+    /// The same, and what a check reads is dropped from the system's cache before. No other engine may have this dropper.
     pub fn share_with(
         &self,
         alloc: Global,
@@ -165,7 +165,7 @@ impl FileEngine<SharedFile> {
 
     /// Syncs each file that was written, by any engine that shares it, since it was synced last.
     ///
-    /// A fault names the first file of which the system can't store all that was written, where no read has failed for that.
+    /// A fault names the first file of which the system can't store all that was written, if no read has failed for that.
     pub fn settle(&self) -> Result<(), Unsynced>
         ensures { IfErr result (λ failed. NamesFile failed.fault (length self.now.files)) }
     {

@@ -68,7 +68,8 @@ impl Flight {
         }
     }
 
-    /// Whether nothing in flight overlaps the piece where one of the two writes and neither's clone declines to wait.
+    /// Whether the piece has to wait for nothing in flight. It waits for what it overlaps, if one of the two writes and neither's clone
+    /// declines to wait.
     pub fn clear(&self, piece: &Piece, dir: Dir, declines: bool) -> bool
         requires some { 1 ≤ piece.now.len }
         requires largest { piece.now.len ≤ LARGEST_BLOCK }
@@ -84,7 +85,7 @@ impl Flight {
             .any(|(_, io)| waits_for(io, piece, dir, declines))
     }
 
-    /// Marks as raced what else is in flight where the I/O writes over it, and says whether one of them writes over the I/O.
+    /// Marks as raced what is in flight and what the I/O writes over. Says whether any of what is in flight writes over the I/O.
     pub fn mark(&mut self, io: &Io) -> bool
         requires some { 1 ≤ io.now.piece.len }
         requires largest { io.now.piece.len ≤ LARGEST_BLOCK }

@@ -59,7 +59,7 @@ pub fn started(alloc: Global, history: &[Event]) -> Result<Vec<Started>, Memory>
     Ok(ios)
 }
 
-/// How an I/O ended, where this event is its end.
+/// How an I/O ended, if this event is its end.
 pub fn end_of(io: usize, event: &Event) -> Option<Outcome>
     ensures { result ≡ end_of io event.now }
 {
@@ -110,7 +110,7 @@ pub fn is_probe(kind: TicketKind) -> bool
     kind == TicketKind::Probe
 }
 
-/// Whether an I/O of this kind gets a verdict where it ends whole: the check of a write, or a checked read.
+/// Whether an I/O of this kind gets a verdict if it ends whole: the check of a write, or a checked read.
 pub fn is_judged_kind(kind: TicketKind) -> bool
     ensures { result ≡ is_judged_kind kind }
 {

@@ -1,11 +1,11 @@
 ghost use Rattle.jr_laws_bytes.specs.Checks.{HonestIsGood, MiscomparesExactly, ChecksStayIntact, QuietPlay, KeepsLastWrites};
 
-/// Where reads are honest no check is found bad.
+/// If reads are honest no check is found bad.
 pub fn honest_is_good()
     ensures { HonestIsGood }
 {}
 
-/// A check is found bad exactly where the bytes that it read aren't its write's.
+/// A check is found bad exactly if the bytes that it read aren't its write's.
 pub fn miscompares_exactly()
     ensures { MiscomparesExactly }
 {}

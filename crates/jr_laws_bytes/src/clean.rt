@@ -5,12 +5,12 @@ pub fn serial_is_clean()
     ensures { SerialIsClean }
 {}
 
-/// So it has no bad verdict at all where no clone checks its reads.
+/// So it has no bad verdict at all if no clone checks its reads.
 pub fn serial_is_good()
     ensures { SerialIsGood }
 {}
 
-/// Where it has none, and no two clones have one file, its report is the one that the draws alone give.
+/// If it has none, and no two clones have one file, its report is the one that the draws alone give.
 pub fn serial_is_quiet()
     ensures { SerialIsQuiet }
 {}

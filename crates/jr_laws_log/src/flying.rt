@@ -1,17 +1,17 @@
 ghost use Rattle.jr_laws_log.specs.Flying.{ClearIsClear, EndedFliesNoMore, FliesIsFlying, FlyingIsStarted, NextFlies, NextIsFree};
 ghost use Rattle.jr_laws_log.specs.Flying.{OthersFlyOn};
 
-/// Under a number flies the I/O that was started under it, where that has not ended, and else nothing.
+/// Under a number flies the I/O that was started under it, if that has not ended, and else nothing.
 pub fn flying_is_started()
     ensures { FlyingIsStarted }
 {}
 
-/// Something flies under a number just where that flies after the history.
+/// Something flies under a number exactly if that flies after the history.
 pub fn flies_is_flying()
     ensures { FliesIsFlying }
 {}
 
-/// A clone's piece is clear of what is in flight just where it is after the history.
+/// A clone's piece is clear of what is in flight exactly if it is after the history.
 pub fn clear_is_clear()
     ensures { ClearIsClear }
 {}

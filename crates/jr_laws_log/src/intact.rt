@@ -1,6 +1,6 @@
 ghost use Rattle.jr_laws_log.specs.Intact.{LogGrows, LogIsByStarted, LogIsIntact, LogIsIntactOfDraws, LoggedIsIntact, UnendedIsUnlogged};
 
-/// The log has a write that was started just where it is intact.
+/// The log has a write that was started exactly if it is intact.
 pub fn log_is_intact()
     ensures { LogIsIntact }
 {}
@@ -15,7 +15,7 @@ pub fn logged_is_intact()
     ensures { LoggedIsIntact }
 {}
 
-/// An event that may happen adds the one step to the log that it is, where it is one.
+/// An event that may happen adds the one step to the log that it is, if it is one.
 pub fn log_grows()
     ensures { LogGrows }
 {}

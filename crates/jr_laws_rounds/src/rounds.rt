@@ -1,11 +1,11 @@
 ghost use Rattle.jr_laws_rounds.specs.Rounds.{ClosedAtEnd, KeptIsCurrent, LeftAreUnsettled, LeftInPass, WaitsUnderWay};
 
-/// A group of the pass that a clone is in waits for its checks exactly where the current round is under way.
+/// A group of the pass that a clone is in waits for its checks exactly if the current round is under way.
 pub fn waits_under_way()
     ensures { WaitsUnderWay }
 {}
 
-/// Where all draws of the pass were issued, its groups are closed exactly where the current round is.
+/// If all draws of the pass were issued, its groups are closed exactly if the current round is.
 pub fn closed_at_end()
     ensures { ClosedAtEnd }
 {}
@@ -15,7 +15,7 @@ pub fn left_in_pass()
     ensures { LeftInPass }
 {}
 
-/// Where the round is due, they are exactly those of full groups that aren't settled.
+/// If the round is due, they are exactly those of full groups that aren't settled.
 pub fn left_are_unsettled()
     ensures { LeftAreUnsettled }
 {}

@@ -1,6 +1,6 @@
 ghost use Rattle.jr_laws_steps.specs.Choosing.{ChoiceIsLeast, NothingWithoutChoice};
 
-/// Where there is no choice, nothing may be issued, checked or skipped.
+/// If there is no choice, nothing may be issued, checked or skipped.
 pub fn nothing_without_choice()
     ensures { NothingWithoutChoice }
 {}

@@ -1,6 +1,6 @@
 ghost use Rattle.jr_laws_steps.specs.Idle.{IdleIsComplete, SerialIsComplete};
 
-/// Where nothing may be started, nothing flies and no verdict is missing, the run is complete.
+/// If nothing may be started, nothing flies and no verdict is missing, the run is complete.
 pub fn idle_is_complete()
     ensures { IdleIsComplete }
 {}

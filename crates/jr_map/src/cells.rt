@@ -55,7 +55,7 @@ impl CellMap {
         })
     }
 
-    /// The first free cell from `r` on, or from the first cell on where there is none.
+    /// The first free cell from `r` on, or from the first cell on if there is none.
     pub fn pick(&self, r: u32) -> Option<u32>
         requires { r < length self.now }
         ensures value { result ≡ free_cell_from self.now r }

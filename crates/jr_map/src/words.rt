@@ -87,7 +87,7 @@ pub(crate) fn clear_run(words: &[u64], from: usize, want: usize) -> usize
 }
 
 /// Sets the bits from `start` up to `end`. The words from the first number given up to the second are
-/// full now; every other word is full where it was.
+/// full now; every other word is full if it was.
 pub(crate) fn mark(words: &mut [u64], start: usize, end: usize) -> (usize, usize)
     requires { start < end → end ≤ 64 * length words.old }
     ensures set { Adds is_set words.old words.new start end }

@@ -30,7 +30,7 @@ impl Model for Pattern {
 }
 
 impl Pattern {
-    /// The pattern of these bytes, where they are 1 to 64.
+    /// The pattern of these bytes, if they are 1 to 64.
     pub fn new(bytes: &[u8]) -> Option<Pattern>
         ensures { SomeIff result ((1 ≤ length bytes.now) × (length bytes.now ≤ 64)) bytes.now }
     {
@@ -95,7 +95,7 @@ impl VerifyKind {
         self != VerifyKind::Plain
     }
 
-    /// Whether blocks of `len` bytes may have a header each `interval` bytes, where 0 is one header for the whole block. Kinds
+    /// Whether blocks of `len` bytes may have a header each `interval` bytes (0 is one header for the whole block). Kinds
     /// without a digest have no headers, so with them any interval may stand.
     pub fn fits_interval(self, interval: u32, len: u32) -> bool
         ensures { result ≡ interval_fits self interval len }
@@ -120,9 +120,9 @@ fn has_whole_chunks(interval: u32, len: u32) -> bool
 #[derive(Clone, Copy, Debug, PartialEq, Eq)]
 pub struct Method {
     pub kind: VerifyKind,
-    /// The filler of a block, where the job gives one.
+    /// The filler of a block, if the job gives one.
     pub pattern: Option<Pattern>,
-    /// The bytes from one header to the next, where the kind has headers and a block has several; 0 where it has one.
+    /// The bytes from one header to the next, if the kind has headers and a block has several; 0 if it has one.
     pub interval: u32,
 }
 

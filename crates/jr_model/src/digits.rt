@@ -12,7 +12,7 @@ pub fn all_digits(text: &[u8]) -> bool
     text.iter().all(|byte| byte.is_ascii_digit())
 }
 
-/// The value of decimal digits, where 64 bits hold it.
+/// The value of decimal digits, if 64 bits hold it.
 pub fn digits_number(digits: &[u8]) -> Option<u64>
     requires { All (λ b. is_ascii_digit b ≡ true) digits.now }
     ensures { SomeIff result (digits_value 10 digits.now < 2 ^ 64) (digits_value 10 digits.now) }

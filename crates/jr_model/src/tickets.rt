@@ -26,10 +26,10 @@ pub struct Ticket {
     /// The draw, and for a probe the write that it checks.
     pub write: WriteId,
     pub piece: Piece,
-    /// The seed of the filler, where the job has no pattern.
+    /// The seed of the filler, if the job has no pattern.
     pub seed: u64,
     pub method: Method,
-    /// What a probe's bytes are judged by; nothing for a read or a write, also where the read is checked.
+    /// What a probe's bytes are judged by; nothing for a read or a write, also if the read is checked.
     pub expected: Expected,
 }
 
@@ -37,7 +37,7 @@ impl Ticket {
     ghost use Rattle.jr_model.specs.Tickets.{ticket_fits, piece_fits, expected_fits, chunks_fit};
 
     /// Whether the ticket can be carried out: whole 512-byte blocks within the limits, a pass below
-    /// 1000, a pattern where the method needs one, a method that verifies where a read is checked, and expected bytes for a probe
+    /// 1000, a pattern if the method needs one, a method that verifies if a read is checked, and expected bytes for a probe
     /// alone.
     pub fn fits(&self) -> bool
         ensures { result ≡ ticket_fits self.now }

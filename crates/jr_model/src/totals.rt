@@ -11,7 +11,7 @@ pub struct Totals {
     pub bad: u64,
     /// Writes that weren't checked, since another write took some of their blocks.
     pub skipped: u64,
-    /// Checks that say nothing, since a write overlapped them while both were in flight. 0 where no clone declines.
+    /// Checks that say nothing, since a write overlapped them while both were in flight. 0 if no clone declines.
     pub void: u64,
     /// I/Os and checks that failed or ended short.
     pub faults: u64,

@@ -2,7 +2,7 @@
 // check proves it.
 ghost use Rattle.jr_notes.specs.Laws.{AcceptedHaveNone, FirstIsNamed, RefusedAscend};
 
-/// Where a plan is refused by a line, the first note is that line's.
+/// If a plan is refused by a line, the first note is that line's.
 pub fn first_is_named()
     ensures { FirstIsNamed }
 {}

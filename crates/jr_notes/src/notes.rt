@@ -33,7 +33,7 @@ impl fmt::Display for Note {
 }
 
 /// What is wrong with a job file that is refused: each line that is refused by itself, or else each job, or else what is wrong with all
-/// jobs together. There are none where the text is no job file, since its fault says it all.
+/// jobs together. There are none if the text is no job file, since its fault says it all.
 pub fn job_notes(alloc: Global, text: &[u8], only: Option<&str>) -> Result<Vec<Note>, AllocError>
     // Where lines are refused, the notes are of these lines.
     ensures { IfOk result (λ notes. (sections : List SectionText) → sections_of text.now ≡ Ok sections

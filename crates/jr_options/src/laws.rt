@@ -14,7 +14,7 @@ pub fn high_is_greatest()
 {}
 
 /// The files of a plan are those that its jobs ask for: each clone's file has the name that its options give, two clones have
-/// one file exactly where the names are equal, and files stand in the order of their first use.
+/// one file exactly if the names are equal, and files stand in the order of their first use.
 pub fn files_are_asked()
     ensures named { FilesAreNamed }
     ensures shared { FilesAreShared }

@@ -94,7 +94,7 @@ impl SubJob {
         self.workload.io_type
     }
 
-    /// The percentage of reads, where the type mixes both.
+    /// The percentage of reads, if the type mixes both.
     pub fn read_percent(&self) -> u8
         ensures { result ≡ self.now.read_percent }
     {
@@ -150,7 +150,7 @@ impl SubJob {
         self.workload.method
     }
 
-    /// Whether its writes are read back, or where it writes nothing its reads are checked (`do_verify`).
+    /// Whether its writes are read back, or if it writes nothing its reads are checked (`do_verify`).
     pub fn checks_writes(&self) -> bool
         ensures { result ≡ self.now.checks_writes }
     {

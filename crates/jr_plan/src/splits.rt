@@ -137,7 +137,7 @@ fn copy_to_front(all: &mut [(u32, u8)], entries: &[(u32, u8)])
     all[..entries.len()].copy_from_slice(entries);
 }
 
-/// The direction of a draw of a mixed job whose direction word is `t` modulo 100, where so many
+/// The direction of a draw of a mixed job whose direction word is `t` modulo 100, if so many
 /// percent are reads.
 pub fn mix(t: u8, percent: u8) -> Dir
     requires { t < 100 }

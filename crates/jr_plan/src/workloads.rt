@@ -16,7 +16,7 @@ pub struct Workload {
     /// How many cells its region has.
     pub cells: u32,
     pub io_type: IoType,
-    /// The percentage of reads, where the type mixes both.
+    /// The percentage of reads, if the type mixes both.
     pub read_percent: u8,
     /// The sizes of its reads.
     pub reads: Split,
@@ -31,7 +31,7 @@ pub struct Workload {
     /// How often it goes over its region, 1 to 1000.
     pub passes: u32,
     pub method: Method,
-    /// Whether its writes are read back, or where it writes nothing its reads are checked (`do_verify`).
+    /// Whether its writes are read back, or if it writes nothing its reads are checked (`do_verify`).
     pub checks_writes: bool,
     /// After how many writes they are checked; 0 is after all of a pass.
     pub backlog: u32,

@@ -22,7 +22,7 @@ fn halts(faulty: bool, fatal: bool, condemned: bool) -> bool
     faulty || (fatal && condemned)
 }
 
-/// Whether a fault, or a bad verdict where that is fatal, has halted a clone.
+/// Whether a fault, or a bad verdict if that is fatal, has halted a clone.
 pub(crate) fn is_halted(past: &Past, job: &SubJob) -> bool
     ensures { result ≡ is_halted past.now job.now }
 {

@@ -24,7 +24,7 @@ pub enum NumberKey {
     Verifiers,
 }
 
-/// A key whose value is 0 or 1, and 1 where it has none.
+/// A key whose value is 0 or 1, and 1 if it has none.
 #[derive(Clone, Copy)]
 pub enum FlagKey {
     NoMap,

@@ -14,9 +14,9 @@ use jr_text::Line;
 pub struct JobOptions {
     /// What it reads and writes, and in which order (`rw`).
     pub io_type: IoType,
-    /// The percentage of reads, where the type mixes both (`rwmixread`, `rwmixwrite`).
+    /// The percentage of reads, if the type mixes both (`rwmixread`, `rwmixwrite`).
     pub read_percent: u8,
-    /// The block size of reads (`bs`), which counts where `bssplit` gives none.
+    /// The block size of reads (`bs`), which counts if `bssplit` gives none.
     pub read_size: u32,
     /// The same of writes.
     pub write_size: u32,
@@ -58,12 +58,12 @@ pub struct JobOptions {
     pub is_fatal: bool,
     /// Whether its writes are read back (`do_verify`).
     pub checks_writes: bool,
-    /// Whether its I/Os wait for none that they overlap (not `serialize_overlap`, where that is given).
+    /// Whether its I/Os wait for none that they overlap (not `serialize_overlap`, if that is given).
     pub declines: bool,
 }
 
 impl JobOptions {
-    /// What counts where no line says otherwise.
+    /// What counts if no line says otherwise.
     pub fn new() -> JobOptions
         ensures value { result ≡ default_options }
         ensures range { AreInRange result }

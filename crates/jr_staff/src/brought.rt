@@ -64,7 +64,7 @@ pub struct Books {
     pub said: Vec<Vec<Said>>,
 }
 
-/// The engines and all books, where nobody met a fault. All parts of the hand-over come together: what a verifier took was put.
+/// The engines and all books, if nobody met a fault. All parts of the hand-over come together: what a verifier took was put.
 pub fn books_of<P: Naming>(
     alloc: Global,
     ended: Vec<Ended<P>>,

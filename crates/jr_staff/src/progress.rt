@@ -71,14 +71,14 @@ fn add(number: &AtomicU64, more: u64) {
     number.store(so_far.wrapping_add(more), Ordering::Relaxed);
 }
 
-/// Notes that one of the jobs' reads or writes is started, where anybody wants to know.
+/// Notes that one of the jobs' reads or writes is started, if anybody wants to know.
 pub fn note_start(progress: Option<&Progress>, ticket: &Ticket) {
     if let Some(progress) = progress {
         progress.start(ticket);
     }
 }
 
-/// Notes what is said of a check of so many bytes, where anybody wants to know.
+/// Notes what is said of a check of so many bytes, if anybody wants to know.
 pub fn note_verdict(progress: Option<&Progress>, bytes: u32, said: Verdict) {
     if let Some(progress) = progress {
         progress.judge(bytes, said);

@@ -56,7 +56,7 @@ impl Shares {
         })
     }
 
-    /// The share of a worker that took this ticket: what all clones of its phase have for each worker. Where others wait for something to
+    /// The share of a worker that took this ticket: what all clones of its phase have for each worker. If others wait for something to
     /// do it is what its clone alone has, so that they get the rest.
     pub fn of(&self, ticket: &Ticket, others_wait: bool) -> u64 {
         let Some(clone) = self.by_clone.get(ticket.write.clone as usize) else {

@@ -9,7 +9,7 @@ use jr_model::Memory;
 use jr_traces::{TraceFault, trace_text};
 use std::alloc::Global;
 
-/// The trace of a run: a line for each event of its history. Checked, it is accepted where the run is complete, with its
+/// The trace of a run: a line for each event of its history. Checked, it is accepted if the run is complete, with its
 /// totals, and else `Unfinished`.
 pub fn trace(alloc: Global, desk: &Desk) -> Result<Vec<u8>, Memory>
     ensures value { IfOk result (λ text. text.items ≡ trace_of desk.now.history) }

@@ -1,4 +1,5 @@
 -- What one event more makes of a clone's totals, of whether it is halted, and of the draws issued.
+use native.Mathlib.Numerals.{unary_clauses}
 use Rattle.std.proofs.Common.{◌≡◌, ℕ, ◌+◌, List, [], ◌∷◌, ◌++◌, length, set, Bool, true, false, cond, ◌&&◌, ◌||◌, not, refl, sym, ◌∙◌, ap, arith, length-append, add-zero}
 use Rattle.std.specs.Prelude.{Option, Some, None, slice_get, nat_lt, ◌==◌, count_by, sum_by}
 use Rattle.std.specs.List.{cons_option}
@@ -157,148 +158,62 @@ module _ (plan : Plan) (history : List Event) (e : Event) (c : ℕ) (legal : is_
     faults = counted-more plan history e legal may (λ (ios : List Started). is_fault_of ios c) (fault_agrees c);
   }
 
--- totals with the same parts
-record ArePartsSame (a b : Totals) : Type 0 where
-  pub reads : a.reads ≡ b.reads
-  pub rbytes : a.rbytes ≡ b.rbytes
-  pub writes : a.writes ≡ b.writes
-  pub wbytes : a.wbytes ≡ b.wbytes
-  pub checks : a.checks ≡ b.checks
-  pub good : a.good ≡ b.good
-  pub bad : a.bad ≡ b.bad
-  pub skipped : a.skipped ≡ b.skipped
-  pub void : a.void ≡ b.void
-  pub faults : a.faults ≡ b.faults
+-- what is so much more in each part
+abbrev added : Totals → Totals → Totals
+added t g = record {
+  reads = t.reads + g.reads;
+  rbytes = t.rbytes + g.rbytes;
+  writes = t.writes + g.writes;
+  wbytes = t.wbytes + g.wbytes;
+  checks = t.checks + g.checks;
+  good = t.good + g.good;
+  bad = t.bad + g.bad;
+  skipped = t.skipped + g.skipped;
+  void = t.void + g.void;
+  faults = t.faults + g.faults;
+}
 
-same_totals : (a b : Totals) → ArePartsSame a b → a ≡ b
-same_totals a b same =
-    let make : ℕ → ℕ → ℕ → ℕ → ℕ → ℕ → ℕ → ℕ → ℕ → ℕ → Totals = λ (p q r s t u v w x y : ℕ). record { reads = p; rbytes = q; writes = r; wbytes = s; checks = t; good = u; bad = v; skipped = w; void = x; faults = y } in
-    ap (λ (n : ℕ). make n a.rbytes a.writes a.wbytes a.checks a.good a.bad a.skipped a.void a.faults) same.reads
-    ∙ ap (λ (n : ℕ). make b.reads n a.writes a.wbytes a.checks a.good a.bad a.skipped a.void a.faults) same.rbytes
-    ∙ ap (λ (n : ℕ). make b.reads b.rbytes n a.wbytes a.checks a.good a.bad a.skipped a.void a.faults) same.writes
-    ∙ ap (λ (n : ℕ). make b.reads b.rbytes b.writes n a.checks a.good a.bad a.skipped a.void a.faults) same.wbytes
-    ∙ ap (λ (n : ℕ). make b.reads b.rbytes b.writes b.wbytes n a.good a.bad a.skipped a.void a.faults) same.checks
-    ∙ ap (λ (n : ℕ). make b.reads b.rbytes b.writes b.wbytes b.checks n a.bad a.skipped a.void a.faults) same.good
-    ∙ ap (λ (n : ℕ). make b.reads b.rbytes b.writes b.wbytes b.checks b.good n a.skipped a.void a.faults) same.bad
-    ∙ ap (λ (n : ℕ). make b.reads b.rbytes b.writes b.wbytes b.checks b.good b.bad n a.void a.faults) same.skipped
-    ∙ ap (λ (n : ℕ). make b.reads b.rbytes b.writes b.wbytes b.checks b.good b.bad b.skipped n a.faults) same.void
-    ∙ ap (λ (n : ℕ). make b.reads b.rbytes b.writes b.wbytes b.checks b.good b.bad b.skipped b.void n) same.faults
+all_added : (t g u : Totals) → AreAdded t g u → u ≡ added t g
+all_added t g u h = λ i. record {
+  reads = h.reads i;
+  rbytes = h.rbytes i;
+  writes = h.writes i;
+  wbytes = h.wbytes i;
+  checks = h.checks i;
+  good = h.good i;
+  bad = h.bad i;
+  skipped = h.skipped i;
+  void = h.void i;
+  faults = h.faults i;
+}
 
 -- a gain of nothing, of what was read or written, of a fault, of a verdict and of a skip
 abbrev pub none : Totals
 none = record { reads = 0; rbytes = 0; writes = 0; wbytes = 0; checks = 0; good = 0; bad = 0; skipped = 0; void = 0; faults = 0 }
 
-add_none : (t u : Totals) → AreAdded t (none) u → u ≡ t
-add_none t u h = same_totals u (t) (record {
-  reads = omega (arith, h.reads);
-  rbytes = omega (arith, h.rbytes);
-  writes = omega (arith, h.writes);
-  wbytes = omega (arith, h.wbytes);
-  checks = omega (arith, h.checks);
-  good = omega (arith, h.good);
-  bad = omega (arith, h.bad);
-  skipped = omega (arith, h.skipped);
-  void = omega (arith, h.void);
-  faults = omega (arith, h.faults);
-})
+add_none : (t u : Totals) → AreAdded t none u → u ≡ t
+add_none t u h = simp unary_clauses at (all_added t none u h)
 
 add_read : (len : ℕ) (t u : Totals) → AreAdded t (record none { reads = 1; rbytes = len }) u → u ≡ record t { reads = t.reads + 1; rbytes = t.rbytes + len }
-add_read len t u h = same_totals u (record t { reads = t.reads + 1; rbytes = t.rbytes + len }) (record {
-  reads = omega (arith, h.reads);
-  rbytes = omega (arith, h.rbytes);
-  writes = omega (arith, h.writes);
-  wbytes = omega (arith, h.wbytes);
-  checks = omega (arith, h.checks);
-  good = omega (arith, h.good);
-  bad = omega (arith, h.bad);
-  skipped = omega (arith, h.skipped);
-  void = omega (arith, h.void);
-  faults = omega (arith, h.faults);
-})
+add_read len t u h = simp unary_clauses (simp unary_clauses at (all_added t (record none { reads = 1; rbytes = len }) u h))
 
 add_write : (len : ℕ) (t u : Totals) → AreAdded t (record none { writes = 1; wbytes = len }) u → u ≡ record t { writes = t.writes + 1; wbytes = t.wbytes + len }
-add_write len t u h = same_totals u (record t { writes = t.writes + 1; wbytes = t.wbytes + len }) (record {
-  reads = omega (arith, h.reads);
-  rbytes = omega (arith, h.rbytes);
-  writes = omega (arith, h.writes);
-  wbytes = omega (arith, h.wbytes);
-  checks = omega (arith, h.checks);
-  good = omega (arith, h.good);
-  bad = omega (arith, h.bad);
-  skipped = omega (arith, h.skipped);
-  void = omega (arith, h.void);
-  faults = omega (arith, h.faults);
-})
+add_write len t u h = simp unary_clauses (simp unary_clauses at (all_added t (record none { writes = 1; wbytes = len }) u h))
 
 add_fault : (t u : Totals) → AreAdded t (record none { faults = 1 }) u → u ≡ record t { faults = t.faults + 1 }
-add_fault t u h = same_totals u (record t { faults = t.faults + 1 }) (record {
-  reads = omega (arith, h.reads);
-  rbytes = omega (arith, h.rbytes);
-  writes = omega (arith, h.writes);
-  wbytes = omega (arith, h.wbytes);
-  checks = omega (arith, h.checks);
-  good = omega (arith, h.good);
-  bad = omega (arith, h.bad);
-  skipped = omega (arith, h.skipped);
-  void = omega (arith, h.void);
-  faults = omega (arith, h.faults);
-})
+add_fault t u h = simp unary_clauses (simp unary_clauses at (all_added t (record none { faults = 1 }) u h))
 
 add_good : (t u : Totals) → AreAdded t (record none { checks = 1; good = 1 }) u → u ≡ record t { checks = t.checks + 1; good = t.good + 1 }
-add_good t u h = same_totals u (record t { checks = t.checks + 1; good = t.good + 1 }) (record {
-  reads = omega (arith, h.reads);
-  rbytes = omega (arith, h.rbytes);
-  writes = omega (arith, h.writes);
-  wbytes = omega (arith, h.wbytes);
-  checks = omega (arith, h.checks);
-  good = omega (arith, h.good);
-  bad = omega (arith, h.bad);
-  skipped = omega (arith, h.skipped);
-  void = omega (arith, h.void);
-  faults = omega (arith, h.faults);
-})
+add_good t u h = simp unary_clauses (simp unary_clauses at (all_added t (record none { checks = 1; good = 1 }) u h))
 
 add_bad : (t u : Totals) → AreAdded t (record none { checks = 1; bad = 1 }) u → u ≡ record t { checks = t.checks + 1; bad = t.bad + 1 }
-add_bad t u h = same_totals u (record t { checks = t.checks + 1; bad = t.bad + 1 }) (record {
-  reads = omega (arith, h.reads);
-  rbytes = omega (arith, h.rbytes);
-  writes = omega (arith, h.writes);
-  wbytes = omega (arith, h.wbytes);
-  checks = omega (arith, h.checks);
-  good = omega (arith, h.good);
-  bad = omega (arith, h.bad);
-  skipped = omega (arith, h.skipped);
-  void = omega (arith, h.void);
-  faults = omega (arith, h.faults);
-})
+add_bad t u h = simp unary_clauses (simp unary_clauses at (all_added t (record none { checks = 1; bad = 1 }) u h))
 
 add_void : (t u : Totals) → AreAdded t (record none { void = 1 }) u → u ≡ record t { void = t.void + 1 }
-add_void t u h = same_totals u (record t { void = t.void + 1 }) (record {
-  reads = omega (arith, h.reads);
-  rbytes = omega (arith, h.rbytes);
-  writes = omega (arith, h.writes);
-  wbytes = omega (arith, h.wbytes);
-  checks = omega (arith, h.checks);
-  good = omega (arith, h.good);
-  bad = omega (arith, h.bad);
-  skipped = omega (arith, h.skipped);
-  void = omega (arith, h.void);
-  faults = omega (arith, h.faults);
-})
+add_void t u h = simp unary_clauses (simp unary_clauses at (all_added t (record none { void = 1 }) u h))
 
 add_skip : (t u : Totals) → AreAdded t (record none { skipped = 1 }) u → u ≡ record t { skipped = t.skipped + 1 }
-add_skip t u h = same_totals u (record t { skipped = t.skipped + 1 }) (record {
-  reads = omega (arith, h.reads);
-  rbytes = omega (arith, h.rbytes);
-  writes = omega (arith, h.writes);
-  wbytes = omega (arith, h.wbytes);
-  checks = omega (arith, h.checks);
-  good = omega (arith, h.good);
-  bad = omega (arith, h.bad);
-  skipped = omega (arith, h.skipped);
-  void = omega (arith, h.void);
-  faults = omega (arith, h.faults);
-})
+add_skip t u h = simp unary_clauses (simp unary_clauses at (all_added t (record none { skipped = 1 }) u h))
 
 -- what an End adds, by the I/O's kind and whether it is the clone's
 abbrev pub end_gain : Bool → TicketKind → Outcome → Started → Totals

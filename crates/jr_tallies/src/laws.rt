@@ -6,7 +6,7 @@ pub fn tests_are_compared()
     ensures { TestsAreCompared }
 {}
 
-/// Nothing is in flight where no clone of the plan has anything in flight, and no verdict is to come where none of a clone is.
+/// Nothing is in flight if no clone of the plan has anything in flight, and no verdict is to come if none of a clone is.
 pub fn clones_are_all()
     ensures { ClonesAreAll }
 {}

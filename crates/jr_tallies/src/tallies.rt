@@ -39,7 +39,7 @@ pub struct Counts {
 /// The running counts and totals of all clones, and the bad verdicts in the order in which they were given.
 ///
 /// Only `new` and `reserve` can want memory. Which clone an event is about, the caller says; the caller also says that each
-/// event may happen where it is told.
+/// event may happen if it is told.
 #[derive(Debug, Drop)]
 pub struct Tallies {
     pub counts: Vec<Counts>,
@@ -125,7 +125,7 @@ impl Tallies {
         total_end(&mut self.totals[clone], kind, len, outcome);
     }
 
-    /// A check of this write over this piece got its verdict; a bad one halts the clone where that is fatal.
+    /// A check of this write over this piece got its verdict; a bad one halts the clone if that is fatal.
     pub fn judged(&mut self, write: WriteId, piece: Piece, is_fatal: bool, verdict: Verdict)
         requires count { CanCount self.old write.clone }
         requires awaited { (counts : Kept) → slice_get self.old.counts.items write.clone ≡ Some counts → 1 ≤ counts.verdicts }

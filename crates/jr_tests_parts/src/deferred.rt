@@ -233,6 +233,7 @@ impl Walked {
             self.deferred.next_after(write),
             self.plain.next_after(write),
         );
+        same(rt, self.deferred.write_at(0), self.plain.write_at(0));
     }
 }
 
@@ -269,6 +270,8 @@ fn check_a_round(rt: &impl Abort, walked: &mut Walked)
     walked.expect(rt, 2, Some(write(0)));
     same(rt, walked.deferred.next_after(&write(0)), Some(write(2)));
     same(rt, walked.deferred.next_after(&write(2)), None);
+    same(rt, walked.deferred.write_at(1), Some(write(2)));
+    same(rt, walked.deferred.write_at(2), None);
     walked.pass(rt, write(2));
     walked.expect(rt, 1, Some(write(0)));
     same(rt, walked.deferred.next_after(&write(0)), None);

@@ -89,7 +89,7 @@ impl Line {
         self.key.as_str()
     }
 
-    /// What stands behind its `=`; nothing where it has none.
+    /// What stands behind its `=`; nothing if it has none.
     pub fn value(&self) -> Option<&str>
         ensures { option_copied result ≡ self.now.value }
     {

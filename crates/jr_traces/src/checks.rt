@@ -16,7 +16,7 @@ use jr_plan::Plan;
 use jr_replay::complete_among;
 use std::alloc::Global;
 
-/// Checks a trace: what each clone did, where the text is the trace of a whole legal run of the plan; else its
+/// Checks a trace: what each clone did, if the text is the trace of a whole legal run of the plan; else its
 /// first faulty line, or that the run goes on.
 pub fn check_trace(alloc: Global, plan: &Plan, text: &[u8]) -> Result<Vec<Totals>, TraceFault>
     ensures ok { IfOk result (λ totals. check_of plan.now text.now ≡ Ok totals.items) }
@@ -30,7 +30,7 @@ pub fn check_trace(alloc: Global, plan: &Plan, text: &[u8]) -> Result<Vec<Totals
     Ok(all_totals(alloc, plan, &past)?)
 }
 
-/// The same for a run that may have been stopped: what each clone did, where each line may follow those before it, whether there
+/// The same for a run that may have been stopped: what each clone did, if each line may follow those before it, whether there
 /// was more to come or not.
 pub fn check_part(alloc: Global, plan: &Plan, text: &[u8]) -> Result<Vec<Totals>, TraceFault>
     ensures ok { IfOk result (λ totals. check_of_part plan.now text.now ≡ Ok totals.items) }

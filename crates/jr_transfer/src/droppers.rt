@@ -43,7 +43,7 @@ impl<'a> Launcher<'a> {
         Ok(Launcher { pipes, has_failed })
     }
 
-    /// What asks it by its pair of pipes of this place. None where there is no launcher, or none that can be asked.
+    /// What asks it by its pair of pipes of this place. None if there is no launcher, or none that can be asked.
     pub fn dropper<R: Files<File = File>>(
         &self,
         rt: &R,
@@ -91,7 +91,7 @@ pub struct Dropper {
 impl Dropper {
     /// Has the system drop what it keeps of the file, and waits for that. What isn't on the device stays.
     ///
-    /// Where it can't be done the launcher's `has_failed` says so from then on. One that gave no answer isn't asked again.
+    /// If it can't be done the launcher's `has_failed` says so from then on. One that gave no answer isn't asked again.
     pub fn drop_cached(&self, file: &File) {
         if self.has_ended.load(Ordering::SeqCst) {
             return;

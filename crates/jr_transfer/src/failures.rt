@@ -55,7 +55,7 @@ impl Failures {
         }
     }
 
-    /// A kept call that was to read or write these bytes: the first, where several were.
+    /// A kept call that was to read or write these bytes: the first, if there were several.
     pub fn found(&self, dir: Dir, offset: u64, len: u64) -> Option<FailedCall>
         ensures { IfSome result (IsCallFor dir offset len) }
     {

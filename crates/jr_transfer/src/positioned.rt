@@ -8,7 +8,7 @@ use std::os::unix::fs::FileExt;
 
 /// An open file whose bytes are read and written by their offsets. A call may move a part of what was asked for.
 ///
-/// Contracts see its bytes where they are known (`FileView`). Of a file of the system they aren't.
+/// Contracts see its bytes if they are known (`FileView`). Of a file of the system they aren't.
 pub trait Positioned: Drop {
     ghost view: { Self → FileView };
 

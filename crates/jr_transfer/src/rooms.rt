@@ -43,7 +43,7 @@ impl Room {
         })
     }
 
-    /// One read of the file: by the room where the file is direct, and the block fits.
+    /// One read of the file: by the room if the file is direct, and the block fits.
     pub(crate) fn read<F: Positioned>(
         &mut self,
         file: &mut F,
@@ -67,7 +67,7 @@ impl Room {
         file.read_at(buf, offset)
     }
 
-    /// One write to the file: by the room where the file is direct, and the block fits.
+    /// One write to the file: by the room if the file is direct, and the block fits.
     pub(crate) fn write<F: Positioned>(
         &mut self,
         file: &mut F,
@@ -99,7 +99,7 @@ impl Room {
         self.tried = 0;
     }
 
-    /// Goes on to the next place, where one is left that this transfer hasn't tried.
+    /// Goes on to the next place, if one is left that this transfer hasn't tried.
     pub(crate) fn moves_on(&mut self) -> bool {
         if self.bytes.is_none() || self.tried >= LARGEST_SECTOR / STEP {
             return false;

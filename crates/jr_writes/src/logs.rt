@@ -88,7 +88,7 @@ impl WriteLog {
         Ok(())
     }
 
-    /// Takes out all writes whose pieces the piece overlaps, as where a write of it failed.
+    /// Takes out all writes whose pieces the piece overlaps, as when a write of it failed.
     pub fn unsettle(&mut self, piece: &Piece)
         requires { IsTrue (piece_fits piece.now) }
         ensures entries { self.new ≡ unsettled self.old piece.now }
@@ -97,7 +97,7 @@ impl WriteLog {
         take_out(&mut self.writes, &mut self.spots, piece, None);
     }
 
-    /// Whether the write is in the log.
+    /// Whether the write is in the log. (The desk asks for `expected` alone.)
     pub fn intact(&self, write: &WriteId) -> bool
         ensures { result ≡ is_some (logged self.now write.now) }
     {
