@@ -1,11 +1,13 @@
 #!/usr/bin/env python3
 """checks/more.py [NAME..] tries the edits of checks/edits/: mistakes beyond those that the gate tries (crates/NAME/must-fail/), each of
-which the prover must refuse too. They take some 20 seconds each. checks/more.py --look only looks, in no time, that each can be applied:
-that each text it takes away stands once in its file.
+which the prover must refuse too. checks/more.py --look only looks, in no time, that each can be applied: that each text it takes away
+stands once in its file.
 
-It works in a folder of its own, on copies of the sources and links to the libraries that were built. It ends with 0 where all is well."""
+It has rt ci try them, in a copy of the sources in which they are in the place of the gate's edits. So what a gate on this machine has
+proved of the same sources isn't proved again, and what was tried of an edit is kept too. It ends with 0 where each edit was refused."""
 
 import os
+import re
 import shutil
 import subprocess
 import sys
@@ -54,7 +56,7 @@ def look(names):
 
 
 def lay(room, names):
-    """The sources, the libraries that were built, and the edits in the place of those of the gate."""
+    """The sources, and the edits in the place of those of the gate."""
     for it in ("crates.txt", "HANDLES"):
         shutil.copy(os.path.join(TOP, it), room)
     for name in os.listdir(os.path.join(TOP, "crates")):
@@ -62,10 +64,20 @@ def lay(room, names):
         for part in ("src", "specs", "proofs"):
             if os.path.isdir(os.path.join(crate, part)):
                 shutil.copytree(os.path.join(crate, part), os.path.join(to, part))
-        if os.path.isdir(os.path.join(crate, "out", "rlib")):
-            shutil.copytree(os.path.join(crate, "out", "rlib"), os.path.join(to, "out", "rlib"))
         if name in names:
             shutil.copytree(os.path.join(EDITS, name), os.path.join(to, "must-fail"))
+
+
+def try_all(room, names):
+    """Has rt ci try them, prints what it says, and returns its status and the edits that were refused. It doesn't fail for one that can't
+    be compiled."""
+    refused = set()
+    with subprocess.Popen(["rt", "ci", *names], cwd=room, stdout=subprocess.PIPE, text=True, errors="replace") as it:
+        for line in it.stdout:
+            print(line, end="", flush=True)
+            if found := re.match(r"rt: must-fail (\S+): refused", line):
+                refused.add(found[1])
+    return it.returncode, refused
 
 
 def main(words):
@@ -79,7 +91,12 @@ def main(words):
         return 1 if failed else 0
     with tempfile.TemporaryDirectory(prefix="more-edits-") as room:
         lay(room, names)
-        return subprocess.run(["rt", "must-fail", *names], cwd=room, check=False).returncode
+        status, refused = try_all(room, names)
+    edits = {f"{name}/{os.path.basename(it)}" for name in names for it in edits_of(name)}
+    for it in sorted(edits - refused):
+        print(f"checks/more.py: not refused: {it}")
+    print(f"checks/more.py: {len(edits & refused)} of {len(edits)} edits refused")
+    return status or (1 if edits - refused else 0)
 
 
 if __name__ == "__main__":
