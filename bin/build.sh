@@ -96,31 +96,32 @@ write_makefile() {
 
 stamp_of() { if [ "$1" = fiorun ]; then printf 'fiorun'; else printf 'crates/%s/out/rlib/stamp' "$1"; fi; }
 
-# How many provers there is room for: one a processor, of some 3 GB each.
+# How many processes a crate's proof gets that is made beside so many others: as many as there are processors for it, and memory of some
+# 3 GB each, but at least one. Each of them first reads all libraries, which takes some 10 s.
 provers() {
-  local free=0
+  local beside=$1 free=0
   free=$(sed -n 's/^MemAvailable: *\([0-9]*\) kB/\1/p' /proc/meminfo 2>/dev/null || true)
   free=$((${free:-0} / 3000000))
-  [ "$free" -ge 1 ] || free=1
   [ "$free" -le "$(nproc)" ] || free=$(nproc)
+  free=$((free / (beside + 1)))
+  [ "$free" -ge 1 ] || free=1
   printf '%s' "$free"
 }
 
 # Proves and builds a crate, the last of these, over those that it stands on and over what earlier runs have kept. Make calls it. Where it
 # fails, it says what was said.
 make_crate() {
-  local name=${!#} log jobs=() status=0
+  local name=${!#} log jobs status=0
   unset MAKEFLAGS MAKELEVEL
   log=$out/build.$name.log
   printf '%s\n' "$name" >>"$started"
   say "$what: proving $name ($(grep -nxF "$name" "$started" | cut -d: -f1) of $total), $(($(seconds) / 60)) min"
   [ "$name" = fiorun ] || lay_lane "$@"
-  # One that runs alone gets all processors that memory is free for; several get what rt chooses.
-  [ "$(find "$lanes" -mindepth 1 -maxdepth 1 | wc -l)" -gt 1 ] || jobs=(--jobs "$(provers)")
+  jobs=$(provers "$(find "$lanes" -mindepth 1 -maxdepth 1 ! -name "$name" | wc -l)")
   if [ "$name" = fiorun ]; then
-    (cd "$top/crates/fiorun" && rt run "${jobs[@]}" -- --help) </dev/null >"$log" 2>&1 || status=1
+    (cd "$top/crates/fiorun" && rt run --jobs "$jobs" -- --help) </dev/null >"$log" 2>&1 || status=1
   else
-    (cd "$lanes/$name/crates/$name" && rt lib "${jobs[@]}") </dev/null >"$log" 2>&1 || status=1
+    (cd "$lanes/$name/crates/$name" && rt lib --jobs "$jobs") </dev/null >"$log" 2>&1 || status=1
     end_lane "$name"
     [ "$status" -ne 0 ] || touch "$top/$(stamp_of "$name")"
   fi

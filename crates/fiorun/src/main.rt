@@ -1,35 +1,27 @@
 // Runs a fio job file, or prints its plan: the words of the command line say which.
 #![tactic(auto)]
 
-use files::wishes;
-use jr_cli::{
-    Choice, CliFault, answer_words, choose, memory_or, print_check, print_part, print_plan,
-    read_job, read_text, read_trace, workers_of,
+use jr_cli::{print_check, print_part};
+use jr_command::{
+    Choice, CliFault, answer_words, choose, memory_or, print_plan, read_job, read_text, read_trace,
+    workers_of,
 };
 use jr_engines::Engine;
+use jr_host::{Machine, Screen, Stop, tell_all, wishes};
 use jr_notes::{job_notes, plan_notes};
 use jr_plan::Plan;
-use machine::Machine;
 use places::Wanted;
 use running::{Ran, SharedRun, Turn, add, boxed, run_memory, run_plan, shares};
-use show::Screen;
 use std::alloc::Global;
 use std::env::Env;
 use std::fs::{File, Files};
 use std::io::{BufWriter, Write};
 use std::process::ExitCode;
 use std::{env, fs, io};
-use stops::{Stop, tell_all};
 
-mod asked;
-mod files;
-mod machine;
 mod outputs;
 mod places;
-mod remarks;
 mod running;
-mod show;
-mod stops;
 
 fn main(rt: HostRuntime) -> ExitCode {
     let _held = held(&rt);

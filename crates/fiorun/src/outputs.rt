@@ -1,8 +1,8 @@
 // The files that a run is told in beside its report. Each is refused before the run where its path is one that is read or written
 // otherwise, and written behind the report.
-use crate::files::leads_to;
-use crate::stops::Stop;
-use jr_cli::{BlockSize, Choice, CliFault, Findings, json_text, list_size, list_text};
+use jr_cli::{Findings, json_text, list_text};
+use jr_command::{BlockSize, Choice, CliFault, list_size};
+use jr_host::{Stop, leads_to};
 use jr_model::{EngineKind, Memory};
 use jr_page::page;
 use jr_plan::Plan;

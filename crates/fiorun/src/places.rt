@@ -1,9 +1,9 @@
 // Where a run found what, told behind its report: a map of each file, and the outputs that are asked for.
 use crate::outputs::Outputs;
 use crate::running::Ran;
-use crate::show::Screen;
-use crate::stops::Stop;
-use jr_cli::{Choice, CliFault, Findings};
+use jr_cli::Findings;
+use jr_command::{Choice, CliFault};
+use jr_host::{Screen, Stop};
 use jr_model::LARGEST_END;
 use jr_places::{Fate, FileMap, map_of};
 use jr_plan::{FileSpec, Plan};

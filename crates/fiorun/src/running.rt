@@ -1,16 +1,15 @@
 // Runs of a plan over its kind of engine.
 ghost use Rattle.std.specs.Prelude.{◌≤◌, ◌^◌};
 
-use crate::asked::{Asked, asked_by};
-use crate::files::{Taken, is_taken, take_files};
-use crate::machine::Machine;
 use crate::places::Wanted;
-use crate::show::{Extent, Pace, Screen, Wiper, shown};
-use crate::stops::Stop;
-use jr_cli::{Choice, CliFault, Ended, Wiping, execute, execute_serial};
+use jr_cli::{Ended, execute, execute_serial};
+use jr_command::{Choice, CliFault, Wiping};
 use jr_direct::Wish;
 use jr_engines::{Engine, MemoryEngine, NullEngine, SharedMemory};
 use jr_files::{FileEngine, SharedFile};
+use jr_host::{
+    Asked, Extent, Machine, Pace, Screen, Stop, Taken, Wiper, asked_by, is_taken, shown, take_files,
+};
 use jr_model::EngineKind;
 use jr_plan::Plan;
 use std::alloc::Global;
@@ -145,7 +144,8 @@ fn crew_over_files<R: Files<File = File> + Machine, V: io::Write>(
     let events = trace_file(rt, choice.trace)?;
     let engines = file_engines(rt, &files, workers)?;
     let ended = run_files(rt, asked, plan, engines, events, out)?;
-    files.settled(rt, ended)
+    let reasons = files.settled(rt, &ended.faults)?;
+    Ok(Ran { ended, reasons })
 }
 
 // A run with so many workers over a memory that they share is still to come.
@@ -216,7 +216,8 @@ fn alone_over_files<R: Files<File = File> + Machine, V: io::Write>(
     files.begin(rt, &engine);
     let events = trace_file(rt, choice.trace)?;
     let ended = run_over(rt, asked, events, plan, &mut engine, out)?;
-    files.settled(rt, ended)
+    let reasons = files.settled(rt, &ended.faults)?;
+    Ok(Ran { ended, reasons })
 }
 
 // The same over an engine that needs no files.

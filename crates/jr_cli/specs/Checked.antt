@@ -3,8 +3,8 @@ use Rattle.std.specs.Prelude.{List, Result, IsOk}
 use Rattle.jr_model.specs.declared.totals.Totals.{Totals}
 use Rattle.jr_traces.specs.declared.faults.TraceFault.{TraceFault}
 use Rattle.jr_traces.specs.TraceChecks.{IsRefusal}
-use Rattle.jr_cli.specs.declared.faults.CliFault.{CliFault}
-use Rattle.jr_cli.specs.declared.faults.CliFault.TheVariants as fault
+use Rattle.jr_command.specs.declared.faults.CliFault.{CliFault}
+use Rattle.jr_command.specs.declared.faults.CliFault.TheVariants as fault
 
 -- this is what was found wrong with the trace; or nothing was, and memory was wanting or writing failed
 abbrev pub IsCheckFault : Result (List Totals) TraceFault → CliFault → Type 0

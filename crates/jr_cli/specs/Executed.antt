@@ -14,8 +14,8 @@ use Rattle.jr_traces.specs.Traces.{trace_of}
 use Rattle.jr_staff.specs.declared.faults.RunFault.TheVariants as run
 use Rattle.jr_books.specs.declared.books.Done.{Done}
 use Rattle.jr_crew.specs.Whole.{IsRun, IsCrewRun, IsEndedRun, IsEndedCrewRun}
-use Rattle.jr_cli.specs.declared.faults.CliFault.{CliFault}
-use Rattle.jr_cli.specs.declared.faults.CliFault.TheVariants as fault
+use Rattle.jr_command.specs.declared.faults.CliFault.{CliFault}
+use Rattle.jr_command.specs.declared.faults.CliFault.TheVariants as fault
 use Rattle.jr_cli.specs.Status.{status_of}
 use Rattle.jr_desk.specs.DeskState.{DeskState}
 

@@ -11,7 +11,7 @@ use Rattle.jr_faults.specs.Faults.{AreFaultsOf}
 use Rattle.jr_json.specs.Json.{RunEnd, json_of}
 use Rattle.jr_tallies.specs.declared.tallies.Bad.{Bad}
 use Rattle.jr_tallies.specs.Tallying.{miscompare_of}
-use Rattle.jr_cli.specs.declared.words.TheConstants.{VERSION}
+use Rattle.jr_command.specs.declared.words.TheConstants.{VERSION}
 use Rattle.jr_cli.specs.Status.{status_of}
 
 -- a plan, and a history of it

@@ -1,9 +1,5 @@
 pub mod Checked
-pub mod CommandLine
 pub mod Executed
-pub mod FaultTexts
 pub mod Findings
-pub mod JobRefusals
 pub mod Places
 pub mod Status
-pub mod Workers

@@ -1,14 +1,9 @@
 -- Believed: the list of a run's bad blocks, as it is asked for (of this project).
-use Rattle.std.specs.Prelude.{◌≡◌, ◌==◌, ℕ, Bool, List, [], ◌∷◌}
-use Rattle.std.specs.List.{list_any}
+use Rattle.std.specs.Prelude.{◌≡◌, ℕ, List}
 use Rattle.jr_model.specs.declared.events.Event.{Event}
 use Rattle.jr_model.specs.Plan.{Plan}
 use Rattle.jr_model.specs.Report.{miscompares}
 use Rattle.jr_places.specs.BadBlocks.{AreBadBlocks, blocks_text}
-
--- a block may have so many bytes
-abbrev pub is_block_size : ℕ → Bool
-is_block_size bytes = list_any (λ size. size == bytes) (512 ∷ 1024 ∷ 2048 ∷ 4096 ∷ 8192 ∷ 16384 ∷ 32768 ∷ 65536 ∷ [])
 
 -- the text is the list of the bad blocks of this history, of the only file of its plan
 abbrev pub IsListOf : Plan → List Event → ℕ → List ℕ → Type 0

@@ -9,7 +9,7 @@ ghost use Rattle.jr_cli.specs.Status.{status_of};
 
 use crate::found::faults_found;
 use crate::runs::status_of;
-use crate::words::VERSION;
+use jr_command::VERSION;
 use jr_desk::Desk;
 use jr_faults::{Faults, faults_among};
 use jr_json::Ending;

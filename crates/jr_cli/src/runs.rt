@@ -1,6 +1,5 @@
-ghost use Rattle.std.specs.Prelude.{◌≡◌, ◌⊎◌, ◌<◌, ◌≤◌, ◌^◌, [], true, false, not, map, None, Err, IfOk, IfErr, IfSome, IsOkAnd, OnOk};
+ghost use Rattle.std.specs.Prelude.{◌≡◌, ◌<◌, ◌≤◌, ◌^◌, [], true, false, not, map, None, Err, IfOk, IfErr, IsOkAnd, OnOk};
 ghost use Rattle.std.specs.List.{list_any};
-ghost use Rattle.std.specs.Option.{option_copied};
 ghost use Rattle.std.specs.Io.KnownBytes.{Appends};
 ghost use Rattle.jr_model.specs.Legal.{is_complete};
 ghost use Rattle.jr_model.specs.Report.{totals_lines};
@@ -12,42 +11,26 @@ ghost use Rattle.jr_faults.specs.Faults.{AreFaultsOf};
 ghost use Rattle.jr_cli.specs.Checked.{IsCheckFault};
 ghost use Rattle.jr_cli.specs.Executed.{HasRun, HasCrewRun, HasEndedRun, HasEndedCrewRun, IsCutShort, IsDeskOf};
 ghost use Rattle.jr_cli.specs.Executed.{IsQuietlyReported, IsReported, IsRunFault, IsTraced};
-ghost use Rattle.jr_plan.specs.PlanText.{plan_text};
 ghost use Rattle.jr_traces.specs.TraceChecks.{check_of, check_of_part};
 ghost use Rattle.jr_traces.specs.Traces.{trace_of};
-ghost use Rattle.jr_cli.specs.JobRefusals.{job_refusal, IsRefusedBy, IsWantOfMemory, IsPlanOf};
 ghost use Rattle.jr_cli.specs.Status.{status_of, is_unclean};
 
 use crate::ended::Ended;
-use crate::faults::CliFault;
 use crate::found::faults_found;
+use jr_command::{CliFault, write_out};
 use jr_crew::{RunFault, Watch, run_booked, run_serial};
 use jr_desk::Desk;
 use jr_engines::Engine;
 use jr_faults::Faults;
 use jr_model::Totals;
-use jr_options::{Plan, plan, plan_text};
+use jr_plan::Plan;
 use jr_stats::{check_trace, report, totals_text, trace};
-use jr_text::sections;
 use jr_traces::check_part;
 use std::alloc::Global;
 use std::io::Write;
 use std::sync::Wait;
 use std::thread::Threads;
-
-/// The plan of a job text: of all its jobs, or of those of one name.
-pub fn read_job(alloc: Global, text: &[u8], only: Option<&str>) -> Result<Plan, CliFault>
-    // The first fault of the text is answered, or else the first of its sections, by its name.
-    ensures refused { IfSome (job_refusal text.now (option_copied only.entry)) (λ fault. IsRefusedBy result fault) }
-
-    // Where there is none, only memory can be wanting, and the plan is the one that the text asks for.
-    ensures memory { job_refusal text.now (option_copied only.entry) ≡ None → IfErr result IsWantOfMemory }
-    ensures planned { IfOk result (λ plan. IsPlanOf plan text.now (option_copied only.entry)) }
-{
-    let sections = sections(alloc, text)?;
-    let plan = plan(alloc, sections.as_slice(), only)?;
-    Ok(plan)
-}
+use std::time::Clock;
 
 /// Runs a plan with one worker, writes the report and then the trace if one is asked for, and says what was found, the run's
 /// faults among it. If the run is asked to stop, report and trace are of what it did until then.
@@ -97,7 +80,7 @@ pub fn execute_serial<W: Write, V: Write>(
 
 /// Runs a plan with one worker an engine, all at once, writes the report and then the trace if one is asked for, and says what
 /// was found, as `execute_serial` does.
-pub fn execute<R: Threads + Wait + Sync, W: Write, V: Write>(
+pub fn execute<R: Threads + Wait + Clock + Sync, W: Write, V: Write>(
     rt: &R,
     alloc: Global,
     plan: Plan,
@@ -172,15 +155,6 @@ fn print_trace<W: Write>(alloc: Global, desk: &Desk, events: &mut W) -> Result<(
     write_out(lines.as_slice(), events)
 }
 
-/// Prints what a run of the plan would do, a line for each clone.
-pub fn print_plan<V: Write>(alloc: Global, plan: &Plan, out: &mut V) -> Result<(), CliFault>
-    ensures printed { OnOk result (Appends (V.contents out.old) (V.contents out.new) (plan_text plan.now)) }
-    ensures failed { IfErr result (λ fault. (fault ≡ CliFault.Write) ⊎ (fault ≡ CliFault.Memory)) }
-{
-    let text = plan_text(alloc, plan)?;
-    write_out(text.as_slice(), out)
-}
-
 /// Checks a trace of the plan, and prints what each clone did in it.
 pub fn print_check<V: Write>(
     alloc: Global,
@@ -213,16 +187,6 @@ pub fn print_part<V: Write>(
     let totals = check_part(alloc, plan, text)?;
     let lines = totals_text(alloc, plan, totals.as_slice())?;
     write_out(lines.as_slice(), out)
-}
-
-fn write_out<V: Write>(text: &[u8], out: &mut V) -> Result<(), CliFault>
-    ensures written { OnOk result (Appends (V.contents out.old) (V.contents out.new) text.now) }
-    ensures failed { IfErr result (λ fault. fault ≡ CliFault.Write) }
-{
-    if out.write_all(text).is_err() || out.flush().is_err() {
-        return Err(CliFault::Write);
-    }
-    Ok(())
 }
 
 // 1 where a verdict was bad or an I/O was a fault, else 0.

@@ -26,14 +26,15 @@ use jr_handover::{Handoff, Pass};
 use jr_model::Event;
 use jr_plan::Plan;
 use jr_staff::{
-    Books, ChannelEnd, Ended, Halt, Judged, Judgements, Judges, Naming, RunFault, Seat, Shares,
-    StopFlag, Verifiers, Watch, Worked, Worker, books_of, is_asked, room_for, staff_for,
+    Books, ChannelEnd, Crowd, Ended, Halt, Judged, Judgements, Judges, Naming, RunFault, Seat,
+    Shares, StopFlag, Verifiers, Watch, Worked, Worker, books_of, is_asked, room_for, staff_for,
 };
 use std::alloc::Global;
 use std::marker::Brand;
 use std::sync::Wait;
 use std::thread;
 use std::thread::{PromisedHandle, Threads};
+use std::time::Clock;
 
 /// What `run_booked` gives: what `run` does, with books that take less memory.
 #[derive(Drop)]
@@ -45,7 +46,7 @@ pub struct Booked {
 
 /// Runs a plan as `run` does. The books take some 72 bytes for each I/O, and are made into lists of `Done` only on request: this is for
 /// who wants the desk alone, as the program does.
-pub fn run_booked<R: Threads + Wait + Sync>(
+pub fn run_booked<R: Threads + Wait + Clock + Sync>(
     rt: &R,
     alloc: Global,
     plan: Plan,
@@ -66,7 +67,7 @@ pub fn run_booked<R: Threads + Wait + Sync>(
 }
 
 // The same, where the plan and the hand-over have their names.
-fn run_as<P: Naming + Send + Sync, R: Threads + Wait + Sync>(
+fn run_as<P: Naming + Send + Sync, R: Threads + Wait + Clock + Sync>(
     rt: &R,
     alloc: Global,
     plan: Plan,
@@ -98,7 +99,7 @@ fn run_as<P: Naming + Send + Sync, R: Threads + Wait + Sync>(
 
 // Runs a plan that has its name with these workers and verifiers: the desk, and what they bring back, where nothing ended the run
 // before its time.
-fn run_manned<'a, P: Naming + Send + Sync, R: Threads + Wait + Sync>(
+fn run_manned<'a, P: Naming + Send + Sync, R: Threads + Wait + Clock + Sync>(
     rt: &R,
     alloc: Global,
     plan: Plan,
@@ -118,7 +119,8 @@ fn run_manned<'a, P: Naming + Send + Sync, R: Threads + Wait + Sync>(
 {
     let inline = judges_inline(&plan);
     let shares = Shares::new(alloc, &plan, workers.len())?;
-    let shared = Shared::<P>::new(Desk::new(alloc, plan)?, shares, watch);
+    let crowd = Crowd::new(rt, workers.len());
+    let shared = Shared::<P>::new(Desk::new(alloc, plan)?, shares, crowd, watch);
     let brought = man(rt, &shared, alloc, inline, workers, verifiers);
     let (desk, halt) = shared.into_parts();
     if let Some(halt) = halt {
@@ -172,7 +174,7 @@ fn judges_inline(plan: &Plan) -> bool
 
 // Lets the verifiers judge and the workers work at once, and waits for them. Once the workers are back, each verifier that was
 // started is told to stop.
-fn man<'a, P: Naming + Send + Sync, R: Threads + Wait + Sync>(
+fn man<'a, P: Naming + Send + Sync, R: Threads + Wait + Clock + Sync>(
     rt: &R,
     shared: &Shared<'_, P>,
     alloc: Global,
@@ -261,7 +263,7 @@ fn stop_all<P: Naming, R: Wait>(rt: &R, channel: &mut ChannelEnd<'_, P>, verifie
 }
 
 // Lets all workers work at once, and waits for them. None begins where a verifier couldn't be started.
-fn work_all<'a, P: Naming + Send + Sync, R: Threads + Wait + Sync>(
+fn work_all<'a, P: Naming + Send + Sync, R: Threads + Wait + Clock + Sync>(
     rt: &R,
     shared: &Shared<'_, P>,
     alloc: Global,
@@ -290,7 +292,7 @@ fn work_all<'a, P: Naming + Send + Sync, R: Threads + Wait + Sync>(
 }
 
 // Lets one worker work.
-fn worked_by<'a, P: Naming, R: Wait>(
+fn worked_by<'a, P: Naming, R: Wait + Clock>(
     rt: &R,
     shared: &Shared<'_, P>,
     alloc: Global,

@@ -12,21 +12,24 @@ use jr_desk::{Desk, DeskFault, Take};
 use jr_header::{Ruling, Served};
 use jr_model::{Event, Ticket, Verdict};
 use jr_staff::{
-    Halt, MOST_BYTES, MOST_IOS, Naming, Shares, Watch, is_asked, note_start, note_verdict, push,
+    Crowd, Halt, MOST_BYTES, MOST_IOS, Naming, Shares, Watch, is_asked, note_start, note_verdict,
+    push,
 };
 use std::marker::PhantomData;
 use std::sync::atomic::{AtomicU64, Ordering};
 use std::sync::{Condvar, Mutex, MutexGuard, Wait};
 use std::thread;
+use std::time::{Clock, Duration};
 
 // What lies under the lock: the desk of that plan, why the run was ended before its time, if it was, how many I/Os and checks workers
-// have in hand, and how many workers wait for some. One of these may have been called that hasn't come yet.
+// have in hand, how many workers wait for some, and how many rest. One that waits may have been called and not have come yet.
 #[derive(Drop)]
 pub struct Held<P: Naming> {
     desk: Desk,
     halt: Option<Halt>,
     in_hand: u64,
     waiting: u64,
+    resting: u64,
     is_called: bool,
     of: PhantomData<P>,
     ghost plan_is: { desk.plan ≡ P.plan },
@@ -104,6 +107,7 @@ impl<P: Naming> Held<P> {
             halt,
             in_hand: _,
             waiting: _,
+            resting: _,
             is_called: _,
             of: _,
         } = self;
@@ -128,6 +132,10 @@ const LOOKS: u32 = 1000;
 
 const EAGER_LOOKS: u32 = 10;
 
+// So many milliseconds a worker rests at most: then it takes a share, for all others may be in a device that has just stalled. (One that
+// comes back takes a processor from another, maybe from one that has the lock.)
+const REST: u64 = 1000;
+
 // What was started: a ticket, or nothing, and how the worker goes on.
 pub enum Started {
     Ticket(Ticket),
@@ -142,19 +150,21 @@ pub enum Step {
     End,
 }
 
-// The desk under its lock, how many come for the lock and haven't got it, what those sleep on that can't go on, how much a worker takes
-// at once, and what another thread has of the run.
+// The desk under its lock, how many come for the lock and haven't got it, what those sleep on that can't go on, and those that rest, how
+// much a worker takes at once, whether the workers are too many, and what another thread has of the run.
 #[derive(Drop)]
 pub struct Shared<'p, P: Naming> {
     held: Mutex<Held<P>>,
     coming: AtomicU64,
     changed: Condvar,
+    rested: Condvar,
     shares: Shares,
+    crowd: Crowd,
     watch: Watch<'p>,
 }
 
 impl<'p, P: Naming> Shared<'p, P> {
-    pub fn new(desk: Desk, shares: Shares, watch: Watch<'p>) -> Shared<'p, P>
+    pub fn new(desk: Desk, shares: Shares, crowd: Crowd, watch: Watch<'p>) -> Shared<'p, P>
         requires { desk.plan ≡ P.plan }
     {
         let held = Held {
@@ -162,6 +172,7 @@ impl<'p, P: Naming> Shared<'p, P> {
             halt: None,
             in_hand: 0,
             waiting: 0,
+            resting: 0,
             is_called: false,
             of: PhantomData,
         };
@@ -169,7 +180,9 @@ impl<'p, P: Naming> Shared<'p, P> {
             held: Mutex::new(held),
             coming: AtomicU64::new(0),
             changed: Condvar::new(),
+            rested: Condvar::new(),
             shares,
+            crowd,
             watch,
         }
     }
@@ -182,10 +195,17 @@ impl<'p, P: Naming> Shared<'p, P> {
             held,
             coming: _,
             changed: _,
+            rested: _,
             shares: _,
+            crowd: _,
             watch: _,
         } = self;
         held.into_inner().into_parts()
+    }
+
+    // Whether the workers are too many.
+    pub fn crowd(&self) -> &Crowd {
+        &self.crowd
     }
 
     // Takes the lock. Who doesn't get it at once comes until it has it: nobody is counted who has the lock.
@@ -215,7 +235,7 @@ impl<'p, P: Naming> Shared<'p, P> {
     // Puts what this worker is to carry out next behind its tickets; nothing where the run has ended, or is asked to stop. It waits
     // while nothing may be started: nothing but an end, a verdict or a stop lets anything start again. One of these comes as long as
     // anybody waits, for then something flies or awaits its verdict.
-    pub fn next<R: Wait>(
+    pub fn next<R: Wait + Clock>(
         &self,
         rt: &R,
         worker: u32,
@@ -228,11 +248,58 @@ impl<'p, P: Naming> Shared<'p, P> {
         let mut held = self.enter(rt);
         for _ in rt.forever() {
             match self.share(&mut held, worker, tickets)? {
-                Step::Wait => held = self.sleep(rt, held),
+                Step::Wait => held = self.pause(rt, held),
                 step => return Ok(step),
             }
         }
         unreachable!()
+    }
+
+    // Whether more workers are at work than are of use.
+    fn is_crowded(&self, held: &Held<P>) -> bool {
+        let idle = held.waiting.saturating_add(held.resting);
+        self.crowd.is_too_large(idle)
+    }
+
+    // Does nothing for a while: the others take what may be started where they are enough for it.
+    fn pause<'a, R: Wait + Clock>(
+        &self,
+        rt: &R,
+        held: MutexGuard<'a, Held<P>>,
+    ) -> MutexGuard<'a, Held<P>> {
+        if self.is_crowded(&held) {
+            return self.rest(rt, held);
+        }
+        self.sleep(rt, held)
+    }
+
+    // Rests where the workers are too many. Where they aren't, those that rest are woken: they may be of use.
+    fn make_way<'a, R: Wait + Clock>(
+        &self,
+        rt: &R,
+        held: MutexGuard<'a, Held<P>>,
+    ) -> MutexGuard<'a, Held<P>> {
+        if self.is_crowded(&held) {
+            return self.rest(rt, held);
+        }
+        if held.resting > 0 && !self.crowd.is_quick() {
+            self.rested.notify_all();
+        }
+        held
+    }
+
+    // Gives the lock away, rests for a while, and takes it again.
+    fn rest<'a, R: Wait + Clock>(
+        &self,
+        rt: &R,
+        held: MutexGuard<'a, Held<P>>,
+    ) -> MutexGuard<'a, Held<P>> {
+        let mut held = held;
+        held.resting = held.resting.saturating_add(1);
+        let limit = Duration::from_millis(REST);
+        let (mut held, _) = self.rested.wait_timeout(rt, held, limit);
+        held.resting = held.resting.saturating_sub(1);
+        held
     }
 
     // Gives the lock away, sleeps until something changes, and takes it again.
@@ -246,8 +313,8 @@ impl<'p, P: Naming> Shared<'p, P> {
     }
 
     // Takes in how a worker's tickets ended, in their order, and takes what is next for the worker. The lock is taken once for all of
-    // it, and nothing is waited for.
-    pub fn hand_in<'a, R: Wait>(
+    // it, and nothing is waited for, but that the worker may rest in between.
+    pub fn hand_in<'a, R: Wait + Clock>(
         &self,
         rt: &R,
         worker: u32,
@@ -266,6 +333,7 @@ impl<'p, P: Naming> Shared<'p, P> {
             note_said(&self.watch, &said);
             push(told, said)?;
         }
+        let mut held = self.make_way(rt, held);
         self.share(&mut held, worker, tickets)
     }
 
@@ -282,7 +350,7 @@ impl<'p, P: Naming> Shared<'p, P> {
     {
         let step = self.take_share(held, worker, tickets)?;
         if let Step::End = step {
-            self.changed.notify_all();
+            self.wake_all();
         }
         Ok(step)
     }
@@ -305,9 +373,8 @@ impl<'p, P: Naming> Shared<'p, P> {
                 Started::Ticket(ticket) => {
                     push(tickets, ticket)?;
                     bytes = bytes.saturating_add(u64::from(ticket.piece.len));
-                    if taken + 1 >= self.shares.of(&ticket, held.waiting > 0)
-                        || bytes >= MOST_BYTES
-                    {
+                    let share = self.shares.of(&ticket, held.waiting > 0, held.resting);
+                    if taken + 1 >= share || bytes >= MOST_BYTES {
                         self.wake_next(held);
                         return Ok(Step::Go);
                     }
@@ -317,6 +384,12 @@ impl<'p, P: Naming> Shared<'p, P> {
         }
         self.wake_next(held);
         Ok(Step::Go)
+    }
+
+    // Wakes all workers, for the run has ended.
+    fn wake_all(&self) {
+        self.changed.notify_all();
+        self.rested.notify_all();
     }
 
     // Wakes one that may take what this worker left. Where workers have as much in hand as all depths allow, nothing is left; and where
@@ -377,7 +450,7 @@ impl<'p, P: Naming> Shared<'p, P> {
     // Ends the run for all threads.
     pub fn stop<R: Wait>(&self, rt: &R, halt: Halt) {
         self.enter(rt).stop(halt);
-        self.changed.notify_all();
+        self.wake_all();
     }
 }
 

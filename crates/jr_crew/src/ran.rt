@@ -12,6 +12,7 @@ use jr_staff::{RunFault, Watch};
 use std::alloc::Global;
 use std::sync::Wait;
 use std::thread::Threads;
+use std::time::Clock;
 
 /// What a run gives: the desk with its history, and of each worker its engine and its book.
 #[derive(Drop)]
@@ -23,7 +24,7 @@ pub struct Ran {
 
 /// Runs a plan with one worker an engine, numbered from 0, and as many verifiers as the plan wants, numbered on from them; all
 /// work at once. Without verifiers each worker judges its own checks. A `Progress` tells another thread how far the run is.
-pub fn run<R: Threads + Wait + Sync>(
+pub fn run<R: Threads + Wait + Clock + Sync>(
     rt: &R,
     alloc: Global,
     plan: Plan,

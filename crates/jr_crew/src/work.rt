@@ -10,11 +10,12 @@ use crate::held::{Shared, Step};
 use crate::settled::{note_all, settle_all};
 use jr_books::Book;
 use jr_engines::Engine;
-use jr_header::{Served, serve_own};
+use jr_header::{Served, ready_own};
 use jr_model::Ticket;
-use jr_staff::{ChannelEnd, Halt, Naming, make_room, push};
+use jr_staff::{ChannelEnd, Crowd, Halt, Naming, make_room, push};
 use std::alloc::Global;
 use std::sync::Wait;
+use std::time::Clock;
 
 // Where a worker stands: what it shares with all others, whether it judges its own checks, and its number.
 #[derive(Drop)]
@@ -27,7 +28,7 @@ pub struct Post<'a, P: Naming> {
 
 // Carries out tickets until the run has ended, and answers all that this worker completed. Where it can't go on it ends the
 // run for all.
-pub(crate) fn work<P: Naming, R: Wait>(
+pub(crate) fn work<P: Naming, R: Wait + Clock>(
     rt: &R,
     post: &Post<'_, P>,
     channel: &mut ChannelEnd<'_, P>,
@@ -51,7 +52,7 @@ pub struct Load {
     pub book: Book,
 }
 
-fn work_on<P: Naming, R: Wait>(
+fn work_on<P: Naming, R: Wait + Clock>(
     rt: &R,
     post: &Post<'_, P>,
     channel: &mut ChannelEnd<'_, P>,
@@ -79,7 +80,7 @@ fn work_on<P: Naming, R: Wait>(
 // Carries out what a worker took with no lock held, tells the desk all of it at once, and takes what is next. Checks for others are
 // handed over before the worker may wait.
 #[tactic(auto, using(crate::proofs::Worked::worked_on))]
-fn carry_out<P: Naming, R: Wait>(
+fn carry_out<P: Naming, R: Wait + Clock>(
     rt: &R,
     post: &Post<'_, P>,
     channel: &mut ChannelEnd<'_, P>,
@@ -92,16 +93,26 @@ fn carry_out<P: Naming, R: Wait>(
         → IsWork post.now.inline before first load.new.book (state engine.new) (pass_state channel.new.pass)) }
     ensures next { OnOk result (All CanBeServed load.new.tickets.items) }
 {
-    let served = serve_all(post.alloc, engine, &load.tickets, &mut load.buffers)?;
+    let crowd = post.shared.crowd();
+    let served = serve_all(
+        rt,
+        crowd,
+        post.alloc,
+        engine,
+        &load.tickets,
+        &mut load.buffers,
+    )?;
     load.tickets.clear();
     let step = settle(rt, post, &served, load)?;
     part_with(rt, post.inline, channel, served, &mut load.buffers)?;
     Ok(step)
 }
 
-// Asks the engine for each ticket, one after another.
+// Asks the engine for each ticket, one after another. The first call is timed.
 #[tactic(auto, using(crate::proofs::Worked::answered_on))]
-fn serve_all(
+fn serve_all<R: Clock>(
+    rt: &R,
+    crowd: &Crowd,
     alloc: Global,
     engine: &mut dyn Engine,
     tickets: &[Ticket],
@@ -116,13 +127,24 @@ fn serve_all(
             Some(buffer) => buffer,
             None => Vec::new(alloc),
         };
-        push(&mut all, serve(engine, ticket, buffer)?)?;
+        let is_timed = all.is_empty();
+        push(
+            &mut all,
+            serve(rt, crowd, is_timed, engine, ticket, buffer)?,
+        )?;
     }
     Ok(all)
 }
 
 // Asks the engine for one.
-fn serve(engine: &mut dyn Engine, ticket: &Ticket, buffer: Vec<u8>) -> Result<Served, Halt>
+fn serve<R: Clock>(
+    rt: &R,
+    crowd: &Crowd,
+    is_timed: bool,
+    engine: &mut dyn Engine,
+    ticket: &Ticket,
+    buffer: Vec<u8>,
+) -> Result<Served, Halt>
     requires { CanBeServed ticket.now }
     ensures { IfOk result (λ served. IsAnswered (state engine.old) served (state engine.new)) }
 {
@@ -131,11 +153,15 @@ fn serve(engine: &mut dyn Engine, ticket: &Ticket, buffer: Vec<u8>) -> Result<Se
     }
     let mut buffer = buffer;
     make_room(&mut buffer, ticket)?;
-    Ok(serve_own(engine, *ticket, buffer))
+    let ready = ready_own(*ticket, buffer);
+    let begun = if is_timed { crowd.now(rt) } else { None };
+    let served = ready.ask(engine);
+    crowd.note(rt, begun, ticket.piece.len);
+    Ok(served)
 }
 
 // Judges what is judged here, tells the desk, takes what is next, and only then writes into the book: the lock isn't held for it.
-fn settle<P: Naming, R: Wait>(
+fn settle<P: Naming, R: Wait + Clock>(
     rt: &R,
     post: &Post<'_, P>,
     served: &[Served],

@@ -60,6 +60,19 @@ abbrev pub answer_verdict : AnswerParts → Verdict
 answer_verdict answer =
     verdict_of answer.ticket.method answer.ticket.write answer.ticket.piece answer.ticket.expected answer.bytes
 
+-- what an engine is to be asked for: a ticket, and the buffer that it is asked with
+pub record ReadyParts : Type 0 where
+  pub ticket : Ticket
+  pub buffer : List ℕ
+
+-- a ticket that fits, with a buffer of its piece's length, what is known of its bytes, and whether the ticket is known to expect
+-- nothing but what its own write put there
+pub record IsReady (ticket : Ticket) (buffer : List ℕ) (known : Expected) (is_own : Bool) : Type 0 where
+  pub fits : ticket_fits ticket ≡ true
+  pub room : length buffer ≡ ticket.piece.len
+  pub expected : known ≡ served_expected ticket.kind ticket
+  pub own : is_own ≡ true → ExpectsOwn ticket
+
 -- an answer to a ticket that fits, with a buffer of its piece's length, what is known of its bytes, and whether the ticket is known
 -- to expect nothing but what its own write put there
 pub record IsServed (answer : AnswerParts) (known : Expected) (is_own : Bool) : Type 0 where

@@ -16,4 +16,4 @@ mod served;
 pub use buffers::room_for;
 pub use content::fill;
 pub use ruling::{Ruling, rule};
-pub use served::{Served, serve, serve_own};
+pub use served::{Ready, Served, ready_own, serve, serve_own};

@@ -9,7 +9,7 @@ use jr_engines::{Answer, Engine, ask};
 use jr_model::{Expected, Outcome, Ticket, TicketKind};
 use std::marker::Model;
 
-/// A ticket that was carried out. Only `serve` makes it. Contracts see the engine's answer.
+/// A ticket that was carried out. Only `Ready::ask` makes it, and `serve` and `serve_own` by it. Contracts see the engine's answer.
 #[derive(Debug, Drop)]
 pub struct Served {
     answer: Answer,
@@ -94,6 +94,46 @@ fn is_whole_check(kind: TicketKind, outcome: Outcome) -> bool
     }
 }
 
+/// A ticket that is ready to be carried out: its buffer is filled if it is a write's. Who times an engine's calls asks by it.
+#[derive(Debug, Drop)]
+pub struct Ready {
+    ticket: Ticket,
+    buffer: Vec<u8>,
+    expected: Expected,
+    is_own: bool,
+}
+
+impl Model for Ready {
+    ghost use Rattle.jr_header.specs.Served.{IsReady, ReadyParts};
+
+    ghost Value = { ReadyParts };
+
+    ghost view = { λ r. record { ticket = r.ticket; buffer = r.buffer.items } };
+
+    ghost invariant = { λ r. IsReady r.ticket r.buffer.items r.expected r.is_own };
+}
+
+impl Ready {
+    /// Asks the engine once.
+    pub fn ask(self, engine: &mut dyn Engine) -> Served
+        requires { (state engine.old).calls < 2 ^ 64 - 1 }
+        ensures { Answers (state engine.old) self.ticket self.buffer result (state engine.new) }
+    {
+        let Ready {
+            ticket,
+            buffer,
+            expected,
+            is_own,
+        } = self;
+        let answer = ask(engine, ticket, buffer);
+        Served {
+            answer,
+            expected,
+            is_own,
+        }
+    }
+}
+
 /// Carries out a ticket: fills the buffer for a write, and asks the engine once.
 pub fn serve(engine: &mut dyn Engine, ticket: Ticket, buffer: Vec<u8>) -> Served
     requires fits { ticket_fits ticket ≡ true }
@@ -101,7 +141,7 @@ pub fn serve(engine: &mut dyn Engine, ticket: Ticket, buffer: Vec<u8>) -> Served
     requires calls { (state engine.old).calls < 2 ^ 64 - 1 }
     ensures { Answers (state engine.old) ticket (asked_with ticket.kind ticket buffer.items) result (state engine.new) }
 {
-    carry_out(engine, ticket, buffer, false)
+    made_ready(ticket, buffer, false).ask(engine)
 }
 
 /// The same for a ticket whose check expects what its own write put there, as those of a desk do. To judge a good check then takes no
@@ -113,21 +153,32 @@ pub fn serve_own(engine: &mut dyn Engine, ticket: Ticket, buffer: Vec<u8>) -> Se
     requires calls { (state engine.old).calls < 2 ^ 64 - 1 }
     ensures { Answers (state engine.old) ticket (asked_with ticket.kind ticket buffer.items) result (state engine.new) }
 {
-    carry_out(engine, ticket, buffer, true)
+    ready_own(ticket, buffer).ask(engine)
 }
 
-fn carry_out(engine: &mut dyn Engine, ticket: Ticket, buffer: Vec<u8>, is_own: bool) -> Served
+/// What `serve_own` does before it asks the engine: fills the buffer for a write.
+pub fn ready_own(ticket: Ticket, buffer: Vec<u8>) -> Ready
+    requires fits { ticket_fits ticket ≡ true }
+    requires own { ExpectsOwn ticket }
+    requires room { vec_len buffer ≡ ticket.piece.len }
+    ensures ticket { result.ticket ≡ ticket }
+    ensures buffer { result.buffer ≡ asked_with ticket.kind ticket buffer.items }
+{
+    made_ready(ticket, buffer, true)
+}
+
+fn made_ready(ticket: Ticket, buffer: Vec<u8>, is_own: bool) -> Ready
     requires fits { ticket_fits ticket ≡ true }
     requires own { is_own ≡ true → ExpectsOwn ticket }
     requires room { vec_len buffer ≡ ticket.piece.len }
-    requires calls { (state engine.old).calls < 2 ^ 64 - 1 }
-    ensures { Answers (state engine.old) ticket (asked_with ticket.kind ticket buffer.items) result (state engine.new) }
+    ensures ticket { result.ticket ≡ ticket }
+    ensures buffer { result.buffer ≡ asked_with ticket.kind ticket buffer.items }
 {
     let mut buffer = buffer;
     let expected = prepared(&ticket, buffer.as_mut_slice());
-    let answer = ask(engine, ticket, buffer);
-    Served {
-        answer,
+    Ready {
+        ticket,
+        buffer,
         expected,
         is_own,
     }

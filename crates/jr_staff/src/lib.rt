@@ -4,6 +4,7 @@
 
 mod brought;
 mod channels;
+mod crowd;
 mod faults;
 mod halts;
 mod naming;
@@ -15,6 +16,7 @@ mod watch;
 
 pub use brought::{Books, Ended, Judged, Judgements, Judges, Worked, books_of};
 pub use channels::{ChannelEnd, Part};
+pub use crowd::Crowd;
 pub use faults::RunFault;
 pub use halts::Halt;
 pub use naming::Naming;

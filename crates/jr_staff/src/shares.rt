@@ -56,20 +56,20 @@ impl Shares {
         })
     }
 
-    /// The share of a worker that took this ticket: what all clones of its phase have for each worker. If others wait for something to
-    /// do it is what its clone alone has, so that they get the rest.
-    pub fn of(&self, ticket: &Ticket, others_wait: bool) -> u64 {
+    /// The share of a worker that took this ticket, if so many workers rest: what all clones of its phase have for each of the others.
+    /// If others wait for something to do it is what its clone alone has, so that they get the rest.
+    pub fn of(&self, ticket: &Ticket, others_wait: bool, resting: u64) -> u64 {
         let Some(clone) = self.by_clone.get(ticket.write.clone as usize) else {
             return 1;
         };
         match self.by_phase.get(clone.phase) {
-            Some(depths) if !others_wait => self.for_each(*depths),
-            _ => self.for_each(clone.depth),
+            Some(depths) if !others_wait => self.for_each(*depths, resting),
+            _ => self.for_each(clone.depth, resting),
         }
     }
 
-    fn for_each(&self, depth: u64) -> u64 {
-        match depth.checked_div(self.workers) {
+    fn for_each(&self, depth: u64, resting: u64) -> u64 {
+        match depth.checked_div(self.workers.saturating_sub(resting)) {
             Some(share) => share.max(1),
             None => depth,
         }

@@ -1,4 +1,4 @@
-use Rattle.std.proofs.Common.{◌≡◌, ℕ, ◌-◌, List, length, take, drop, sym, ap, ◌∙◌, length-drop}
+use Rattle.std.proofs.Common.{◌≡◌, ℕ, ◌-◌, length, take, drop, sym, ap, ◌∙◌, length-drop}
 use Rattle.std.proofs.lemmas.List.{take_rest, drop_at}
 use Rattle.jr_model.specs.Content.{block_version, data_area, digest_length, digest_of, filler_of, header_back, header_front}
 use Rattle.jr_model.specs.Judgement.{digest_in}

@@ -1,0 +1,18 @@
+// What the program is asked for: the words of the command line, a job text and its plan, and the faults that end the program.
+#![tactic(auto)]
+
+mod faults;
+mod inputs;
+mod jobs;
+mod sizes;
+mod wiping;
+mod words;
+mod workers;
+
+pub use faults::CliFault;
+pub use inputs::{memory_or, read_text, read_trace};
+pub use jobs::{print_plan, read_job, write_out};
+pub use sizes::{BlockSize, list_size};
+pub use wiping::{Wipe, Wiping};
+pub use words::{Choice, VERSION, answer_words, choose};
+pub use workers::workers_of;

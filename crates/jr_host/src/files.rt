@@ -1,0 +1,207 @@
+// The files of a run: taken before it begins, shared by its engines, and settled at its end.
+ghost use Rattle.std.specs.Prelude.{◌≡◌, IfOk};
+
+use crate::remarks::{Remarks, reasons_of};
+use crate::show::Screen;
+use crate::stops::Stop;
+use jr_command::{Choice, CliFault};
+use jr_direct::{Wish, wish_of};
+use jr_faults::Faults;
+use jr_files::{Claims, Directs, FileEngine, FileFault, Reads, Refusal, SharedFile, claim_direct};
+use jr_model::EngineKind;
+use jr_plan::Plan;
+use jr_text::sections;
+use jr_transfer::{Dropper, Launcher};
+use std::alloc::{AllocError, Global};
+use std::fs::{File, Files};
+use std::os::unix::fs::MetadataExt;
+use std::{fs, io};
+
+/// The plan's files, open for this run, and the launcher that takes them out of the system's cache.
+#[derive(Drop)]
+pub struct Taken<'a> {
+    files: FileEngine<SharedFile>,
+    launcher: Launcher<'a>,
+    is_cached: bool,
+    remarks: Remarks,
+}
+
+/// What the jobs say of the I/O to each file of their plan; nothing where none of it may go past the system's cache.
+pub fn wishes(
+    alloc: Global,
+    text: &[u8],
+    choice: &Choice<'_>,
+    plan: &Plan,
+) -> Result<Vec<Wish>, AllocError> {
+    let mut wishes = Vec::new(alloc);
+    if plan.engine() != EngineKind::File || choice.cached {
+        return Ok(wishes);
+    }
+    // (a text that makes a plan has sections, unless memory is wanting)
+    let Ok(sections) = sections(alloc, text) else {
+        return Err(AllocError);
+    };
+    for file in 0..plan.files().len() {
+        wishes.push(wish_of(sections.as_slice(), choice.section, plan, file))?;
+    }
+    Ok(wishes)
+}
+
+/// Takes the plan's files. Where checks are to read the device, a launcher drops what the system keeps of them, or has the I/O of those
+/// whose jobs say so go past its cache.
+pub fn take_files<'a, R: Files<File = File> + AllocGlobal + Screen>(
+    rt: &R,
+    plan: &Plan,
+    choice: &Choice<'a>,
+    wishes: &[Wish],
+) -> Result<Taken<'a>, Stop> {
+    let pipes = if choice.cached {
+        None
+    } else {
+        choice.drop_pipes
+    };
+    let Ok(launcher) = Launcher::new(rt.alloc(), pipes) else {
+        return Err(Stop::from(CliFault::Memory));
+    };
+    let files = match claimed(rt, plan, choice, wishes, &launcher) {
+        Ok(files) => files,
+        Err(refusal) => return Err(Stop::files(refusal)),
+    };
+    let has_notes = choice.notes || rt.is_shown();
+    if has_notes {
+        tell_cached(rt, plan, wishes, &files);
+    }
+    Ok(Taken {
+        files,
+        launcher,
+        is_cached: choice.cached,
+        remarks: Remarks::new(rt, plan, choice)?,
+    })
+}
+
+// Claims the plan's files, and asks the launcher for those that are to go past the cache.
+fn claimed<R: Files<File = File> + AllocGlobal>(
+    rt: &R,
+    plan: &Plan,
+    choice: &Choice<'_>,
+    wishes: &[Wish],
+    launcher: &Launcher<'_>,
+) -> Result<FileEngine<SharedFile>, Refusal> {
+    let claims = Claims {
+        reads: if choice.cached {
+            Reads::Cached
+        } else {
+            Reads::Synced
+        },
+        devices_in_use: choice.allow_mounted_write,
+    };
+    let mut wanted = Vec::new(rt.alloc());
+    for wish in wishes {
+        wanted.push(*wish == Wish::Direct)?;
+    }
+    // (no engine asks yet by the first pair of pipes)
+    let asked = if wanted.iter().any(|it| *it) {
+        launcher.dropper(rt, rt.alloc(), 0)?
+    } else {
+        None
+    };
+    claim_wanted(rt, plan, claims, wanted.as_slice(), asked.as_deref())
+}
+
+// Claims the plan's files, of which these are to go past the cache; this asks for it.
+fn claim_wanted<'x, R: Files<File = File> + AllocGlobal>(
+    rt: &R,
+    plan: &Plan,
+    claims: Claims,
+    wanted: &'x [bool],
+    asked: Option<&'x Dropper>,
+) -> Result<FileEngine<SharedFile>, Refusal> {
+    let directs = Directs { wanted, asked };
+    claim_direct(rt, rt.alloc(), plan, claims, directs)
+}
+
+// Says of which files the I/O goes through the system's cache, though a job says direct=1.
+fn tell_cached<R: Eprint>(rt: &R, plan: &Plan, wishes: &[Wish], files: &FileEngine<SharedFile>) {
+    for (index, spec) in plan.files().iter().enumerate() {
+        let why = match wishes.get(index) {
+            Some(Wish::Mixed) => "its jobs disagree on direct",
+            Some(Wish::Direct) if !files.is_direct(index) => {
+                "direct=1 needs bin/fiorun, with perl, and a system that lets it"
+            }
+            _ => continue,
+        };
+        let name = spec.name();
+        let _ = eprintln!(rt; "fiorun: note: {name} goes through the system's cache: {why}");
+    }
+}
+
+impl<'a> Taken<'a> {
+    /// The engine of the worker of this number over these files.
+    pub fn engine<R: Files<File = File> + AllocGlobal>(
+        &self,
+        rt: &R,
+        place: usize,
+    ) -> Result<FileEngine<SharedFile>, CliFault>
+        ensures { IfOk result (λ engine. engine.calls ≡ 0) }
+    {
+        let alloc = rt.alloc();
+        let Ok(dropper) = self.launcher.dropper(rt, alloc, place) else {
+            return Err(CliFault::Memory);
+        };
+        match self.files.share_with(alloc, dropper) {
+            Ok(engine) => Ok(engine),
+            Err(_) => Err(CliFault::Memory),
+        }
+    }
+
+    /// Has the system store and drop what it keeps of the files from before the run, by this engine of theirs.
+    pub fn begin<R: Eprint>(&self, rt: &R, engine: &FileEngine<SharedFile>) {
+        if self.is_cached {
+            return;
+        }
+        // (what was lost before the run isn't the run's)
+        if let Err(failed) = engine.begin() {
+            self.remarks.tell_unsynced(rt, &failed);
+        }
+    }
+
+    /// Tells the faults of a run that has ended, and has all that it wrote synced. Why the system refused each of the first faults is
+    /// answered, where that is known.
+    pub fn settled<R: Eprint + AllocGlobal>(
+        &self,
+        rt: &R,
+        faults: &Faults,
+    ) -> Result<Vec<Option<String>>, Stop> {
+        self.remarks.faults(rt, &self.files, faults);
+        self.remarks.undropped(rt, self.launcher.has_failed());
+        let Ok(reasons) = reasons_of(rt.alloc(), &self.files, faults) else {
+            return Err(Stop::from(CliFault::Memory));
+        };
+        match self.files.settle() {
+            Ok(()) => Ok(reasons),
+            Err(failed) => Err(self.remarks.unsettled(rt.alloc(), &failed)),
+        }
+    }
+}
+
+/// Whether a file of this path would be written over the job file, or over a file of the plan.
+pub fn is_taken<R: Files>(rt: &R, path: &str, job: Option<&str>, plan: &Plan) -> bool {
+    job.is_some_and(|job| is_one(rt, path, job))
+        || plan
+            .files()
+            .iter()
+            .any(|file| leads_to(rt, path, file.name()))
+}
+
+/// Whether two paths are equal, or lead to one file that is there.
+pub fn leads_to<R: Files>(rt: &R, one: &str, other: &str) -> bool {
+    one == other || is_one(rt, one, other)
+}
+
+// Whether two paths lead to one file that is there.
+fn is_one<R: Files>(rt: &R, one: &str, other: &str) -> bool {
+    match (fs::metadata(rt, one), fs::metadata(rt, other)) {
+        (Ok(one), Ok(other)) => one.dev() == other.dev() && one.ino() == other.ino(),
+        _ => false,
+    }
+}

@@ -1,0 +1,16 @@
+// What a run has of the machine around it: its files, taken before it begins and settled at its end; what is asked of it while it goes on,
+// and what the screen shows of it; and what is said of faults. Nothing is proved of that but that it is safe and ends.
+#![tactic(auto)]
+
+mod asked;
+mod files;
+mod machine;
+mod remarks;
+mod show;
+mod stops;
+
+pub use asked::{Asked, asked_by};
+pub use files::{Taken, is_taken, leads_to, take_files, wishes};
+pub use machine::Machine;
+pub use show::{Extent, Meter, Pace, Screen, Wiper, shown};
+pub use stops::{Stop, tell_all};
