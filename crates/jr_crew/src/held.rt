@@ -245,7 +245,8 @@ impl<'p, P: Naming> Shared<'p, P> {
         ensures next { OnOk result (All CanBeServed tickets.new.items) }
         ensures memory { IfErr result (λ halt. halt ≡ Halt.Memory) }
     {
-        let mut held = self.enter(rt);
+        let held = self.enter(rt);
+        let mut held = self.make_way(rt, held);
         for _ in rt.forever() {
             match self.share(&mut held, worker, tickets)? {
                 Step::Wait => held = self.pause(rt, held),
@@ -273,7 +274,7 @@ impl<'p, P: Naming> Shared<'p, P> {
         self.sleep(rt, held)
     }
 
-    // Rests where the workers are too many. Where they aren't, those that rest are woken: they may be of use.
+    // Rests where the workers are too many.
     fn make_way<'a, R: Wait + Clock>(
         &self,
         rt: &R,
@@ -281,9 +282,6 @@ impl<'p, P: Naming> Shared<'p, P> {
     ) -> MutexGuard<'a, Held<P>> {
         if self.is_crowded(&held) {
             return self.rest(rt, held);
-        }
-        if held.resting > 0 && !self.crowd.is_quick() {
-            self.rested.notify_all();
         }
         held
     }
@@ -312,9 +310,9 @@ impl<'p, P: Naming> Shared<'p, P> {
         held
     }
 
-    // Takes in how a worker's tickets ended, in their order, and takes what is next for the worker. The lock is taken once for all of
-    // it, and nothing is waited for, but that the worker may rest in between.
-    pub fn hand_in<'a, R: Wait + Clock>(
+    // Takes in how a worker's tickets ended, in their order, and takes what is next for the worker, unless the workers are too many. The
+    // lock is taken once for all of it, and nothing is waited for.
+    pub fn hand_in<'a, R: Wait>(
         &self,
         rt: &R,
         worker: u32,
@@ -333,11 +331,13 @@ impl<'p, P: Naming> Shared<'p, P> {
             note_said(&self.watch, &said);
             push(told, said)?;
         }
-        let mut held = self.make_way(rt, held);
+        if self.is_crowded(&held) {
+            return Ok(Step::Wait);
+        }
         self.share(&mut held, worker, tickets)
     }
 
-    // Takes a worker's share of what may be started. Where the run has ended all are told.
+    // Takes a worker's share of what may be started. Where the run has ended all are told; and those that rest where they may be of use.
     fn share(
         &self,
         held: &mut Held<P>,
@@ -348,6 +348,9 @@ impl<'p, P: Naming> Shared<'p, P> {
         ensures next { OnOk result (All CanBeServed tickets.new.items) }
         ensures memory { IfErr result (λ halt. halt ≡ Halt.Memory) }
     {
+        if held.resting > 0 && !self.crowd.is_quick() {
+            self.rested.notify_all();
+        }
         let step = self.take_share(held, worker, tickets)?;
         if let Step::End = step {
             self.wake_all();

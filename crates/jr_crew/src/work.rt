@@ -161,7 +161,7 @@ fn serve<R: Clock>(
 }
 
 // Judges what is judged here, tells the desk, takes what is next, and only then writes into the book: the lock isn't held for it.
-fn settle<P: Naming, R: Wait + Clock>(
+fn settle<P: Naming, R: Wait>(
     rt: &R,
     post: &Post<'_, P>,
     served: &[Served],
