@@ -9,6 +9,7 @@ use std::sync::atomic::{AtomicU64, Ordering};
 use std::sync::{Arc, Wait};
 use std::test::Fail;
 use std::thread::Threads;
+use std::time::Clock;
 
 // An engine of zeros that counts where it is dropped.
 struct Counted {
@@ -84,7 +85,7 @@ fn engines_for(
 }
 
 // How many engines were dropped when the run had answered, and what it answered: no fault where each is dropped with its answer.
-fn dropped_by<R: Threads + Wait + Sync>(
+fn dropped_by<R: Threads + Wait + Clock + Sync>(
     rt: &R,
     alloc: Global,
     workers: u64,

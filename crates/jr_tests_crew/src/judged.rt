@@ -11,9 +11,10 @@ use std::process::Abort;
 use std::sync::Wait;
 use std::test::Fail;
 use std::thread::Threads;
+use std::time::Clock;
 
 // What a run of one clone counts, and its first bad verdict.
-fn ran_once<R: Threads + Wait + Sync>(
+fn ran_once<R: Threads + Wait + Clock + Sync>(
     rt: &R,
     alloc: Global,
     plan: Plan,
@@ -29,7 +30,7 @@ fn ran_once<R: Threads + Wait + Sync>(
 }
 
 // Four writes of 4096 bytes with md5 and headers at this interval, of which the third check reads a byte that was inverted on the way.
-fn flipped<R: Threads + Wait + Sync>(
+fn flipped<R: Threads + Wait + Clock + Sync>(
     rt: &R,
     alloc: Global,
     verifiers: u32,
@@ -88,7 +89,7 @@ fn a_byte_that_was_inverted_is_found_whoever_judges(rt: HostRuntime) -> Result<(
 }
 
 // One write of a pattern of ones, over one engine that keeps nothing.
-fn unkept<R: Threads + Wait + Sync>(
+fn unkept<R: Threads + Wait + Clock + Sync>(
     rt: &R,
     alloc: Global,
     verifiers: u32,

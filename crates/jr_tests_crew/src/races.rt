@@ -12,6 +12,7 @@ use std::process::Abort;
 use std::sync::Wait;
 use std::test::Fail;
 use std::thread::Threads;
+use std::time::Clock;
 
 // One read of 4096 bytes.
 const READ: Totals = Totals {
@@ -55,7 +56,7 @@ fn totals_of_two(desk: &Desk) -> Result<[Totals; 2], Fail> {
 }
 
 // Are these the totals of two clones, over engines of zeros where both are in flight at once? Nothing is said to be bad meanwhile.
-fn assert_raced<R: Abort + Threads + Wait + Sync>(
+fn assert_raced<R: Abort + Threads + Wait + Clock + Sync>(
     rt: &R,
     alloc: Global,
     first: &Workload,

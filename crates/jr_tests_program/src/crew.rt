@@ -6,6 +6,7 @@ use std::process::Abort;
 use std::sync::Wait;
 use std::test::Fail;
 use std::thread::Threads;
+use std::time::Clock;
 
 const FLIPPED: &str = "[w]\nioengine=memory\nrw=write\nsize=16k\nverify=md5\n";
 
@@ -13,7 +14,7 @@ const FLIPPED_REPORT: &str =
     "w: clone=0 reads=0 rbytes=0 writes=4 wbytes=16384 checks=4 good=3 bad=1 skipped=0 void=0 faults=0\nmiscompare: clone=0 pass=0 number=2 file=w.0.0 offset=8192 length=4096 what=data\n";
 
 // What a run of the job text over one engine prints whose call of this number has a reply of its own, and its status.
-pub(crate) fn answered_to_a_crew<R: AllocGlobal + Threads + Wait + Sync>(
+pub(crate) fn answered_to_a_crew<R: AllocGlobal + Threads + Wait + Clock + Sync>(
     rt: &R,
     text: &str,
     call: u64,

@@ -8,6 +8,7 @@ use std::process::Abort;
 use std::sync::Wait;
 use std::test::Fail;
 use std::thread::Threads;
+use std::time::Clock;
 
 // A job that writes four blocks and checks them, and one that reads and checks them when that is done, each with further options. Its
 // calls 0 to 3 are writes, 4 to 7 checks, and 8 to 11 reads.
@@ -22,7 +23,7 @@ const WROTE: &str =
 
 // Is this what a run says of what it read, by one worker alone and by a crew, where a byte of the reply to call 9 is the other way
 // round, if one is to be?
-fn assert_read<R: AllocGlobal + Abort + Threads + Wait + Sync>(
+fn assert_read<R: AllocGlobal + Abort + Threads + Wait + Clock + Sync>(
     rt: &R,
     text: &str,
     flipped: Option<u32>,
@@ -44,7 +45,7 @@ fn reply_of(flipped: Option<u32>) -> Reply {
 }
 
 // The same of both jobs, where these are the lines of the second.
-fn assert_read_back<R: AllocGlobal + Abort + Threads + Wait + Sync>(
+fn assert_read_back<R: AllocGlobal + Abort + Threads + Wait + Clock + Sync>(
     rt: &R,
     in_a: &str,
     in_b: &str,
