@@ -119,8 +119,9 @@ fn run_manned<'a, P: Naming + Send + Sync, R: Threads + Wait + Clock + Sync>(
 {
     let inline = judges_inline(&plan);
     let shares = Shares::new(alloc, &plan, workers.len())?;
-    let crowd = Crowd::new(rt, workers.len());
-    let shared = Shared::<P>::new(Desk::new(alloc, plan)?, shares, crowd, watch);
+    let count = workers.len();
+    let crowd = Crowd::new(rt, count);
+    let shared = Shared::<P>::new(Desk::new(alloc, plan)?, count, shares, crowd, watch);
     let brought = man(rt, &shared, alloc, inline, workers, verifiers);
     let (desk, halt) = shared.into_parts();
     if let Some(halt) = halt {

@@ -22,12 +22,14 @@ use std::thread;
 use std::time::{Clock, Duration};
 
 // What lies under the lock: the desk of that plan, why the run was ended before its time, if it was, how many I/Os and checks workers
-// have in hand, how many workers wait for some, and how many rest. One that waits may have been called and not have come yet.
+// have in hand, how many workers haven't begun, how many wait for something to do, and how many rest. One that waits may have been called
+// and not have come yet.
 #[derive(Drop)]
 pub struct Held<P: Naming> {
     desk: Desk,
     halt: Option<Halt>,
     in_hand: u64,
+    absent: u64,
     waiting: u64,
     resting: u64,
     is_called: bool,
@@ -106,6 +108,7 @@ impl<P: Naming> Held<P> {
             desk,
             halt,
             in_hand: _,
+            absent: _,
             waiting: _,
             resting: _,
             is_called: _,
@@ -164,13 +167,20 @@ pub struct Shared<'p, P: Naming> {
 }
 
 impl<'p, P: Naming> Shared<'p, P> {
-    pub fn new(desk: Desk, shares: Shares, crowd: Crowd, watch: Watch<'p>) -> Shared<'p, P>
+    pub fn new(
+        desk: Desk,
+        workers: usize,
+        shares: Shares,
+        crowd: Crowd,
+        watch: Watch<'p>,
+    ) -> Shared<'p, P>
         requires { desk.plan ≡ P.plan }
     {
         let held = Held {
             desk,
             halt: None,
             in_hand: 0,
+            absent: workers as u64,
             waiting: 0,
             resting: 0,
             is_called: false,
@@ -256,10 +266,16 @@ impl<'p, P: Naming> Shared<'p, P> {
         unreachable!()
     }
 
+    // Counts a worker that begins. Where no thread can be started, each begins when the one before it has ended.
+    pub fn begin<R: Wait>(&self, rt: &R) {
+        let mut held = self.enter(rt);
+        held.absent = held.absent.saturating_sub(1);
+    }
+
     // Whether more workers are at work than are of use.
     fn is_crowded(&self, held: &Held<P>) -> bool {
         let idle = held.waiting.saturating_add(held.resting);
-        self.crowd.is_too_large(idle)
+        self.crowd.is_too_large(held.absent.saturating_add(idle))
     }
 
     // Does nothing for a while: the others take what may be started where they are enough for it.

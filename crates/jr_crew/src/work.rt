@@ -37,6 +37,7 @@ pub(crate) fn work<P: Naming, R: Wait + Clock>(
     ensures { IfOk result (λ book. IsWork post.now.inline (state engine.old) (pass_state channel.old.pass) book
         (state engine.new) (pass_state channel.new.pass)) }
 {
+    post.shared.begin(rt);
     let book = work_on(rt, post, channel, engine);
     if let Err(halt) = &book {
         post.shared.stop(rt, *halt);
