@@ -437,8 +437,8 @@ PAGE = {
 
 
 def main():
-    # (so that a first build isn't timed)
-    subprocess.run([PROGRAM, "--help"], stdout=subprocess.DEVNULL, check=True)
+    # (so that a first build isn't timed; help alone would begin none)
+    subprocess.run([PROGRAM, "--parse-only"], input=b"[a]\nsize=4k\n", stdout=subprocess.DEVNULL, check=True)
     memory = int(found("/proc/meminfo", r"MemTotal:\s*(\d+)") or 0) >> 20
     model = found("/proc/cpuinfo", r"model name\s*:\s*(.*)") or platform.machine()
     print("# Speed\n\nMade by `bench/run.py`, and not by hand.\n")

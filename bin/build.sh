@@ -1,12 +1,13 @@
 # shellcheck shell=bash disable=SC2154
-# Read by bin/fiorun and bin/install, which set `top`, the top of the repository: is the program built, and its build.
+# Read by bin/fiorun, bin/install and bench/floor, which set `top`, the top of the repository: is the program built, and its build.
 out=$top/crates/fiorun/out
 program=$out/fiorun
+# What crates stand on: of each library that is built its folder, a stamp as it was made, and its log.
+built=$out/built
+makefile=$out/build.mk
 # Made as a build begins, and renamed when it has ended well: so an interrupted build is seen, and an edit during one.
 begun=$out/build.begun
 ended=$out/build.ended
-lanes=$out/lanes
-makefile=$out/build.mk
 # A line for each crate whose build was begun.
 started=$out/build.started
 
@@ -47,10 +48,10 @@ build_crates() {
   fi
   what="build"
   [ -e "$program" ] || what="first build"
-  mkdir -p "$lanes"
+  mkdir -p "$built"
   touch "$begun"
   : >"$started"
-  end_lanes
+  rm -f "$built"/*.busy
   write_makefile >"$makefile"
   total=$(make -n -C "$top" -f "$makefile" | grep -c make_crate)
   export top what total
@@ -62,7 +63,6 @@ build_crates() {
   trap 'kill -- "-$run" 2>/dev/null; wait; exit 130' INT TERM HUP
   wait "$run" || return 1
   trap - INT TERM HUP
-  rmdir "$lanes"
   say "$what: done in $((($(seconds) + 30) / 60)) min"
   mv "$begun" "$ended"
 }
@@ -70,34 +70,36 @@ build_crates() {
 # How long the build has been running.
 seconds() { printf '%s' $(($(date +%s) - $(stat -c %Y "$begun"))); }
 
-# A target for each crate: the stamp of its library. It is made again where one below it was, or where a source is newer. (What the times
-# say counts for the order; rt itself decides by what the files hold.)
+# A target for each crate: the stamp of its library, or the program. It is made again where one below it was, or where a source is newer.
 write_makefile() {
-  local all name dep stamp
+  local name dep stamp
   read_crates
   order=()
   visit fiorun
-  all=("${order[@]}")
   # (what a target had before is kept where its build is interrupted)
   printf 'SHELL := bash\n.DEFAULT_GOAL := fiorun\n.PHONY: fiorun newer\n.PRECIOUS: %%\n'
-  for name in "${all[@]}"; do
+  for name in "${order[@]}"; do
     stamp=$(stamp_of "$name")
     printf '%s:' "$stamp"
-    for dep in ${below[$name]}; do
-      [ -z "${below[$dep]+here}" ] || printf ' %s' "$(stamp_of "$dep")"
-    done
-    [ -z "$(find "$top/crates/$name"/{src,specs,proofs} -newer "$top/$stamp" -print -quit 2>/dev/null)" ] || printf ' newer'
-    order=()
-    visit "$name"
+    for dep in $(own_below "$name"); do printf ' %s' "$(stamp_of "$dep")"; done
+    is_made "$name" || printf ' newer'
     # shellcheck disable=SC2016
-    printf '\n\t@. "$$top/bin/build.sh" && make_crate %s\n' "${order[*]}"
+    printf '\n\t@. "$$top/bin/build.sh" && make_crate %s\n' "$name"
   done
 }
 
-stamp_of() { if [ "$1" = fiorun ]; then printf 'fiorun'; else printf 'crates/%s/out/rlib/stamp' "$1"; fi; }
+stamp_of() { if [ "$1" = fiorun ]; then printf 'fiorun'; else printf '%s/%s.made' "${built#"$top/"}" "$1"; fi; }
 
-# How many processes a crate's proof gets that is made beside so many others: as many as there are processors for it, and memory of some
-# 3 GB each, but at least one. Each of them first reads all libraries, which takes some 10 s.
+# Was the crate's library made of the sources that are there, over what crates.txt says?
+is_made() {
+  local stamp
+  stamp=$top/$(stamp_of "$1")
+  [ "$(cat "$stamp" 2>/dev/null)" = "${below[$1]}" ] &&
+    [ -z "$(find "$top/crates/$1"/{src,specs,proofs} -newer "$stamp" -print -quit 2>/dev/null)" ]
+}
+
+# How many processes the proof of a crate gets that is made beside so many others: as many as there are processors for it, and memory of
+# some 3 GB each, but at least one.
 provers() {
   local beside=$1 free=0
   free=$(sed -n 's/^MemAvailable: *\([0-9]*\) kB/\1/p' /proc/meminfo 2>/dev/null || true)
@@ -108,23 +110,24 @@ provers() {
   printf '%s' "$free"
 }
 
-# Proves and builds a crate, the last of these, over those that it stands on and over what earlier runs have kept. Make calls it. Where it
-# fails, it says what was said.
+# Proves and builds a crate over the libraries that are built. Make calls it. Where it fails, it says what was said.
 make_crate() {
-  local name=${!#} log jobs status=0
+  local name=$1 log=$built/$1.log stamp jobs status=0
   unset MAKEFLAGS MAKELEVEL
-  log=$out/build.$name.log
+  read_crates
   printf '%s\n' "$name" >>"$started"
   say "$what: proving $name ($(grep -nxF "$name" "$started" | cut -d: -f1) of $total), $(($(seconds) / 60)) min"
-  [ "$name" = fiorun ] || lay_lane "$@"
-  jobs=$(provers "$(find "$lanes" -mindepth 1 -maxdepth 1 ! -name "$name" | wc -l)")
+  jobs=$(provers "$(find "$built" -name '*.busy' | wc -l)")
+  touch "$built/$name.busy"
   if [ "$name" = fiorun ]; then
-    (cd "$top/crates/fiorun" && rt run --jobs "$jobs" -- --help) </dev/null >"$log" 2>&1 || status=1
+    prove_program fiorun "${below[fiorun]}" "$top/crates/fiorun" "$program" "$jobs" >"$log" 2>&1 || status=1
   else
-    (cd "$lanes/$name/crates/$name" && rt lib --jobs "$jobs") </dev/null >"$log" 2>&1 || status=1
-    end_lane "$name"
-    [ "$status" -ne 0 ] || touch "$top/$(stamp_of "$name")"
+    stamp=$(date +%s.%N)
+    prove_library "$name" "$jobs" >"$log" 2>&1 || status=1
+    # (as old as its sources were when they were read)
+    [ "$status" -ne 0 ] || { printf '%s\n' "${below[$name]}" >"$built/$name.made" && touch -d "@$stamp" "$built/$name.made"; }
   fi
+  rm -f "$built/$name.busy"
   [ "$status" -eq 0 ] || {
     say "$name was not built; the end of $log:"
     tail -n 30 "$log" >&2
@@ -132,39 +135,34 @@ make_crate() {
   return $status
 }
 
-# A crate's lane is a folder for its build: links to all sources and to the libraries below it, and what it has kept itself. For rt
-# lets nothing else into the folders of a crate, and of those below it, while it builds one.
-lay_lane() {
-  local made=${!#} lane folder name part
-  lane=$lanes/$made
-  mkdir -p "$lane/crates"
-  cp -l "$top/crates.txt" "$top/HANDLES" "$lane"
-  for folder in "$top"/crates/*; do
-    name=${folder##*/}
-    mkdir "$lane/crates/$name"
-    for part in src specs proofs; do
-      [ ! -d "$folder/$part" ] || cp -rl "$folder/$part" "$lane/crates/$name"
-    done
-  done
-  for name in "${@:1:$#-1}"; do
-    mkdir "$lane/crates/$name/out"
-    cp -rl "$top/crates/$name/out/rlib" "$lane/crates/$name/out"
-  done
-  [ ! -d "$top/crates/$made/out" ] || mv "$top/crates/$made/out" "$lane/crates/$made"
+# Proves a crate of the repository, and makes the library that crates above it read: its statements, as the gate does, so that they needn't
+# load its proofs. (`rt lib` keeps all proofs for the next check, which takes twice as long.)
+prove_library() {
+  rattle_of "$1" "${below[$1]}"
+  (cd "$top/crates/$1" && "${rattle[@]}" src/lib.rt --jobs "$2" --statements -o "$built/$1.rlib")
 }
 
-# Gives the crate what was made in its lane.
-end_lane() {
-  local made=$lanes/$1/crates/$1/out
-  [ ! -d "$made" ] || mv "$made" "$top/crates/$1"
-  rm -rf "${lanes:?}/$1"
+# Proves the program of this name over these libraries, whose sources are below this folder, and builds it there.
+prove_program() {
+  local name=$1 folder=$3 to=$4 jobs=$5
+  rattle_of "$name" "$2"
+  (cd "$folder" && "${rattle[@]}" src/main.rt --jobs "$jobs" --toolchain "$kit/toolchain" --backend llvm -o "$to.o") &&
+    "$kit/bin/rattle-link" --target x86_64-unknown-linux-gnu --toolchain "$kit/toolchain" -o "$to" "$to.o" "$kit"/c/lib{os,libc}_c.a
 }
 
-# Ends the lanes of a build that was interrupted.
-end_lanes() {
-  local lane
-  for lane in "$lanes"/*; do
-    [ ! -d "$lane" ] || end_lane "${lane##*/}"
+# The words that prove a crate of this name over these libraries: those of the repository that are built, and the kit's.
+rattle_of() {
+  local dep
+  kit=$(readlink -f "$(command -v rt)")
+  kit=${kit%/bin/rt}
+  rattle=("$kit/bin/rattle" build --crate-name "$1" -L "dependency=$kit/rlibs" -L "dependency=$built" --links "$1="
+    --antt-project "$kit/rattle/logic/antt-project.json" --logic-built "$kit/logic_built" --extern "std=$kit/rlibs/std.rlib")
+  for dep in $2; do
+    if [ -n "${below[$dep]+here}" ]; then
+      rattle+=(--extern "$dep=$built/$dep.rlib")
+    else
+      rattle+=(--extern "$dep=$kit/rlibs/$dep.rlib")
+    fi
   done
 }
 
@@ -174,15 +172,22 @@ read_crates() {
   local left right
   while IFS=: read -r left right; do
     left=${left%%#*}
-    [ -z "${left// /}" ] || below[${left%% *}]=$right
+    [ -z "${left// /}" ] || below[${left%% *}]=${right# }
   done <"$top/crates.txt"
+}
+
+# The crates of the repository that this one names.
+own_below() {
+  local dep
+  for dep in ${below[$1]}; do
+    [ -z "${below[$dep]+here}" ] || printf '%s ' "$dep"
+  done
 }
 
 # Puts a crate of the repository behind those that it stands on.
 visit() {
   local dep
-  [ -n "${below[$1]+here}" ] || return 0
   case " ${order[*]} " in *" $1 "*) return 0 ;; esac
-  for dep in ${below[$1]}; do visit "$dep"; done
+  for dep in $(own_below "$1"); do visit "$dep"; done
   order+=("$1")
 }

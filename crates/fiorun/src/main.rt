@@ -4,18 +4,16 @@
 use jr_cli::{print_check, print_part};
 use jr_command::{
     Choice, CliFault, answer_words, choose, memory_or, print_plan, read_job, read_text, read_trace,
-    workers_of,
 };
 use jr_engines::Engine;
 use jr_host::{Machine, Screen, Stop, tell_all, wishes};
 use jr_notes::{job_notes, plan_notes};
 use jr_plan::Plan;
 use places::Wanted;
-use running::{Ran, SharedRun, Turn, add, boxed, run_memory, run_plan, shares};
+use running::{Ran, SharedRun, Turn, add, boxed, run_memory, run_plan, shares, to_output};
 use std::alloc::Global;
 use std::env::Env;
 use std::fs::{File, Files};
-use std::io::{BufWriter, Write};
 use std::process::ExitCode;
 use std::{env, fs, io};
 
@@ -100,53 +98,78 @@ fn perform<R: Files<File = File> + Input + Print + Machine>(
 ) -> Result<Turn, Stop> {
     let text = job_text(rt, choice.job)?;
     let plan = job_plan(rt.alloc(), text.as_slice(), choice.section, has_notes)?;
-    if has_notes && let Ok(notes) = plan_notes(rt.alloc(), text.as_slice(), choice.section) {
-        tell_all(rt, notes.as_slice());
+    if has_notes {
+        tell_notes(rt, text.as_slice(), choice.section);
+    }
+    if choice.parse_only || choice.check_trace.is_some() {
+        show(rt, choice, &plan)?;
+        return Ok(Turn::Ended(0));
     }
     carry_out(rt, choice, text.as_slice(), plan)
 }
 
-// Prints the plan, checks a trace of it or runs it, as the words say.
+// Says what is worth knowing of a job text that makes a plan.
+fn tell_notes<R: Eprint + AllocGlobal>(rt: &R, text: &[u8], section: Option<&str>) {
+    if let Ok(notes) = plan_notes(rt.alloc(), text, section) {
+        tell_all(rt, notes.as_slice());
+    }
+}
+
+// Runs the plan of this job text.
 fn carry_out<R: Files<File = File> + Print + Machine>(
     rt: &R,
     choice: &Choice<'_>,
     text: &[u8],
     plan: Plan,
 ) -> Result<Turn, Stop> {
-    let Ok(mut out) = BufWriter::new(rt.alloc(), io::writer(rt)) else {
-        return Err(Stop::from(CliFault::Memory));
-    };
-    if choice.parse_only {
-        print_plan(rt.alloc(), &plan, &mut out)?;
-        return Ok(Turn::Ended(0));
-    }
-    if let Some(path) = choice.check_trace {
-        check_trace(rt, choice, path, &plan, &mut out)?;
-        return Ok(Turn::Ended(0));
-    }
-    let workers = workers_of(&plan, choice.workers);
     let Ok(wishes) = wishes(rt.alloc(), text, choice, &plan) else {
         return Err(Stop::from(CliFault::Memory));
     };
-    run_plan(rt, choice, wishes.as_slice(), plan, workers, &mut out)
+    run_plan(rt, choice, wishes.as_slice(), plan)
+}
+
+// Prints the plan, or checks a trace of it, as the words say.
+fn show<R: Files + Print + Screen + AllocGlobal>(
+    rt: &R,
+    choice: &Choice<'_>,
+    plan: &Plan,
+) -> Result<(), Stop> {
+    match choice.check_trace {
+        Some(path) if !choice.parse_only => check_trace(rt, choice, path, plan),
+        _ => {
+            let mut out = to_output(rt)?;
+            print_plan(rt.alloc(), plan, &mut out)?;
+            Ok(())
+        }
+    }
 }
 
 // Checks a trace of the plan, and tells of its run what is wanted beside the totals.
-fn check_trace<R: Files + Screen + AllocGlobal, V: Write>(
+fn check_trace<R: Files + Print + Screen + AllocGlobal>(
     rt: &R,
     choice: &Choice<'_>,
     path: &str,
     plan: &Plan,
-    out: &mut V,
 ) -> Result<(), Stop> {
     let wanted = Wanted::of(rt, choice, plan)?;
     let events = trace_text(rt, path)?;
-    if choice.interrupted {
-        print_part(rt.alloc(), plan, events.as_slice(), out)?;
-    } else {
-        print_check(rt.alloc(), plan, events.as_slice(), out)?;
-    }
+    print_totals(rt, choice.interrupted, plan, events.as_slice())?;
     wanted.tell_trace(rt, plan, events.as_slice())
+}
+
+// Prints the totals of a trace, which may be that of a run that was stopped if so many words say so.
+fn print_totals<R: Print + AllocGlobal>(
+    rt: &R,
+    is_part: bool,
+    plan: &Plan,
+    events: &[u8],
+) -> Result<(), CliFault> {
+    let mut out = to_output(rt)?;
+    if is_part {
+        print_part(rt.alloc(), plan, events, &mut out)
+    } else {
+        print_check(rt.alloc(), plan, events, &mut out)
+    }
 }
 
 // The plan of a job text, or its fault, with what is worth knowing of it where notes are wanted.

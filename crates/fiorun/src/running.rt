@@ -3,7 +3,7 @@ ghost use Rattle.std.specs.Prelude.{◌≤◌, ◌^◌};
 
 use crate::places::Wanted;
 use jr_cli::{Ended, execute, execute_serial};
-use jr_command::{Choice, CliFault, Wiping};
+use jr_command::{Choice, CliFault, Wiping, workers_of};
 use jr_direct::Wish;
 use jr_engines::{Engine, MemoryEngine, NullEngine, SharedMemory};
 use jr_files::{FileEngine, SharedFile};
@@ -14,7 +14,7 @@ use jr_model::EngineKind;
 use jr_plan::Plan;
 use std::alloc::Global;
 use std::fs::{File, Files};
-use std::io::BufWriter;
+use std::io::{BufWriter, Printer};
 use std::sync::{Arc, Wait};
 use std::{fs, io};
 
@@ -71,17 +71,23 @@ fn trace_file<R: Files + AllocGlobal>(
     }
 }
 
+// Where reports and what else standard output gets goes.
+pub fn to_output<P: Print + AllocGlobal>(rt: &P) -> Result<BufWriter<Printer<'_, P>>, CliFault> {
+    match BufWriter::new(rt.alloc(), io::writer(rt)) {
+        Ok(out) => Ok(out),
+        Err(_) => Err(CliFault::Memory),
+    }
+}
+
 // Runs the plan, but for one over a memory that several workers share, and tells where it found what.
-pub fn run_plan<R: Files<File = File> + Machine, V: io::Write>(
+pub fn run_plan<R: Files<File = File> + Print + Machine>(
     rt: &R,
     choice: &Choice<'_>,
     wishes: &[Wish],
     plan: Plan,
-    workers: u32,
-    out: &mut V,
 ) -> Result<Turn, Stop> {
     let wanted = Wanted::of(rt, choice, &plan)?;
-    let turn = run_engines(rt, choice, wishes, plan, workers, out)?;
+    let turn = run_engines(rt, choice, wishes, plan)?;
     told(rt, wanted, turn)
 }
 
@@ -101,49 +107,54 @@ fn told<R: Files + Screen + AllocGlobal>(rt: &R, wanted: Wanted, turn: Turn) -> 
 }
 
 // Runs the plan over its kind of engine.
-fn run_engines<R: Files<File = File> + Machine, V: io::Write>(
+fn run_engines<R: Files<File = File> + Print + Machine>(
     rt: &R,
     choice: &Choice<'_>,
     wishes: &[Wish],
     plan: Plan,
-    workers: u32,
-    out: &mut V,
 ) -> Result<Turn, Stop> {
-    let is_over = |path| is_taken(rt, path, choice.job, &plan);
-    if plan.engine() == EngineKind::File && choice.trace.is_some_and(is_over) {
+    if is_trace_refused(rt, choice, &plan) {
         return Err(Stop::trace());
     }
     let asked = asked_by(rt, Pace::of(rt, choice.progress), choice.stop_fd)?;
+    let workers = workers_of(&plan, choice.workers);
     if workers == 1 && plan.verifiers() == 0 {
-        return Ok(Turn::Ran(run_alone(rt, choice, &asked, wishes, plan, out)?));
+        return Ok(Turn::Ran(run_alone(rt, choice, &asked, wishes, plan)?));
     }
     match plan.engine() {
         EngineKind::File => {
-            let ran = crew_over_files(rt, choice, &asked, wishes, plan, workers, out)?;
+            let ran = crew_over_files(rt, choice, &asked, wishes, plan, workers)?;
             Ok(Turn::Ran(ran))
         }
         EngineKind::Memory => Ok(Turn::Shared(shared_run(rt, choice, asked, plan, workers)?)),
         EngineKind::Null => {
-            let ran = crew_over_nothing(rt, choice, &asked, plan, workers, out)?;
+            let ran = crew_over_nothing(rt, choice, &asked, plan, workers)?;
             Ok(Turn::Ran(ran))
         }
     }
 }
 
+// Whether the trace would go over the job file or a file of the plan.
+fn is_trace_refused<R: Files>(rt: &R, choice: &Choice<'_>, plan: &Plan) -> bool {
+    match choice.trace {
+        Some(path) if plan.engine() == EngineKind::File => is_taken(rt, path, choice.job, plan),
+        _ => false,
+    }
+}
+
 // Runs the plan over the system's files with so many workers.
-fn crew_over_files<R: Files<File = File> + Machine, V: io::Write>(
+fn crew_over_files<R: Files<File = File> + Print + Machine>(
     rt: &R,
     choice: &Choice<'_>,
     asked: &Asked,
     wishes: &[Wish],
     plan: Plan,
     workers: u32,
-    out: &mut V,
 ) -> Result<Ran, Stop> {
     let files = take_files(rt, &plan, choice, wishes)?;
     let events = trace_file(rt, choice.trace)?;
     let engines = file_engines(rt, &files, workers)?;
-    let ended = run_files(rt, asked, plan, engines, events, out)?;
+    let ended = run_files(rt, asked, plan, engines, events)?;
     let reasons = files.settled(rt, &ended.faults)?;
     Ok(Ran { ended, reasons })
 }
@@ -167,72 +178,68 @@ fn shared_run<R: Files<File = File> + AllocGlobal>(
 }
 
 // Runs the plan over nothing with so many workers.
-fn crew_over_nothing<R: Files<File = File> + Machine, V: io::Write>(
+fn crew_over_nothing<R: Files<File = File> + Print + Machine>(
     rt: &R,
     choice: &Choice<'_>,
     asked: &Asked,
     plan: Plan,
     workers: u32,
-    out: &mut V,
 ) -> Result<Ran, Stop> {
     let events = trace_file(rt, choice.trace)?;
-    let ended = run_nulls(rt, asked, plan, workers, events, out)?;
+    let ended = run_nulls(rt, asked, plan, workers, events)?;
     Ok(Ran::new(rt.alloc(), ended))
 }
 
 // Runs the plan with one worker, which judges its own checks.
-fn run_alone<R: Files<File = File> + Machine, V: io::Write>(
+fn run_alone<R: Files<File = File> + Print + Machine>(
     rt: &R,
     choice: &Choice<'_>,
     asked: &Asked,
     wishes: &[Wish],
     plan: Plan,
-    out: &mut V,
 ) -> Result<Ran, Stop> {
     match plan.engine() {
-        EngineKind::File => alone_over_files(rt, choice, asked, wishes, plan, out),
+        EngineKind::File => alone_over_files(rt, choice, asked, wishes, plan),
         EngineKind::Memory => match MemoryEngine::new(rt.alloc(), &plan) {
             Ok(engine) => {
                 let mut engine = engine;
-                alone_over(rt, choice, asked, plan, &mut engine, out)
+                alone_over(rt, choice, asked, plan, &mut engine)
             }
             Err(_) => Err(Stop::from(CliFault::Memory)),
         },
-        EngineKind::Null => alone_over(rt, choice, asked, plan, &mut NullEngine::new(), out),
+        EngineKind::Null => alone_over(rt, choice, asked, plan, &mut NullEngine::new()),
     }
 }
 
 // The same over the system's files.
-fn alone_over_files<R: Files<File = File> + Machine, V: io::Write>(
+fn alone_over_files<R: Files<File = File> + Print + Machine>(
     rt: &R,
     choice: &Choice<'_>,
     asked: &Asked,
     wishes: &[Wish],
     plan: Plan,
-    out: &mut V,
 ) -> Result<Ran, Stop> {
     let files = take_files(rt, &plan, choice, wishes)?;
     let mut engine = files.engine(rt, 0)?;
     files.begin(rt, &engine);
     let events = trace_file(rt, choice.trace)?;
-    let ended = run_over(rt, asked, events, plan, &mut engine, out)?;
+    let ended = run_over(rt, asked, events, plan, &mut engine)?;
     let reasons = files.settled(rt, &ended.faults)?;
     Ok(Ran { ended, reasons })
 }
 
 // The same over an engine that needs no files.
-fn alone_over<R: Files<File = File> + Machine, V: io::Write>(
+fn alone_over<R: Files<File = File> + Print + Machine>(
     rt: &R,
     choice: &Choice<'_>,
     asked: &Asked,
     plan: Plan,
     engine: &mut dyn Engine,
-    out: &mut V,
 ) -> Result<Ran, Stop>
     requires { (state engine.old).calls ≤ 2 ^ 63 }
 {
     let events = trace_file(rt, choice.trace)?;
-    let ended = run_over(rt, asked, events, plan, engine, out)?;
+    let ended = run_over(rt, asked, events, plan, engine)?;
     Ok(Ran::new(rt.alloc(), ended))
 }
 
@@ -269,17 +276,18 @@ pub fn add<X: Drop>(all: &mut Vec<X>, one: X) -> Result<(), CliFault> {
 }
 
 // Runs the plan over this engine with one worker, and writes the report and then the trace where one is asked for.
-fn run_over<R: Machine, V: io::Write>(
+fn run_over<R: Print + Machine>(
     rt: &R,
     asked: &Asked,
     events: Option<BufWriter<File>>,
     plan: Plan,
     engine: &mut dyn Engine,
-    out: &mut V,
 ) -> Result<Ended, CliFault>
     requires { (state engine.old).calls ≤ 2 ^ 63 }
 {
     let alloc = rt.alloc();
+    let mut out = to_output(rt)?;
+    let out = &mut out;
     shown(
         rt,
         Extent::of(&plan),
@@ -303,35 +311,33 @@ fn run_over<R: Machine, V: io::Write>(
 }
 
 // Runs the plan over the system's files, with a worker for each of these engines.
-fn run_files<R: Machine, V: io::Write>(
+fn run_files<R: Print + Machine>(
     rt: &R,
     asked: &Asked,
     plan: Plan,
     shares: Vec<FileEngine<SharedFile>>,
     events: Option<BufWriter<File>>,
-    out: &mut V,
 ) -> Result<Ended, CliFault> {
     let mut engines: Vec<Box<dyn Engine + Send>> = Vec::new(rt.alloc());
     for engine in shares {
         add(&mut engines, boxed(rt.alloc(), engine)?)?;
     }
-    run_with(rt, asked, plan, engines, events, out)
+    run_with(rt, asked, plan, engines, events)
 }
 
 // Runs the plan over nothing, with so many workers.
-fn run_nulls<R: Machine, V: io::Write>(
+fn run_nulls<R: Print + Machine>(
     rt: &R,
     asked: &Asked,
     plan: Plan,
     workers: u32,
     events: Option<BufWriter<File>>,
-    out: &mut V,
 ) -> Result<Ended, CliFault> {
     let mut engines: Vec<Box<dyn Engine + Send>> = Vec::new(rt.alloc());
     for _ in 0..workers {
         add(&mut engines, boxed(rt.alloc(), NullEngine::new())?)?;
     }
-    run_with(rt, asked, plan, engines, events, out)
+    run_with(rt, asked, plan, engines, events)
 }
 
 // So many shares of one memory for the plan's files.
@@ -356,9 +362,6 @@ pub fn run_memory<R: Files + Print + Machine>(
     job: SharedRun,
     engines: Vec<Box<dyn Engine + Send>>,
 ) -> Result<Ran, Stop> {
-    let Ok(mut out) = BufWriter::new(rt.alloc(), io::writer(rt)) else {
-        return Err(Stop::from(CliFault::Memory));
-    };
     let SharedRun {
         plan,
         workers: _,
@@ -366,7 +369,7 @@ pub fn run_memory<R: Files + Print + Machine>(
         asked,
         wanted,
     } = job;
-    let ended = run_with(rt, &asked, plan, engines, events, &mut out)?;
+    let ended = run_with(rt, &asked, plan, engines, events)?;
     let ran = Ran::new(rt.alloc(), ended);
     if let Some(wanted) = wanted {
         wanted.tell(rt, &ran)?;
@@ -375,15 +378,16 @@ pub fn run_memory<R: Files + Print + Machine>(
 }
 
 // Runs the plan with a worker for each engine, and writes the report and then the trace where one is asked for.
-fn run_with<R: Machine, V: io::Write>(
+fn run_with<R: Print + Machine>(
     rt: &R,
     asked: &Asked,
     plan: Plan,
     engines: Vec<Box<dyn Engine + Send>>,
     events: Option<BufWriter<File>>,
-    out: &mut V,
 ) -> Result<Ended, CliFault> {
     let alloc = rt.alloc();
+    let mut out = to_output(rt)?;
+    let out = &mut out;
     shown(rt, Extent::of(&plan), asked, move |watch, meter| {
         let line = &Wiper { rt, meter };
         let mut out = Wiping { line, out };

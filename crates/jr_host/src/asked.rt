@@ -1,5 +1,9 @@
 // What a run is asked for from outside, by a pipe whose other end the launcher holds, or another supervisor: to stop, and to say how far
 // it is.
+ghost use Rattle.std.specs.Prelude.{◌≡◌, ◌⊎◌, ◌↔◌, None, IfOk, IfErr, IsSome, IsTrue, is_some};
+ghost use Rattle.std.specs.Arc.{arc_value};
+ghost use Rattle.jr_host.specs.Askable.{can_be_asked, pace_of};
+
 use crate::show::Pace;
 use crate::stops::Stop;
 use jr_command::CliFault;
@@ -27,7 +31,10 @@ pub struct Asked {
 }
 
 impl Asked {
-    fn new(pace: Pace, has_pipe: bool) -> Asked {
+    fn new(pace: Pace, has_pipe: bool) -> Asked
+        ensures pace { pace_of result ≡ pace }
+        ensures pipe { can_be_asked result ≡ has_pipe }
+    {
         Asked {
             pace,
             has_pipe,
@@ -38,17 +45,23 @@ impl Asked {
     }
 
     /// When the run says by itself how far it is.
-    pub fn pace(&self) -> Pace {
+    pub fn pace(&self) -> Pace
+        ensures { result ≡ pace_of self.now }
+    {
         self.pace
     }
 
     /// Whether anybody can ask while it goes on.
-    pub fn has_pipe(&self) -> bool {
+    pub fn has_pipe(&self) -> bool
+        ensures { result ≡ can_be_asked self.now }
+    {
         self.has_pipe
     }
 
     /// What asks the run to stop, where anybody can.
-    pub fn stop(&self) -> Option<&StopFlag> {
+    pub fn stop(&self) -> Option<&StopFlag>
+        ensures { IsSome result ↔ IsTrue (can_be_asked self.now) }
+    {
         if self.has_pipe {
             Some(&self.stop)
         } else {
@@ -89,7 +102,12 @@ pub fn asked_by<R: Files<File = File> + AllocGlobal + Threads>(
     rt: &R,
     pace: Pace,
     pipe: Option<&str>,
-) -> Result<Arc<Asked, Global>, Stop> {
+) -> Result<Arc<Asked, Global>, Stop>
+    ensures pace { IfOk result (λ asked. pace_of (arc_value asked) ≡ pace) }
+    ensures pipe { IfOk result (λ asked. can_be_asked (arc_value asked) ≡ is_some pipe.entry) }
+    ensures unasked { pipe.entry ≡ None → IfErr result (λ fault. fault ≡ CliFault.Memory) }
+    ensures failed { IfErr result (λ fault. (fault ≡ CliFault.Open) ⊎ (fault ≡ CliFault.Memory)) }
+{
     let Ok(asked) = Arc::new(rt.alloc(), Asked::new(pace, pipe.is_some())) else {
         return Err(Stop::from(CliFault::Memory));
     };

@@ -1,5 +1,10 @@
 // The files of a run: taken before it begins, shared by its engines, and settled at its end.
-ghost use Rattle.std.specs.Prelude.{◌≡◌, IfOk};
+ghost use Rattle.std.specs.Prelude.{◌≡◌, ◌⊎◌, length, map, IfOk, IfErr, IsTrue, vec_len};
+ghost use Rattle.std.specs.List.{range_with_len};
+ghost use Rattle.std.specs.Option.{option_copied};
+ghost use Rattle.jr_direct.specs.Wishes.{wish_of};
+ghost use Rattle.jr_host.specs.Paths.{IsPathOf};
+ghost use Rattle.jr_host.specs.Wanted.{wishes_of};
 
 use crate::remarks::{Remarks, reasons_of};
 use crate::show::Screen;
@@ -10,7 +15,7 @@ use jr_faults::Faults;
 use jr_files::{Claims, Directs, FileEngine, FileFault, Reads, Refusal, SharedFile, claim_direct};
 use jr_model::EngineKind;
 use jr_plan::Plan;
-use jr_text::sections;
+use jr_text::{Section, sections};
 use jr_transfer::{Dropper, Launcher};
 use std::alloc::{AllocError, Global};
 use std::fs::{File, Files};
@@ -32,17 +37,33 @@ pub fn wishes(
     text: &[u8],
     choice: &Choice<'_>,
     plan: &Plan,
-) -> Result<Vec<Wish>, AllocError> {
-    let mut wishes = Vec::new(alloc);
-    if plan.engine() != EngineKind::File || choice.cached {
-        return Ok(wishes);
+) -> Result<Vec<Wish>, AllocError>
+    ensures { IfOk result (λ wishes. wishes.items
+        ≡ wishes_of text.now (option_copied choice.now.section) choice.now.cached plan.now) }
+{
+    if !matches!(plan.engine(), EngineKind::File) || choice.cached {
+        return Ok(Vec::new(alloc));
     }
     // (a text that makes a plan has sections, unless memory is wanting)
     let Ok(sections) = sections(alloc, text) else {
         return Err(AllocError);
     };
+    wishes_in(alloc, sections.as_slice(), choice.section, plan)
+}
+
+// What the jobs of these sections say of each file.
+fn wishes_in(
+    alloc: Global,
+    sections: &[Section],
+    only: Option<&str>,
+    plan: &Plan,
+) -> Result<Vec<Wish>, AllocError>
+    ensures { IfOk result (λ wishes. wishes.items
+        ≡ map (wish_of sections.now (option_copied only.entry) plan.now.clones) (range_with_len 0 (length plan.now.files))) }
+{
+    let mut wishes = Vec::new(alloc);
     for file in 0..plan.files().len() {
-        wishes.push(wish_of(sections.as_slice(), choice.section, plan, file))?;
+        wishes.push(wish_of(sections, only, plan, file))?;
     }
     Ok(wishes)
 }
@@ -54,7 +75,9 @@ pub fn take_files<'a, R: Files<File = File> + AllocGlobal + Screen>(
     plan: &Plan,
     choice: &Choice<'a>,
     wishes: &[Wish],
-) -> Result<Taken<'a>, Stop> {
+) -> Result<Taken<'a>, Stop>
+    ensures { IfErr result (λ fault. (fault ≡ CliFault.Open) ⊎ (fault ≡ CliFault.Memory)) }
+{
     let pipes = if choice.cached {
         None
     } else {
@@ -142,7 +165,8 @@ impl<'a> Taken<'a> {
         rt: &R,
         place: usize,
     ) -> Result<FileEngine<SharedFile>, CliFault>
-        ensures { IfOk result (λ engine. engine.calls ≡ 0) }
+        ensures uncalled { IfOk result (λ engine. engine.calls ≡ 0) }
+        ensures failed { IfErr result (λ fault. fault ≡ CliFault.Memory) }
     {
         let alloc = rt.alloc();
         let Ok(dropper) = self.launcher.dropper(rt, alloc, place) else {
@@ -171,7 +195,10 @@ impl<'a> Taken<'a> {
         &self,
         rt: &R,
         faults: &Faults,
-    ) -> Result<Vec<Option<String>>, Stop> {
+    ) -> Result<Vec<Option<String>>, Stop>
+        ensures reasons { IfOk result (λ reasons. vec_len reasons ≡ vec_len faults.now.first) }
+        ensures failed { IfErr result (λ fault. (fault ≡ CliFault.Write) ⊎ (fault ≡ CliFault.Memory)) }
+    {
         self.remarks.faults(rt, &self.files, faults);
         self.remarks.undropped(rt, self.launcher.has_failed());
         let Ok(reasons) = reasons_of(rt.alloc(), &self.files, faults) else {
@@ -185,16 +212,21 @@ impl<'a> Taken<'a> {
 }
 
 /// Whether a file of this path would be written over the job file, or over a file of the plan.
-pub fn is_taken<R: Files>(rt: &R, path: &str, job: Option<&str>, plan: &Plan) -> bool {
+pub fn is_taken<R: Files>(rt: &R, path: &str, job: Option<&str>, plan: &Plan) -> bool
+    ensures { IsPathOf path.now plan.now.files → IsTrue result }
+{
+    for file in plan.files() {
+        if leads_to(rt, path, file.name()) {
+            return true;
+        }
+    }
     job.is_some_and(|job| is_one(rt, path, job))
-        || plan
-            .files()
-            .iter()
-            .any(|file| leads_to(rt, path, file.name()))
 }
 
 /// Whether two paths are equal, or lead to one file that is there.
-pub fn leads_to<R: Files>(rt: &R, one: &str, other: &str) -> bool {
+pub fn leads_to<R: Files>(rt: &R, one: &str, other: &str) -> bool
+    ensures { one.now ≡ other.now → IsTrue result }
+{
     one == other || is_one(rt, one, other)
 }
 

@@ -1,4 +1,6 @@
 // What is said of a run beside its report, where notes are wanted.
+ghost use Rattle.std.specs.Prelude.{◌≡◌, IfOk, IfErr, vec_len};
+
 use crate::show::Screen;
 use crate::stops::Stop;
 use jr_command::{Choice, CliFault};
@@ -22,7 +24,9 @@ impl Remarks {
         rt: &R,
         plan: &Plan,
         choice: &Choice<'_>,
-    ) -> Result<Remarks, CliFault> {
+    ) -> Result<Remarks, CliFault>
+        ensures { IfErr result (λ fault. fault ≡ CliFault.Memory) }
+    {
         let Ok(names) = names_of(rt.alloc(), plan) else {
             return Err(CliFault::Memory);
         };
@@ -45,7 +49,9 @@ impl Remarks {
     }
 
     /// Why the program ends, where a file couldn't be synced behind the run.
-    pub fn unsettled(&self, alloc: Global, failed: &Unsynced) -> Stop {
+    pub fn unsettled(&self, alloc: Global, failed: &Unsynced) -> Stop
+        ensures { result ≡ CliFault.Write }
+    {
         match String::from_str(alloc, self.name_of(failed.fault)) {
             Ok(name) => Stop::unsynced(name, failed.error),
             Err(_) => Stop::from(CliFault::Write),
@@ -103,7 +109,9 @@ pub fn reasons_of(
     alloc: Global,
     files: &FileEngine<SharedFile>,
     faults: &Faults,
-) -> Result<Vec<Option<String>>, AllocError> {
+) -> Result<Vec<Option<String>>, AllocError>
+    ensures { IfOk result (λ reasons. vec_len reasons ≡ vec_len faults.now.first) }
+{
     let mut reasons = Vec::new(alloc);
     for note in faults.first.as_slice() {
         let reason = match reason_of(files, &note.fault) {

@@ -1,8 +1,9 @@
 // What standard error shows of a run that goes on: how much was started, what was checked, and how much of that was bad.
+ghost use Rattle.std.specs.Prelude.{◌≡◌, ◌⊎◌, None, IfSome};
+
 use crate::asked::Asked;
+use crate::extents::Extent;
 use jr_command::Wipe;
-use jr_model::IoType;
-use jr_plan::{Plan, SubJob};
 use jr_staff::{Progress, Watch};
 use std::io::IsTerminal;
 use std::sync::{Mutex, Wait};
@@ -44,7 +45,10 @@ pub enum Pace {
 
 impl Pace {
     /// As it was asked for; else on a terminal only.
-    pub fn of<R: Screen>(rt: &R, seconds: Option<u32>) -> Pace {
+    pub fn of<R: Screen>(rt: &R, seconds: Option<u32>) -> Pace
+        ensures asked { IfSome seconds (λ n. result ≡ Pace.Printed n) }
+        ensures unasked { seconds ≡ None → (result ≡ Pace.Drawn) ⊎ (result ≡ Pace.Never) }
+    {
         match seconds {
             Some(seconds) => Pace::Printed(seconds),
             None if rt.is_shown() => Pace::Drawn,
@@ -95,46 +99,6 @@ pub fn shown<
     )
 }
 
-/// How many bytes a plan's jobs read and write, checks too.
-#[derive(Clone, Copy)]
-pub struct Extent {
-    bytes: u64,
-}
-
-impl Extent {
-    pub fn of(plan: &Plan) -> Extent {
-        let mut bytes: u64 = 0;
-        for place in 0..plan.clones() {
-            bytes = bytes.saturating_add(bytes_of(plan.clone_at(place)));
-        }
-        Extent { bytes }
-    }
-
-    // How many hundredths of them so many are.
-    fn percent(self, bytes: u64) -> u64 {
-        bytes.saturating_mul(100) / self.bytes.max(1)
-    }
-}
-
-// What a clone reads and writes, and once more what it writes where it checks that. Some of it may be skipped, as overwritten.
-fn bytes_of(clone: &SubJob) -> u64 {
-    let pass = u64::from(clone.cells()).saturating_mul(u64::from(clone.cell()));
-    let own = pass.saturating_mul(u64::from(clone.passes()));
-    own.saturating_add(own.saturating_mul(checked_percent(clone)) / 100)
-}
-
-// How many hundredths of what a clone reads and writes are read back.
-fn checked_percent(clone: &SubJob) -> u64 {
-    let checks = clone.method().kind.is_verified() && clone.checks_writes();
-    match clone.io_type() {
-        IoType::Write | IoType::RandWrite if checks => 100,
-        IoType::ReadWrite | IoType::RandRw if checks => {
-            100u64.saturating_sub(u64::from(clone.read_percent()))
-        }
-        _ => 0,
-    }
-}
-
 // What is shown of a run.
 #[derive(Clone, Copy)]
 struct Gauge {
@@ -151,7 +115,7 @@ impl Gauge {
         let bad = progress.bad();
         let checks = progress.checks();
         let bytes = progress.bytes().saturating_add(progress.checked_bytes());
-        let percent = meter.extent.percent(bytes).min(100);
+        let percent = meter.extent.percent(bytes);
         Gauge {
             percent,
             ios: progress.ios(),

@@ -1,9 +1,16 @@
 // Why the program ends before its time, and what is worth knowing of it.
+ghost use Rattle.std.specs.Prelude.{◌≡◌, ◌≢◌};
+ghost use Rattle.std.specs.IoError.{error_kind};
+ghost use Rattle.jr_command.specs.Status.{status_of_fault};
+ghost use Rattle.jr_host.specs.Stops.{files_fault};
+
 use jr_command::{CliFault, memory_or};
 use jr_files::{FileFault, Refusal};
 use jr_notes::Note;
 use std::alloc::Global;
 use std::io;
+use std::io::ErrorKind;
+use std::marker::Model;
 
 /// A fault, and what is said behind it where notes are wanted.
 #[derive(Drop)]
@@ -26,7 +33,19 @@ enum Notes {
     File(&'static str, String, io::Error),
 }
 
+impl Model for Stop {
+    ghost use Rattle.jr_command.specs.declared.faults.CliFault.{CliFault};
+
+    ghost Value = { CliFault };
+
+    ghost view = { λ stop. stop.fault };
+}
+
 impl From<CliFault> for Stop {
+    ghost use Rattle.std.specs.Prelude.{◌≡◌};
+
+    ghost from_gives = { λ fault stop. stop ≡ fault };
+
     fn from(fault: CliFault) -> Stop {
         Stop {
             fault,
@@ -37,7 +56,9 @@ impl From<CliFault> for Stop {
 
 impl Stop {
     /// A job file is refused.
-    pub fn job(fault: CliFault, notes: Vec<Note>) -> Stop {
+    pub fn job(fault: CliFault, notes: Vec<Note>) -> Stop
+        ensures { result ≡ fault }
+    {
         Stop {
             fault,
             notes: Notes::Job(notes),
@@ -45,7 +66,9 @@ impl Stop {
     }
 
     /// The files of a job are refused.
-    pub fn files(refusal: Refusal) -> Stop {
+    pub fn files(refusal: Refusal) -> Stop
+        ensures { result ≡ files_fault refusal.fault }
+    {
         match refusal.fault {
             FileFault::File(_) => Stop {
                 fault: CliFault::Open,
@@ -56,7 +79,9 @@ impl Stop {
     }
 
     /// The trace would go to a file that is read or written otherwise.
-    pub fn trace() -> Stop {
+    pub fn trace() -> Stop
+        ensures { result ≡ CliFault.Write }
+    {
         Stop {
             fault: CliFault::Write,
             notes: Notes::Trace,
@@ -64,7 +89,9 @@ impl Stop {
     }
 
     /// The output that this word asks for would go to such a file, to that of another output, or to what is no file.
-    pub fn output(word: &'static str) -> Stop {
+    pub fn output(word: &'static str) -> Stop
+        ensures { result ≡ CliFault.Write }
+    {
         Stop {
             fault: CliFault::Write,
             notes: Notes::Output(word),
@@ -72,7 +99,9 @@ impl Stop {
     }
 
     /// The pipe whose end would ask the run to stop can't be opened.
-    pub fn pipe() -> Stop {
+    pub fn pipe() -> Stop
+        ensures { result ≡ CliFault.Open }
+    {
         Stop {
             fault: CliFault::Open,
             notes: Notes::Pipe,
@@ -80,7 +109,10 @@ impl Stop {
     }
 
     /// The file of this path, which is to be written, can't be made.
-    pub fn unmade(alloc: Global, path: &str, error: io::Error) -> Stop {
+    pub fn unmade(alloc: Global, path: &str, error: io::Error) -> Stop
+        ensures memory { error_kind error ≡ ErrorKind.OutOfMemory → result ≡ CliFault.Memory }
+        ensures other { error_kind error ≢ ErrorKind.OutOfMemory → result ≡ CliFault.Write }
+    {
         Stop::file(
             memory_or(&error, CliFault::Write),
             "make",
@@ -90,11 +122,15 @@ impl Stop {
     }
 
     /// What was written to the file of this name can't be synced.
-    pub fn unsynced(name: String, error: io::Error) -> Stop {
+    pub fn unsynced(name: String, error: io::Error) -> Stop
+        ensures { result ≡ CliFault.Write }
+    {
         Stop::file(CliFault::Write, "sync", Some(name), error)
     }
 
-    fn file(fault: CliFault, act: &'static str, name: Option<String>, error: io::Error) -> Stop {
+    fn file(fault: CliFault, act: &'static str, name: Option<String>, error: io::Error) -> Stop
+        ensures { result ≡ fault }
+    {
         match name {
             Some(name) if fault != CliFault::Memory => Stop {
                 fault,
@@ -105,7 +141,9 @@ impl Stop {
     }
 
     /// Says it on standard error, with the notes where they are wanted, and gives the exit status.
-    pub fn tell<R: Eprint>(&self, rt: &R, has_notes: bool) -> u8 {
+    pub fn tell<R: Eprint>(&self, rt: &R, has_notes: bool) -> u8
+        ensures { result ≡ status_of_fault self.now }
+    {
         let _ = eprintln!(rt; "fiorun: {}", self.fault);
         if has_notes {
             self.notes.tell(rt);

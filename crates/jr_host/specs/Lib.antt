@@ -1,0 +1,5 @@
+pub mod Askable
+pub mod Extents
+pub mod Paths
+pub mod Stops
+pub mod Wanted
