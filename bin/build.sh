@@ -72,19 +72,43 @@ seconds() { printf '%s' $(($(date +%s) - $(stat -c %Y "$begun"))); }
 
 # A target for each crate: the stamp of its library, or the program. It is made again where one below it was, or where a source is newer.
 write_makefile() {
-  local name dep stamp
+  local name dep
   read_crates
   order=()
   visit fiorun
+  measure
   # (what a target had before is kept where its build is interrupted)
   printf 'SHELL := bash\n.DEFAULT_GOAL := fiorun\n.PHONY: fiorun newer\n.PRECIOUS: %%\n'
   for name in "${order[@]}"; do
-    stamp=$(stamp_of "$name")
-    printf '%s:' "$stamp"
-    for dep in $(own_below "$name"); do printf ' %s' "$(stamp_of "$dep")"; done
+    printf '%s:' "$(stamp_of "$name")"
+    # (what has the longest way behind it is begun first)
+    for dep in $(for it in $(own_below "$name"); do printf '%s %s\n' "${low[$it]}" "$it"; done | sort -k1,1nr -k2 | cut -d ' ' -f 2); do
+      printf ' %s' "$(stamp_of "$dep")"
+    done
     is_made "$name" || printf ' newer'
     # shellcheck disable=SC2016
-    printf '\n\t@. "$$top/bin/build.sh" && make_crate %s\n' "$name"
+    printf '\n\t@. "$$top/bin/build.sh" && make_crate %s %s\n' "$name" "$(is_last "$name" && echo last)"
+  done
+}
+
+# Is the crate one of the last three of a longest way? Little is left then that could be built beside it.
+is_last() { [ "${high[$1]}" -le 2 ] && [ $((low[$1] + high[$1])) -eq "${low[fiorun]}" ]; }
+
+# How many crates the longest way down from each crate goes over, and the longest way up to the program.
+declare -A low high
+measure() {
+  local name dep at
+  for name in "${order[@]}"; do
+    low[$name]=0 high[$name]=0
+    for dep in $(own_below "$name"); do
+      [ "${low[$dep]}" -lt "${low[$name]}" ] || low[$name]=$((low[$dep] + 1))
+    done
+  done
+  for ((at = ${#order[@]} - 1; at >= 0; at--)); do
+    name=${order[at]}
+    for dep in $(own_below "$name"); do
+      [ "${high[$name]}" -lt "${high[$dep]}" ] || high[$dep]=$((high[$name] + 1))
+    done
   done
 }
 
@@ -99,26 +123,28 @@ is_made() {
 }
 
 # How many processes the proof of a crate gets that is made beside so many others: as many as there are processors for it, and memory of
-# some 3 GB each, but at least one.
+# some 3 GB each, but at least one. (With several it takes a quarter more of a processor's time.) The last crates get all.
 provers() {
-  local beside=$1 free=0
+  local beside=$1 last=$2 free=0
   free=$(sed -n 's/^MemAvailable: *\([0-9]*\) kB/\1/p' /proc/meminfo 2>/dev/null || true)
   free=$((${free:-0} / 3000000))
   [ "$free" -le "$(nproc)" ] || free=$(nproc)
-  free=$((free / (beside + 1)))
+  [ -n "$last" ] || free=$((free / (beside + 1)))
   [ "$free" -ge 1 ] || free=1
   printf '%s' "$free"
 }
 
 # Proves and builds a crate over the libraries that are built. Make calls it. Where it fails, it says what was said.
 make_crate() {
-  local name=$1 log=$built/$1.log stamp jobs status=0
+  local name=$1 last=${2:-} log=$built/$1.log stamp jobs status=0
   unset MAKEFLAGS MAKELEVEL
   read_crates
   printf '%s\n' "$name" >>"$started"
   say "$what: proving $name ($(grep -nxF "$name" "$started" | cut -d: -f1) of $total), $(($(seconds) / 60)) min"
-  jobs=$(provers "$(find "$built" -name '*.busy' | wc -l)")
   touch "$built/$name.busy"
+  # (so that those that are begun together see one another)
+  sleep 1
+  jobs=$(provers "$(find "$built" -name '*.busy' ! -name "$name.busy" | wc -l)" "$last")
   if [ "$name" = fiorun ]; then
     prove_program fiorun "${below[fiorun]}" "$top/crates/fiorun" "$program" "$jobs" >"$log" 2>&1 || status=1
   else

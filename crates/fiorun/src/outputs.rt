@@ -113,9 +113,7 @@ impl Outputs {
         let mut result = Ok(());
         for (place, output) in self.all.iter().enumerate() {
             let written = self.write_one(rt, place, output, findings, reasons);
-            if result.is_ok() {
-                result = written;
-            }
+            result = result.and(written);
         }
         result
     }

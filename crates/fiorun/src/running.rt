@@ -117,19 +117,29 @@ fn run_engines<R: Files<File = File> + Print + Machine>(
         return Err(Stop::trace());
     }
     let asked = asked_by(rt, Pace::of(rt, choice.progress), choice.stop_fd)?;
+    run_asked(rt, choice, asked, wishes, plan)
+}
+
+// The same, where this is asked of the run.
+fn run_asked<R: Files<File = File> + Print + Machine>(
+    rt: &R,
+    choice: &Choice<'_>,
+    asked: Arc<Asked, Global>,
+    wishes: &[Wish],
+    plan: Plan,
+) -> Result<Turn, Stop> {
     let workers = workers_of(&plan, choice.workers);
-    if workers == 1 && plan.verifiers() == 0 {
-        return Ok(Turn::Ran(run_alone(rt, choice, &asked, wishes, plan)?));
-    }
     match plan.engine() {
-        EngineKind::File => {
-            let ran = crew_over_files(rt, choice, &asked, wishes, plan, workers)?;
-            Ok(Turn::Ran(ran))
+        EngineKind::File => run_over_files(rt, choice, &asked, wishes, plan, workers),
+        EngineKind::Memory if is_alone(&plan, workers) => {
+            without_reasons(rt.alloc(), alone_over_memory(rt, choice, &asked, plan))
         }
-        EngineKind::Memory => Ok(Turn::Shared(shared_run(rt, choice, asked, plan, workers)?)),
+        EngineKind::Memory => shared_run(rt, choice, asked, plan, workers),
         EngineKind::Null => {
-            let ran = crew_over_nothing(rt, choice, &asked, plan, workers)?;
-            Ok(Turn::Ran(ran))
+            without_reasons(
+                rt.alloc(),
+                run_over_nothing(rt, choice, &asked, plan, workers),
+            )
         }
     }
 }
@@ -142,21 +152,96 @@ fn is_trace_refused<R: Files>(rt: &R, choice: &Choice<'_>, plan: &Plan) -> bool 
     }
 }
 
-// Runs the plan over the system's files with so many workers.
-fn crew_over_files<R: Files<File = File> + Print + Machine>(
+// Whether one worker runs the plan by itself, and judges its own checks.
+fn is_alone(plan: &Plan, workers: u32) -> bool {
+    workers == 1 && plan.verifiers() == 0
+}
+
+// The end of a run over no files, of whose faults the system has said nothing.
+fn without_reasons(alloc: Global, ended: Result<Ended, Stop>) -> Result<Turn, Stop> {
+    Ok(Turn::Ran(Ran::new(alloc, ended?)))
+}
+
+// Runs the plan over the system's files.
+fn run_over_files<R: Files<File = File> + Print + Machine>(
     rt: &R,
     choice: &Choice<'_>,
     asked: &Asked,
     wishes: &[Wish],
     plan: Plan,
     workers: u32,
-) -> Result<Ran, Stop> {
+) -> Result<Turn, Stop> {
     let files = take_files(rt, &plan, choice, wishes)?;
-    let events = trace_file(rt, choice.trace)?;
-    let engines = file_engines(rt, &files, workers)?;
-    let ended = run_files(rt, asked, plan, engines, events)?;
+    let ended = run_over_taken(rt, choice, asked, &files, plan, workers);
+    settled(rt, &files, ended)
+}
+
+// How a run over these files ended, with the system's reasons for its first faults.
+fn settled<R: Eprint + AllocGlobal>(
+    rt: &R,
+    files: &Taken<'_>,
+    ended: Result<Ended, Stop>,
+) -> Result<Turn, Stop> {
+    let ended = ended?;
     let reasons = files.settled(rt, &ended.faults)?;
-    Ok(Ran { ended, reasons })
+    Ok(Turn::Ran(Ran { ended, reasons }))
+}
+
+// The same over these files, which were taken.
+fn run_over_taken<R: Files<File = File> + Print + Machine>(
+    rt: &R,
+    choice: &Choice<'_>,
+    asked: &Asked,
+    files: &Taken<'_>,
+    plan: Plan,
+    workers: u32,
+) -> Result<Ended, Stop> {
+    if is_alone(&plan, workers) {
+        alone_over_files(rt, choice, asked, files, plan)
+    } else {
+        crew_over_files(rt, choice, asked, files, plan, workers)
+    }
+}
+
+fn alone_over_files<R: Files<File = File> + Print + Machine>(
+    rt: &R,
+    choice: &Choice<'_>,
+    asked: &Asked,
+    files: &Taken<'_>,
+    plan: Plan,
+) -> Result<Ended, Stop> {
+    let mut engine = files.engine(rt, 0)?;
+    files.begin(rt, &engine);
+    alone_over(rt, choice, asked, plan, &mut engine)
+}
+
+fn crew_over_files<R: Files<File = File> + Print + Machine>(
+    rt: &R,
+    choice: &Choice<'_>,
+    asked: &Asked,
+    files: &Taken<'_>,
+    plan: Plan,
+    workers: u32,
+) -> Result<Ended, Stop> {
+    let events = trace_file(rt, choice.trace)?;
+    let engines = file_engines(rt, files, workers)?;
+    Ok(run_files(rt, asked, plan, engines, events)?)
+}
+
+// Runs the plan with one worker over a memory.
+fn alone_over_memory<R: Files<File = File> + Print + Machine>(
+    rt: &R,
+    choice: &Choice<'_>,
+    asked: &Asked,
+    plan: Plan,
+) -> Result<Ended, Stop> {
+    match MemoryEngine::new(rt.alloc(), &plan) {
+        Ok(engine) => {
+            let mut engine = engine;
+            alone_over(rt, choice, asked, plan, &mut engine)
+        }
+        Err(_) => Err(Stop::from(CliFault::Memory)),
+    }
 }
 
 // A run with so many workers over a memory that they share is still to come.
@@ -166,81 +251,44 @@ fn shared_run<R: Files<File = File> + AllocGlobal>(
     asked: Arc<Asked, Global>,
     plan: Plan,
     workers: u32,
-) -> Result<SharedRun, Stop> {
+) -> Result<Turn, Stop> {
     let events = trace_file(rt, choice.trace)?;
-    Ok(SharedRun {
+    Ok(Turn::Shared(SharedRun {
         plan,
         workers,
         events,
         asked,
         wanted: None,
-    })
+    }))
 }
 
-// Runs the plan over nothing with so many workers.
-fn crew_over_nothing<R: Files<File = File> + Print + Machine>(
+// Runs the plan over nothing.
+fn run_over_nothing<R: Files<File = File> + Print + Machine>(
     rt: &R,
     choice: &Choice<'_>,
     asked: &Asked,
     plan: Plan,
     workers: u32,
-) -> Result<Ran, Stop> {
-    let events = trace_file(rt, choice.trace)?;
-    let ended = run_nulls(rt, asked, plan, workers, events)?;
-    Ok(Ran::new(rt.alloc(), ended))
-}
-
-// Runs the plan with one worker, which judges its own checks.
-fn run_alone<R: Files<File = File> + Print + Machine>(
-    rt: &R,
-    choice: &Choice<'_>,
-    asked: &Asked,
-    wishes: &[Wish],
-    plan: Plan,
-) -> Result<Ran, Stop> {
-    match plan.engine() {
-        EngineKind::File => alone_over_files(rt, choice, asked, wishes, plan),
-        EngineKind::Memory => match MemoryEngine::new(rt.alloc(), &plan) {
-            Ok(engine) => {
-                let mut engine = engine;
-                alone_over(rt, choice, asked, plan, &mut engine)
-            }
-            Err(_) => Err(Stop::from(CliFault::Memory)),
-        },
-        EngineKind::Null => alone_over(rt, choice, asked, plan, &mut NullEngine::new()),
+) -> Result<Ended, Stop> {
+    if is_alone(&plan, workers) {
+        return alone_over(rt, choice, asked, plan, &mut NullEngine::new());
     }
-}
-
-// The same over the system's files.
-fn alone_over_files<R: Files<File = File> + Print + Machine>(
-    rt: &R,
-    choice: &Choice<'_>,
-    asked: &Asked,
-    wishes: &[Wish],
-    plan: Plan,
-) -> Result<Ran, Stop> {
-    let files = take_files(rt, &plan, choice, wishes)?;
-    let mut engine = files.engine(rt, 0)?;
-    files.begin(rt, &engine);
     let events = trace_file(rt, choice.trace)?;
-    let ended = run_over(rt, asked, events, plan, &mut engine)?;
-    let reasons = files.settled(rt, &ended.faults)?;
-    Ok(Ran { ended, reasons })
+    Ok(run_nulls(rt, asked, plan, workers, events)?)
 }
 
-// The same over an engine that needs no files.
+// Runs the plan over this engine with one worker, which judges its own checks.
 fn alone_over<R: Files<File = File> + Print + Machine>(
     rt: &R,
     choice: &Choice<'_>,
     asked: &Asked,
     plan: Plan,
     engine: &mut dyn Engine,
-) -> Result<Ran, Stop>
+) -> Result<Ended, Stop>
     requires { (state engine.old).calls ≤ 2 ^ 63 }
 {
     let events = trace_file(rt, choice.trace)?;
-    let ended = run_over(rt, asked, events, plan, engine)?;
-    Ok(Ran::new(rt.alloc(), ended))
+    Ok(run_over(rt, asked, events, plan, engine)?)
 }
 
 // The engines of so many workers over the files, which the first of them drops from the system's cache.
@@ -297,15 +345,8 @@ fn run_over<R: Print + Machine>(
         {
             let line = &Wiper { rt, meter };
             let mut out = Wiping { line, out };
-            match events {
-                None => {
-                    let none = None::<&mut Vec<u8>>;
-                    execute_serial(alloc, plan, engine, watch, none, &mut out)
-                }
-                Some(mut events) => {
-                    execute_serial(alloc, plan, engine, watch, Some(&mut events), &mut out)
-                }
-            }
+            let mut events = events;
+            execute_serial(alloc, plan, engine, watch, events.as_mut(), &mut out)
         },
     )
 }
@@ -391,14 +432,7 @@ fn run_with<R: Print + Machine>(
     shown(rt, Extent::of(&plan), asked, move |watch, meter| {
         let line = &Wiper { rt, meter };
         let mut out = Wiping { line, out };
-        match events {
-            None => {
-                let none = None::<&mut Vec<u8>>;
-                execute(rt, alloc, plan, engines, watch, none, &mut out)
-            }
-            Some(mut events) => {
-                execute(rt, alloc, plan, engines, watch, Some(&mut events), &mut out)
-            }
-        }
+        let mut events = events;
+        execute(rt, alloc, plan, engines, watch, events.as_mut(), &mut out)
     })
 }
