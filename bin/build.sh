@@ -72,7 +72,7 @@ seconds() { printf '%s' $(($(date +%s) - $(stat -c %Y "$begun"))); }
 
 # A target for each crate: the stamp of its library, or the program. It is made again where one below it was, or where a source is newer.
 write_makefile() {
-  local name dep
+  local name dep it
   read_crates
   order=()
   visit fiorun
@@ -81,7 +81,7 @@ write_makefile() {
   printf 'SHELL := bash\n.DEFAULT_GOAL := fiorun\n.PHONY: fiorun newer\n.PRECIOUS: %%\n'
   for name in "${order[@]}"; do
     printf '%s:' "$(stamp_of "$name")"
-    # (what has the longest way behind it is begun first)
+    # (what has the longest way below it is begun first)
     for dep in $(for it in $(own_below "$name"); do printf '%s %s\n' "${low[$it]}" "$it"; done | sort -k1,1nr -k2 | cut -d ' ' -f 2); do
       printf ' %s' "$(stamp_of "$dep")"
     done
@@ -114,11 +114,16 @@ measure() {
 
 stamp_of() { if [ "$1" = fiorun ]; then printf 'fiorun'; else printf '%s/%s.made' "${built#"$top/"}" "$1"; fi; }
 
-# Was the crate's library made of the sources that are there, over what crates.txt says?
+# What else the library of a crate is made of: the kit, and what crates.txt says that it stands on.
+base_of() { printf '%s %s' "$(tr '\n' ' ' <"$(kit_folder)/WHAT")" "${below[$1]}"; }
+
+kit_folder() { dirname "$(dirname "$(readlink -f "$(command -v rt)")")"; }
+
+# Was the crate's library made of that, and of the sources that are there?
 is_made() {
   local stamp
   stamp=$top/$(stamp_of "$1")
-  [ "$(cat "$stamp" 2>/dev/null)" = "${below[$1]}" ] &&
+  [ "$(cat "$stamp" 2>/dev/null)" = "$(base_of "$1")" ] &&
     [ -z "$(find "$top/crates/$1"/{src,specs,proofs} -newer "$stamp" -print -quit 2>/dev/null)" ]
 }
 
@@ -151,7 +156,7 @@ make_crate() {
     stamp=$(date +%s.%N)
     prove_library "$name" "$jobs" >"$log" 2>&1 || status=1
     # (as old as its sources were when they were read)
-    [ "$status" -ne 0 ] || { printf '%s\n' "${below[$name]}" >"$built/$name.made" && touch -d "@$stamp" "$built/$name.made"; }
+    [ "$status" -ne 0 ] || { base_of "$name" >"$built/$name.made" && touch -d "@$stamp" "$built/$name.made"; }
   fi
   rm -f "$built/$name.busy"
   [ "$status" -eq 0 ] || {
@@ -179,8 +184,7 @@ prove_program() {
 # The words that prove a crate of this name over these libraries: those of the repository that are built, and the kit's.
 rattle_of() {
   local dep
-  kit=$(readlink -f "$(command -v rt)")
-  kit=${kit%/bin/rt}
+  kit=$(kit_folder)
   rattle=("$kit/bin/rattle" build --crate-name "$1" -L "dependency=$kit/rlibs" -L "dependency=$built" --links "$1="
     --antt-project "$kit/rattle/logic/antt-project.json" --logic-built "$kit/logic_built" --extern "std=$kit/rlibs/std.rlib")
   for dep in $2; do
