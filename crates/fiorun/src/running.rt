@@ -203,6 +203,7 @@ fn run_over_taken<R: Files<File = File> + Print + Machine>(
     }
 }
 
+// The same with one worker, which judges its own checks.
 fn alone_over_files<R: Files<File = File> + Print + Machine>(
     rt: &R,
     choice: &Choice<'_>,
@@ -215,6 +216,7 @@ fn alone_over_files<R: Files<File = File> + Print + Machine>(
     alone_over(rt, choice, asked, plan, &mut engine)
 }
 
+// The same with so many workers.
 fn crew_over_files<R: Files<File = File> + Print + Machine>(
     rt: &R,
     choice: &Choice<'_>,
