@@ -128,7 +128,7 @@ is_made() {
 }
 
 # How many processes the proof of a crate gets that is made beside so many others: as many as there are processors for it, and memory of
-# some 3 GB each, but at least one. (With several it takes a quarter more of a processor's time.) The last crates get all.
+# some 3 GB each, but at least one. The last crates get all.
 provers() {
   local beside=$1 last=$2 free=0
   free=$(sed -n 's/^MemAvailable: *\([0-9]*\) kB/\1/p' /proc/meminfo 2>/dev/null || true)
