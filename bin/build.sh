@@ -2,14 +2,11 @@
 # Read by bin/fiorun, bin/install and bench/floor, which set `top`, the top of the repository: is the program built, and its build.
 out=$top/crates/fiorun/out
 program=$out/fiorun
-# What crates stand on: of each library that is built its folder, a stamp as it was made, and its log.
+# What crates stand on: of each library that is built its folder, a stamp as it was made, and its log. The program has a stamp and a log too.
 built=$out/built
-makefile=$out/build.mk
 # Made as a build begins, and renamed when it has ended well: so an interrupted build is seen, and an edit during one.
 begun=$out/build.begun
 ended=$out/build.ended
-# A line for each crate whose build was begun.
-started=$out/build.started
 
 # Is the program there, and no source newer than the start of its build (or than itself, where the gate made it)?
 is_built() {
@@ -39,131 +36,134 @@ build() {
   return $status
 }
 
-# Builds all crates. What comes when, and how many at once, is make's: those that stand apart are built side by side.
+# Builds all that has to be built, and says how far it is.
 build_crates() {
   local run
-  if ! command -v make >/dev/null; then
-    say "cannot build: there is no make on the path"
-    return 1
-  fi
+  SECONDS=0
   what="build"
   [ -e "$program" ] || what="first build"
   mkdir -p "$built"
   touch "$begun"
-  : >"$started"
-  rm -f "$built"/*.busy
-  write_makefile >"$makefile"
-  total=$(make -n -C "$top" -f "$makefile" | grep -c make_crate)
-  export top what total
   # (in a process group of its own, so that all of it can be ended)
   set -m
-  make -s -C "$top" -f "$makefile" -j "$(nproc)" --no-print-directory </dev/null >&2 &
+  make_crates </dev/null >&2 &
   run=$!
   set +m
   trap 'kill -- "-$run" 2>/dev/null; wait; exit 130' INT TERM HUP
   wait "$run" || return 1
   trap - INT TERM HUP
-  say "$what: done in $((($(seconds) + 30) / 60)) min"
+  say "$what: done in $(((SECONDS + 30) / 60)) min"
   mv "$begun" "$ended"
 }
 
-# How long the build has been running.
-seconds() { printf '%s' $(($(date +%s) - $(stat -c %Y "$begun"))); }
+# Makes the crates that aren't made, side by side, each as soon as those below it are there. One that is made alone gets several provers;
+# that takes a quarter more of a processor, so those beside others get one.
+make_crates() {
+  local name places running=0 count=0 chosen
+  set +m
+  places=$(places)
+  list_crates
+  while [ "${#left[@]}" -gt 0 ] || [ "$running" -gt 0 ]; do
+    choose_crates $((places - running))
+    running=$((running + ${#chosen[@]}))
+    for name in "${chosen[@]}"; do
+      count=$((count + 1))
+      say "$what: proving $name ($count of $total), $((SECONDS / 60)) min"
+      make_crate "$name" $((places / running)) &
+    done
+    # (where one fails, the others go on to their ends)
+    wait -n || {
+      wait
+      return 1
+    }
+    running=$((running - 1))
+  done
+}
 
-# A target for each crate: the stamp of its library, or the program. It is made again where one below it was, or where a source is newer.
-write_makefile() {
-  local name dep it
+# The crates that aren't made. What has the most source above it on a way to the program comes first.
+list_crates() {
+  local name
   read_crates
   order=()
   visit fiorun
   measure
-  # (what a target had before is kept where its build is interrupted)
-  printf 'SHELL := bash\n.DEFAULT_GOAL := fiorun\n.PHONY: fiorun newer\n.PRECIOUS: %%\n'
   for name in "${order[@]}"; do
-    printf '%s:' "$(stamp_of "$name")"
-    # (what has the longest way below it is begun first)
-    for dep in $(for it in $(own_below "$name"); do printf '%s %s\n' "${low[$it]}" "$it"; done | sort -k1,1nr -k2 | cut -d ' ' -f 2); do
-      printf ' %s' "$(stamp_of "$dep")"
-    done
-    is_made "$name" || printf ' newer'
-    # shellcheck disable=SC2016
-    printf '\n\t@. "$$top/bin/build.sh" && make_crate %s %s\n' "$name" "$(is_last "$name" && echo last)"
+    is_made "$name" || rm -f "$built/$name.made"
   done
+  [ -x "$program" ] || rm -f "$built/fiorun.made"
+  mapfile -t left < <(
+    for name in "${order[@]}"; do are_made "$name" || printf '%s %s\n' "${above[$name]}" "$name"; done | sort -k1,1nr | cut -d ' ' -f 2
+  )
+  total=${#left[@]}
 }
 
-# Is the crate one of the last three of a longest way? Little is left then that could be built beside it.
-is_last() { [ "${high[$1]}" -le 2 ] && [ $((low[$1] + high[$1])) -eq "${low[fiorun]}" ]; }
+# Takes so many crates that can be made from those that are left.
+choose_crates() {
+  local name later=()
+  chosen=()
+  for name in "${left[@]}"; do
+    if [ "${#chosen[@]}" -lt "$1" ] && are_made "$(own_below "$name")"; then chosen+=("$name"); else later+=("$name"); fi
+  done
+  left=("${later[@]}")
+}
 
-# How many crates the longest way down from each crate goes over, and the longest way up to the program.
-declare -A low high
+# How many lines of source there are on the longest way from each crate up to the program.
+declare -A above
 measure() {
   local name dep at
-  for name in "${order[@]}"; do
-    low[$name]=0 high[$name]=0
-    for dep in $(own_below "$name"); do
-      [ "${low[$dep]}" -lt "${low[$name]}" ] || low[$name]=$((low[$dep] + 1))
-    done
-  done
   for ((at = ${#order[@]} - 1; at >= 0; at--)); do
     name=${order[at]}
+    above[$name]=$((${above[$name]:-0} + $(find "$top/crates/$name/src" -name '*.rt' -exec cat {} + | wc -l)))
     for dep in $(own_below "$name"); do
-      [ "${high[$name]}" -lt "${high[$dep]}" ] || high[$dep]=$((high[$name] + 1))
+      [ "${above[$dep]:-0}" -ge "${above[$name]}" ] || above[$dep]=${above[$name]}
     done
   done
 }
-
-stamp_of() { if [ "$1" = fiorun ]; then printf 'fiorun'; else printf '%s/%s.made' "${built#"$top/"}" "$1"; fi; }
 
 # What else the library of a crate is made of: the kit, and what crates.txt says that it stands on.
 base_of() { printf '%s %s' "$(tr '\n' ' ' <"$(kit_folder)/WHAT")" "${below[$1]}"; }
 
 kit_folder() { dirname "$(dirname "$(readlink -f "$(command -v rt)")")"; }
 
-# Was the crate's library made of that, and of the sources that are there?
+# Is the crate made of that, and of the sources that are there, and is all below it made?
 is_made() {
-  local stamp
-  stamp=$top/$(stamp_of "$1")
-  [ "$(cat "$stamp" 2>/dev/null)" = "$(base_of "$1")" ] &&
+  local stamp=$built/$1.made
+  [ "$(cat "$stamp" 2>/dev/null)" = "$(base_of "$1")" ] && are_made "$(own_below "$1")" &&
     [ -z "$(find "$top/crates/$1"/{src,specs,proofs} -newer "$stamp" -print -quit 2>/dev/null)" ]
 }
 
-# How many processes the proof of a crate gets that is made beside so many others: as many as there are processors for it, and memory of
-# some 3 GB each, but at least one. The last crates get all.
-provers() {
-  local beside=$1 last=$2 free=0
+# Is each of these crates made?
+are_made() {
+  local it
+  for it in $1; do
+    [ -e "$built/$it.made" ] || return 1
+  done
+}
+
+# How many provers there may be at once: one for each processor, where there is memory of some 3 GB for each, but at least one.
+places() {
+  local free
   free=$(sed -n 's/^MemAvailable: *\([0-9]*\) kB/\1/p' /proc/meminfo 2>/dev/null || true)
   free=$((${free:-0} / 3000000))
   [ "$free" -le "$(nproc)" ] || free=$(nproc)
-  [ -n "$last" ] || free=$((free / (beside + 1)))
   [ "$free" -ge 1 ] || free=1
   printf '%s' "$free"
 }
 
-# Proves and builds a crate over the libraries that are built. Make calls it. Where it fails, it says what was said.
+# Proves and builds a crate over the libraries that are built. Where it fails, it says what was said.
 make_crate() {
-  local name=$1 last=${2:-} log=$built/$1.log stamp jobs status=0
-  unset MAKEFLAGS MAKELEVEL
-  read_crates
-  printf '%s\n' "$name" >>"$started"
-  say "$what: proving $name ($(grep -nxF "$name" "$started" | cut -d: -f1) of $total), $(($(seconds) / 60)) min"
-  touch "$built/$name.busy"
-  # (so that those that are begun together see one another)
-  sleep 1
-  jobs=$(provers "$(find "$built" -name '*.busy' ! -name "$name.busy" | wc -l)" "$last")
-  if [ "$name" = fiorun ]; then
-    prove_program fiorun "${below[fiorun]}" "$top/crates/fiorun" "$program" "$jobs" >"$log" 2>&1 || status=1
-  else
-    stamp=$(date +%s.%N)
-    prove_library "$name" "$jobs" >"$log" 2>&1 || status=1
+  local name=$1 log=$built/$1.log stamp proof
+  stamp=$(date +%s.%N)
+  proof=(prove_library "$name" "$2")
+  [ "$name" != fiorun ] || proof=(prove_program fiorun "${below[fiorun]}" "$top/crates/fiorun" "$program" "$2")
+  if "${proof[@]}" >"$log" 2>&1; then
     # (as old as its sources were when they were read)
-    [ "$status" -ne 0 ] || { base_of "$name" >"$built/$name.made" && touch -d "@$stamp" "$built/$name.made"; }
-  fi
-  rm -f "$built/$name.busy"
-  [ "$status" -eq 0 ] || {
+    base_of "$name" >"$built/$name.made" && touch -d "@$stamp" "$built/$name.made"
+  else
     say "$name was not built; the end of $log:"
     tail -n 30 "$log" >&2
-  }
-  return $status
+    return 1
+  fi
 }
 
 # Proves a crate of the repository, and makes the library that crates above it read: its statements, as the gate does, so that they needn't
