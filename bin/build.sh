@@ -2,7 +2,7 @@
 # Read by bin/fiorun, bin/install and bench/floor, which set `top`, the top of the repository: is the program built, and its build.
 out=$top/crates/fiorun/out
 program=$out/fiorun
-# What crates stand on: of each library that is built its folder, a stamp as it was made, and its log. The program has a stamp and a log too.
+# What crates stand on: of each library that is built its folder, a stamp as it was made, and its log. The program has the latter two.
 built=$out/built
 # Made as a build begins, and renamed when it has ended well: so an interrupted build is seen, and an edit during one.
 begun=$out/build.begun
