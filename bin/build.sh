@@ -140,7 +140,7 @@ are_made() {
   done
 }
 
-# How many provers there may be at once: one for each processor, where there is memory of some 3 GB for each, but at least one.
+# How many crates may be proved at once: one for each processor, where there is memory of some 3 GB for each, but at least one.
 places() {
   local free
   free=$(sed -n 's/^MemAvailable: *\([0-9]*\) kB/\1/p' /proc/meminfo 2>/dev/null || true)

@@ -120,9 +120,11 @@ class Clone:
     def wait_for(self, kind):
         """Waits until the provers have noted this."""
         for _ in range(600):
-            if os.path.exists(self.log) and kind in open(self.log, encoding="utf-8").read():
-                return
             time.sleep(0.1)
+            if os.path.exists(self.log):
+                with open(self.log, encoding="utf-8") as file:
+                    if any(it.startswith(kind) for it in file):
+                        return
         raise AssertionError(f"no prover noted {kind}")
 
     def take_notes(self):
@@ -164,16 +166,16 @@ def is_first_by_way(clone):
 
 
 def places():
-    """How many provers there may be at once: one for each processor, with 3 GB of memory for each."""
+    """How many crates may be proved at once: one for each processor, with 3 GB of memory for each."""
     with open("/proc/meminfo", encoding="utf-8") as file:
         free = next(int(it.split()[1]) for it in file if it.startswith("MemAvailable:"))
     return max(1, min(len(os.sched_getaffinity(0)), free // 3000000))
 
 
 def is_side_by_side(clone):
-    """As many are proved at once as there may be (up to four do have a place), and never more. Together they have no more processes than
-    that, and the program, alone in the end, has all."""
-    before, notes, now, most = places(), clone.builds(BELOW, takes=0.1), 0, 0
+    """As many are proved at once as there may be (up to four can be), and never more. Each is begun with its share of the processes at
+    most; the program, alone in the end, has all."""
+    before, notes, now, most = places(), clone.builds(BELOW, takes=0.5), 0, 0
     given = next(int(it[2]) for it in notes if it[:2] == ["begin", "fiorun"])
     expect(given in (before, places()), "the program was given", given)
     for kind, name, *jobs in notes:
