@@ -13,7 +13,7 @@ _fiorun_words() { _fiorun_options "$1" | sed -E 's/^([^ ]+) [A-Z]+- .*/\1=/; s/ 
 _fiorun_jobs() {
   local file
   for file in "${COMP_WORDS[@]:1}"; do
-    [ ! -f "$file" ] || sed -nE 's/^[[:space:]]*\[([^]]*)\].*/\1/p' "$file" | grep -vx global
+    [ ! -f "$file" ] || sed -nE 's/^[[:space:]]*\[([^]]*)\].*/\1/p' <"$file" | grep -vx global
   done
 }
 

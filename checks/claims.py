@@ -23,6 +23,9 @@ UNDROPPED = "fiorun: note: the system's cache may have answered checks: started 
 CLEAN = "w: clone=0 reads=0 rbytes=0 writes=256 wbytes=1048576 checks=256 good=256 bad=0 skipped=0 void=0 faults=0\n"
 MISSING = "No such file or directory (os error 2)"
 SECONDS = 120
+# How often two runs are started together over a file that is not there.
+STARTS = 200
+CAUGHT = {"stdout": subprocess.PIPE, "stderr": subprocess.PIPE}
 
 
 class Skipped(Exception):
@@ -195,6 +198,30 @@ def runs_that_only_read_share(program, room):
         refused(run(program, room, job_of()), "f is locked by another run")
 
 
+def two_starts_leave_the_file_of_the_one_that_ran(program, room):
+    """Of two runs over a file that isn't there, started together, the one that is refused doesn't remove what the other has."""
+    path = os.path.join(room, "f")
+    for number in range(STARTS):
+        with contextlib.suppress(FileNotFoundError):
+            os.unlink(path)
+        both = [subprocess.Popen([program], stdin=subprocess.PIPE, cwd=room, text=True, **CAUGHT) for _ in (1, 2)]
+        said = [it.communicate(job_of(size="16k"), timeout=SECONDS) for it in both]
+        ended = [it.returncode for it in both]
+        expect(set(ended) <= {0, 3}, f"start {number}: {ended}: {said}")
+        expect(ended == [3, 3] or os.path.exists(path) and os.path.getsize(path) == 16384, f"start {number}: {ended}, and no file: {said}")
+
+
+def what_is_no_plain_file_isnt_made_longer(program, room):
+    """A device of characters that is read gets no byte."""
+    as_root("strace")
+    log = os.path.join(room, "calls")
+    words = ["strace", "-f", "-y", "-o", log, "-e", "trace=write,pwrite64", program]
+    subprocess.run(words, input=job_of("null", rw="read", more=["directory=/dev"]), cwd=room, text=True, check=False, **CAUGHT)
+    with open(log, encoding="utf-8", errors="replace") as it:
+        written = [line for line in it if "</dev/null" in line]
+    expect(not written, f"written to a device that is only read: {written[:2]}")
+
+
 def a_missing_device_isnt_made(program, room):
     """In /dev nothing is made, by whatever path or link it is reached."""
     name = f"nosuchdisk{os.getpid()}"
@@ -227,6 +254,14 @@ def a_pipe_or_a_folder_is_refused(program, room):
     for rw in ("write", "read"):
         for name in ("pipe", "folder"):
             refused(run(program, room, job_of(name, rw=rw)), f"cannot open {name}: .*")
+
+
+def a_device_that_is_too_small_is_refused(program, room):
+    """It is named with its length and what its jobs want, whether they write or read."""
+    with loop_device(room) as device:
+        for rw in ("write", "read"):
+            job = job_of(os.path.basename(device), size="32m", rw=rw, more=["directory=/dev"])
+            refused(run(program, room, job), f"{device} has {16 * MIB} bytes, and its jobs want {32 * MIB}")
 
 
 def a_mounted_device_is_refused(program, room):
@@ -331,6 +366,9 @@ def a_part_of_another_device_is_refused(program, room):
 
 
 CASES = [
+    a_device_that_is_too_small_is_refused,
+    two_starts_leave_the_file_of_the_one_that_ran,
+    what_is_no_plain_file_isnt_made_longer,
     two_names_of_one_file_are_refused,
     a_second_run_is_refused,
     runs_that_only_read_share,

@@ -77,6 +77,14 @@ def what_a_run_finds_is_read_from_the_device(program, room):
 LETTERS = {"pwrite64": "w", "fdatasync": "s", "write": "d", "fadvise64": "f", "read": "a", "pread64": "r"}
 
 
+def place_of(letter, rest):
+    """The offset that a call is about; none for an answer that nothing of the file is cached."""
+    if letter == "a" and '":"' in rest:
+        return None
+    place = re.search(r'"clean \d+ (\d+) ' if letter == "d" else r", (\d+) ?\) += ", rest)
+    return int(place[1]) if place else 0
+
+
 def calls_of(log):
     """The calls of a trace that count: (letter, process, line of its begin, line of its end, offset)."""
     begun = {}
@@ -94,10 +102,9 @@ def calls_of(log):
         letter, rest = LETTERS[call[1]], call[4]
         if letter in "wrs" and not call[3].endswith("/f"):
             continue
-        if letter == "d" and '"drop ' not in rest or letter == "a" and not re.search(r'"\.", 1\)', rest):
+        if letter == "d" and '"clean ' not in rest or letter == "a" and not re.search(r'"[:.]", 1\)', rest):
             continue
-        place = re.search(r", (\d+) ?\) += ", rest)
-        yield letter, process, start, number, int(place[1]) if place else 0
+        yield letter, process, start, number, place_of(letter, rest)
 
 
 def traced(program, room, job, *words):
@@ -113,15 +120,17 @@ def traced(program, room, job, *words):
 
 
 def drops_of(calls):
-    """Each (begin of a sync, end of the answer) of one process: a sync, a request, and an answer that says that it was done."""
-    waiting, drops = {}, []
-    for letter, process, start, end, _ in calls:
+    """Each (begin of a sync, end of the answer, offset): a sync that has ended, a request behind it, and an answer that nothing is cached,
+    of the block at that offset or, with none, of the file."""
+    synced, asked, drops = -1, {}, []
+    for letter, process, start, end, offset in sorted(calls, key=lambda call: call[3]):
         if letter == "s":
-            waiting[process] = (start, "s")
-        elif letter == "d" and waiting.get(process, ("", ""))[1] == "s":
-            waiting[process] = (waiting[process][0], "d")
-        elif letter == "a" and waiting.get(process, ("", ""))[1] == "d":
-            drops.append((waiting.pop(process)[0], end))
+            synced = max(synced, start)
+        elif letter == "d":
+            asked[process] = (synced, offset)
+        elif letter == "a" and process in asked:
+            begin, place = asked.pop(process)
+            drops.append((begin, end, None if offset is None else place))
     return drops
 
 
@@ -135,15 +144,15 @@ def each_check_stands_behind_a_drop(program, room):
             calls = traced(program, room, job, f"--workers={workers}")
             what = f"verify_backlog={backlog}, {workers} workers"
             # (workers that sync at once don't wait for one another, so a drop may begin before another and end behind it)
-            drops, written, checks = sorted(drops_of(calls)), {}, 0
-            begins = [begin for begin, _ in drops]
+            drops, written, checks = sorted(drops_of(calls), key=lambda drop: drop[0]), {}, 0
+            begins = [drop[0] for drop in drops]
             for letter, _, start, end, offset in calls:
                 if letter == "w":
                     written[offset] = end
                 elif letter == "r":
                     checks += 1
                     first = bisect.bisect(begins, written[offset])
-                    stands = any(answered < start for _, answered in drops[first:])
+                    stands = any(answered < start and place in (None, offset) for _, answered, place in drops[first:])
                     expect(stands, f"{what}: the check at {offset} is read with no drop before")
             expect(checks == 256, f"{what}: {checks} checks")
             if workers == 1 and backlog == 0:
@@ -198,7 +207,7 @@ class Launcher:
                     os.close(self.answers.pop(place))
                     del self.requests[place]
                     continue
-                found = re.fullmatch(rb"(?:drop|direct) (\d+)\n", line)
+                found = re.fullmatch(rb"(?:clean (?=\d+ \d+ \d+\n)|direct )(\d+)(?: \d+ \d+)?\n", line)
                 expect(found, f"no request: {line}")
                 said = answer(asked, f"/proc/{self.run.pid}/fd/{int(found[1])}")
                 asked += 1
@@ -218,7 +227,7 @@ def dropped(path):
     it = os.open(path, os.O_RDONLY)
     os.posix_fadvise(it, 0, 0, os.POSIX_FADV_DONTNEED)
     os.close(it)
-    return b"."
+    return b":"
 
 
 def a_zeroed_disk_is_bad_in_every_block(program, room):
@@ -250,7 +259,7 @@ def a_zeroed_disk_is_bad_in_every_block(program, room):
 def a_run_goes_on_without_drops(program, room):
     """Whatever the launcher answers, and also where it ends, the report and the status are the same."""
     for workers in ("--workers=1", "--workers=4"):
-        for answers in ([b"!"], [b"x"], [b".", b"!"], [None], [b".", None], [b"!", b"!", None]):
+        for answers in ([b"!"], [b"x"], [b":", b"!"], [b"~"], [b"-"], [b"?"], [b":", b"~"], [None], [b":", None], [b"!", b"!", None]):
             for backlog in (0, 3):
                 it = Launcher(program, room, job_of(more=[f"verify_backlog={backlog}", "iodepth=4"]), workers)
                 it.answer_all(lambda asked, _, answers=answers: answers[min(asked, len(answers) - 1)])
@@ -447,6 +456,26 @@ def start_chooses(program, room):
     expect((ran.stdout, ran.stderr) == ("False\n", ""), f"without perl: {ran.stdout}{ran.stderr}")
 
 
+def perl_runs_no_code_of_the_environment(_program, room):
+    """What has perl run other code, or read otherwise, changes nothing, and the program has it all the same."""
+    seen = script(room, "seen", "print([it for it in sorted(os.environ.items()) if it[0].startswith(('PERL', 'FIORUN'))])\n")
+    with open(os.path.join(room, "strict.pm"), "w", encoding="utf-8") as it:
+        it.write("print 'taken'; exit 7;\n")
+    more = {"PERL5LIB": room, "PERL5OPT": "-Mnosuch", "PERL_UNICODE": "SDA", "PERLIO": ":crlf", "PERLLIB": "", "PERL5DB": "exit 7;"}
+    words = [os.path.join(BIN, "start"), seen, LAUNCH, "job"]
+    ran = subprocess.run(words, capture_output=True, text=True, env={**os.environ, **more}, check=False)
+    expect((ran.returncode, ran.stdout, ran.stderr) == (0, f"{sorted(more.items())}\n", ""), f"{ran}")
+
+
+def a_run_answers_whatever_perl_reads(program, room):
+    """Pipes are of bytes, also where the launcher itself is told that all it reads is text."""
+    environment = {**os.environ, "PERL_UNICODE": "SDA"}
+    with open(os.path.join(room, "job"), "w", encoding="utf-8") as it:
+        it.write(job_of())
+    ran = subprocess.run([LAUNCH, program, "job"], cwd=room, capture_output=True, text=True, env=environment, check=False)
+    clean(ran, "PERL_UNICODE=SDA")
+
+
 def what_is_installed_runs(program, room):
     clone = os.path.join(room, "clone")
     for name in ("crates/fiorun/out", "docs"):
@@ -481,6 +510,8 @@ CASES = [
     signals_end_both,
     stops_and_goes_on,
     start_chooses,
+    perl_runs_no_code_of_the_environment,
+    a_run_answers_whatever_perl_reads,
     what_is_installed_runs,
     a_closed_output_ends_as_before,
     few_descriptors_are_no_fault_of_the_launcher,

@@ -163,17 +163,16 @@ def read_only(place, workers):
 
 
 def full_device(place, workers):
-    """A device that refuses each write halts its clone at the first. (It can't be extended, so a seek to its end says that it is long.)"""
+    """A device that refuses each write halts its clone at the first. It isn't made longer, whatever a seek to its end says."""
     jobs = "[w]\nfilename=full\nrw=write\nsize=16k\nverify=pattern\nverify_pattern=1\n"
     # (there is one such device, and a run refuses what another one holds)
     with FULL_DEVICE:
         ended, trace, calls = place.traced(jobs, workers, "lseek 1 at:16384", "/dev")
-        # (where the seek says that it is a byte shorter, that byte can't be written)
         shorter = place.run(jobs, workers, "/dev", env=place.fault("lseek 1 at:16383"))
     same("run", ended, said(1, total("w", faults=1)))
     same("reads and writes", calls, (0, 1))
     same("trace", re.sub(r"(?m)^([IE]) \d+", r"\1 W", trace), "I W 0 0 0 0\nE W 0 failed\n")
-    same("run over a shorter device", shorter, REFUSED)
+    same("run over a shorter device", shorter, said(1, total("w", faults=1)))
 
 
 CUT_TRACE = """I 0 0 0 0 0

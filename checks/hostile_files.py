@@ -134,7 +134,7 @@ class Files(Case):
         said = (total(writes=4, wbytes=16384, checks=4, bad=4) + bad).replace("byte:0", "header")
         says(place.run(text=job.replace(PATTERN, "verify=md5\n")), 1, said)
         says(place.run(text=job + "verify_fatal=1\n"), 1, total(writes=4, wbytes=16384, checks=1, bad=1) + bad.split("\n")[0] + "\n")
-        refuses(place.run(text=FOUR.replace("=data", "=/dev/full")), 3, "cannot open the files")
+        says(place.run(text=FOUR.replace("=data", "=/dev/full")), 1, total(faults=1))
 
     def test_links(self):
         """Symbolic links are followed, also to a file that isn't there yet; in a circle or to a folder they are refused."""

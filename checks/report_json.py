@@ -20,7 +20,7 @@ from program import FIELDS, SystemCalls, Wrong, expect, find_program, needed_lib
 SECONDS = 60
 LINE = re.compile(r"clone=(\d+) pass=(\d+) number=(\d+) file=(.*) offset=(\d+) length=(\d+) what=(\S+)")
 NUMBERS = ("clone", "pass", "number", "offset", "length")
-MEMBERS = "badreads faults fiorun interrupted jobs miscompares more_faults status".split()
+MEMBERS = "badreads cached faults fiorun interrupted jobs miscompares more_faults status stored".split()
 FAULT = {*NUMBERS, "file", "kind", "outcome", "moved", "reason"}
 # Names of jobs and files that a writer of JSON may trip over: quotes, backslashes, tags, control characters, bytes above 0x7f.
 NAMES = ['<script>"\\', "a\tb", "\x01\x1f\x7f", "é ✓ \U0001f600", "</script>", "\\u0041", "'", "a: clone=1"]
@@ -42,7 +42,7 @@ def told(report):
     return jobs, bad
 
 
-def agrees(report, status, found, interrupted=False):
+def agrees(report, status, found, interrupted=False, stored=True):
     """Whether an object is that of a report and a status."""
     jobs, bad = told(report)
     expect(list(found) == MEMBERS, "members", list(found))
@@ -50,6 +50,8 @@ def agrees(report, status, found, interrupted=False):
     expect(found["badreads"] == bad["badread"], "badreads", found["badreads"], bad["badread"])
     expect(found["miscompares"] == bad["miscompare"], "miscompares", found["miscompares"], bad["miscompare"])
     expect((found["status"], found["interrupted"]) == (status, interrupted), "end", found["status"], found["interrupted"])
+    expect(found["stored"] is stored, "stored", found["stored"])
+    expect(found["cached"] is None or type(found["cached"]) is int and found["cached"] >= 0, "cached", found["cached"])
     faults = sum(it["faults"] for it in jobs)
     expect(len(found["faults"]) == min(faults, 100) and found["more_faults"] == max(faults - 100, 0), "faults", found["more_faults"])
     expect(all(set(it) == FAULT for it in found["faults"]), "fields of faults", found["faults"][:1])
@@ -60,8 +62,8 @@ class Place:
 
     def __init__(self, program, library, path):
         self.program = program
-        self.library = library
         self.path = path
+        self.calls = SystemCalls(library, self.at("calls"))
 
     def at(self, name):
         return os.path.join(self.path, name)
@@ -73,14 +75,14 @@ class Place:
         expect(text.endswith("}\n") and text.count("\n") == 1, "not one line", text[-100:])
         return json.loads(text)
 
-    def run(self, jobs, *words, fault=None):
-        """The status and the report of a run, and its JSON."""
+    def run(self, jobs, *words, fault=None, said=b""):
+        """The status and the report of a run, which says this on standard error, and its JSON."""
         with open(self.at("job"), "w", encoding="utf-8", newline="") as it:
             it.write(jobs)
-        environment = SystemCalls(self.library, self.at("calls")).environment(fault) if fault else None
+        environment = self.calls.environment(fault or "none 0 0")
         words = [self.program, "--json=json", *words, "job"]
         ended = subprocess.run(words, capture_output=True, timeout=SECONDS, check=False, cwd=self.path, env=environment)
-        expect(ended.stderr == b"", "it says", ended.stderr)
+        expect(ended.stderr == said, "it says", ended.stderr)
         return ended.returncode, ended.stdout.decode(), self.read("json")
 
 
@@ -89,6 +91,7 @@ def clean(place):
     status, report, found = place.run("[w]\nioengine=memory\nrw=write\nsize=64k\nverify=md5\nnumjobs=3\n", "--workers=4")
     agrees(report, status, found)
     expect(status == 0 and len(found["jobs"]) == 3, "a clean run", status, found["jobs"])
+    expect(found["cached"] is None, "a run over no files", found["cached"])
     version = subprocess.run([place.program, "--version"], capture_output=True, text=True, check=True).stdout
     expect(f"fiorun {found['fiorun']}\n" == version, "version", found["fiorun"], version)
 
@@ -137,7 +140,7 @@ def faults(place):
     agrees(report, status, found)
     expect(found["faults"] == [{**wanted, "moved": None, "reason": reason}], "a write that failed", found["faults"])
     _, _, again = place.run(jobs, "--check-trace=trace")
-    expect(again == {**found, "faults": [{**wanted, "moved": None, "reason": None}]}, "of its trace", again)
+    expect(again == {**found, "cached": None, "faults": [{**wanted, "moved": None, "reason": None}]}, "of its trace", again)
     status, report, found = place.run(jobs, "--workers=1", fault="pread 1 cut:1000")
     agrees(report, status, found)
     expect((found["faults"][0]["kind"], found["faults"][0]["outcome"]) == ("check", "short"), "a check cut short", found["faults"])
@@ -155,6 +158,28 @@ def many_faults(place):
     expect(status == 0, "status of the check", status)
     agrees(report, 1, found)
     expect(found["more_faults"] == 28 and all(it["outcome"] == "failed" for it in found["faults"]), "faults", found["faults"][:1])
+
+
+def unstored(place):
+    """A run whose last sync fails: all of its outputs are there, and say so. Its status is that of what it found, else 3."""
+    read = "[r]\nfilename=f\nrw=read\nsize=4k\nverify=pattern\nverify_pattern=1\n"
+    write = "[w]\nfilename=g\nrw=write\nsize=8k\nverify=md5\ndo_verify=0\n"
+    with open(place.at("f"), "wb") as it:
+        it.write(bytes(4096))
+    for jobs, wanted in ((write, 3), (read + write, 1)):
+        words = ("--workers=1", "--bad-blocks=list") if wanted == 3 else ("--workers=2",)
+        status, _, found = place.run(jobs, *words, "--page=page", "--trace=trace")
+        expect((status, found["stored"]) == (0 if wanted == 3 else 1, True), "a run that is stored", status, found["stored"])
+        syncs = place.calls.counted()["fdatasync"]
+        for name in ("json", "page", "trace"):
+            os.unlink(place.at(name))
+        said = b"fiorun: cannot write\n"
+        status, report, found = place.run(jobs, *words, "--page=page", "--trace=trace", fault=f"fdatasync {syncs} {errno.EIO}", said=said)
+        agrees(report, status, found, stored=False)
+        expect(status == wanted and len(found["badreads"]) == (wanted == 1), "a run that isn't stored", status, found["badreads"])
+        expect(all(os.path.exists(place.at(it)) for it in ("page", "trace")), "its other outputs", os.listdir(place.path))
+        status, _, again = place.run(jobs, "--check-trace=trace")
+        expect(status == 0 and again["stored"] and again["cached"] is None, "of its trace", status, again)
 
 
 def interrupted(place):
@@ -175,7 +200,7 @@ def main(words):
     wrong = []
     with tempfile.TemporaryDirectory(prefix="report-json-") as room:
         library = needed_library("faulty.c", room, "report_json")
-        for case in (clean, names, verdicts, reads, faults, many_faults, interrupted):
+        for case in (clean, names, verdicts, reads, faults, many_faults, unstored, interrupted):
             path = os.path.join(room, case.__name__)
             os.mkdir(path)
             try:

@@ -20,6 +20,7 @@ use std::{env, fs, io};
 mod outputs;
 mod places;
 mod running;
+mod unfailing;
 
 fn main(rt: HostRuntime) -> ExitCode {
     let _held = held(&rt);
@@ -37,9 +38,9 @@ fn main(rt: HostRuntime) -> ExitCode {
     let mut has_notes = rt.is_shown();
     let ended = match begin(&rt, &mut has_notes) {
         Ok(Turn::Ended(status)) => Ok(status),
-        Ok(Turn::Ran(ran)) => Ok(told(&rt, ran)),
+        Ok(Turn::Ran(ran)) => Ok(told(&rt, &ran, has_notes)),
         Ok(Turn::Shared(job)) => match run_shared(job) {
-            Ok(ran) => Ok(told(&rt, ran)),
+            Ok(ran) => Ok(told(&rt, &ran, has_notes)),
             Err(stop) => Err(stop),
         },
         Err(stop) => Err(stop),
@@ -50,12 +51,17 @@ fn main(rt: HostRuntime) -> ExitCode {
     }
 }
 
-// Says on standard error where a run was interrupted, and gives the exit status.
-fn told<R: Eprint>(rt: &R, ran: Ran) -> u8 {
+// Says on standard error where a run was interrupted, and the first thing that couldn't be stored or written of it, and gives the exit
+// status.
+fn told<R: Eprint>(rt: &R, ran: &Ran, has_notes: bool) -> u8 {
     if ran.ended.is_interrupted {
         let _ = eprintln!(rt; "fiorun: interrupted");
     }
-    ran.ended.status()
+    let missing = ran.missing();
+    if let Some(stop) = missing {
+        let _ = stop.tell(rt, has_notes);
+    }
+    ran.ended.status(missing.is_none())
 }
 
 // Holds the numbers of standard input, output and error where they are closed, so that no file of a job gets one of them.

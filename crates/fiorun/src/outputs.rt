@@ -1,8 +1,8 @@
 // The files that a run is told in beside its report. Each is refused before the run where its path is one that is read or written
 // otherwise, and written behind the report.
-use jr_cli::{Findings, json_text, list_text};
+use jr_cli::{Findings, Storage, json_text, list_text};
 use jr_command::{BlockSize, Choice, CliFault, list_size};
-use jr_host::{Stop, leads_to};
+use jr_host::{Settled, Stop, leads_to};
 use jr_model::{EngineKind, Memory};
 use jr_page::page;
 use jr_plan::Plan;
@@ -108,11 +108,11 @@ impl Outputs {
         &self,
         rt: &R,
         findings: &Findings<'_>,
-        reasons: &[Option<String>],
+        settled: &Settled,
     ) -> Result<(), Stop> {
         let mut result = Ok(());
         for (place, output) in self.all.iter().enumerate() {
-            let written = self.write_one(rt, place, output, findings, reasons);
+            let written = self.write_one(rt, place, output, findings, settled);
             result = result.and(written);
         }
         result
@@ -125,12 +125,12 @@ impl Outputs {
         place: usize,
         output: &Output,
         findings: &Findings<'_>,
-        reasons: &[Option<String>],
+        settled: &Settled,
     ) -> Result<(), Stop> {
         if self.is_refused(rt, findings.plan(), output.path.as_str(), place) {
             return Err(Stop::output(output.content.word()));
         }
-        let Ok(text) = output.content.text(rt.alloc(), findings, reasons) else {
+        let Ok(text) = output.content.text(rt.alloc(), findings, settled) else {
             return Err(Stop::from(CliFault::Memory));
         };
         write_file(rt, output.path.as_str(), text.as_slice())
@@ -151,13 +151,27 @@ impl Content {
         &self,
         alloc: Global,
         findings: &Findings<'_>,
-        reasons: &[Option<String>],
+        settled: &Settled,
     ) -> Result<Vec<u8>, Memory> {
         match self {
             Content::BadBlocks(size) => list_text(alloc, findings, size),
-            Content::Json => json_text(alloc, findings, reasons),
+            Content::Json => {
+                json_text(
+                    alloc,
+                    findings,
+                    settled.reasons.as_slice(),
+                    &storage_of(settled),
+                )
+            }
             Content::Page => page_text(alloc, findings),
         }
+    }
+}
+
+fn storage_of(settled: &Settled) -> Storage {
+    Storage {
+        cached: settled.cached,
+        is_stored: settled.unstored.is_none(),
     }
 }
 
@@ -170,7 +184,7 @@ fn page_text(alloc: Global, findings: &Findings<'_>) -> Result<Vec<u8>, Memory> 
             totals: findings.totals(),
             bads: findings.bads(),
             faults: findings.faults(),
-            is_interrupted: findings.ending().is_interrupted,
+            is_interrupted: findings.is_interrupted(),
         },
     )
 }

@@ -3,7 +3,7 @@ use crate::outputs::Outputs;
 use crate::running::Ran;
 use jr_cli::Findings;
 use jr_command::{Choice, CliFault};
-use jr_host::{Screen, Stop};
+use jr_host::{Screen, Settled, Stop};
 use jr_model::LARGEST_END;
 use jr_places::{Fate, FileMap, map_of};
 use jr_plan::{FileSpec, Plan};
@@ -37,15 +37,20 @@ impl Wanted {
         })
     }
 
-    // Tells it, of a run that has its report.
-    pub fn tell<R: Files + Screen + AllocGlobal>(&self, rt: &R, ran: &Ran) -> Result<(), Stop> {
+    // Tells it, of a run that has its report, with which what can't be told is kept.
+    pub fn tell<R: Files + Screen + AllocGlobal>(&self, rt: &R, ran: Ran) -> Ran {
+        let told = self.tell_run(rt, &ran);
+        ran.and(told)
+    }
+
+    fn tell_run<R: Files + Screen + AllocGlobal>(&self, rt: &R, ran: &Ran) -> Result<(), Stop> {
         if self.outputs.is_empty() && !self.has_maps {
             return Ok(());
         }
         let Ok(findings) = Findings::of_desk(rt.alloc(), &ran.ended.desk) else {
             return Err(Stop::from(CliFault::Memory));
         };
-        self.tell_findings(rt, &findings, ran.reasons.as_slice())
+        self.tell_findings(rt, &findings, &ran.settled)
     }
 
     // Tells it, of the run that a trace of the plan is of.
@@ -65,19 +70,23 @@ impl Wanted {
         let Ok(findings) = Findings::of_trace(rt.alloc(), plan, &run) else {
             return Err(Stop::from(CliFault::Memory));
         };
-        self.tell_findings(rt, &findings, &[])
+        self.tell_findings(rt, &findings, &Settled::of_no_files(rt.alloc()))
     }
 
     fn tell_findings<R: Files + Screen + AllocGlobal>(
         &self,
         rt: &R,
         findings: &Findings<'_>,
-        reasons: &[Option<String>],
+        settled: &Settled,
     ) -> Result<(), Stop> {
-        if self.has_maps && findings.found() != 0 {
-            show_maps(rt, findings)?;
-        }
-        self.outputs.write(rt, findings, reasons)
+        let shown = if self.has_maps && findings.found() != 0 {
+            show_maps(rt, findings)
+        } else {
+            Ok(())
+        };
+        let written = self.outputs.write(rt, findings, settled);
+        shown?;
+        written
     }
 }
 

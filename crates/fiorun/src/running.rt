@@ -2,13 +2,15 @@
 ghost use Rattle.std.specs.Prelude.{◌≤◌, ◌^◌};
 
 use crate::places::Wanted;
+use crate::unfailing::Unfailing;
 use jr_cli::{Ended, execute, execute_serial};
 use jr_command::{Choice, CliFault, Wiping, workers_of};
 use jr_direct::Wish;
 use jr_engines::{Engine, MemoryEngine, NullEngine, SharedMemory};
 use jr_files::{FileEngine, SharedFile};
 use jr_host::{
-    Asked, Extent, Machine, Pace, Screen, Stop, Taken, Wiper, asked_by, is_taken, shown, take_files,
+    Asked, Extent, Machine, Pace, Screen, Settled, Stop, Taken, Wiper, asked_by, is_taken, shown,
+    take_files,
 };
 use jr_model::EngineKind;
 use jr_plan::Plan;
@@ -26,19 +28,66 @@ pub enum Turn {
     Shared(SharedRun),
 }
 
-// How a run ended, and why the system refused the first of its faults, where that is known.
+// The file that a trace goes to.
+type TraceFile<F> = Unfailing<BufWriter<F>>;
+
+// How a run ended that has its report, what the system said of its files, and why the first of its other outputs couldn't be written,
+// where one couldn't.
 #[derive(Drop)]
 pub struct Ran {
     pub ended: Ended,
-    pub reasons: Vec<Option<String>>,
+    pub settled: Settled,
+    unwritten: Option<Stop>,
 }
 
 impl Ran {
-    // A run of which no reasons are known.
-    pub fn new(alloc: Global, ended: Ended) -> Ran {
+    // A run over no files, whose report may be cut, with its trace where one was asked for.
+    fn new(alloc: Global, ended: Ended, is_cut: bool, trace: Option<TraceFile<File>>) -> Ran {
+        let is_trace_cut = match &trace {
+            Some(trace) => trace.has_failed,
+            None => false,
+        };
+        let unwritten = if is_cut || is_trace_cut {
+            Some(Stop::from(CliFault::Write))
+        } else {
+            None
+        };
         Ran {
             ended,
-            reasons: Vec::new(alloc),
+            settled: Settled::of_no_files(alloc),
+            unwritten,
+        }
+    }
+
+    // The same run over files, of which the system said this.
+    fn over(self, settled: Settled) -> Ran {
+        let Ran {
+            ended,
+            settled: _nothing,
+            unwritten,
+        } = self;
+        Ran {
+            ended,
+            settled,
+            unwritten,
+        }
+    }
+
+    // The same run, of which this became of further outputs.
+    pub fn and(mut self, written: Result<(), Stop>) -> Ran {
+        if let Err(stop) = written
+            && self.unwritten.is_none()
+        {
+            self.unwritten = Some(stop);
+        }
+        self
+    }
+
+    // Why the first thing that couldn't be stored or written couldn't be, where there is one.
+    pub fn missing(&self) -> Option<&Stop> {
+        match &self.settled.unstored {
+            Some(stop) => Some(stop),
+            None => self.unwritten.as_ref(),
         }
     }
 }
@@ -49,7 +98,7 @@ impl Ran {
 pub struct SharedRun {
     pub plan: Plan,
     pub workers: u32,
-    events: Option<BufWriter<File>>,
+    events: Option<TraceFile<File>>,
     asked: Arc<Asked, Global>,
     wanted: Option<Wanted>,
 }
@@ -58,13 +107,13 @@ pub struct SharedRun {
 fn trace_file<R: Files + AllocGlobal>(
     rt: &R,
     trace: Option<&str>,
-) -> Result<Option<BufWriter<R::File>>, Stop> {
+) -> Result<Option<TraceFile<R::File>>, Stop> {
     let Some(path) = trace else {
         return Ok(None);
     };
     match fs::create(rt, path) {
         Ok(file) => match BufWriter::new(rt.alloc(), file) {
-            Ok(events) => Ok(Some(events)),
+            Ok(out) => Ok(Some(Unfailing::new(out))),
             Err(_) => Err(Stop::from(CliFault::Memory)),
         },
         Err(error) => Err(Stop::unmade(rt.alloc(), path, error)),
@@ -95,10 +144,7 @@ pub fn run_plan<R: Files<File = File> + Print + Machine>(
 fn told<R: Files + Screen + AllocGlobal>(rt: &R, wanted: Wanted, turn: Turn) -> Result<Turn, Stop> {
     match turn {
         Turn::Ended(status) => Ok(Turn::Ended(status)),
-        Turn::Ran(ran) => {
-            wanted.tell(rt, &ran)?;
-            Ok(Turn::Ran(ran))
-        }
+        Turn::Ran(ran) => Ok(Turn::Ran(wanted.tell(rt, ran))),
         Turn::Shared(mut job) => {
             job.wanted = Some(wanted);
             Ok(Turn::Shared(job))
@@ -132,15 +178,10 @@ fn run_asked<R: Files<File = File> + Print + Machine>(
     match plan.engine() {
         EngineKind::File => run_over_files(rt, choice, &asked, wishes, plan, workers),
         EngineKind::Memory if is_alone(&plan, workers) => {
-            without_reasons(rt.alloc(), alone_over_memory(rt, choice, &asked, plan))
+            Ok(Turn::Ran(alone_over_memory(rt, choice, &asked, plan)?))
         }
         EngineKind::Memory => shared_run(rt, choice, asked, plan, workers),
-        EngineKind::Null => {
-            without_reasons(
-                rt.alloc(),
-                run_over_nothing(rt, choice, &asked, plan, workers),
-            )
-        }
+        EngineKind::Null => { Ok(Turn::Ran(run_over_nothing(rt, choice, &asked, plan, workers)?)) }
     }
 }
 
@@ -157,11 +198,6 @@ fn is_alone(plan: &Plan, workers: u32) -> bool {
     workers == 1 && plan.verifiers() == 0
 }
 
-// The end of a run over no files, of whose faults the system has said nothing.
-fn without_reasons(alloc: Global, ended: Result<Ended, Stop>) -> Result<Turn, Stop> {
-    Ok(Turn::Ran(Ran::new(alloc, ended?)))
-}
-
 // Runs the plan over the system's files.
 fn run_over_files<R: Files<File = File> + Print + Machine>(
     rt: &R,
@@ -172,19 +208,19 @@ fn run_over_files<R: Files<File = File> + Print + Machine>(
     workers: u32,
 ) -> Result<Turn, Stop> {
     let files = take_files(rt, &plan, choice, wishes)?;
-    let ended = run_over_taken(rt, choice, asked, &files, plan, workers);
-    settled(rt, &files, ended)
+    let ran = run_over_taken(rt, choice, asked, &files, plan, workers);
+    settled(rt, &files, ran)
 }
 
-// How a run over these files ended, with the system's reasons for its first faults.
+// How a run over these files ended, with what the system said of them.
 fn settled<R: Eprint + AllocGlobal>(
     rt: &R,
     files: &Taken<'_>,
-    ended: Result<Ended, Stop>,
+    ran: Result<Ran, Stop>,
 ) -> Result<Turn, Stop> {
-    let ended = ended?;
-    let reasons = files.settled(rt, &ended.faults)?;
-    Ok(Turn::Ran(Ran { ended, reasons }))
+    let ran = ran?;
+    let settled = files.settled(rt, &ran.ended.faults)?;
+    Ok(Turn::Ran(ran.over(settled)))
 }
 
 // The same over these files, which were taken.
@@ -195,7 +231,7 @@ fn run_over_taken<R: Files<File = File> + Print + Machine>(
     files: &Taken<'_>,
     plan: Plan,
     workers: u32,
-) -> Result<Ended, Stop> {
+) -> Result<Ran, Stop> {
     if is_alone(&plan, workers) {
         alone_over_files(rt, choice, asked, files, plan)
     } else {
@@ -210,7 +246,7 @@ fn alone_over_files<R: Files<File = File> + Print + Machine>(
     asked: &Asked,
     files: &Taken<'_>,
     plan: Plan,
-) -> Result<Ended, Stop> {
+) -> Result<Ran, Stop> {
     let mut engine = files.engine(rt, 0)?;
     files.begin(rt, &engine);
     alone_over(rt, choice, asked, plan, &mut engine)
@@ -224,7 +260,7 @@ fn crew_over_files<R: Files<File = File> + Print + Machine>(
     files: &Taken<'_>,
     plan: Plan,
     workers: u32,
-) -> Result<Ended, Stop> {
+) -> Result<Ran, Stop> {
     let events = trace_file(rt, choice.trace)?;
     let engines = file_engines(rt, files, workers)?;
     Ok(run_files(rt, asked, plan, engines, events)?)
@@ -236,7 +272,7 @@ fn alone_over_memory<R: Files<File = File> + Print + Machine>(
     choice: &Choice<'_>,
     asked: &Asked,
     plan: Plan,
-) -> Result<Ended, Stop> {
+) -> Result<Ran, Stop> {
     match MemoryEngine::new(rt.alloc(), &plan) {
         Ok(engine) => {
             let mut engine = engine;
@@ -271,7 +307,7 @@ fn run_over_nothing<R: Files<File = File> + Print + Machine>(
     asked: &Asked,
     plan: Plan,
     workers: u32,
-) -> Result<Ended, Stop> {
+) -> Result<Ran, Stop> {
     if is_alone(&plan, workers) {
         return alone_over(rt, choice, asked, plan, &mut NullEngine::new());
     }
@@ -286,7 +322,7 @@ fn alone_over<R: Files<File = File> + Print + Machine>(
     asked: &Asked,
     plan: Plan,
     engine: &mut dyn Engine,
-) -> Result<Ended, Stop>
+) -> Result<Ran, Stop>
     requires { (state engine.old).calls ≤ 2 ^ 63 }
 {
     let events = trace_file(rt, choice.trace)?;
@@ -329,10 +365,10 @@ pub fn add<X: Drop>(all: &mut Vec<X>, one: X) -> Result<(), CliFault> {
 fn run_over<R: Print + Machine>(
     rt: &R,
     asked: &Asked,
-    events: Option<BufWriter<File>>,
+    events: Option<TraceFile<File>>,
     plan: Plan,
     engine: &mut dyn Engine,
-) -> Result<Ended, CliFault>
+) -> Result<Ran, CliFault>
     requires { (state engine.old).calls ≤ 2 ^ 63 }
 {
     let alloc = rt.alloc();
@@ -342,13 +378,14 @@ fn run_over<R: Print + Machine>(
         rt,
         Extent::of(&plan),
         asked,
-        move |watch, meter| -> Result<Ended, CliFault>
+        move |watch, meter| -> Result<Ran, CliFault>
             requires { (state engine.now).calls ≤ 2 ^ 63 }
         {
             let line = &Wiper { rt, meter };
-            let mut out = Wiping { line, out };
+            let mut out = Unfailing::new(Wiping { line, out });
             let mut events = events;
-            execute_serial(alloc, plan, engine, watch, events.as_mut(), &mut out)
+            let ended = execute_serial(alloc, plan, engine, watch, events.as_mut(), &mut out)?;
+            Ok(Ran::new(alloc, ended, out.has_failed, events))
         },
     )
 }
@@ -359,8 +396,8 @@ fn run_files<R: Print + Machine>(
     asked: &Asked,
     plan: Plan,
     shares: Vec<FileEngine<SharedFile>>,
-    events: Option<BufWriter<File>>,
-) -> Result<Ended, CliFault> {
+    events: Option<TraceFile<File>>,
+) -> Result<Ran, CliFault> {
     let mut engines: Vec<Box<dyn Engine + Send>> = Vec::new(rt.alloc());
     for engine in shares {
         add(&mut engines, boxed(rt.alloc(), engine)?)?;
@@ -374,8 +411,8 @@ fn run_nulls<R: Print + Machine>(
     asked: &Asked,
     plan: Plan,
     workers: u32,
-    events: Option<BufWriter<File>>,
-) -> Result<Ended, CliFault> {
+    events: Option<TraceFile<File>>,
+) -> Result<Ran, CliFault> {
     let mut engines: Vec<Box<dyn Engine + Send>> = Vec::new(rt.alloc());
     for _ in 0..workers {
         add(&mut engines, boxed(rt.alloc(), NullEngine::new())?)?;
@@ -412,12 +449,11 @@ pub fn run_memory<R: Files + Print + Machine>(
         asked,
         wanted,
     } = job;
-    let ended = run_with(rt, &asked, plan, engines, events)?;
-    let ran = Ran::new(rt.alloc(), ended);
-    if let Some(wanted) = wanted {
-        wanted.tell(rt, &ran)?;
+    let ran = run_with(rt, &asked, plan, engines, events)?;
+    match wanted {
+        Some(wanted) => Ok(wanted.tell(rt, ran)),
+        None => Ok(ran),
     }
-    Ok(ran)
 }
 
 // Runs the plan with a worker for each engine, and writes the report and then the trace where one is asked for.
@@ -426,15 +462,16 @@ fn run_with<R: Print + Machine>(
     asked: &Asked,
     plan: Plan,
     engines: Vec<Box<dyn Engine + Send>>,
-    events: Option<BufWriter<File>>,
-) -> Result<Ended, CliFault> {
+    events: Option<TraceFile<File>>,
+) -> Result<Ran, CliFault> {
     let alloc = rt.alloc();
     let mut out = to_output(rt)?;
     let out = &mut out;
     shown(rt, Extent::of(&plan), asked, move |watch, meter| {
         let line = &Wiper { rt, meter };
-        let mut out = Wiping { line, out };
+        let mut out = Unfailing::new(Wiping { line, out });
         let mut events = events;
-        execute(rt, alloc, plan, engines, watch, events.as_mut(), &mut out)
+        let ended = execute(rt, alloc, plan, engines, watch, events.as_mut(), &mut out)?;
+        Ok(Ran::new(alloc, ended, out.has_failed, events))
     })
 }

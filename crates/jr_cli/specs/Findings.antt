@@ -1,5 +1,5 @@
 -- Believed: what is told of a run beside its report: its status, and the report as JSON (of this project).
-use Rattle.std.specs.Prelude.{◌≡◌, ℕ, ◌==◌, Bool, true, not, List, ◌++◌, Option, map, codes, if◌then◌else◌}
+use Rattle.std.specs.Prelude.{◌≡◌, ℕ, Bool, true, not, List, ◌++◌, Option, map, codes}
 use Rattle.serde_json.specs.Written.{compact_text}
 use Rattle.jr_model.specs.declared.events.Event.{Event}
 use Rattle.jr_model.specs.declared.totals.Totals.{Totals}
@@ -12,28 +12,27 @@ use Rattle.jr_json.specs.Json.{RunEnd, json_of}
 use Rattle.jr_tallies.specs.declared.tallies.Bad.{Bad}
 use Rattle.jr_tallies.specs.Tallying.{miscompare_of}
 use Rattle.jr_command.specs.declared.words.TheConstants.{VERSION}
-use Rattle.jr_cli.specs.Status.{status_of}
+use Rattle.jr_cli.specs.declared.storage.Storage.{Storage}
+use Rattle.jr_cli.specs.Status.{status_of, status_with}
 
 -- a plan, and a history of it
 pub record RunOf : Type 0 where
   pub plan : Plan
   pub history : List Event
 
--- the exit status of a program that found this in a run, whole or stopped halfway
-abbrev pub status_with : ℕ → Bool → ℕ
-status_with found is_complete = if found == 0 then (if is_complete then 0 else 130) else found
-
--- how the run of this history ended
-abbrev pub end_of : RunOf → RunEnd
-end_of run = record {
+-- how the run of this history ended, of whose files the system said this
+abbrev pub end_of : RunOf → Storage → RunEnd
+end_of run storage = record {
   version = VERSION.now;
-  status = status_with (status_of (all_totals run.plan run.history)) (is_complete run.plan run.history);
+  status = status_with (status_of (all_totals run.plan run.history)) (not (is_complete run.plan run.history)) storage.is_stored;
   is_interrupted = not (is_complete run.plan run.history);
+  cached = storage.cached;
+  is_stored = storage.is_stored;
 }
 
 -- its report as a line of JSON
-abbrev pub json_line : RunOf → List (Option (List ℕ)) → List ℕ
-json_line run reasons = compact_text (json_of (end_of run) run.plan run.history reasons) ++ codes "\n"
+abbrev pub json_line : RunOf → List (Option (List ℕ)) → Storage → List ℕ
+json_line run reasons storage = compact_text (json_of (end_of run storage) run.plan run.history reasons) ++ codes "\n"
 
 -- the totals, the bad verdicts and the faults of a legal history, and whether it is complete
 pub record AreFindings (plan : Plan) (history : List Event) (counted : List Totals) (given : List Bad) (kept : Faults) (whole : Bool) : Type 0 where

@@ -1,5 +1,5 @@
--- Believed: the exit status of the program behind a run: 0 where nothing went wrong, 1 where the run found a fault, 130 where it was
--- stopped halfway and had found nothing.
+-- Believed: the exit status of the program behind a run: 1 where the run found a fault. Where it found none: 3 where something that it
+-- wrote couldn't be stored, 130 where it was stopped halfway, else 0.
 use Rattle.std.specs.Prelude.{ℕ, ◌==◌, nat_lt, Bool, ◌||◌, List, if◌then◌else◌}
 use Rattle.std.specs.List.{list_any}
 use Rattle.jr_model.specs.declared.totals.Totals.{Totals}
@@ -13,6 +13,10 @@ is_unclean totals = nat_lt 0 totals.bad || nat_lt 0 totals.faults
 abbrev pub status_of : List Totals → ℕ
 status_of totals = if list_any is_unclean totals then 1 else 0
 
--- of a run that found this, stopped halfway or not
-abbrev pub status_of_ended : Ended → ℕ
-status_of_ended ended = if ended.found == 0 then (if ended.is_interrupted then 130 else 0) else ended.found
+-- of a run that found this: whether it was stopped halfway, and whether all that it wrote is stored
+abbrev pub status_with : ℕ → Bool → Bool → ℕ
+status_with found is_interrupted is_stored =
+    if found == 0 then (if is_stored then (if is_interrupted then 130 else 0) else 3) else found
+
+abbrev pub status_of_ended : Ended → Bool → ℕ
+status_of_ended ended is_stored = status_with ended.found ended.is_interrupted is_stored

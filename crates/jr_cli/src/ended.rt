@@ -1,3 +1,6 @@
+ghost use Rattle.std.specs.Prelude.{◌≡◌};
+ghost use Rattle.jr_cli.specs.Status.{status_with};
+
 use jr_desk::Desk;
 use jr_faults::Faults;
 
@@ -18,13 +21,23 @@ impl Ended {
     ghost use Rattle.std.specs.Prelude.{◌≡◌};
     ghost use Rattle.jr_cli.specs.Status.{status_of_ended};
 
-    /// The exit status of the program.
-    pub fn status(&self) -> u8
-        ensures { result ≡ status_of_ended self.now }
+    /// The exit status of the program, where all that the run wrote is stored, its outputs among it, or isn't.
+    pub fn status(&self, is_stored: bool) -> u8
+        ensures { result ≡ status_of_ended self.now is_stored }
     {
-        if self.found != 0 {
-            return self.found;
-        }
-        if self.is_interrupted { 130 } else { 0 }
+        status_with(self.found, self.is_interrupted, is_stored)
     }
+}
+
+// The exit status of a program that found this.
+pub(crate) fn status_with(found: u8, is_interrupted: bool, is_stored: bool) -> u8
+    ensures { result ≡ status_with found is_interrupted is_stored }
+{
+    if found != 0 {
+        return found;
+    }
+    if !is_stored {
+        return 3;
+    }
+    if is_interrupted { 130 } else { 0 }
 }

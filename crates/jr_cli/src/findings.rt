@@ -1,14 +1,17 @@
-ghost use Rattle.std.specs.Prelude.{◌≡◌, IfOk, map};
+ghost use Rattle.std.specs.Prelude.{◌≡◌, IfOk, map, not};
 ghost use Rattle.jr_faults.specs.Faults.{AreFaultsOf};
 ghost use Rattle.jr_json.specs.Rows.{ending_of, texts_of};
+ghost use Rattle.jr_model.specs.Legal.{is_complete};
 ghost use Rattle.jr_model.specs.Report.{all_totals, in_order, miscompares};
 ghost use Rattle.jr_tallies.specs.Tallying.{miscompare_of};
 ghost use Rattle.jr_traces.specs.Runs.{IsLegalRun};
-ghost use Rattle.jr_cli.specs.Findings.{end_of, json_line, status_with};
+ghost use Rattle.jr_cli.specs.Findings.{end_of, json_line};
 ghost use Rattle.jr_cli.specs.Status.{status_of};
 
+use crate::ended::status_with;
 use crate::found::faults_found;
 use crate::runs::status_of;
+use crate::storage::Storage;
 use jr_command::VERSION;
 use jr_desk::Desk;
 use jr_faults::{Faults, faults_among};
@@ -116,29 +119,39 @@ impl<'a> Findings<'a> {
         status_of(self.totals)
     }
 
-    /// How the run ended.
-    pub fn ending(&self) -> Ending<'static>
-        ensures { ending_of result ≡ end_of self.now }
+    /// Whether the run was stopped before it was complete.
+    pub fn is_interrupted(&self) -> bool
+        ensures { result ≡ not (is_complete self.now.plan self.now.history) }
+    {
+        !self.is_complete
+    }
+
+    /// How the run ended, of whose files the system said this.
+    pub fn ending(&self, storage: &Storage) -> Ending<'static>
+        ensures { ending_of result ≡ end_of self.now storage.now }
     {
         Ending {
             version: VERSION,
-            status: status_with(self.found(), self.is_complete),
-            is_interrupted: !self.is_complete,
+            status: status_with(self.found(), self.is_interrupted(), storage.is_stored),
+            is_interrupted: self.is_interrupted(),
+            cached: storage.cached,
+            is_stored: storage.is_stored,
         }
     }
 }
 
-/// The report as a line of JSON, with the system's reasons of the first faults.
+/// The report as a line of JSON, with what the system said: its reasons of the first faults, and of the files.
 pub fn json_text(
     alloc: Global,
     findings: &Findings<'_>,
     reasons: &[Option<String>],
+    storage: &Storage,
 ) -> Result<Vec<u8>, Memory>
-    ensures { IfOk result (λ text. text.items ≡ json_line findings.now (texts_of reasons.now)) }
+    ensures { IfOk result (λ text. text.items ≡ json_line findings.now (texts_of reasons.now) storage.now) }
 {
     let plan = findings.plan();
     let bads = sorted(alloc, findings)?;
-    let ending = findings.ending();
+    let ending = findings.ending(storage);
     jr_json::json_text(
         alloc,
         plan,
@@ -156,14 +169,4 @@ fn sorted(alloc: Global, findings: &Findings<'_>) -> Result<Vec<Bad>, Memory>
 {
     let _ = &findings.is_complete;
     bads_in_order(alloc, findings.plan, findings.bads.as_slice())
-}
-
-// The exit status of a program that found this.
-fn status_with(found: u8, is_complete: bool) -> u8
-    ensures { result ≡ status_with found is_complete }
-{
-    if found != 0 {
-        return found;
-    }
-    if is_complete { 0 } else { 130 }
 }

@@ -6,6 +6,7 @@ mod findings;
 mod found;
 mod places;
 mod runs;
+mod storage;
 
 pub use ended::Ended;
 pub use findings::{Findings, json_text};
@@ -16,3 +17,4 @@ pub use jr_command::{
 pub use jr_crew::{Progress, StopFlag, Watch};
 pub use places::list_text;
 pub use runs::{execute, execute_serial, print_check, print_part};
+pub use storage::Storage;

@@ -8,12 +8,12 @@ use crate::making::opened_file;
 use crate::refusals::{Act, Refusal, Why};
 use crate::shares::{Reads, SharedFile};
 use crate::uses::{is_checked, is_written};
-use jr_devices::{DeviceNumbers, first_twins, use_of};
+use jr_devices::{DeviceNumbers, FileNumbers, first_twins, use_of};
 use jr_plan::Plan;
 use std::alloc::{AllocError, Global};
-use std::fs;
-use std::fs::File;
+use std::fs::{File, TryLockError};
 use std::rt::Files;
+use std::{fs, io};
 
 /// How a plan's files are taken.
 #[derive(Clone, Copy, Debug, PartialEq, Eq)]
@@ -28,8 +28,8 @@ pub struct Claims {
 /// block device that a clone writes is in use; each is locked for this run alone, or among runs that only read it; and only then
 /// is each extended that is too short, by one zero byte at its end.
 ///
-/// A missing file of /dev isn't made. At a refusal the files that this call made go again. What the file system has no locks for
-/// isn't locked.
+/// A missing file of /dev isn't made. At a refusal the files that this call made go again, unless another run has locked or written them.
+/// What the file system has no locks for isn't locked. A file that isn't at its path any more once it is locked is refused.
 ///
 /// In a file that a clone checks, what was written through these engines is read only once the file was synced, unless `reads`
 /// is `Cached`: a read fails if the system couldn't write all of it to the device, and so does each later one.
@@ -63,7 +63,7 @@ pub fn claim_direct<R: Files<File = File>>(
     let claimed = claimed(rt, alloc, plan, claims, directs, &mut made);
     if claimed.is_err() {
         for path in made.as_slice() {
-            let _ = fs::remove_file(rt, path.as_str());
+            remove_made(rt, path.as_str());
         }
     }
     claimed
@@ -90,7 +90,7 @@ fn claimed<R: Files<File = File>>(
     if !claims.devices_in_use {
         unused(rt, alloc, plan, files.as_slice())?;
     }
-    locked(alloc, plan, files.as_slice())?;
+    locked(rt, alloc, plan, files.as_slice())?;
     extended(rt, alloc, plan, files.as_slice())?;
     Ok(FileEngine::over(files))
 }
@@ -139,8 +139,33 @@ fn unused<R: Files<File = File>>(
     Ok(())
 }
 
-// Locks each file: for this run alone where a clone writes it.
-fn locked(alloc: Global, plan: &Plan, files: &[SharedFile]) -> Result<(), Refusal>
+// Removes a file that this call has made. One that another run has locked, has put in its place or has written stays.
+fn remove_made<R: Files<File = File>>(rt: &R, path: &str) {
+    let Ok(file) = File::open(rt, path) else {
+        return;
+    };
+    if matches!(file.try_lock(), Err(TryLockError::WouldBlock)) {
+        return;
+    }
+    if is_empty_at(rt, &file, path).unwrap_or(false) {
+        let _ = fs::remove_file(rt, path);
+    }
+}
+
+// Whether this open file has no bytes, and is the one at the path.
+fn is_empty_at<R: Files>(rt: &R, file: &File, path: &str) -> io::Result<bool> {
+    let metadata = file.metadata()?;
+    let there = FileNumbers::of(&fs::metadata(rt, path)?);
+    Ok(
+        metadata.is_file()
+            && metadata.len() == 0
+            && FileNumbers::of(&metadata).identity() == there.identity(),
+    )
+}
+
+// Locks each file: for this run alone where a clone writes it. The lock is of the file at that path only if it is there still: another
+// run may have made and removed it meanwhile.
+fn locked<R: Files>(rt: &R, alloc: Global, plan: &Plan, files: &[SharedFile]) -> Result<(), Refusal>
     requires { length files.now ≡ length plan.now.files }
     ensures { IfErr result (λ refusal. IsOpenFault refusal.fault (length plan.now.files)) }
 {
@@ -149,11 +174,15 @@ fn locked(alloc: Global, plan: &Plan, files: &[SharedFile]) -> Result<(), Refusa
             let name = name_of(alloc, plan, index)?;
             return Err(refused(index, Why::Locked(name)));
         }
+        if !file.is_at(rt, plan.files()[index].name()) {
+            let name = name_of(alloc, plan, index)?;
+            return Err(refused(index, Why::Replaced(name)));
+        }
     }
     Ok(())
 }
 
-// Extends each file that is too short. One that is only read and checked is read as it stands.
+// Extends each plain file that is too short. One that is only read and checked is read as it stands.
 fn extended<R: Files<File = File>>(
     rt: &R,
     alloc: Global,
@@ -166,6 +195,15 @@ fn extended<R: Files<File = File>>(
     for (index, file) in files.iter().enumerate() {
         let spec = &plan.files()[index];
         if !is_written(plan, index) && is_checked(plan, index) {
+            continue;
+        }
+        if let Some(has) = file.device_length()
+            && has < spec.high()
+        {
+            let name = name_of(alloc, plan, index)?;
+            return Err(refused(index, Why::TooSmall(name, has, spec.high())));
+        }
+        if !file.is_plain() {
             continue;
         }
         // (a byte is no sector: a direct file is opened anew for it)

@@ -52,6 +52,11 @@ impl<F: Positioned> FileEngine<F> {
         }
     }
 
+    /// Whether it goes to files that are direct by memory whose place is found by trial.
+    pub fn tries_places(&self) -> bool {
+        self.room.is_tried()
+    }
+
     // Its files, in their order.
     pub(crate) fn files(&self) -> &[F]
         ensures { map F.view result.now ≡ self.now.files }

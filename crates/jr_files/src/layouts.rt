@@ -40,7 +40,7 @@ fn has_length<R: Files>(rt: &R, name: &str, high: u64) -> bool {
 }
 
 // Makes the file if it is missing, and lets it have at least so many bytes.
-pub(crate) fn extend<R: Files>(rt: &R, name: &str, high: u64) -> io::Result<()> {
+fn extend<R: Files>(rt: &R, name: &str, high: u64) -> io::Result<()> {
     let mut file = OpenOptions::new()
         .read(true)
         .write(true)

@@ -5,7 +5,7 @@ ghost use Rattle.jr_files.specs.Engines.{IsOpenFault};
 use crate::directs::{Directs, as_wanted};
 use crate::faults::FileFault;
 use crate::file_engine::open;
-use crate::opened::OpenedFile;
+use crate::opened::{FileUses, OpenedFile};
 use crate::refusals::{Act, Refusal, Why};
 use crate::shares::{Reads, SharedFile};
 use crate::uses::{is_checked, is_written};
@@ -35,8 +35,9 @@ pub(crate) fn opened_file<R: Files<File = File>>(
     ensures { IfErr result (λ refusal. IsOpenFault refusal.fault (length plan.now.files)) }
 {
     let spec = &plan.files()[index];
-    let syncs = reads == Reads::Synced && is_checked(plan, index);
-    let marks = Marks::new(alloc, if syncs { spec.high() } else { 0 })?;
+    let uses = uses_of(plan, index, reads);
+    let has_marks = uses.checked == Some(Reads::Synced);
+    let marks = Marks::new(alloc, if has_marks { spec.high() } else { 0 })?;
     let failures = Failures::new(alloc)?;
     let name = String::from_str(alloc, spec.name())?;
     let mut act = Act::Open;
@@ -52,7 +53,7 @@ pub(crate) fn opened_file<R: Files<File = File>>(
     } else {
         open_there(rt, spec.name(), false)
     };
-    match opened.and_then(|file| OpenedFile::new(file, marks, failures, syncs)) {
+    match opened.and_then(|file| OpenedFile::new(file, marks, failures, uses)) {
         Ok(file) => {
             let file = as_wanted(rt, alloc, plan, index, file, directs)?;
             Ok(SharedFile::new(alloc, file)?)
@@ -62,6 +63,18 @@ pub(crate) fn opened_file<R: Files<File = File>>(
             fault: FileFault::File(index),
             why: Why::System(act, name, error),
         }),
+    }
+}
+
+// What the plan's clones do with this file, where so much is read of one that they check.
+fn uses_of(plan: &Plan, index: usize, reads: Reads) -> FileUses {
+    FileUses {
+        is_written: is_written(plan, index),
+        checked: if is_checked(plan, index) {
+            Some(reads)
+        } else {
+            None
+        },
     }
 }
 

@@ -25,8 +25,12 @@ pub enum Why {
     OneFile(String, String),
     /// The block device of this name is in use.
     InUse(String, Use),
+    /// The block device of this name has so many bytes, and its jobs want so many.
+    TooSmall(String, u64, u64),
     /// Another run holds the lock of the file of this name.
     Locked(String),
+    /// The file at this name isn't the one any more that was opened and locked.
+    Replaced(String),
     /// The file of this name is to be direct, and its file system takes no such calls.
     NotDirect(String),
     /// The file of this name is to be direct, and its device has sectors of so many bytes, of which a clone of the job of this name
@@ -53,7 +57,11 @@ impl fmt::Display for Refusal {
             Why::System(act, name, error) => write!(f, "cannot {act} {name}: {error}"),
             Why::OneFile(first, second) => write!(f, "{first} and {second} are one file"),
             Why::InUse(name, by) => write!(f, "{name} is in use: {by}"),
+            Why::TooSmall(name, has, wants) => {
+                write!(f, "{name} has {has} bytes, and its jobs want {wants}")
+            }
             Why::Locked(name) => write!(f, "{name} is locked by another run"),
+            Why::Replaced(name) => write!(f, "{name} isn't the file any more that was opened"),
             Why::NotDirect(name) => write!(
                 f,
                 "direct=1 can't be had of {name}: its file system takes no direct I/O"

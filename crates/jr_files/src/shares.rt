@@ -9,9 +9,9 @@ use jr_devices::{FileNumbers, Identity};
 use jr_model::Dir;
 use jr_transfer::{Dropper, FailedCall, Positioned, Room};
 use std::alloc::{AllocError, AllocFailed, Global};
-use std::io;
 use std::rt::Files;
 use std::sync::Arc;
+use std::{fs, io};
 
 /// An open file that several engines read and write, each call by its own offset.
 #[derive(Drop)]
@@ -83,6 +83,26 @@ impl SharedFile {
         self.file.direct().is_some()
     }
 
+    /// Whether this file is the one at the path.
+    pub(crate) fn is_at<R: Files>(&self, rt: &R, path: &str) -> bool {
+        fs::metadata(rt, path).is_ok_and(|there| FileNumbers::of(&there).identity()
+            == self.identity())
+    }
+
+    /// Whether it is a plain file, and no device or pipe.
+    pub(crate) fn is_plain(&self) -> bool {
+        self.file.is_plain()
+    }
+
+    /// How many bytes it has, if it is a block device: those can't be extended.
+    pub(crate) fn device_length(&self) -> Option<u64> {
+        if self.numbers().is_block_device {
+            self.file.length().ok()
+        } else {
+            None
+        }
+    }
+
     /// What it is, whatever its name.
     pub(crate) fn identity(&self) -> Identity {
         self.numbers().identity()
@@ -118,7 +138,8 @@ impl FileEngine<SharedFile> {
         self.share_with(alloc, None)
     }
 
-    /// The same, and what a check reads is dropped from the system's cache before. No other engine may have this dropper.
+    /// The same. By this dropper what a check reads is dropped from the system's cache before, and memory for direct files begins on a page.
+    /// No other engine may have it.
     pub fn share_with(
         &self,
         alloc: Global,
@@ -135,8 +156,17 @@ impl FileEngine<SharedFile> {
             let dropper = shared_dropper(dropper.as_ref())?;
             files.push(SharedFile { file, dropper })?;
         }
-        let room = room_for(alloc, self.files())?;
+        let room = room_for(alloc, self.files(), dropper.as_deref())?;
         Ok(FileEngine::by_room(files, room))
+    }
+
+    /// How many reads of files that are checked the system's cache may have answered, by all engines that share them.
+    pub fn cached_reads(&self) -> u64 {
+        let mut reads: u64 = 0;
+        for shared in self.files() {
+            reads = reads.saturating_add(shared.file.cached_reads());
+        }
+        reads
     }
 
     /// Whether the calls of the file at this place go past the system's cache.
@@ -209,8 +239,12 @@ fn shared_dropper(dropper: Option<&Arc<Dropper>>) -> Result<Option<Arc<Dropper>>
     }
 }
 
-// Room for the largest block of the files that are direct, if any is.
-fn room_for(alloc: Global, files: &[SharedFile]) -> Result<Room, AllocError> {
+// Room for the largest block of the files that are direct, if any is. This finds where a page begins in it.
+fn room_for(
+    alloc: Global,
+    files: &[SharedFile],
+    asked: Option<&Dropper>,
+) -> Result<Room, AllocError> {
     let mut most = None;
     for shared in files {
         if let Some(sectors) = shared.file.direct() {
@@ -218,7 +252,7 @@ fn room_for(alloc: Global, files: &[SharedFile]) -> Result<Room, AllocError> {
         }
     }
     match most {
-        Some(most) => Room::new(alloc, most),
+        Some(most) => Room::new(alloc, most, asked),
         None => Ok(Room::none()),
     }
 }

@@ -1,5 +1,5 @@
 // The files of a run: taken before it begins, shared by its engines, and settled at its end.
-ghost use Rattle.std.specs.Prelude.{◌≡◌, ◌⊎◌, length, map, IfOk, IfErr, IsTrue, vec_len};
+ghost use Rattle.std.specs.Prelude.{◌≡◌, ◌⊎◌, length, map, IfOk, IfErr, IfSome, IsTrue, vec_len};
 ghost use Rattle.std.specs.List.{range_with_len};
 ghost use Rattle.std.specs.Option.{option_copied};
 ghost use Rattle.jr_direct.specs.Wishes.{wish_of};
@@ -7,6 +7,7 @@ ghost use Rattle.jr_host.specs.Paths.{IsPathOf};
 ghost use Rattle.jr_host.specs.Wanted.{wishes_of};
 
 use crate::remarks::{Remarks, reasons_of};
+use crate::settled::Settled;
 use crate::show::Screen;
 use crate::stops::Stop;
 use jr_command::{Choice, CliFault};
@@ -83,9 +84,7 @@ pub fn take_files<'a, R: Files<File = File> + AllocGlobal + Screen>(
     } else {
         choice.drop_pipes
     };
-    let Ok(launcher) = Launcher::new(rt.alloc(), pipes) else {
-        return Err(Stop::from(CliFault::Memory));
-    };
+    let launcher = Launcher::new(pipes);
     let files = match claimed(rt, plan, choice, wishes, &launcher) {
         Ok(files) => files,
         Err(refusal) => return Err(Stop::files(refusal)),
@@ -187,27 +186,34 @@ impl<'a> Taken<'a> {
         if let Err(failed) = engine.begin() {
             self.remarks.tell_unsynced(rt, &failed);
         }
+        self.remarks.tell_tried(rt, engine);
     }
 
-    /// Tells the faults of a run that has ended, and has all that it wrote synced. Why the system refused each of the first faults is
-    /// answered, where that is known.
-    pub fn settled<R: Eprint + AllocGlobal>(
-        &self,
-        rt: &R,
-        faults: &Faults,
-    ) -> Result<Vec<Option<String>>, Stop>
-        ensures reasons { IfOk result (λ reasons. vec_len reasons ≡ vec_len faults.now.first) }
-        ensures failed { IfErr result (λ fault. (fault ≡ CliFault.Write) ⊎ (fault ≡ CliFault.Memory)) }
+    // How many reads of files that are checked the system's cache may have answered.
+    fn cached(&self) -> Option<u64> {
+        Some(self.files.cached_reads())
+    }
+
+    /// Tells the faults of a run that has ended, has all that it wrote synced, and answers what the system said of the files.
+    pub fn settled<R: Eprint + AllocGlobal>(&self, rt: &R, faults: &Faults) -> Result<Settled, Stop>
+        ensures reasons { IfOk result (λ settled. vec_len settled.reasons ≡ vec_len faults.now.first) }
+        ensures unstored { IfOk result (λ settled. IfSome settled.unstored (λ stop. stop ≡ CliFault.Write)) }
+        ensures failed { IfErr result (λ fault. fault ≡ CliFault.Memory) }
     {
         self.remarks.faults(rt, &self.files, faults);
-        self.remarks.undropped(rt, self.launcher.has_failed());
+        self.remarks.undropped(rt, self.files.cached_reads());
         let Ok(reasons) = reasons_of(rt.alloc(), &self.files, faults) else {
             return Err(Stop::from(CliFault::Memory));
         };
-        match self.files.settle() {
-            Ok(()) => Ok(reasons),
-            Err(failed) => Err(self.remarks.unsettled(rt.alloc(), &failed)),
-        }
+        let unstored = match self.files.settle() {
+            Ok(()) => None,
+            Err(failed) => Some(self.remarks.unsettled(rt.alloc(), &failed)),
+        };
+        Ok(Settled {
+            reasons,
+            cached: self.cached(),
+            unstored,
+        })
     }
 }
 

@@ -7,6 +7,7 @@ mod extents;
 mod files;
 mod machine;
 mod remarks;
+mod settled;
 mod show;
 mod stops;
 
@@ -14,5 +15,6 @@ pub use asked::{Asked, asked_by};
 pub use extents::Extent;
 pub use files::{Taken, is_taken, leads_to, take_files, wishes};
 pub use machine::Machine;
+pub use settled::Settled;
 pub use show::{Meter, Pace, Screen, Wiper, shown};
 pub use stops::{Stop, tell_all};

@@ -11,12 +11,14 @@ use jr_plan::{Plan, SubJob};
 use std::alloc::{AllocError, Global};
 use std::io;
 
-/// Whether notes are wanted, the names of the files that they may speak of, and whether nothing drops what checks are to read anew.
+/// Whether notes are wanted, the names of the files that they may speak of, whether nothing drops what checks are to read anew, and whether
+/// they may be answered by the system's cache.
 #[derive(Drop)]
 pub struct Remarks {
     has_notes: bool,
     names: Vec<String>,
     is_undropped: bool,
+    is_cached: bool,
 }
 
 impl Remarks {
@@ -33,6 +35,7 @@ impl Remarks {
         Ok(Remarks {
             has_notes: choice.notes || rt.is_shown(),
             names,
+            is_cached: choice.cached,
             is_undropped: !choice.cached && choice.drop_pipes.is_none() && has_checks(plan),
         })
     }
@@ -68,17 +71,28 @@ impl Remarks {
         }
     }
 
-    /// Says that the system's cache may have answered checks, where it may: a launcher couldn't do all that it was asked for, or there
-    /// is none.
-    pub fn undropped<R: Eprint>(&self, rt: &R, has_failed: bool) {
-        if self.has_notes && has_failed {
+    /// Says that the memory for direct files doesn't begin on a page for sure, where it doesn't.
+    pub fn tell_tried<R: Eprint>(&self, rt: &R, engine: &FileEngine<SharedFile>) {
+        if self.has_notes && engine.tries_places() {
             let _ = eprintln!(rt;
-                "fiorun: note: a file wasn't dropped from the system's cache, which may have answered checks"
+                "fiorun: note: direct=1: the place of memory for the device is found by trial, since the launcher can't see it"
             );
         }
-        if self.has_notes && self.is_undropped {
+    }
+
+    /// Says that the system's cache may have answered checks, where it may: so many reads of files that are checked, or any, where there
+    /// is no launcher.
+    pub fn undropped<R: Eprint>(&self, rt: &R, reads: u64) {
+        if !self.has_notes {
+            return;
+        }
+        if self.is_undropped {
             let _ = eprintln!(rt;
                 "fiorun: note: the system's cache may have answered checks: started by bin/fiorun, files are dropped from it"
+            );
+        } else if reads > 0 && !self.is_cached {
+            let _ = eprintln!(rt;
+                "fiorun: note: the system's cache may have answered {reads} reads of files that are checked"
             );
         }
     }

@@ -9,7 +9,7 @@ use Rattle.jr_model.specs.declared.totals.Totals.{Totals}
 use Rattle.jr_model.specs.Plan.{Plan}
 use Rattle.jr_model.specs.Report.{Miscompare}
 use Rattle.jr_faults.specs.Faults.{NamedFault}
-use Rattle.jr_json.specs.Json.{RunEnd, clones_json, faults_json, natural, report_json}
+use Rattle.jr_json.specs.Json.{RunEnd, clones_json, count_json, faults_json, natural, report_json}
 use Rattle.jr_json.specs.Rows.{bads_json, end_text, found_text, head_text, reads_text}
 
 -- the names, as they are written
@@ -17,6 +17,10 @@ use Rattle.jr_json.specs.Rows.{bads_json, end_text, found_text, head_text, reads
 pub badreads_name : codes "{\"badreads\":" ≡ codes "{" ++ (quoted (codes "badreads") ++ 58 ∷ [])
 unfolding escape_byte
 badreads_name = refl
+
+pub cached_name : codes ",\"cached\":" ≡ codes "," ++ (quoted (codes "cached") ++ 58 ∷ [])
+unfolding escape_byte
+cached_name = refl
 
 pub faults_name : codes ",\"faults\":" ≡ codes "," ++ (quoted (codes "faults") ++ 58 ∷ [])
 unfolding escape_byte
@@ -46,6 +50,10 @@ pub status_name : codes ",\"status\":" ≡ codes "," ++ (quoted (codes "status")
 unfolding escape_byte
 status_name = refl
 
+pub stored_name : codes ",\"stored\":" ≡ codes "," ++ (quoted (codes "stored") ++ 58 ∷ [])
+unfolding escape_byte
+stored_name = refl
+
 -- a name and its value were written
 pub member_more : (start named after literal before name value : List ℕ) → literal ≡ before ++ (name ++ 58 ∷ []) → named ≡ start ++ literal
     → after ≡ named ++ value → after ≡ start ++ (before ++ (name ++ 58 ∷ value))
@@ -69,15 +77,16 @@ pub four_more : (t0 t1 t2 t3 t4 a b c d : List ℕ)
 four_more t0 t1 t2 t3 t4 a b c d first second third fourth =
     two_more t0 t3 t4 (a ++ b ++ c) d (three_more t0 t1 t2 t3 a b c first second third) fourth
 
--- eight members with their braces are an object
-all_members : (b m e k q1 q2 q3 q4 q5 q6 q7 q8 v1 v2 v3 v4 v5 v6 v7 v8 : List ℕ)
+-- ten members with their braces are an object
+all_members : (b m e k q1 q2 q3 q4 q5 q6 q7 q8 q9 q10 v1 v2 v3 v4 v5 v6 v7 v8 v9 v10 : List ℕ)
     → (b ++ (q1 ++ (k ++ v1)))
-    ++ ((m ++ (q2 ++ (k ++ v2))) ++ (m ++ (q3 ++ (k ++ v3))) ++ (m ++ (q4 ++ (k ++ v4))))
-    ++ ((m ++ (q5 ++ (k ++ v5))) ++ (m ++ (q6 ++ (k ++ v6))))
-    ++ ((m ++ (q7 ++ (k ++ v7))) ++ (m ++ (q8 ++ (k ++ v8))) ++ e)
+    ++ ((m ++ (q2 ++ (k ++ v2))) ++ (m ++ (q3 ++ (k ++ v3))) ++ (m ++ (q4 ++ (k ++ v4))) ++ (m ++ (q5 ++ (k ++ v5))))
+    ++ ((m ++ (q6 ++ (k ++ v6))) ++ (m ++ (q7 ++ (k ++ v7))))
+    ++ ((m ++ (q8 ++ (k ++ v8))) ++ (m ++ (q9 ++ (k ++ v9))) ++ (m ++ (q10 ++ (k ++ v10))) ++ e)
     ≡ b ++ (q1 ++ (k ++ (v1 ++ (m ++ (q2 ++ (k ++ (v2 ++ (m ++ (q3 ++ (k ++ (v3 ++ (m ++ (q4 ++ (k ++ (v4 ++ (m ++ (q5 ++ (k ++ (v5
-    ++ (m ++ (q6 ++ (k ++ (v6 ++ (m ++ (q7 ++ (k ++ (v7 ++ (m ++ (q8 ++ (k ++ (v8 ++ e)))))))))))))))))))))))))))))))
-all_members b m e k q1 q2 q3 q4 q5 q6 q7 q8 v1 v2 v3 v4 v5 v6 v7 v8 = simp append_assoc
+    ++ (m ++ (q6 ++ (k ++ (v6 ++ (m ++ (q7 ++ (k ++ (v7 ++ (m ++ (q8 ++ (k ++ (v8 ++ (m ++ (q9 ++ (k ++ (v9
+    ++ (m ++ (q10 ++ (k ++ (v10 ++ e)))))))))))))))))))))))))))))))))))))))
+all_members b m e k q1 q2 q3 q4 q5 q6 q7 q8 q9 q10 v1 v2 v3 v4 v5 v6 v7 v8 v9 v10 = simp append_assoc
 
 pub report_text : (ending : RunEnd) (plan : Plan) (totals : List Totals) (found : List Miscompare) (faults : List NamedFault)
     (reasons : List (Option (List ℕ))) (more : ℕ)
@@ -85,9 +94,10 @@ pub report_text : (ending : RunEnd) (plan : Plan) (totals : List Totals) (found 
     ≡ compact_text (report_json ending plan totals found faults reasons more)
 report_text ending plan totals found faults reasons more =
     all_members (codes "{") (codes ",") (codes "}") (58 ∷ [])
-    (quoted (codes "badreads")) (quoted (codes "faults")) (quoted (codes "fiorun")) (quoted (codes "interrupted")) (quoted (codes "jobs"))
-    (quoted (codes "miscompares")) (quoted (codes "more_faults")) (quoted (codes "status"))
-    (compact_text (array (items_of (bads_json plan true found)))) (compact_text (array (items_of (faults_json faults reasons))))
+    (quoted (codes "badreads")) (quoted (codes "cached")) (quoted (codes "faults")) (quoted (codes "fiorun")) (quoted (codes "interrupted"))
+    (quoted (codes "jobs")) (quoted (codes "miscompares")) (quoted (codes "more_faults")) (quoted (codes "status")) (quoted (codes "stored"))
+    (compact_text (array (items_of (bads_json plan true found)))) (compact_text (count_json ending.cached))
+    (compact_text (array (items_of (faults_json faults reasons))))
     (compact_text (string ending.version)) (compact_text (boolean ending.is_interrupted))
     (compact_text (array (items_of (clones_json plan.clones totals)))) (compact_text (array (items_of (bads_json plan false found))))
-    (compact_text (natural more)) (compact_text (natural ending.status))
+    (compact_text (natural more)) (compact_text (natural ending.status)) (compact_text (boolean ending.is_stored))

@@ -13,7 +13,7 @@ use Rattle.jr_model.specs.Plan.{Plan}
 use Rattle.jr_model.specs.Report.{Miscompare}
 use Rattle.jr_faults.specs.Faults.{NamedFault}
 use Rattle.jr_json.specs.declared.endings.Ending.{Ending}
-use Rattle.jr_json.specs.Json.{RunEnd, clones_json, faults_json, is_bad_read, miscompare_json, natural}
+use Rattle.jr_json.specs.Json.{RunEnd, clones_json, count_json, faults_json, is_bad_read, miscompare_json, natural}
 
 abbrev pub text_of : Option (Bor (String Global)) → Option (List ℕ)
 text_of None = None
@@ -67,14 +67,21 @@ member_text before name d = before ++ (quoted name ++ 58 ∷ compact_text d)
 
 -- how the run ended
 abbrev pub ending_of : Ending → RunEnd
-ending_of ending = record { version = ending.version.now; status = ending.status; is_interrupted = ending.is_interrupted }
+ending_of ending = record {
+  version = ending.version.now;
+  status = ending.status;
+  is_interrupted = ending.is_interrupted;
+  cached = ending.cached;
+  is_stored = ending.is_stored;
+}
 
 abbrev pub reads_text : Plan → List Miscompare → List ℕ
 reads_text plan found = member_text (codes "{") (codes "badreads") (array (items_of (bads_json plan true found)))
 
 abbrev pub head_text : RunEnd → List NamedFault → List (Option (List ℕ)) → List ℕ
 head_text ending faults reasons =
-    member_text (codes ",") (codes "faults") (array (items_of (faults_json faults reasons)))
+    member_text (codes ",") (codes "cached") (count_json ending.cached)
+    ++ member_text (codes ",") (codes "faults") (array (items_of (faults_json faults reasons)))
     ++ member_text (codes ",") (codes "fiorun") (string ending.version)
     ++ member_text (codes ",") (codes "interrupted") (boolean ending.is_interrupted)
 
@@ -86,4 +93,5 @@ found_text plan totals found =
 abbrev pub end_text : RunEnd → ℕ → List ℕ
 end_text ending more =
     member_text (codes ",") (codes "more_faults") (natural more)
-    ++ member_text (codes ",") (codes "status") (natural ending.status) ++ codes "}"
+    ++ member_text (codes ",") (codes "status") (natural ending.status)
+    ++ member_text (codes ",") (codes "stored") (boolean ending.is_stored) ++ codes "}"

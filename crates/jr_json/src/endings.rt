@@ -7,4 +7,8 @@ pub struct Ending<'a> {
     pub status: u8,
     /// It was stopped before it was complete.
     pub is_interrupted: bool,
+    /// How many reads of files that are checked the system's cache may have answered, where it was over files.
+    pub cached: Option<u64>,
+    /// All that it wrote is stored.
+    pub is_stored: bool,
 }

@@ -1,7 +1,7 @@
 // The text of a report, row by row.
 ghost use Rattle.std.specs.Prelude.{◌≡◌, ◌++◌, IfOk, OnOk, codes, false, map, slice_get};
 ghost use Rattle.jr_faults.specs.Faults.{named};
-ghost use Rattle.jr_json.specs.Json.{clone_json, clones_json, fault_json, faults_json, miscompare_json, report_json};
+ghost use Rattle.jr_json.specs.Json.{clone_json, clones_json, count_json, fault_json, faults_json, miscompare_json, report_json};
 ghost use Rattle.jr_json.specs.Rows.{array_text, bads_json, end_text, ending_of, found_text, head_text, is_wanted, item_text, reads_text};
 ghost use Rattle.jr_json.specs.Rows.{text_of, texts_of, told_by};
 ghost use Rattle.jr_tallies.specs.Tallying.{miscompare_of};
@@ -61,6 +61,8 @@ fn push_head(
     ensures { OnOk result (text.new.items ≡ text.old.items
         ++ head_text (ending_of ending.now) (map named faults.now) (texts_of reasons.now)) }
 {
+    push_text(text, ",\"cached\":")?;
+    push_count(text, ending.cached)?;
     push_text(text, ",\"faults\":")?;
     push_faults(text, alloc, faults, reasons)?;
     push_text(text, ",\"fiorun\":")?;
@@ -74,6 +76,16 @@ fn push_flag(text: &mut Vec<u8>, flag: bool) -> Result<(), Memory>
     ensures { OnOk result (text.new.items ≡ text.old.items ++ compact_text (boolean flag)) }
 {
     push_text(text, if flag { "true" } else { "false" })
+}
+
+// A number, where there is one.
+fn push_count(text: &mut Vec<u8>, count: Option<u64>) -> Result<(), Memory>
+    ensures { OnOk result (text.new.items ≡ text.old.items ++ compact_text (count_json count)) }
+{
+    match count {
+        None => push_text(text, "null"),
+        Some(count) => push_number(text, count),
+    }
 }
 
 // What the other lines of the report say.
@@ -101,6 +113,8 @@ fn push_end(text: &mut Vec<u8>, more: u64, ending: &Ending<'_>) -> Result<(), Me
     push_number(text, more)?;
     push_text(text, ",\"status\":")?;
     push_number(text, u64::from(ending.status))?;
+    push_text(text, ",\"stored\":")?;
+    push_flag(text, ending.is_stored)?;
     push_text(text, "}")?;
     Ok(())
 }

@@ -386,7 +386,7 @@ fn refusing(refusals: u64) -> Particular {
 
 #[test]
 fn places_of_a_room_are_tried_in_turn(rt: HostRuntime) -> Result<(), Fail> {
-    let mut room = Room::new(rt.alloc(), 4)?;
+    let mut room = Room::new(rt.alloc(), 4, None)?;
     let mut file = refusing(256);
     let mut buf = [9; 4];
     same(&rt, read_whole(&mut file, &mut room, 2, &mut buf), Ok(4));
@@ -394,8 +394,17 @@ fn places_of_a_room_are_tried_in_turn(rt: HostRuntime) -> Result<(), Fail> {
     same(&rt, write_whole(&mut file, &mut room, 1, &[12, 13]), Ok(2));
     same(&rt, file.bytes, [1, 12, 13, 4, 5, 6, 7, 8]);
     let failed = Err(EngineFault::Device);
+    let mut fresh = Room::new(rt.alloc(), 4, None)?;
     let mut file = refusing(257);
+    same(
+        &rt,
+        write_whole(&mut file, &mut fresh, 1, &[12, 13]),
+        failed,
+    );
+    // (a place that was taken is kept, and none is tried in its stead)
+    let mut file = refusing(2);
     same(&rt, write_whole(&mut file, &mut room, 1, &[12, 13]), failed);
+    same(&rt, file.refusals, 1);
     same(
         &rt,
         read_whole(&mut refusing(1), &mut Room::none(), 1, &mut buf),

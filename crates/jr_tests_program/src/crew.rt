@@ -28,7 +28,7 @@ pub(crate) fn answered_to_a_crew<R: AllocGlobal + Threads + Wait + Clock + Sync>
     let mut out = Vec::new(rt.alloc());
     let none = None::<&mut Vec<u8>>;
     let ended = execute(rt, rt.alloc(), plan, engines, Watch::none(), none, &mut out)?;
-    Ok((ended.status(), out))
+    Ok((ended.status(true), out))
 }
 
 // The third check reads an inverted byte.

@@ -134,7 +134,7 @@ fn written<W: Write, V: Write>(
     let plan = read_job(alloc, CHECKED.as_bytes(), None)?;
     let mut engine = MemoryEngine::new(alloc, &plan)?;
     let ended = execute_serial(alloc, plan, &mut engine, Watch::none(), events, out)?;
-    Ok(ended.status())
+    Ok(ended.status(true))
 }
 
 #[test]

@@ -25,7 +25,7 @@ pub(crate) fn answered(
         None::<&mut Vec<u8>>,
         &mut out,
     )?;
-    Ok((out, ended.status()))
+    Ok((out, ended.status(true)))
 }
 
 // Is this what it writes, and does it end so?

@@ -1,3 +1,4 @@
+pub mod Cached
 pub mod Failures
 pub mod Moves
 pub mod Parts

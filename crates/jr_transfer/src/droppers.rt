@@ -1,6 +1,8 @@
+ghost use Rattle.std.specs.Prelude.{◌≡◌, ◌<◌, ◌≤◌, length, IfSome};
+ghost use Rattle.jr_transfer.specs.Cached.{cached_by, cached_by_byte};
+
 use std::alloc::{AllocError, Global};
 use std::fs::{File, OpenOptions};
-use std::io;
 use std::io::{Read, Write};
 use std::os::fd::AsRawFd;
 use std::rt::Files;
@@ -13,6 +15,9 @@ const DONE: u8 = b'.';
 // The byte that says that the file can't be so.
 const REFUSED: u8 = b'-';
 
+// A place of memory is told in steps of so many bytes.
+const STEP: usize = 16;
+
 /// What the launcher did about a file that is to be direct.
 #[derive(Clone, Copy, Debug, PartialEq, Eq)]
 pub enum Made {
@@ -24,11 +29,49 @@ pub enum Made {
     Nothing,
 }
 
+/// What the system's cache has of a file, or of some bytes of it, once it was asked to drop the file.
+#[derive(Clone, Copy, Debug, PartialEq, Eq)]
+pub enum Cached {
+    /// Nothing of the file.
+    Nothing,
+    /// Nothing of these bytes, and something else of the file.
+    Others,
+    /// Some of these bytes.
+    These,
+    /// All of it, whatever is asked: its file system keeps every file in memory.
+    All,
+    /// It can't be seen, or there was no answer.
+    Unseen,
+}
+
+impl Cached {
+    // What this answer of the launcher says.
+    fn of(answer: Option<u8>) -> Cached
+        ensures { result ≡ cached_by answer }
+    {
+        match answer {
+            Some(byte) => cached_by_byte(byte),
+            None => Cached::Unseen,
+        }
+    }
+}
+
+fn cached_by_byte(byte: u8) -> Cached
+    ensures { result ≡ cached_by_byte byte }
+{
+    match byte {
+        b':' => Cached::Nothing,
+        b'.' => Cached::Others,
+        b'~' => Cached::These,
+        b'-' => Cached::All,
+        _ => Cached::Unseen,
+    }
+}
+
 /// The launcher that started the program, if one did. It takes files out of the system's cache, for which std has no call.
-#[derive(Drop)]
+#[derive(Clone, Copy)]
 pub struct Launcher<'a> {
     pipes: Option<&'a str>,
-    has_failed: Arc<AtomicBool>,
 }
 
 impl<'a> Launcher<'a> {
@@ -36,11 +79,8 @@ impl<'a> Launcher<'a> {
     ///
     /// The value is `W:R,W:R,..`: the numbers of open pipes, a pair for each engine. To the first one go requests, and from the
     /// second one comes a byte for each.
-    pub fn new(alloc: Global, pipes: Option<&'a str>) -> Result<Launcher<'a>, AllocError> {
-        let Ok(has_failed) = Arc::new(alloc, AtomicBool::new(false)) else {
-            return Err(AllocError);
-        };
-        Ok(Launcher { pipes, has_failed })
+    pub fn new(pipes: Option<&'a str>) -> Launcher<'a> {
+        Launcher { pipes }
     }
 
     /// What asks it by its pair of pipes of this place. None if there is no launcher, or none that can be asked.
@@ -53,11 +93,9 @@ impl<'a> Launcher<'a> {
         let Some(pipes) = self.pipes else {
             return Ok(None);
         };
-        let has_failed = Arc::try_clone(&self.has_failed)?;
         let Some((requests, answers)) = pair_at(pipes, place).and_then(|pair| opened(
             rt, alloc, pair,
         )) else {
-            self.has_failed.store(true, Ordering::SeqCst);
             return Ok(None);
         };
         Ok(Some(Arc::new(
@@ -67,66 +105,80 @@ impl<'a> Launcher<'a> {
                 requests,
                 answers,
                 has_ended: AtomicBool::new(false),
-                has_failed,
             },
         )?))
     }
-
-    /// Whether any file wasn't dropped that a launcher was asked for.
-    pub fn has_failed(&self) -> bool {
-        self.has_failed.load(Ordering::SeqCst)
-    }
 }
 
-/// What asks the launcher to drop what the system keeps of a file. It serves one engine, which has one call at a time.
+/// What asks the launcher about files and memory. It serves one engine, which has one call at a time.
 #[derive(Drop)]
 pub struct Dropper {
     alloc: Global,
     requests: File,
     answers: File,
     has_ended: AtomicBool,
-    has_failed: Arc<AtomicBool>,
 }
 
 impl Dropper {
-    /// Has the system drop what it keeps of the file, and waits for that. What isn't on the device stays.
+    /// Has the system drop what it keeps of the file, and says what it still has of these bytes. What isn't on the device stays.
     ///
-    /// If it can't be done the launcher's `has_failed` says so from then on. One that gave no answer isn't asked again.
-    pub fn drop_cached(&self, file: &File) {
-        if self.has_ended.load(Ordering::SeqCst) {
-            return;
-        }
-        if self.answer("drop", file) != Some(DONE) {
-            self.has_failed.store(true, Ordering::SeqCst);
-        }
+    /// With no bytes it is asked about the whole file. A launcher that gave no answer isn't asked again.
+    pub fn drop_cached(&self, file: &File, offset: u64, len: usize) -> Cached {
+        let number = file.as_raw_fd();
+        let Ok(request) = format!(in self.alloc; "clean {number} {offset} {len}\n") else {
+            return Cached::Unseen;
+        };
+        Cached::of(self.answer(request.as_bytes()))
     }
 
     /// Has all calls of this open file go past the system's cache.
     pub fn make_direct(&self, file: &File) -> Made {
-        match self.answer("direct", file) {
+        let Ok(request) = format!(in self.alloc; "direct {}\n", file.as_raw_fd()) else {
+            return Made::Nothing;
+        };
+        match self.answer(request.as_bytes()) {
             Some(DONE) => Made::Direct,
             Some(REFUSED) => Made::Refused,
             _ => Made::Nothing,
         }
     }
 
-    // The answer to a request of this word, if one came.
-    fn answer(&self, word: &str, file: &File) -> Option<u8> {
-        let answer = self.ask(word, file);
-        if answer.is_err() {
-            self.has_ended.store(true, Ordering::SeqCst);
+    /// How many bytes it is from the begin of this memory to the next page, where the launcher can find that out. Its first two bytes are
+    /// written over.
+    pub fn bytes_to_page(&self, memory: &mut [u8]) -> Option<usize>
+        requires { 2 ≤ length memory.old }
+        ensures same { length memory.new ≡ length memory.old }
+        ensures most { IfSome result (λ n. n < 4096) }
+    {
+        let request = format!(in self.alloc; "place {}\n", self.answers.as_raw_fd()).ok()?;
+        self.ask(request.as_bytes(), &mut memory[..2])?;
+        if memory[1] != DONE {
+            return None;
         }
-        answer.ok()
+        Some(memory[0] as usize * STEP)
     }
 
-    // Asks for it, and gives the answer.
-    fn ask(&self, word: &str, file: &File) -> io::Result<u8> {
-        let request = format!(in self.alloc; "{word} {}\n", file.as_raw_fd())?;
-        let (mut requests, mut answers) = (&self.requests, &self.answers);
-        requests.write_all(request.as_bytes())?;
+    // The answer of one byte to a request, if one came.
+    fn answer(&self, request: &[u8]) -> Option<u8> {
         let mut answer = [0];
-        answers.read_exact(&mut answer)?;
-        Ok(answer[0])
+        self.ask(request, &mut answer)?;
+        Some(answer[0])
+    }
+
+    // Asks for it, and reads the answer into this memory. None where no answer came, now or before.
+    fn ask(&self, request: &[u8], answer: &mut [u8]) -> Option<()>
+        ensures { length answer.new ≡ length answer.old }
+    {
+        if self.has_ended.load(Ordering::SeqCst) {
+            return None;
+        }
+        let (mut requests, mut answers) = (&self.requests, &self.answers);
+        let asked = requests.write_all(request);
+        if asked.is_err() || answers.read_exact(answer).is_err() {
+            self.has_ended.store(true, Ordering::SeqCst);
+            return None;
+        }
+        Some(())
     }
 }
 

@@ -12,6 +12,9 @@ use std::io::ErrorKind;
 /// The largest offset that the system can name; no byte stands there.
 pub const LARGEST_OFFSET: u64 = 9_223_372_036_854_775_807;
 
+// A transfer of which so many calls were interrupted isn't signals any more: the device answers so.
+const MOST_INTERRUPTED: u32 = 1000;
+
 /// Reads the file's bytes from `offset` on, and goes on until the buffer is full or the file ends.
 ///
 /// A file that is direct is read by the room. An interrupted call is made again. After an error nothing is known of the buffer but
@@ -30,7 +33,7 @@ pub fn read_whole<F: Positioned>(
     ensures bytes { IsTrue (F.view file.old).is_known
         → GetsAll (F.view file.old).bytes offset buf.old result buf.new }
 {
-    room.begins();
+    let mut interrupted = 0;
     let mut done = 0;
     for _ in 0..u64::MAX {
         if done == buf.len() {
@@ -39,7 +42,7 @@ pub fn read_whole<F: Positioned>(
         match room.read(file, &mut buf[done..], offset + done as u64) {
             Ok(0) => return Ok(done),
             Ok(got) => done += got,
-            Err(error) if is_made_again(room, &error) => {}
+            Err(error) if is_made_again(room, &mut interrupted, &error) => {}
             Err(error) => return Err(refused(file, Dir::Read, offset, buf.len(), error)),
         }
     }
@@ -64,7 +67,7 @@ pub fn write_whole<F: Positioned>(
     ensures bytes { IsTrue (F.view file.old).is_known → offset + length buf.now ≤ length (F.view file.old).bytes
         → Stores (F.view file.old).bytes offset buf.now result (F.view file.new).bytes }
 {
-    room.begins();
+    let mut interrupted = 0;
     let mut done = 0;
     for _ in 0..u64::MAX {
         if done == buf.len() {
@@ -73,18 +76,22 @@ pub fn write_whole<F: Positioned>(
         match room.write(file, &buf[done..], offset + done as u64) {
             Ok(0) => return Ok(done),
             Ok(taken) => done += taken,
-            Err(error) if is_made_again(room, &error) => {}
+            Err(error) if is_made_again(room, &mut interrupted, &error) => {}
             Err(error) => return Err(refused(file, Dir::Write, offset, buf.len(), error)),
         }
     }
     Err(EngineFault::Device)
 }
 
-// Whether a call that failed so is made again: one that was interrupted, and one whose place in the room the device may have refused.
-fn is_made_again(room: &mut Room, error: &io::Error) -> bool {
+// Whether a call that failed so is made again: one that was interrupted, if not too many of this transfer were, and one whose place in
+// the room the device may have refused.
+fn is_made_again(room: &mut Room, interrupted: &mut u32, error: &io::Error) -> bool {
     match error.kind() {
-        ErrorKind::Interrupted => true,
-        ErrorKind::InvalidInput => room.moves_on(),
+        ErrorKind::Interrupted => {
+            *interrupted = interrupted.saturating_add(1);
+            *interrupted < MOST_INTERRUPTED
+        }
+        ErrorKind::InvalidInput => room.try_next_place(),
         _ => false,
     }
 }

@@ -1,6 +1,7 @@
 ghost use Rattle.std.specs.Prelude.{◌≡◌, ◌+◌, ◌<◌, ◌≤◌, IsTrue, IsOk, IfOk, length};
 ghost use Rattle.jr_transfer.specs.Parts.{GetsPart, after_part};
 
+use crate::droppers::Dropper;
 use crate::positioned::Positioned;
 use std::alloc::{AllocError, Global};
 use std::io;
@@ -11,16 +12,19 @@ const LARGEST_SECTOR: usize = 4096;
 // Memory is given from multiples of so many bytes on, and so places are tried.
 const STEP: usize = 16;
 
+const MOST_PLACES: usize = LARGEST_SECTOR / STEP;
+
 /// Memory of an engine through which blocks go between a caller and files that are direct: the device takes them from some places of
-/// memory alone.
+/// memory alone. From the begin of a page each device takes them, and some that take others too write past what they were given.
 ///
-/// No address is known here, so the place is found by trying: one that the device refuses is left for the next. Blocks are copied there
-/// and back.
+/// No address is known here, so the launcher is asked where a page begins. Where it can't say that, the place is found by trying: one that
+/// the device refuses is left for the next, until a first call has gone well. Blocks are copied there and back.
 #[derive(Drop)]
 pub struct Room {
     bytes: Option<Vec<u8>>,
     place: usize,
-    tried: usize,
+    // How many places may still be tried: none once one was taken.
+    left: usize,
 }
 
 impl Room {
@@ -29,18 +33,27 @@ impl Room {
         Room {
             bytes: None,
             place: 0,
-            tried: 0,
+            left: 0,
         }
     }
 
-    /// Room for blocks of at most so many bytes.
-    pub fn new(alloc: Global, most: usize) -> Result<Room, AllocError> {
-        let bytes = vec![in alloc; 0; most.saturating_add(LARGEST_SECTOR)]?;
+    /// Room for blocks of at most so many bytes, which begins on a page where this can find one.
+    pub fn new(alloc: Global, most: usize, asked: Option<&Dropper>) -> Result<Room, AllocError> {
+        let mut bytes = vec![in alloc; 0; most.saturating_add(LARGEST_SECTOR)]?;
+        let found = match asked {
+            Some(asked) => asked.bytes_to_page(bytes.as_mut_slice()),
+            None => None,
+        };
         Ok(Room {
             bytes: Some(bytes),
-            place: 0,
-            tried: 0,
+            place: found.unwrap_or(0),
+            left: if found.is_some() { 0 } else { MOST_PLACES },
         })
+    }
+
+    /// Whether it begins where the device takes it only by trial.
+    pub fn is_tried(&self) -> bool {
+        self.bytes.is_some() && self.left > 0
     }
 
     /// One read of the file: by the room if the file is direct, and the block fits.
@@ -62,7 +75,9 @@ impl Room {
             && buf.len() <= bytes.len() - start
         {
             let end = start + buf.len();
-            return read_by(file, &mut bytes.as_mut_slice()[start..end], buf, offset);
+            let got = read_by(file, &mut bytes.as_mut_slice()[start..end], buf, offset)?;
+            self.left = 0;
+            return Ok(got);
         }
         file.read_at(buf, offset)
     }
@@ -89,22 +104,19 @@ impl Room {
             && buf.len() <= bytes.len() - start
         {
             let end = start + buf.len();
-            return write_by(file, &mut bytes.as_mut_slice()[start..end], buf, offset);
+            let taken = write_by(file, &mut bytes.as_mut_slice()[start..end], buf, offset)?;
+            self.left = 0;
+            return Ok(taken);
         }
         file.write_at(buf, offset)
     }
 
-    /// Notes that a transfer begins, for which each place may be tried.
-    pub(crate) fn begins(&mut self) {
-        self.tried = 0;
-    }
-
-    /// Goes on to the next place, if one is left that this transfer hasn't tried.
-    pub(crate) fn moves_on(&mut self) -> bool {
-        if self.bytes.is_none() || self.tried >= LARGEST_SECTOR / STEP {
+    /// Goes on to the next place, if one is left that may be tried.
+    pub(crate) fn try_next_place(&mut self) -> bool {
+        if self.left == 0 {
             return false;
         }
-        self.tried += 1;
+        self.left -= 1;
         self.place = self.place.saturating_add(STEP) % LARGEST_SECTOR;
         true
     }

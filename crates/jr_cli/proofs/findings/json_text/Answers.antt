@@ -10,4 +10,4 @@ returns c =
     IfOk-weaker c.json_text.result _ _ (λ text is.
     is
     ∙ line_of_parts c.args.findings.now (ending_of c.ending-ending.result) c.plan-plan.result.now c.totals.result.now (map miscompare_of c.as_slice.result.now)
-    c.faults.result.now (texts_of c.args.reasons.now) c.ending-ending.ensures c.plan-plan.ensures c.totals.ensures (ap (map miscompare_of) c.as_slice.ensures.value ∙ c.in_ok-bads.ensures) c.faults.ensures) c.json_text.ensures
+    c.faults.result.now (texts_of c.args.reasons.now) c.args.storage.now c.ending-ending.ensures c.plan-plan.ensures c.totals.ensures (ap (map miscompare_of) c.as_slice.ensures.value ∙ c.in_ok-bads.ensures) c.faults.ensures) c.json_text.ensures

@@ -1,0 +1,34 @@
+use std::io;
+use std::io::Write;
+
+// Writes to `out` until that fails. Then it keeps that it has failed, and drops the rest, so that whoever writes goes on.
+#[derive(Drop)]
+pub struct Unfailing<W: Write> {
+    out: W,
+    pub has_failed: bool,
+}
+
+impl<W: Write> Unfailing<W> {
+    pub fn new(out: W) -> Unfailing<W> {
+        Unfailing {
+            out,
+            has_failed: false,
+        }
+    }
+}
+
+impl<W: Write> Write for Unfailing<W> {
+    fn write(&mut self, text: &[u8]) -> io::Result<usize> {
+        if !self.has_failed {
+            self.has_failed = self.out.write_all(text).is_err();
+        }
+        Ok(text.len())
+    }
+
+    fn flush(&mut self) -> io::Result<()> {
+        if !self.has_failed {
+            self.has_failed = self.out.flush().is_err();
+        }
+        Ok(())
+    }
+}

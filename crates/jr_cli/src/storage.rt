@@ -1,0 +1,8 @@
+/// What the system said of the files of a run.
+#[derive(Clone, Copy, Debug)]
+pub struct Storage {
+    /// How many reads of files that are checked its cache may have answered, where the run was over files.
+    pub cached: Option<u64>,
+    /// It has stored all that the run wrote.
+    pub is_stored: bool,
+}

@@ -1,0 +1,30 @@
+ghost use Rattle.std.specs.Prelude.{◌≡◌, None, vec_len};
+
+use crate::stops::Stop;
+use std::alloc::Global;
+
+/// What the system said of the files of a run that has ended.
+#[derive(Drop)]
+pub struct Settled {
+    /// Why it refused each of the run's first faults, where that is known.
+    pub reasons: Vec<Option<String>>,
+    /// How many reads of files that are checked its cache may have answered, where the run was over files.
+    pub cached: Option<u64>,
+    /// Why the run's last sync failed, where it did: not all that the run wrote is stored.
+    pub unstored: Option<Stop>,
+}
+
+impl Settled {
+    /// Nothing: the run was over no files.
+    pub fn of_no_files(alloc: Global) -> Settled
+        ensures reasons { vec_len result.reasons ≡ 0 }
+        ensures cached { result.cached ≡ None }
+        ensures unstored { result.unstored ≡ None }
+    {
+        Settled {
+            reasons: Vec::new(alloc),
+            cached: None,
+            unstored: None,
+        }
+    }
+}
