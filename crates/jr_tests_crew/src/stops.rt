@@ -4,6 +4,7 @@ use jr_crew::{StopFlag, Watch, run, run_serial};
 use jr_desk::Desk;
 use jr_engines::{Engine, NullEngine};
 use jr_model::EngineKind;
+use std::alloc::Global;
 use std::process::Abort;
 use std::test::Fail;
 
@@ -29,6 +30,52 @@ fn one_worker_is_asked_before_it_begins(rt: HostRuntime) -> Result<(), Fail> {
     Ok(())
 }
 
+// All four blocks were written and checked, so nobody has stopped it.
+fn assert_complete(rt: &impl Abort, desk: &Desk) -> Result<(), Fail> {
+    let Some(totals) = desk.totals().first() else {
+        return Err(Fail::from("no clone"));
+    };
+    same(rt, desk.is_complete(), true);
+    same(rt, totals.writes, 4);
+    same(rt, totals.checks, 4);
+    Ok(())
+}
+
+#[test]
+fn one_worker_whom_nobody_asks_to_stop_goes_on_to_the_end(rt: HostRuntime) -> Result<(), Fail> {
+    let stop = StopFlag::new();
+    let watch = Watch {
+        progress: None,
+        stop: Some(&stop),
+    };
+    let plan = plan_of(rt.alloc(), &checked(4, 0), 1, EngineKind::Null, 0)?;
+    let desk = run_serial(rt.alloc(), plan, &mut NullEngine::new(), watch)?;
+    assert_complete(&rt, &desk)
+}
+
+#[test]
+fn workers_whom_nobody_asks_to_stop_go_on_to_the_end(rt: HostRuntime) -> Result<(), Fail> {
+    for verifiers in [0, 2] {
+        let stop = StopFlag::new();
+        let watch = Watch {
+            progress: None,
+            stop: Some(&stop),
+        };
+        let plan = plan_of(rt.alloc(), &checked(4, 0), 1, EngineKind::Null, verifiers)?;
+        let ran = run(&rt, rt.alloc(), plan, two_nulls(rt.alloc())?, watch)?;
+        assert_complete(&rt, &ran.desk)?;
+    }
+    Ok(())
+}
+
+fn two_nulls(alloc: Global) -> Result<Vec<Box<dyn Engine + Send>>, Fail> {
+    let mut engines: Vec<Box<dyn Engine + Send>> = Vec::new(alloc);
+    for _ in 0..2 {
+        engines.push(Box::new(alloc, NullEngine::new())?)?;
+    }
+    Ok(engines)
+}
+
 #[test]
 fn workers_and_verifiers_are_asked_before_they_begin(rt: HostRuntime) -> Result<(), Fail> {
     for verifiers in 0..3 {
@@ -39,11 +86,7 @@ fn workers_and_verifiers_are_asked_before_they_begin(rt: HostRuntime) -> Result<
             stop: Some(&stop),
         };
         let plan = plan_of(rt.alloc(), &checked(4, 0), 1, EngineKind::Null, verifiers)?;
-        let mut engines: Vec<Box<dyn Engine + Send>> = Vec::new(rt.alloc());
-        for _ in 0..2 {
-            engines.push(Box::new(rt.alloc(), NullEngine::new())?)?;
-        }
-        let ran = run(&rt, rt.alloc(), plan, engines, watch)?;
+        let ran = run(&rt, rt.alloc(), plan, two_nulls(rt.alloc())?, watch)?;
         assert_nothing_begun(&rt, &ran.desk);
     }
     Ok(())
