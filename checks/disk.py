@@ -17,9 +17,9 @@ MIB = 1 << 20
 CLEAN = "w: clone=0 reads=0 rbytes=0 writes=256 wbytes=1048576 checks=256 good=256 bad=0 skipped=0 void=0 faults=0\n"
 
 
-def run(program, room, job, *words):
+def run(program, room, job, *words, **more):
     """Runs a job text."""
-    return subprocess.run([program, *words], input=job, cwd=room, capture_output=True, text=True, timeout=120, check=False)
+    return subprocess.run([program, *words], input=job, cwd=room, capture_output=True, text=True, timeout=120, check=False, **more)
 
 
 def job_of(size="1m", more=(), verify="md5", filename="f"):

@@ -25,8 +25,8 @@ LAUNCH = os.path.join(BIN, "launch")
 SECONDS = 60
 
 
-def launched(program, room, job, *words):
-    return run(LAUNCH, room, job, program, *words)
+def launched(program, room, job, *words, **more):
+    return run(LAUNCH, room, job, program, *words, **more)
 
 
 def clean(ran, what):
