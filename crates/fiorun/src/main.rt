@@ -20,10 +20,12 @@ use std::env::Env;
 use std::fs::{File, Files};
 use std::process::ExitCode;
 use std::{env, fs, io};
+use traced::TraceReader;
 
 mod outputs;
 mod places;
 mod running;
+mod traced;
 mod unfailing;
 
 fn main(rt: HostRuntime) -> ExitCode {
@@ -162,7 +164,7 @@ fn check_trace<R: Files + Print + Screen + AllocGlobal>(
     plan: &Plan,
 ) -> Result<(), Stop> {
     let wanted = Wanted::of(rt, choice, plan)?;
-    let events = trace_text(rt, path)?;
+    let events = trace_text(rt, path, plan)?;
     let run = print_totals(rt, choice.interrupted, plan, events.as_slice())?;
     wanted.tell_trace(rt, plan, &run)
 }
@@ -201,10 +203,14 @@ fn job_plan(
     Err(Stop::from(fault))
 }
 
-// The trace that is to be checked.
-fn trace_text<R: Files + AllocGlobal>(rt: &R, path: &str) -> Result<Vec<u8>, CliFault> {
+// The trace that is to be checked, or so much of it that it is refused as it would be whole.
+fn trace_text<R: Files + AllocGlobal>(
+    rt: &R,
+    path: &str,
+    plan: &Plan,
+) -> Result<Vec<u8>, CliFault> {
     match fs::open(rt, path) {
-        Ok(file) => read_trace(rt.alloc(), file),
+        Ok(file) => read_trace(rt.alloc(), TraceReader::new(file, plan)),
         Err(error) => Err(memory_or(&error, CliFault::ReadTrace)),
     }
 }
