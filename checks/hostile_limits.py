@@ -8,9 +8,14 @@ import os
 import re
 import resource
 import signal
+import subprocess
 
 from hostile_case import FOUR, FOUR_SAID, IN_MEMORY, RICH, TRACE, TRACED, TRACE_SAID, Case, main, refuses, says, totals
 from program import Ended, Skipped, as_nobody, expect, total
+
+# A job whose draws of all passes would want some 20 GB, and a limit that those of one pass fit.
+MANY_PASSES = "[w]\nioengine=null\nrw=write\nsize=1g\nloops=1000\n"
+HALF_A_GIB = "ulimit -v 524288"
 
 
 def least(place, limits, shell):
@@ -60,7 +65,31 @@ class Limits(Case):
         expect(seen == {0, 3}, "no limit was met:", seen)
         refuses(place.run(text=IN_MEMORY.replace("16k", "8g").replace("[w]", "[w]\nbs=1m"), shell="ulimit -v 1000000"), 3, "out of memory")
         place.put("t", b"S 0 0 0 0\n" * 3_000_000)
-        refuses(place.run("--check-trace=t", text=TRACED, shell="ulimit -v 20000"), 3, "out of memory")
+        refuses(place.run("--check-trace=t", text=MANY_PASSES, shell="ulimit -v 20000"), 3, "out of memory")
+
+    def test_trace_without_an_end(self):
+        """A trace that goes on and on is refused at its first faulty line, within little memory."""
+        place = self.place
+        for job in (TRACED, MANY_PASSES):
+            place.put("job", job)
+            ended = place.run("--check-trace=/dev/zero", "job", shell=HALF_A_GIB, stdin=subprocess.DEVNULL)
+            refuses(ended, 2, "trace: line 1: not a trace line")
+        # Its lines may be lines of a trace, of which a job has no more than so many.
+        place.put("job", TRACED)
+        ended = place.run("--check-trace=/dev/stdin", "job", shell=HALF_A_GIB, ends="< <(yes 'S 0 0 0 0')")
+        refuses(ended, 2, "trace: line 1: not legal here")
+        ended = place.run("--check-trace=/dev/stdin", "job", shell=HALF_A_GIB, ends=f"< <(printf '{TRACE}'; yes 'S 0 0 0 0')")
+        refuses(ended, 2, f"trace: line {TRACE.count(chr(10)) + 1}: not legal here")
+
+    def test_passes_of_a_trace(self):
+        """The check of a trace makes no draws of passes that the trace doesn't come to."""
+        place = self.place
+        place.put("t", "")
+        refuses(place.run("--check-trace=t", text=MANY_PASSES, shell=HALF_A_GIB), 2, "trace: not complete")
+        place.put("t", "I 0 0 0 0 0\nE 0 0 whole\n")
+        refuses(place.run("--check-trace=t", text=MANY_PASSES, shell=HALF_A_GIB), 2, "trace: not complete")
+        place.put("t", "I 0 0 0 999 0\n")
+        refuses(place.run("--check-trace=t", text=MANY_PASSES, shell=HALF_A_GIB), 2, "trace: line 1: not legal here")
 
     def test_limit_of_open_files(self):
         """With few open files a run is refused, and then what was there stays as it was."""

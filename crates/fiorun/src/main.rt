@@ -1,6 +1,9 @@
 // Runs a fio job file, or prints its plan: the words of the command line say which.
 #![tactic(auto)]
 
+ghost use Rattle.std.specs.Prelude.{IfOk};
+ghost use Rattle.jr_traces.specs.Runs.{IsRunIn};
+
 use jr_cli::{print_check, print_part};
 use jr_command::{
     Choice, CliFault, answer_words, choose, memory_or, print_plan, read_job, read_text, read_trace,
@@ -9,6 +12,7 @@ use jr_engines::Engine;
 use jr_host::{Machine, Screen, Stop, tell_all, wishes};
 use jr_notes::{job_notes, plan_notes};
 use jr_plan::Plan;
+use jr_traces::Checked;
 use places::Wanted;
 use running::{Ran, SharedRun, Turn, add, boxed, run_memory, run_plan, shares, to_output};
 use std::alloc::Global;
@@ -16,10 +20,12 @@ use std::env::Env;
 use std::fs::{File, Files};
 use std::process::ExitCode;
 use std::{env, fs, io};
+use traced::TraceReader;
 
 mod outputs;
 mod places;
 mod running;
+mod traced;
 mod unfailing;
 
 fn main(rt: HostRuntime) -> ExitCode {
@@ -158,18 +164,20 @@ fn check_trace<R: Files + Print + Screen + AllocGlobal>(
     plan: &Plan,
 ) -> Result<(), Stop> {
     let wanted = Wanted::of(rt, choice, plan)?;
-    let events = trace_text(rt, path)?;
-    print_totals(rt, choice.interrupted, plan, events.as_slice())?;
-    wanted.tell_trace(rt, plan, events.as_slice())
+    let events = trace_text(rt, path, plan)?;
+    let run = print_totals(rt, choice.interrupted, plan, events.as_slice())?;
+    wanted.tell_trace(rt, plan, &run)
 }
 
-// Prints the totals of a trace, which may be that of a run that was stopped if so many words say so.
+// Prints the totals of a trace, which may be that of a run that was stopped if so many words say so, and gives the run.
 fn print_totals<R: Print + AllocGlobal>(
     rt: &R,
     is_part: bool,
     plan: &Plan,
     events: &[u8],
-) -> Result<(), CliFault> {
+) -> Result<Checked, CliFault>
+    ensures { IfOk result (IsRunIn plan.now events.now) }
+{
     let mut out = to_output(rt)?;
     if is_part {
         print_part(rt.alloc(), plan, events, &mut out)
@@ -195,10 +203,14 @@ fn job_plan(
     Err(Stop::from(fault))
 }
 
-// The trace that is to be checked.
-fn trace_text<R: Files + AllocGlobal>(rt: &R, path: &str) -> Result<Vec<u8>, CliFault> {
+// The trace that is to be checked, or so much of it that it is refused as it would be whole.
+fn trace_text<R: Files + AllocGlobal>(
+    rt: &R,
+    path: &str,
+    plan: &Plan,
+) -> Result<Vec<u8>, CliFault> {
     match fs::open(rt, path) {
-        Ok(file) => read_trace(rt.alloc(), file),
+        Ok(file) => read_trace(rt.alloc(), TraceReader::new(file, plan)),
         Err(error) => Err(memory_or(&error, CliFault::ReadTrace)),
     }
 }

@@ -1,4 +1,6 @@
 // Where a run found what, told behind its report: a map of each file, and the outputs that are asked for.
+ghost use Rattle.jr_traces.specs.Runs.{IsLegalRun};
+
 use crate::outputs::Outputs;
 use crate::running::Ran;
 use jr_cli::Findings;
@@ -7,7 +9,7 @@ use jr_host::{Screen, Settled, Stop};
 use jr_model::LARGEST_END;
 use jr_places::{Fate, FileMap, map_of};
 use jr_plan::{FileSpec, Plan};
-use jr_traces::read_run;
+use jr_traces::Checked;
 use std::alloc::{AllocError, Global};
 use std::fs::Files;
 
@@ -58,16 +60,14 @@ impl Wanted {
         &self,
         rt: &R,
         plan: &Plan,
-        text: &[u8],
-    ) -> Result<(), Stop> {
+        run: &Checked,
+    ) -> Result<(), Stop>
+        requires { IsLegalRun plan.now run.now }
+    {
         if self.outputs.is_empty() && !self.has_maps {
             return Ok(());
         }
-        let run = match read_run(rt.alloc(), plan, text) {
-            Ok(run) => run,
-            Err(fault) => return Err(Stop::from(CliFault::Trace(fault))),
-        };
-        let Ok(findings) = Findings::of_trace(rt.alloc(), plan, &run) else {
+        let Ok(findings) = Findings::of_trace(rt.alloc(), plan, run) else {
             return Err(Stop::from(CliFault::Memory));
         };
         self.tell_findings(rt, &findings, &Settled::of_no_files(rt.alloc()))

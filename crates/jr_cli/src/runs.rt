@@ -11,6 +11,7 @@ ghost use Rattle.jr_faults.specs.Faults.{AreFaultsOf};
 ghost use Rattle.jr_cli.specs.Checked.{IsCheckFault};
 ghost use Rattle.jr_cli.specs.Executed.{HasRun, HasCrewRun, HasEndedRun, HasEndedCrewRun, IsCutShort, IsDeskOf};
 ghost use Rattle.jr_cli.specs.Executed.{IsQuietlyReported, IsReported, IsRunFault, IsTraced};
+ghost use Rattle.jr_traces.specs.Runs.{IsRunIn};
 ghost use Rattle.jr_traces.specs.TraceChecks.{check_of, check_of_part};
 ghost use Rattle.jr_traces.specs.Traces.{trace_of};
 ghost use Rattle.jr_cli.specs.Status.{status_of, is_unclean};
@@ -24,8 +25,8 @@ use jr_engines::Engine;
 use jr_faults::Faults;
 use jr_model::Totals;
 use jr_plan::Plan;
-use jr_stats::{check_trace, report, totals_text, trace};
-use jr_traces::check_part;
+use jr_stats::{report, totals_text, trace};
+use jr_traces::{Checked, TraceFault, read_run};
 use std::alloc::Global;
 use std::io::Write;
 use std::sync::Wait;
@@ -155,21 +156,26 @@ fn print_trace<W: Write>(alloc: Global, desk: &Desk, events: &mut W) -> Result<(
     write_out(lines.as_slice(), events)
 }
 
-/// Checks a trace of the plan, and prints what each clone did in it.
+/// Checks a trace of the plan, and prints what each clone did in it. The run that was read is handed on.
 pub fn print_check<V: Write>(
     alloc: Global,
     plan: &Plan,
     text: &[u8],
     out: &mut V,
-) -> Result<(), CliFault>
+) -> Result<Checked, CliFault>
     // What is printed are the totals of a text that is the trace of a whole legal run.
     ensures printed { OnOk result (IsOkAnd (check_of plan.now text.now) (λ totals.
         Appends (V.contents out.old) (V.contents out.new) (totals_lines plan.now totals))) }
     ensures refused { IfErr result (IsCheckFault (check_of plan.now text.now)) }
+    ensures run { IfOk result (IsRunIn plan.now text.now) }
 {
-    let totals = check_trace(alloc, plan, text)?;
-    let lines = totals_text(alloc, plan, totals.as_slice())?;
-    write_out(lines.as_slice(), out)
+    let run = read_run(alloc, plan, text)?;
+    if !run.is_complete {
+        return Err(CliFault::Trace(TraceFault::Unfinished));
+    }
+    let lines = totals_text(alloc, plan, run.totals.as_slice())?;
+    write_out(lines.as_slice(), out)?;
+    Ok(run)
 }
 
 /// The same of a run that may have been stopped.
@@ -178,15 +184,17 @@ pub fn print_part<V: Write>(
     plan: &Plan,
     text: &[u8],
     out: &mut V,
-) -> Result<(), CliFault>
+) -> Result<Checked, CliFault>
     // What is printed are the totals of a text that is the trace of a legal run, as far as it came.
     ensures printed { OnOk result (IsOkAnd (check_of_part plan.now text.now) (λ totals.
         Appends (V.contents out.old) (V.contents out.new) (totals_lines plan.now totals))) }
     ensures refused { IfErr result (IsCheckFault (check_of_part plan.now text.now)) }
+    ensures run { IfOk result (IsRunIn plan.now text.now) }
 {
-    let totals = check_part(alloc, plan, text)?;
-    let lines = totals_text(alloc, plan, totals.as_slice())?;
-    write_out(lines.as_slice(), out)
+    let part = read_run(alloc, plan, text)?;
+    let lines = totals_text(alloc, plan, part.totals.as_slice())?;
+    write_out(lines.as_slice(), out)?;
+    Ok(part)
 }
 
 // 1 where a verdict was bad or an I/O was a fault, else 0.

@@ -1,3 +1,4 @@
+pub mod CourseLemmas
 pub mod Halts
 pub mod PassLemmas
 pub mod PhaseLaws

@@ -156,18 +156,18 @@ pub(crate) fn is_current(past: &Past, clone: &PlannedClone<'_>, pass: &PlannedPa
 
 // Whether a draw is the next of its pass, of a clone that isn't halted and has room, with nothing in
 // flight in its way.
-pub(crate) fn is_next(work: &Agenda<'_>, past: &Past, pass: &PlannedPass<'_>, draw: &Draw) -> bool
+pub(crate) fn is_next(plan: &Plan, past: &Past, pass: &PlannedPass<'_>, draw: &Draw) -> bool
     ensures { result
         ≡ ((draw.now.number == issued_count past.now pass.now)
         && not (is_halted past.now pass.now.job)
         && has_room past.now pass.now.job
-        && is_clear work.now past.now pass.now.job (is_write_draw draw.now) draw.now.piece) }
+        && is_clear plan.now past.now pass.now.job (is_write_draw draw.now) draw.now.piece) }
 {
     let writes = is_write_draw(draw);
     draw.number as usize == issued_count(past, pass)
         && !is_halted(past, pass.job())
         && has_room(past, pass.job())
-        && is_clear(work.plan(), past, pass.job(), writes, &draw.piece)
+        && is_clear(plan, past, pass.job(), writes, &draw.piece)
 }
 
 /// Whether a draw of a pass may be issued.
@@ -181,7 +181,7 @@ pub(crate) fn may_issue(
     requires { pass.now.job ≡ clone.now }
     ensures { result ≡ may_issue work.now past.now pass.now draw.now }
 {
-    is_next(work, past, pass, draw)
+    is_next(work.plan(), past, pass, draw)
         && is_current(past, clone, pass)
         && !waits_for_round(past, pass)
         && phase_is_open(work, past, pass.job())
@@ -189,21 +189,21 @@ pub(crate) fn may_issue(
 
 // Whether a draw is a write that wasn't checked or skipped, of a clone that has rounds, isn't halted
 // and has room, with nothing in flight in its check's way.
-pub(crate) fn is_left(work: &Agenda<'_>, past: &Past, pass: &PlannedPass<'_>, draw: &Draw) -> bool
+pub(crate) fn is_left(plan: &Plan, past: &Past, pass: &PlannedPass<'_>, draw: &Draw) -> bool
     ensures { result
         ≡ (is_write_draw draw.now
         && has_rounds pass.now.job
         && not (list_any (takes_up (write_id pass.now draw.now)) past.now)
         && not (is_halted past.now pass.now.job)
         && has_room past.now pass.now.job
-        && is_clear work.now past.now pass.now.job false draw.now.piece) }
+        && is_clear plan.now past.now pass.now.job false draw.now.piece) }
 {
     is_write_draw(draw)
         && has_rounds(pass.job())
         && !past.ledger().is_taken_up(&pass.write_id(draw))
         && !is_halted(past, pass.job())
         && has_room(past, pass.job())
-        && is_clear(work.plan(), past, pass.job(), false, &draw.piece)
+        && is_clear(plan, past, pass.job(), false, &draw.piece)
 }
 
 /// Whether the write of a draw may be checked, or skipped, now.
@@ -215,7 +215,7 @@ pub(crate) fn may_take_up(
 ) -> bool
     ensures { result ≡ may_take_up work.now past.now pass.now draw.now }
 {
-    is_left(work, past, pass, draw) && is_open(past, pass, pass.group_index(draw.number))
+    is_left(work.plan(), past, pass, draw) && is_open(past, pass, pass.group_index(draw.number))
 }
 
 // The check of a write where it is intact, else its skip.

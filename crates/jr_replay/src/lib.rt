@@ -4,10 +4,12 @@
 
 mod answers;
 mod choices;
+mod courses;
 mod legal;
 mod phases;
 mod rounds;
 
-pub use answers::{allowed, complete, complete_among, may_end, may_judge};
+pub use answers::{allowed, complete, may_end, may_judge};
 pub use choices::choice;
-pub use phases::legal_step_at;
+pub use courses::Course;
+pub use phases::{is_whole_run, legal_step_at};

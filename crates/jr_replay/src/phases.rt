@@ -1,21 +1,26 @@
 // What may happen with a draw after a legal history: what the history has shown already isn't looked at again.
-ghost use Rattle.std.specs.Prelude.{◌≡◌, ◌<◌, nat_lt, nat_le, not, true, false, ◌&&◌, ◌||◌, IfOk, Some, slice_get, take};
+ghost use Rattle.std.specs.Prelude.{◌≡◌, ◌<◌, ◌==◌, nat_eq, nat_lt, nat_le, not, true, false, ◌&&◌, ◌||◌, IfOk, OnOk, Some, slice_get, take};
+ghost use Rattle.std.specs.HashMap.{get};
 ghost use Rattle.std.specs.List.{list_any, list_all};
-ghost use Rattle.jr_model.specs.Legal.{is_legal, phase_is_open, takes_up, may_take_up, may_issue, step_of, step_of_draw};
-ghost use Rattle.jr_model.specs.Legal.{step_of_clone, step_at};
+ghost use Rattle.jr_model.specs.History.{awaiting, is_of_clone};
+ghost use Rattle.jr_model.specs.Legal.{is_legal, is_over, is_at_rest, is_complete, phase_is_open, takes_up, may_take_up, may_issue, step_of};
+ghost use Rattle.jr_model.specs.Legal.{step_of_draw, step_at};
 ghost use Rattle.jr_model.specs.Plan.{clone_of};
 ghost use Rattle.jr_model.specs.Rounds.{pass_of, passes_of, write_id, is_write_draw, issued_count, has_rounds, group_index};
-ghost use Rattle.jr_model.specs.Rounds.{is_full, is_closed, is_open, waits_for_round, pass_finished, is_current};
-ghost use Rattle.jr_replay.specs.Phases.{lets_go_on};
+ghost use Rattle.jr_model.specs.Rounds.{is_full, is_closed, is_open, waits_for_round, nothing_flies_of, pass_finished};
+ghost use Rattle.jr_model.specs.Rounds.{clone_finished, is_current};
+ghost use Rattle.jr_replay.specs.Courses.{IsCourse};
+ghost use Rattle.jr_replay.specs.Phases.{is_its_turn, lets_go_on};
 
-use crate::answers::step_of_clone;
-use crate::legal::{awaits_verdict, check_or_skip, is_left, is_next, issue_of, phase_is_open};
+use crate::courses::Course;
+use crate::legal::{awaits_verdict, check_or_skip, is_halted, is_left, is_next, issue_of};
 use crate::rounds::{
     is_full, is_pending, issued_count, no_issue_flies, nothing_flies_of, pass_finished,
 };
 use jr_history::Past;
 use jr_model::{Draw, Event, Memory, WriteId};
-use jr_passes::{Agenda, PlannedClone, PlannedPass, has_rounds};
+use jr_passes::{PlannedPass, has_rounds};
+use jr_plan::{Plan, SubJob};
 use std::alloc::Global;
 
 // Whether both hold.
@@ -39,11 +44,11 @@ fn is_open_for(past: &Past, pass: &PlannedPass<'_>, draw: &Draw) -> bool
 }
 
 // Whether the write of a draw may be checked, or skipped, now.
-fn may_take_up(work: &Agenda<'_>, past: &Past, pass: &PlannedPass<'_>, draw: &Draw) -> bool
+fn may_take_up(plan: &Plan, past: &Past, pass: &PlannedPass<'_>, draw: &Draw) -> bool
     requires { slice_get pass.now.draws draw.now.number ≡ Some draw.now }
-    ensures { result ≡ may_take_up work.now past.now pass.now draw.now }
+    ensures { result ≡ may_take_up plan.now past.now pass.now draw.now }
 {
-    is_left(work, past, pass, draw) && is_open_for(past, pass, draw)
+    is_left(plan, past, pass, draw) && is_open_for(past, pass, draw)
 }
 
 // Whether a group waits for its checks, where the writes of its clone are checked at all.
@@ -56,18 +61,12 @@ fn is_waiting(past: &Past, pass: &PlannedPass<'_>, issued: usize, g: usize) -> b
 }
 
 // Whether a group of the pass waits for its checks: only that of the write that was issued last can.
-fn waits_for_round(
-    work: &Agenda<'_>,
-    past: &Past,
-    clone: &PlannedClone<'_>,
-    pass: &PlannedPass<'_>,
-) -> bool
-    requires legal { is_legal work.now past.now ≡ true }
-    requires there { clone_of work.now clone.now.clone ≡ Some clone.now }
-    requires own { pass.now.job ≡ clone.now }
+fn waits_for_round(plan: &Plan, past: &Past, pass: &PlannedPass<'_>) -> bool
+    requires legal { is_legal plan.now past.now ≡ true }
+    requires there { clone_of plan.now pass.now.job.clone ≡ Some pass.now.job }
     ensures { result ≡ waits_for_round past.now pass.now }
 {
-    work.plan().facts();
+    plan.facts();
     pass.facts();
     let issued = issued_count(past, pass);
     match pass.last_below(issued) {
@@ -76,188 +75,349 @@ fn waits_for_round(
     }
 }
 
-// Whether the passes before this one are finished: they are where a draw of it was issued, or the last of them is finished.
+// Whether a pass of a clone is finished. One that hasn't begun isn't, and of the others the draws are kept or made once more.
+fn is_finished(
+    alloc: Global,
+    plan: &Plan,
+    course: &Course<'_>,
+    job: &SubJob,
+    number: u32,
+) -> Result<bool, Memory>
+    requires course { IsCourse plan.now course.now }
+    requires there { clone_of plan.now job.now.clone ≡ Some job.now }
+    ensures { IfOk result (λ yes. yes ≡ pass_finished course.now.history (pass_of job.now number)) }
+{
+    let past = &course.history;
+    if has_not_begun(past, job, number) {
+        return Ok(false);
+    }
+    match course.kept(job.clone_number(), number) {
+        Some(pass) => Ok(pass_finished(past, pass)),
+        None => {
+            let pass = PlannedPass::new(alloc, job, number)?;
+            Ok(pass_finished(past, &pass))
+        }
+    }
+}
+
+// Whether no draw of a clone's pass was issued.
+fn has_not_begun(past: &Past, job: &SubJob, number: u32) -> bool
+    ensures { result ≡ (issued_count past.now (pass_of job.now number) == 0) }
+{
+    past.ledger().issued_count(job.clone_number(), number) == 0
+}
+
+// Whether the first passes of a clone, so many, are finished: they are where a draw of the next was issued, or the last of them is.
 fn earlier_finished(
-    work: &Agenda<'_>,
-    past: &Past,
-    clone: &PlannedClone<'_>,
-    pass: &PlannedPass<'_>,
-) -> bool
-    requires legal { is_legal work.now past.now ≡ true }
-    requires there { clone_of work.now clone.now.clone ≡ Some clone.now }
-    requires own { pass.now.job ≡ clone.now }
-    requires within { pass.now.number < clone.now.passes }
-    ensures { result ≡ list_all (pass_finished past.now) (take pass.now.number (passes_of pass.now.job)) }
+    alloc: Global,
+    plan: &Plan,
+    course: &Course<'_>,
+    job: &SubJob,
+    number: u32,
+) -> Result<bool, Memory>
+    requires course { IsCourse plan.now course.now }
+    requires there { clone_of plan.now job.now.clone ≡ Some job.now }
+    ensures { number < job.now.passes
+        → IfOk result (λ yes. yes ≡ list_all (pass_finished course.now.history) (take number (passes_of job.now))) }
 {
-    work.plan().facts();
-    pass.facts();
-    if 0 < issued_count(past, pass) {
-        return true;
+    if !has_not_begun(&course.history, job, number) {
+        return Ok(true);
     }
-    let number = pass.number() as usize;
     if number == 0 {
-        return true;
+        return Ok(true);
     }
-    match clone.passes().get(number - 1) {
-        None => true,
-        Some(before) => pass_finished(past, before),
-    }
+    is_finished(alloc, plan, course, job, number - 1)
 }
 
-// Whether the pass is the first of its clone that isn't finished.
-fn is_current(
-    work: &Agenda<'_>,
-    past: &Past,
-    clone: &PlannedClone<'_>,
-    pass: &PlannedPass<'_>,
-) -> bool
-    requires legal { is_legal work.now past.now ≡ true }
-    requires there { clone_of work.now clone.now.clone ≡ Some clone.now }
-    requires own { pass.now.job ≡ clone.now }
-    ensures { result ≡ is_current past.now pass.now }
+// Whether all passes of a clone are finished: the last of them is.
+fn clone_finished(
+    alloc: Global,
+    plan: &Plan,
+    course: &Course<'_>,
+    job: &SubJob,
+) -> Result<bool, Memory>
+    requires course { IsCourse plan.now course.now }
+    requires there { clone_of plan.now job.now.clone ≡ Some job.now }
+    ensures { IfOk result (λ yes. yes ≡ clone_finished course.now.history job.now) }
 {
-    pass.number() < clone.job().passes()
-        && !pass_finished(past, pass)
-        && earlier_finished(work, past, clone, pass)
+    job.facts();
+    is_finished(alloc, plan, course, job, job.passes() - 1)
 }
 
-// Whether a draw of the clone's first pass was issued.
-fn has_begun(past: &Past, clone: &PlannedClone<'_>) -> bool
-    ensures { result ≡ nat_lt 0 (issued_count past.now (pass_of clone.now 0)) }
+// Whether a clone is finished or halted.
+fn is_over(alloc: Global, plan: &Plan, course: &Course<'_>, job: &SubJob) -> Result<bool, Memory>
+    requires course { IsCourse plan.now course.now }
+    requires there { clone_of plan.now job.now.clone ≡ Some job.now }
+    ensures { IfOk result (λ yes. yes ≡ is_over course.now.history job.now) }
 {
-    let count = past.ledger().issued_count(clone.job().clone_number(), 0);
-    0 < count
+    if is_halted(&course.history, job) {
+        return Ok(true);
+    }
+    clone_finished(alloc, plan, course, job)
+}
+
+// Whether nothing of a clone is in flight, and no verdict is to come.
+fn is_quiet(past: &Past, job: &SubJob) -> bool
+    ensures { result ≡ (nothing_flies_of past.now job.now.clone
+        && not (list_any (is_of_clone job.now.clone) (awaiting past.now))) }
+{
+    let number = job.clone_number();
+    nothing_flies_of(past, number) && !awaits_verdict(past, number)
+}
+
+// Whether a clone is over, with nothing in flight and no verdict to come.
+fn is_at_rest(alloc: Global, plan: &Plan, course: &Course<'_>, job: &SubJob) -> Result<bool, Memory>
+    requires course { IsCourse plan.now course.now }
+    requires there { clone_of plan.now job.now.clone ≡ Some job.now }
+    ensures { IfOk result (λ yes. yes ≡ is_at_rest course.now.history job.now) }
+{
+    if !is_quiet(&course.history, job) {
+        return Ok(false);
+    }
+    is_over(alloc, plan, course, job)
+}
+
+// Whether a clone is of this phase or later, or at rest.
+fn lets_begin(
+    alloc: Global,
+    plan: &Plan,
+    course: &Course<'_>,
+    phase: u32,
+    other: &SubJob,
+) -> Result<bool, Memory>
+    requires course { IsCourse plan.now course.now }
+    requires there { clone_of plan.now other.now.clone ≡ Some other.now }
+    ensures { IfOk result (λ yes. yes ≡ (nat_le phase other.now.phase || is_at_rest course.now.history other.now)) }
+{
+    if phase <= other.phase() {
+        return Ok(true);
+    }
+    is_at_rest(alloc, plan, course, other)
+}
+
+// Whether all clones of earlier phases are at rest.
+fn phase_is_open(
+    alloc: Global,
+    plan: &Plan,
+    course: &Course<'_>,
+    job: &SubJob,
+) -> Result<bool, Memory>
+    requires course { IsCourse plan.now course.now }
+    ensures { IfOk result (λ yes. yes ≡ phase_is_open plan.now course.now.history job.now) }
+{
+    for i in 0..plan.clones() {
+        if !lets_begin(alloc, plan, course, job.phase(), plan.clone_at(i))? {
+            return Ok(false);
+        }
+    }
+    Ok(true)
 }
 
 // Whether a clone is of this phase or later, or has nothing in flight and no verdict to come.
-fn lets_go_on(past: &Past, phase: u32, other: &PlannedClone<'_>) -> bool
+fn lets_go_on(past: &Past, phase: u32, other: &SubJob) -> bool
     ensures { result ≡ lets_go_on past.now phase other.now }
 {
-    let number = other.job().clone_number();
-    phase <= other.job().phase()
-        || (nothing_flies_of(past, number) && !awaits_verdict(past, number))
+    phase <= other.phase() || is_quiet(past, other)
 }
 
-fn all_let_go_on(work: &Agenda<'_>, past: &Past, phase: u32) -> bool
-    ensures { result ≡ list_all (lets_go_on past.now phase) work.now.clones }
+fn all_let_go_on(plan: &Plan, past: &Past, phase: u32) -> bool
+    ensures { result ≡ list_all (lets_go_on past.now phase) plan.now.clones }
 {
-    work.clones()
-        .iter()
-        .all(|other| lets_go_on(past, phase, other))
+    for i in 0..plan.clones() {
+        if !lets_go_on(past, phase, plan.clone_at(i)) {
+            return false;
+        }
+    }
+    true
 }
 
 // Whether all clones of earlier phases are at rest: where the clone has begun they are over.
-fn is_phase_open(work: &Agenda<'_>, past: &Past, clone: &PlannedClone<'_>) -> bool
-    requires legal { is_legal work.now past.now ≡ true }
-    requires there { clone_of work.now clone.now.clone ≡ Some clone.now }
-    ensures { result ≡ phase_is_open work.now past.now clone.now }
+fn is_phase_open(
+    alloc: Global,
+    plan: &Plan,
+    course: &Course<'_>,
+    job: &SubJob,
+) -> Result<bool, Memory>
+    requires course { IsCourse plan.now course.now }
+    requires there { clone_of plan.now job.now.clone ≡ Some job.now }
+    ensures { IfOk result (λ yes. yes ≡ phase_is_open plan.now course.now.history job.now) }
 {
-    work.plan().facts();
-    if has_begun(past, clone) {
-        all_let_go_on(work, past, clone.job().phase())
-    } else {
-        phase_is_open(work, past, clone.job())
+    if has_not_begun(&course.history, job, 0) {
+        return phase_is_open(alloc, plan, course, job);
     }
+    Ok(all_let_go_on(plan, &course.history, job.phase()))
+}
+
+// Whether the pass is the first of its clone that isn't finished, where it is known whether those before it are.
+fn is_current(past: &Past, pass: &PlannedPass<'_>, earlier: bool) -> bool
+    requires { pass.now.number < pass.now.job.passes
+        → earlier ≡ list_all (pass_finished past.now) (take pass.now.number (passes_of pass.now.job)) }
+    ensures { result ≡ is_current past.now pass.now }
+{
+    pass.number() < pass.job().passes() && !pass_finished(past, pass) && earlier
+}
+
+// Whether a draw of a pass may be issued, but for its phase.
+fn is_its_turn(plan: &Plan, past: &Past, pass: &PlannedPass<'_>, draw: &Draw, earlier: bool) -> bool
+    requires legal { is_legal plan.now past.now ≡ true }
+    requires there { clone_of plan.now pass.now.job.clone ≡ Some pass.now.job }
+    requires earlier { pass.now.number < pass.now.job.passes
+        → earlier ≡ list_all (pass_finished past.now) (take pass.now.number (passes_of pass.now.job)) }
+    ensures { result ≡ is_its_turn plan.now past.now pass.now draw.now }
+{
+    is_next(plan, past, pass, draw)
+        && is_current(past, pass, earlier)
+        && !waits_for_round(plan, past, pass)
 }
 
 // Whether a draw of a pass may be issued.
 fn may_issue(
-    work: &Agenda<'_>,
-    past: &Past,
-    clone: &PlannedClone<'_>,
+    alloc: Global,
+    plan: &Plan,
+    course: &Course<'_>,
     pass: &PlannedPass<'_>,
     draw: &Draw,
-) -> bool
-    requires legal { is_legal work.now past.now ≡ true }
-    requires there { clone_of work.now clone.now.clone ≡ Some clone.now }
-    requires own { pass.now.job ≡ clone.now }
-    ensures { result ≡ may_issue work.now past.now pass.now draw.now }
+    earlier: bool,
+) -> Result<bool, Memory>
+    requires course { IsCourse plan.now course.now }
+    requires there { clone_of plan.now pass.now.job.clone ≡ Some pass.now.job }
+    requires earlier { pass.now.number < pass.now.job.passes
+        → earlier ≡ list_all (pass_finished course.now.history) (take pass.now.number (passes_of pass.now.job)) }
+    ensures { IfOk result (λ yes. yes ≡ may_issue plan.now course.now.history pass.now draw.now) }
 {
-    is_next(work, past, pass, draw)
-        && is_current(work, past, clone, pass)
-        && !waits_for_round(work, past, clone, pass)
-        && is_phase_open(work, past, clone)
+    if !is_its_turn(plan, &course.history, pass, draw, earlier) {
+        return Ok(false);
+    }
+    is_phase_open(alloc, plan, course, pass.job())
 }
 
 // What may happen with a draw of a pass now, if anything.
 fn legal_step_of(
-    work: &Agenda<'_>,
-    past: &Past,
+    alloc: Global,
+    plan: &Plan,
+    course: &Course<'_>,
     worker: u32,
-    clone: &PlannedClone<'_>,
     pass: &PlannedPass<'_>,
     draw: &Draw,
-) -> Option<Event>
-    requires legal { is_legal work.now past.now ≡ true }
-    requires there { clone_of work.now clone.now.clone ≡ Some clone.now }
-    requires own { pass.now.job ≡ clone.now }
+    earlier: bool,
+) -> Result<Option<Event>, Memory>
+    requires course { IsCourse plan.now course.now }
+    requires there { clone_of plan.now pass.now.job.clone ≡ Some pass.now.job }
     requires drawn { slice_get pass.now.draws draw.now.number ≡ Some draw.now }
-    ensures { result ≡ step_of work.now past.now worker pass.now draw.now }
+    requires earlier { pass.now.number < pass.now.job.passes
+        → earlier ≡ list_all (pass_finished course.now.history) (take pass.now.number (passes_of pass.now.job)) }
+    ensures { IfOk result (λ step. step ≡ step_of plan.now course.now.history worker pass.now draw.now) }
 {
-    if may_take_up(work, past, pass, draw) {
-        return Some(check_or_skip(past, worker, pass, draw));
+    if may_take_up(plan, &course.history, pass, draw) {
+        return Ok(Some(check_or_skip(&course.history, worker, pass, draw)));
     }
-    if may_issue(work, past, clone, pass, draw) {
-        return Some(issue_of(worker, pass, draw));
+    if may_issue(alloc, plan, course, pass, draw, earlier)? {
+        return Ok(Some(issue_of(worker, pass, draw)));
     }
-    None
+    Ok(None)
 }
 
 // What may happen with the draw of this number, if it is there.
 fn legal_step_of_number(
-    work: &Agenda<'_>,
-    past: &Past,
+    alloc: Global,
+    plan: &Plan,
+    course: &Course<'_>,
     worker: u32,
-    clone: &PlannedClone<'_>,
     pass: &PlannedPass<'_>,
     number: u32,
-) -> Option<Event>
-    requires legal { is_legal work.now past.now ≡ true }
-    requires there { clone_of work.now clone.now.clone ≡ Some clone.now }
-    requires own { pass.now.job ≡ clone.now }
-    ensures { result ≡ step_of_draw work.now past.now worker pass.now (slice_get pass.now.draws number) }
+    earlier: bool,
+) -> Result<Option<Event>, Memory>
+    requires course { IsCourse plan.now course.now }
+    requires there { clone_of plan.now pass.now.job.clone ≡ Some pass.now.job }
+    requires earlier { pass.now.number < pass.now.job.passes
+        → earlier ≡ list_all (pass_finished course.now.history) (take pass.now.number (passes_of pass.now.job)) }
+    ensures { IfOk result
+        (λ step. step ≡ step_of_draw plan.now course.now.history worker pass.now (slice_get pass.now.draws number)) }
 {
     pass.facts();
     match pass.draw_at(number) {
-        None => None,
-        Some(draw) => legal_step_of(work, past, worker, clone, pass, &draw),
-    }
-}
-
-// What may happen with the draw of this name of a clone, if anything.
-fn legal_step_of_clone(
-    alloc: Global,
-    work: &Agenda<'_>,
-    past: &Past,
-    worker: u32,
-    write: &WriteId,
-    clone: &PlannedClone<'_>,
-) -> Result<Option<Event>, Memory>
-    requires legal { is_legal work.now past.now ≡ true }
-    requires there { clone_of work.now clone.now.clone ≡ Some clone.now }
-    ensures { IfOk result
-        (λ step. step ≡ step_of_clone work.now past.now worker write.now (Some clone.now)) }
-{
-    match clone.passes().get(write.pass as usize) {
-        Some(pass) => Ok(legal_step_of_number(work, past, worker, clone, pass, write.number)),
-        None => step_of_clone(alloc, work, past, worker, write, clone),
-    }
-}
-
-/// What may happen with the draw of this name after a legal history, if anything; as by `step_at`, in far fewer steps.
-pub fn legal_step_at(
-    alloc: Global,
-    work: &Agenda<'_>,
-    past: &Past,
-    worker: u32,
-    write: &WriteId,
-) -> Result<Option<Event>, Memory>
-    requires { is_legal work.now past.now ≡ true }
-    ensures { IfOk result (λ step. step ≡ step_at work.now past.now worker write.now) }
-{
-    work.plan().facts();
-    match work.clones().get(write.clone as usize) {
         None => Ok(None),
-        Some(clone) => legal_step_of_clone(alloc, work, past, worker, write, clone),
+        Some(draw) => legal_step_of(alloc, plan, course, worker, pass, &draw, earlier),
     }
+}
+
+// What may happen with the draw of this name of a clone, if anything, where its pass is kept.
+fn legal_step_kept(
+    alloc: Global,
+    plan: &Plan,
+    course: &Course<'_>,
+    worker: u32,
+    write: &WriteId,
+    job: &SubJob,
+    earlier: bool,
+) -> Result<Option<Event>, Memory>
+    requires course { IsCourse plan.now course.now }
+    requires there { clone_of plan.now job.now.clone ≡ Some job.now }
+    requires own { job.now.clone ≡ write.now.clone }
+    requires kept { get nat_eq course.now.passes job.now.clone ≡ Some (pass_of job.now write.now.pass) }
+    requires earlier { write.now.pass < job.now.passes
+        → earlier ≡ list_all (pass_finished course.now.history) (take write.now.pass (passes_of job.now)) }
+    ensures { IfOk result (λ step. step ≡ step_at plan.now course.now.history worker write.now) }
+{
+    match course.kept(write.clone, write.pass) {
+        None => Ok(None),
+        Some(pass) => legal_step_of_number(
+            alloc,
+            plan,
+            course,
+            worker,
+            pass,
+            write.number,
+            earlier,
+        ),
+    }
+}
+
+/// What may happen with the draw of this name now, if anything; as by `step_at`, in far fewer steps.
+pub fn legal_step_at<'a>(
+    alloc: Global,
+    plan: &'a Plan,
+    course: &mut Course<'a>,
+    worker: u32,
+    write: &WriteId,
+) -> Result<Option<Event>, Memory>
+    requires { IsCourse plan.now course.old }
+    ensures step { IfOk result (λ step. step ≡ step_at plan.now course.old.history worker write.now) }
+    ensures course { OnOk result (IsCourse plan.now course.new) }
+    ensures history { course.new.history ≡ course.old.history }
+{
+    plan.facts();
+    let clone = write.clone as usize;
+    if clone >= plan.clones() {
+        return Ok(None);
+    }
+    let job = plan.clone_at(clone);
+    let earlier = earlier_finished(alloc, plan, course, job, write.pass)?;
+    course.enter(alloc, job, write.pass)?;
+    legal_step_kept(alloc, plan, course, worker, write, job, earlier)
+}
+
+// Whether each clone is finished or halted.
+fn all_over(alloc: Global, plan: &Plan, course: &Course<'_>) -> Result<bool, Memory>
+    requires course { IsCourse plan.now course.now }
+    ensures { IfOk result (λ yes. yes ≡ list_all (is_over course.now.history) plan.now.clones) }
+{
+    for i in 0..plan.clones() {
+        if !is_over(alloc, plan, course, plan.clone_at(i))? {
+            return Ok(false);
+        }
+    }
+    Ok(true)
+}
+
+/// Whether a legal run is a whole run of its plan.
+pub fn is_whole_run(alloc: Global, plan: &Plan, course: &Course<'_>) -> Result<bool, Memory>
+    requires course { IsCourse plan.now course.now }
+    ensures { IfOk result (λ yes. yes ≡ is_complete plan.now course.now.history) }
+{
+    let past = &course.history;
+    if !past.in_flight().is_empty() || !past.awaiting().is_empty() {
+        return Ok(false);
+    }
+    all_over(alloc, plan, course)
 }

@@ -1,8 +1,9 @@
-ghost use Rattle.std.specs.Prelude.{◌≡◌, ◌∷◌, [], ◌<◌, ◌≤◌, ◌^◌, IfErr, IfOk, MatchOption, Ok, length, true};
+ghost use Rattle.std.specs.Prelude.{◌≡◌, ◌∷◌, [], ◌<◌, ◌≤◌, ◌^◌, IfErr, IfOk, MatchOption, Ok, OnOk, length, true};
 ghost use Rattle.std.specs.List.{before_first, slice_split};
 ghost use Rattle.jr_model.specs.History.{started};
 ghost use Rattle.jr_model.specs.Legal.{is_legal};
 ghost use Rattle.jr_model.specs.Report.{all_totals};
+ghost use Rattle.jr_replay.specs.Courses.{IsCourse};
 ghost use Rattle.jr_traces.specs.Runs.{IsRunIn};
 ghost use Rattle.jr_traces.specs.TraceChecks.{IsRefusal, check_of, check_of_part, history_in, is_newline, line_event};
 
@@ -11,9 +12,9 @@ use crate::fields::read_line;
 use crate::legal::legal_event;
 use jr_history::Past;
 use jr_model::{Event, Memory, Totals};
-use jr_passes::{Agenda, totals_among};
+use jr_passes::totals_among;
 use jr_plan::Plan;
-use jr_replay::complete_among;
+use jr_replay::{Course, is_whole_run};
 use std::alloc::Global;
 
 /// Checks a trace: what each clone did, if the text is the trace of a whole legal run of the plan; else its
@@ -22,12 +23,11 @@ pub fn check_trace(alloc: Global, plan: &Plan, text: &[u8]) -> Result<Vec<Totals
     ensures ok { IfOk result (λ totals. check_of plan.now text.now ≡ Ok totals.items) }
     ensures err { IfErr result (λ fault. IsRefusal fault (check_of plan.now text.now)) }
 {
-    let work = Agenda::new(alloc, plan)?;
-    let past = past_in(alloc, &work, text)?;
-    if !complete_among(&work, &past) {
+    let course = course_in(alloc, plan, text)?;
+    if !is_whole_run(alloc, plan, &course)? {
         return Err(TraceFault::Unfinished);
     }
-    Ok(all_totals(alloc, plan, &past)?)
+    Ok(all_totals(alloc, plan, &course.history)?)
 }
 
 /// The same for a run that may have been stopped: what each clone did, if each line may follow those before it, whether there
@@ -36,9 +36,8 @@ pub fn check_part(alloc: Global, plan: &Plan, text: &[u8]) -> Result<Vec<Totals>
     ensures ok { IfOk result (λ totals. check_of_part plan.now text.now ≡ Ok totals.items) }
     ensures err { IfErr result (λ fault. IsRefusal fault (check_of_part plan.now text.now)) }
 {
-    let work = Agenda::new(alloc, plan)?;
-    let past = past_in(alloc, &work, text)?;
-    Ok(all_totals(alloc, plan, &past)?)
+    let course = course_in(alloc, plan, text)?;
+    Ok(all_totals(alloc, plan, &course.history)?)
 }
 
 /// A trace that was read: the legal history that it says, what each clone did in it, and whether that is all.
@@ -57,12 +56,11 @@ pub fn read_run(alloc: Global, plan: &Plan, text: &[u8]) -> Result<Checked, Trac
     ensures ok { IfOk result (IsRunIn plan.now text.now) }
     ensures err { IfErr result (λ fault. IsRefusal fault (history_in plan.now text.now)) }
 {
-    let work = Agenda::new(alloc, plan)?;
-    let past = past_in(alloc, &work, text)?;
-    let totals = all_totals(alloc, plan, &past)?;
-    let is_complete = complete_among(&work, &past);
+    let course = course_in(alloc, plan, text)?;
+    let totals = all_totals(alloc, plan, &course.history)?;
+    let is_complete = is_whole_run(alloc, plan, &course)?;
     Ok(Checked {
-        past,
+        past: course.history,
         totals,
         is_complete,
     })
@@ -81,25 +79,29 @@ fn all_totals(alloc: Global, plan: &Plan, past: &Past) -> Result<Vec<Totals>, Me
     Ok(totals)
 }
 
-// The history that a text says.
-pub(crate) fn past_in(alloc: Global, work: &Agenda<'_>, text: &[u8]) -> Result<Past, TraceFault>
-    ensures ok { IfOk result (λ past. history_in work.now text.now ≡ Ok past) }
-    ensures legal { IfOk result (λ past. is_legal work.now past ≡ true) }
-    ensures few { IfOk result (λ past. length (started past) ≤ 2 ^ 32) }
-    ensures err { IfErr result (λ fault. IsRefusal fault (history_in work.now text.now)) }
+// The run that a text says.
+pub(crate) fn course_in<'a>(
+    alloc: Global,
+    plan: &'a Plan,
+    text: &[u8],
+) -> Result<Course<'a>, TraceFault>
+    ensures ok { IfOk result (λ course. history_in plan.now text.now ≡ Ok course.history) }
+    ensures course { IfOk result (λ course. IsCourse plan.now course) }
+    ensures few { IfOk result (λ course. length (started course.history) ≤ 2 ^ 32) }
+    ensures err { IfErr result (λ fault. IsRefusal fault (history_in plan.now text.now)) }
 {
-    let mut past = Past::new(alloc, &[])?;
+    let mut course = Course::new(alloc, plan)?;
     let mut rest = text;
     while !rest.is_empty() {
-        let number = past.ledger().len() as u64 + 1;
+        let number = course.history.ledger().len() as u64 + 1;
         let Some((line, after)) = next_line(rest) else {
             return Err(TraceFault::Line(number));
         };
-        let event = line_event(alloc, work, &past, number, line)?;
-        past = past.followed_by(alloc, event)?;
+        let event = line_event(alloc, plan, &mut course, number, line)?;
+        course = course.followed_by(alloc, plan, event)?;
         rest = after;
     }
-    Ok(past)
+    Ok(course)
 }
 
 // The first line of a text, and what follows its line feed; nothing where it has none.
@@ -126,21 +128,23 @@ fn line_len(text: &[u8]) -> usize
 }
 
 // The event of a line after a legal history.
-fn line_event(
+fn line_event<'a>(
     alloc: Global,
-    work: &Agenda<'_>,
-    past: &Past,
+    plan: &'a Plan,
+    course: &mut Course<'a>,
     number: u64,
     line: &[u8],
 ) -> Result<Event, TraceFault>
-    requires { is_legal work.now past.now ≡ true }
-    ensures ok { IfOk result (λ event. line_event work.now past.now number line.now ≡ Ok event) }
-    ensures err { IfErr result (λ fault. IsRefusal fault (line_event work.now past.now number line.now)) }
+    requires { IsCourse plan.now course.old }
+    ensures ok { IfOk result (λ event. line_event plan.now course.old.history number line.now ≡ Ok event) }
+    ensures err { IfErr result (λ fault. IsRefusal fault (line_event plan.now course.old.history number line.now)) }
+    ensures course { OnOk result (IsCourse plan.now course.new) }
+    ensures history { course.new.history ≡ course.old.history }
 {
     let Some(entry) = read_line(line) else {
         return Err(TraceFault::Line(number));
     };
-    match legal_event(alloc, work, past, &entry)? {
+    match legal_event(alloc, plan, course, &entry)? {
         Some(event) => Ok(event),
         None => Err(TraceFault::Illegal(number)),
     }

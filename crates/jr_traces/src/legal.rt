@@ -1,5 +1,5 @@
-ghost use Rattle.std.specs.Prelude.{◌≡◌, IfOk, Some, None, true, if◌then◌else◌};
-ghost use Rattle.jr_model.specs.Legal.{is_legal};
+ghost use Rattle.std.specs.Prelude.{◌≡◌, IfOk, OnOk, Some, None, if◌then◌else◌};
+ghost use Rattle.jr_replay.specs.Courses.{IsCourse};
 ghost use Rattle.jr_traces.specs.TraceChecks.{is_small, name_fits, ending_fits, finding_fits, write_of, outcome_of, verdict_of};
 ghost use Rattle.jr_traces.specs.TraceChecks.{legal_event};
 ghost use Rattle.jr_traces.specs.TraceSteps.{begun, named, ended, judged, issue_in, probe_in, skip_in, event_in, event_named};
@@ -7,45 +7,50 @@ ghost use Rattle.jr_traces.specs.TraceSteps.{begun, named, ended, judged, issue_
 use crate::entries::{Ending, Entry, Finding, Name, Start};
 use jr_history::Past;
 use jr_model::{Event, Memory, Outcome, Verdict, What, WriteId, same_write};
-use jr_passes::Agenda;
 use jr_plan::Plan;
-use jr_replay::{legal_step_at, may_end, may_judge};
+use jr_replay::{Course, legal_step_at, may_end, may_judge};
 use std::alloc::Global;
 
 // The event that a line speaks of, where it may happen after the legal history.
-pub(crate) fn legal_event(
+pub(crate) fn legal_event<'a>(
     alloc: Global,
-    work: &Agenda<'_>,
-    past: &Past,
+    plan: &'a Plan,
+    course: &mut Course<'a>,
     entry: &Entry,
 ) -> Result<Option<Event>, Memory>
-    requires { is_legal work.now past.now ≡ true }
-    ensures { IfOk result (λ event. event ≡ legal_event work.now past.now entry.now) }
+    requires { IsCourse plan.now course.old }
+    ensures event { IfOk result (λ event. event ≡ legal_event plan.now course.old.history entry.now) }
+    ensures course { OnOk result (IsCourse plan.now course.new) }
+    ensures history { course.new.history ≡ course.old.history }
 {
     match entry {
         Entry::Issue(_) | Entry::Probe(_) | Entry::Skip { .. } => {
-            legal_start(alloc, work, past, entry)
+            legal_start(alloc, plan, course, entry)
         }
-        Entry::End { worker, io, ending } => Ok(ended(past, *worker, *io, ending)),
-        Entry::Verdict { by, io, finding } => Ok(judged(work.plan(), past, *by, *io, finding)),
+        Entry::End { worker, io, ending } => Ok(ended(&course.history, *worker, *io, ending)),
+        Entry::Verdict { by, io, finding } => {
+            Ok(judged(plan, &course.history, *by, *io, finding))
+        }
     }
 }
 
 // The event of a line that starts an I/O or a check, or skips a write, where it may happen.
-fn legal_start(
+fn legal_start<'a>(
     alloc: Global,
-    work: &Agenda<'_>,
-    past: &Past,
+    plan: &'a Plan,
+    course: &mut Course<'a>,
     entry: &Entry,
 ) -> Result<Option<Event>, Memory>
-    requires { is_legal work.now past.now ≡ true }
-    ensures { IfOk result
-        (λ event. event ≡ event_named work.now past.now entry.now (named past.now entry.now)) }
+    requires { IsCourse plan.now course.old }
+    ensures event { IfOk result
+        (λ event. event ≡ event_named plan.now course.old.history entry.now (named course.old.history entry.now)) }
+    ensures course { OnOk result (IsCourse plan.now course.new) }
+    ensures history { course.new.history ≡ course.old.history }
 {
-    let Some((worker, write)) = named(past, entry) else {
+    let Some((worker, write)) = named(&course.history, entry) else {
         return Ok(None);
     };
-    let step = legal_step_at(alloc, work, past, worker, &write)?;
+    let step = legal_step_at(alloc, plan, course, worker, &write)?;
     Ok(event_in(entry, worker, &write, &step))
 }
 

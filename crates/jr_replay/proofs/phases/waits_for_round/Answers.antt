@@ -1,7 +1,5 @@
-use Rattle.std.proofs.Common.{ℕ, ◌&&◌, not, ap, subst, ◌∙◌}
-use Rattle.jr_model.specs.Plan.{Plan}
+use Rattle.std.proofs.Common.{ℕ, ◌&&◌, not, ap, refl, subst, ◌∙◌}
 use Rattle.jr_model.specs.Rounds.{writes_of, has_rounds, is_full, is_closed}
-use Rattle.jr_model.specs.PlanFacts.{IsPlanned}
 use Rattle.jr_passes.specs.Passes.{IsLastBelow, NoneBelow}
 use Rattle.jr_replay.proofs.PhaseLaws.{waits_after, waits_never}
 use Rattle.jr_replay.proofs.phases.waits_for_round.Goals as goal
@@ -9,7 +7,7 @@ use Rattle.jr_replay.proofs.phases.waits_for_round.Goals as goal
 pub returns-in-None : goal.returns-in-None
 returns-in-None c =
     let pass = c.args.pass.now in
-    waits_never c.args.work.now (subst (λ (plan : Plan). IsPlanned plan) c.plan.ensures c.facts.ensures) c.args.clone.now c.requires.there c.args.past.now c.requires.legal pass c.facts-2.ensures c.requires.own
+    waits_never c.args.plan.now c.facts.ensures c.args.pass.now.job c.requires.there c.args.past.now c.requires.legal pass c.facts-2.ensures refl
     (subst (λ (n : ℕ). NoneBelow (writes_of pass) n) c.issued_count-issued.ensures c.in-None.ensures)
 
 pub returns-in-Some : goal.returns-in-Some
@@ -18,5 +16,5 @@ returns-in-Some c =
     let h = c.args.past.now in
     c.is_waiting.ensures
     ∙ ap (λ (g : ℕ). has_rounds pass.job && (is_full h pass g && not (is_closed h pass g))) c.group_index.ensures
-    ∙ waits_after c.args.work.now (subst (λ (plan : Plan). IsPlanned plan) c.plan.ensures c.facts.ensures) c.args.clone.now c.requires.there h c.requires.legal pass c.in-Some.last c.facts-2.ensures c.requires.own
+    ∙ waits_after c.args.plan.now c.facts.ensures c.args.pass.now.job c.requires.there h c.requires.legal pass c.in-Some.last c.facts-2.ensures refl
     (subst (λ (n : ℕ). IsLastBelow (writes_of pass) n c.in-Some.last) c.issued_count-issued.ensures c.in-Some.ensures)

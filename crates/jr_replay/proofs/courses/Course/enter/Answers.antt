@@ -1,0 +1,32 @@
+use Rattle.std.proofs.Common.{◌≡◌, ℕ, List, sym, ap, ◌∙◌, cond}
+use Rattle.std.specs.Prelude.{Result, Ok, Err, OnOk, is_some, nat_eq, Some}
+use Rattle.std.specs.HashMap.{get}
+use Rattle.jr_model.specs.Plan.{Plan, clone_of}
+use Rattle.jr_model.specs.Rounds.{pass_of}
+use Rattle.jr_replay.specs.Courses.{IsCourse, numbered}
+use Rattle.jr_replay.proofs.CourseLemmas.{course_with, entered_there, kept_there}
+use Rattle.jr_replay.proofs.courses.Course.enter.Goals as goal
+
+-- what follows where a call succeeded
+on_ok : {T E : Type 0} {A B : Type 0} (result : Result T E) → (A → B) → OnOk result A → OnOk result B
+on_ok (Ok x) f a = f a
+on_ok (Err e) f a = a
+
+pub returns-then-keeps-clause-entered : goal.returns-then-keeps-clause-entered
+returns-then-keeps-clause-entered c plan there course =
+    kept_there plan c.args.job.now there c.args.self.now c.args.number course
+    (ap (λ (n : ℕ). is_some (numbered c.args.number (get nat_eq c.args.self.now.passes n))) (sym c.clone_number.ensures)
+    ∙ sym c.keeps.ensures ∙ c.if-keeps.true)
+
+pub returns-clause-course : goal.returns-clause-course
+returns-clause-course c =
+    on_ok c.replace.result
+    (λ now plan there course.
+    course_with plan c.args.job.now there c.args.number c.args.self.now c.replace.new.self c.replace.ensures.history now course)
+    c.replace.ensures.passes
+
+pub returns-clause-entered : goal.returns-clause-entered
+returns-clause-entered c =
+    on_ok c.replace.result
+    (λ now plan there course. entered_there plan c.args.job.now there c.args.number c.replace.new.self c.args.self.now now)
+    c.replace.ensures.passes
