@@ -109,16 +109,15 @@ def in_notes_of_faults(program, room, calls):
 
 def in_words(program, room, _calls):
     """What clap says of words that it refuses: on one line where a word has a line feed, and as it is where none has."""
-    usage = ["Usage: fiorun [OPTIONS] [JOBFILE]", "", "For more information, try '--help'."]
-    for front in ("--", "job.fio --", "--workers="):
+    for front, wants in (("--", "[OPTIONS] [JOBFILE]"), ("job.fio --", "<JOBFILE>"), ("--workers=", None)):
+        usage = ["", f"Usage: {os.path.basename(program)} {wants}"] * (wants is not None) + ["", "For more information, try '--help'."]
         for word, shown in ((NAME, NAME_SHOWN), (WORD, WORD_SHOWN), ("plain", "plain")):
             ended = run(program, room, "", *(front + word).split(" ", front.count(" ")))
             expect(ended[0] == 2 and not ended[1], "status", ended)
             expect(not HIDDEN.search(ended[2]), "standard error has", ended[2])
             expect(f"'{front.split(' ')[-1] if front != '--workers=' else ''}{shown}'" in ended[2], "it says", ended[2])
             lines = ended[2].split("\n")
-            own = usage[-1:] if front == "--workers=" else usage
-            wanted = own if "\n" not in word else []
+            wanted = usage if "\n" not in word else []
             expect(lines[-1 - len(wanted):-1] == wanted and (wanted or len(lines) == 2), "its lines are", lines)
 
 

@@ -1,23 +1,31 @@
 -- No character of an escaped text is hidden.
-use Rattle.std.proofs.Common.{◌≡◌, ℕ, true, false, List, refl, codes}
-use Rattle.std.specs.Prelude.{◌==◌, chars}
-use Rattle.std.specs.Char.{encode_utf8}
-use Rattle.std.specs.List.{list_any}
-use Rattle.std.specs.Str.{is_utf8}
-use Rattle.std.proofs.lemmas.Bool.{cond_both}
-use Rattle.std.proofs.lemmas.Str.{IsUtf8-from_is_utf8, scalars-chars}
+use Rattle.std.proofs.Common.{◌≡◌, ◌<◌, ℕ, true, false, List, [], ◌∷◌, refl, codes, ap, ◌∙◌}
+use Rattle.std.specs.Prelude.{◌==◌, chars, slice_index}
+use Rattle.std.specs.Char.{is_ascii}
+use Rattle.std.specs.List.{list_all, list_any}
+use Rattle.std.proofs.lemmas.Bool.{and_parts, cond_both, ltb-true}
+use Rattle.std.proofs.lemmas.Str.{chars-IsAscii, IsUtf8-from_ascii, scalars-chars}
+use Rattle.std.proofs.lemmas.Str.Ascii.{IsAscii-cons, IsAscii-nil}
 use lib.Utf8.{scalar}
 use Rattle.jr_escape.specs.Escapes.{escaped_char as shown_char, is_hidden}
 use Rattle.jr_escape.proofs.ShownLemmas.{all_shown, char_shown as shown_is_shown, IsShown}
 use Rattle.jr_page.specs.Escapes.{escaped_char}
 use Rattle.jr_page.specs.Raw.{NothingIsHidden}
 
+ascii : (bs : List ℕ) → list_all is_ascii bs ≡ true → (i : ℕ) → slice_index bs i < 128
+ascii [] all = IsAscii-nil
+ascii (b ∷ bs) all =
+    let parts = and_parts (is_ascii b) (list_all is_ascii bs) all in
+    IsAscii-cons b bs (ltb-true b 128 parts.0) (ascii bs parts.1)
+
 -- a text that is written out
-written : (bs : List ℕ) → is_utf8 bs ≡ true → list_any is_hidden (chars bs) ≡ false → IsShown bs
-written bs is_text none = record { is_text = IsUtf8-from_is_utf8 bs is_text; none = none }
+written : (bs : List ℕ) → list_all is_ascii bs ≡ true → list_any is_hidden bs ≡ false → IsShown bs
+written bs all none = record {
+  is_text = IsUtf8-from_ascii bs (ascii bs all);
+  none = ap (list_any is_hidden) (chars-IsAscii bs (ascii bs all)) ∙ none;
+}
 
 char_shown : (c : ℕ) → scalar c ≡ true → IsShown (escaped_char c)
-unfolding is_utf8, chars, encode_utf8
 char_shown c s =
     cond_both (c == 38) _ _ IsShown (λ _. written (codes "&amp;") refl refl)
     (λ _. cond_both (c == 60) _ _ IsShown (λ _. written (codes "&lt;") refl refl)

@@ -5,7 +5,7 @@ ghost use Rattle.std.specs.Prelude.{List};
 ghost use Rattle.jr_model.specs.declared.events.Event.{Event};
 ghost use Rattle.jr_model.specs.Plan.{Plan};
 ghost use Rattle.jr_places.specs.Maps.{cell_size, fate_of, marked, worse, IsMapOf};
-ghost use Rattle.jr_places.specs.Marked.{AreMarksOf, fate_by, said_in, saids_of};
+ghost use Rattle.jr_places.specs.Marked.{AreMarksOf, fate_by, saids_of};
 ghost use Rattle.jr_places.specs.Spans.{said_by};
 
 use crate::fates::{Fate, worse};
@@ -35,8 +35,9 @@ pub fn map_of(
 ) -> Result<FileMap, Memory>
     requires some { 1 ≤ most }
     requires end { end ≤ LARGEST_END }
-    ensures { (plan : Plan) (history : List Event) → AreMarksOf plan history marks.now → file < length plan.files
+    ensures map { (plan : Plan) (history : List Event) → AreMarksOf plan history marks.now → file < length plan.files
         → IfOk result (IsMapOf plan history file end most) }
+    ensures least { IfOk result (λ map. SECTOR ≤ map.size) }
 {
     let size = cell_size(end, most);
     let count = end.div_ceil(size) as usize;
