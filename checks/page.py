@@ -211,7 +211,7 @@ def escaped(program, folder):
     status, _, said, path = run(program, text, folder)
     expect(status == 1 and not said, "status", status, said)
     page, _ = read_page(path)
-    shown = re.sub("[\x01\x7f\u0085]", "\ufffd", job)
+    shown = re.sub("[\x01\x7f\u0085]", lambda it: f"\\u{{{ord(it[0]):x}}}", job)
     expect(page.rows["totals"][1][0] == shown and page.rows["plan"][1][0] == shown, "the job is called", page.rows["totals"][1][0])
     expect(page.maps[0][0] == name and page.rows["miscompares"][1][3] == name, "the file is called", page.maps[0][0])
     expect("script" not in page.tags, "a job's name is an element")

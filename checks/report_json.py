@@ -23,7 +23,7 @@ NUMBERS = ("clone", "pass", "number", "offset", "length")
 MEMBERS = "badreads cached faults fiorun interrupted jobs miscompares more_faults status stored".split()
 FAULT = {*NUMBERS, "file", "kind", "outcome", "moved", "reason"}
 # Names of jobs and files that a writer of JSON may trip over: quotes, backslashes, tags, control characters, bytes above 0x7f.
-NAMES = ['<script>"\\', "a\tb", "\x01\x1f\x7f", "é ✓ \U0001f600", "</script>", "\\u0041", "'", "a: clone=1"]
+NAMES = ['<script>"\\', "a\tb", "\x01\x1f\x7f", "\u009b\u2028\u202e", "é ✓ \U0001f600", "</script>", "\\u0041", "'", "a: clone=1"]
 
 
 def told(report):

@@ -92,7 +92,7 @@ fn begin<R: Env + Files<File = File> + Input + Print + Machine>(
             *has_notes |= choice.notes;
             perform(rt, &choice, *has_notes)
         }
-        Err(error) => Ok(Turn::Ended(answer_words(rt, &error)?)),
+        Err(error) => Ok(Turn::Ended(answer_words(rt, words.as_slice(), &error)?)),
     }
 }
 

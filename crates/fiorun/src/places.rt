@@ -5,9 +5,10 @@ use crate::outputs::Outputs;
 use crate::running::Ran;
 use jr_cli::Findings;
 use jr_command::{Choice, CliFault};
+use jr_escape::Escaped;
 use jr_host::{Screen, Settled, Stop};
 use jr_model::LARGEST_END;
-use jr_places::{Fate, FileMap, map_of};
+use jr_places::{Fate, FileMap, FileMarks, map_of, marks_of};
 use jr_plan::{FileSpec, Plan};
 use jr_traces::Checked;
 use std::alloc::{AllocError, Global};
@@ -92,8 +93,9 @@ impl Wanted {
 
 // Shows on standard error what happened where in the files of a run.
 fn show_maps<R: Eprint + AllocGlobal>(rt: &R, findings: &Findings<'_>) -> Result<(), CliFault> {
+    let marks = marks_of(rt.alloc(), findings.plan(), findings.history())?;
     for (index, file) in findings.plan().files().iter().enumerate() {
-        show_map(rt, findings, index as u32, file)?;
+        show_map(rt, &marks, index as u32, file)?;
     }
     let _ = eprintln!(rt;
         "fiorun: B bad, F fault, v void, u unchecked, s skipped, g good, r read, . untouched"
@@ -103,21 +105,15 @@ fn show_maps<R: Eprint + AllocGlobal>(rt: &R, findings: &Findings<'_>) -> Result
 
 fn show_map<R: Eprint + AllocGlobal>(
     rt: &R,
-    findings: &Findings<'_>,
+    marks: &FileMarks,
     index: u32,
     file: &FileSpec,
 ) -> Result<(), CliFault> {
     // (no region of a plan ends behind that)
     let end = file.high().min(LARGEST_END);
-    let map = map_of(
-        rt.alloc(),
-        findings.plan(),
-        findings.history(),
-        index,
-        end,
-        COLUMNS * ROWS,
-    )?;
+    let map = map_of(rt.alloc(), marks, index, end, COLUMNS * ROWS)?;
     let name = file.name();
+    let name = Escaped(&name);
     let _ = eprintln!(rt; "fiorun: map of {name}, {} bytes a sign:", map.size);
     show_rows(rt, &map)?;
     Ok(())

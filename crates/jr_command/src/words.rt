@@ -31,6 +31,7 @@ ghost use Rattle.jr_command.specs.CommandLine.{
 use crate::faults::CliFault;
 use clap::error::ErrorKind;
 use clap::{Arg, ArgAction, ArgMatches, Command, Error, value_parser};
+use jr_escape::{Escaped, EscapedLines};
 use std::alloc::{AllocError, Global};
 use std::convert::AsStr;
 
@@ -123,23 +124,38 @@ fn choice_in<'a>(matches: &ArgMatches<'a>) -> Choice<'a>
     }
 }
 
-/// Prints what clap says of words that it refused, or the help or version that they ask for, and gives the
+/// Prints what clap says of these words, which it refused, or the help or version that they ask for, and gives the
 /// exit status.
-pub fn answer_words<R: Print + Eprint>(rt: &R, error: &Error) -> Result<u8, CliFault>
+pub fn answer_words<R: Print + Eprint, S: AsStr>(
+    rt: &R,
+    words: &[S],
+    error: &Error,
+) -> Result<u8, CliFault>
     ensures refused { status_of_words (kind_of error.now) ≡ 2 → result ≡ Ok 2 }
     ensures help { status_of_words (kind_of error.now) ≡ 0 → (result ≡ Ok 0) ⊎ (result ≡ Err CliFault.Write) }
     ensures memory { status_of_words (kind_of error.now) ≡ 3 → result ≡ Err CliFault.Memory }
 {
-    let status = match error.kind() {
-        ErrorKind::OutOfMemory => return Err(CliFault::Memory),
-        ErrorKind::DisplayHelp | ErrorKind::DisplayVersion => 0,
-        _ => 2,
-    };
-    // Nobody hears of a refusal that standard error doesn't take.
-    if error.print(rt).is_err() && status == 0 {
-        return Err(CliFault::Write);
+    match error.kind() {
+        ErrorKind::OutOfMemory => Err(CliFault::Memory),
+        ErrorKind::DisplayHelp | ErrorKind::DisplayVersion => match rt.print(error) {
+            Ok(()) => Ok(0),
+            Err(_) => Err(CliFault::Write),
+        },
+        _ => {
+            tell_refused(rt, words, error);
+            Ok(2)
+        }
     }
-    Ok(status)
+}
+
+// Says on standard error why these words are refused: on one line if a word has a line break, since then nothing tells which are clap's.
+fn tell_refused<R: Eprint, S: AsStr>(rt: &R, words: &[S], error: &Error) {
+    // (nobody hears of a refusal that standard error doesn't take)
+    let _ = if words.iter().any(|word| word.as_str().contains('\n')) {
+        eprintln!(rt; "{}", Escaped(error))
+    } else {
+        eprint!(rt; "{}", EscapedLines(error))
+    };
 }
 
 // What the command line may say.

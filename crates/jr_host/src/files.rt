@@ -12,6 +12,7 @@ use crate::show::Screen;
 use crate::stops::Stop;
 use jr_command::{Choice, CliFault};
 use jr_direct::{Wish, wish_of};
+use jr_escape::Escaped;
 use jr_faults::Faults;
 use jr_files::{Claims, Directs, FileEngine, FileFault, Reads, Refusal, SharedFile, claim_direct};
 use jr_model::EngineKind;
@@ -152,7 +153,7 @@ fn tell_cached<R: Eprint>(rt: &R, plan: &Plan, wishes: &[Wish], files: &FileEngi
             }
             _ => continue,
         };
-        let name = spec.name();
+        let name = Escaped(&spec.name());
         let _ = eprintln!(rt; "fiorun: note: {name} goes through the system's cache: {why}");
     }
 }

@@ -4,6 +4,7 @@ ghost use Rattle.std.specs.Prelude.{◌≡◌, IfOk, IfErr, vec_len};
 use crate::show::Screen;
 use crate::stops::Stop;
 use jr_command::{Choice, CliFault};
+use jr_escape::Escaped;
 use jr_faults::{Fault, FaultNote, Faults};
 use jr_files::{FileEngine, FileFault, SharedFile, Unsynced};
 use jr_model::{Dir, Outcome, TicketKind};
@@ -44,6 +45,7 @@ impl Remarks {
     pub fn tell_unsynced<R: Eprint>(&self, rt: &R, failed: &Unsynced) {
         if self.has_notes {
             let name = self.name_of(failed.fault);
+            let name = Escaped(&name);
             let _ = eprintln!(rt;
                 "fiorun: note: cannot sync {name} before the run: {}",
                 failed.error
@@ -112,6 +114,7 @@ impl Remarks {
 }
 
 fn tell_fault<R: Eprint>(rt: &R, note: &FaultNote, reason: Option<io::Error>) {
+    let note = Escaped(note);
     let _ = match reason {
         Some(reason) => eprintln!(rt; "fiorun: note: {note}: {reason}"),
         None => eprintln!(rt; "fiorun: note: {note}"),

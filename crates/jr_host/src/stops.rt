@@ -5,6 +5,7 @@ ghost use Rattle.jr_command.specs.Status.{status_of_fault};
 ghost use Rattle.jr_host.specs.Stops.{files_fault};
 
 use jr_command::{CliFault, memory_or};
+use jr_escape::Escaped;
 use jr_files::{FileFault, Refusal};
 use jr_notes::Note;
 use std::alloc::Global;
@@ -158,9 +159,10 @@ impl Notes {
             Notes::None => {}
             Notes::Job(notes) => tell_all(rt, notes.as_slice()),
             Notes::Files(refusal) => {
-                let _ = eprintln!(rt; "fiorun: note: {refusal}");
+                let _ = eprintln!(rt; "fiorun: note: {}", Escaped(refusal));
             }
             Notes::File(act, name, error) => {
+                let name = Escaped(name);
                 let _ = eprintln!(rt; "fiorun: note: cannot {act} {name}: {error}");
             }
             Notes::Trace => {
@@ -183,6 +185,6 @@ impl Notes {
 /// Says each of these notes on a line of its own.
 pub fn tell_all<R: Eprint>(rt: &R, notes: &[Note]) {
     for note in notes {
-        let _ = eprintln!(rt; "fiorun: note: {note}");
+        let _ = eprintln!(rt; "fiorun: note: {}", Escaped(note));
     }
 }

@@ -128,11 +128,11 @@ fn line_text(alloc: Global, key: &str, row: Row) -> Result<String, AllocError> {
     format!(in alloc; "{key}: {why}; instead: {instead}")
 }
 
-// The first characters of a name or a key, without those that a terminal obeys.
+// The first characters of a name or a key.
 pub(crate) fn shown(alloc: Global, name: &str) -> Result<String, AllocError> {
     let mut text = String::new(alloc);
     for letter in name.chars().take(MOST_SHOWN) {
-        text.push(if letter.is_control() { '?' } else { letter })?;
+        text.push(letter)?;
     }
     Ok(text)
 }

@@ -1,3 +1,4 @@
 pub mod CellLemmas
+pub mod HiddenLemmas
 pub mod RawLemmas
 pub mod RowLemmas

@@ -1,13 +1,15 @@
 -- No byte of an escaped text is markup.
-use Rattle.std.proofs.Common.{◌≡◌, ℕ, ◌+◌, ◌/◌, ◌%◌, ◌<◌, ◌≤◌, Bool, true, false, cond, List, [], ◌∷◌, refl, ap, ◌∙◌, arith, inl, inr}
+use Rattle.std.proofs.Common.{◌≡◌, ℕ, zero, suc, ◌+◌, ◌/◌, ◌%◌, ◌<◌, ◌≤◌, Bool, true, false, cond, List, [], ◌∷◌, ◌++◌, codes, refl, ap, ◌∙◌, arith, inl, inr}
 use Rattle.std.specs.Prelude.{◌==◌, ◌||◌, nat_lt, flat_map}
 use Rattle.std.specs.List.{list_any}
 use Rattle.std.specs.Char.{encode_utf8}
-use Rattle.std.proofs.lemmas.Bool.{cases_lt, ltb-true}
+use Rattle.std.specs.Fmt.{digit_glyph, digits, digits_onto}
+use Rattle.std.proofs.lemmas.Bool.{cases_lt, cond_both, ltb-true, or_from}
 use Rattle.std.proofs.lemmas.Bool.Decides.{nat_tests}
 use Rattle.std.proofs.lemmas.List.Folds.{list_any-append}
 use Rattle.std.proofs.lemmas.Str.{encode_ascii}
-use Rattle.jr_page.specs.Escapes.{escaped_char, is_forbidden}
+use Rattle.jr_escape.specs.Escapes.{escaped_char as shown_char, is_hidden}
+use Rattle.jr_page.specs.Escapes.{escaped_char}
 use Rattle.jr_page.specs.Raw.{is_markup}
 
 -- of four tests none is passed
@@ -64,9 +66,36 @@ encoded c plain = elim (cases_lt c 128) [
   | inr above ↦ wide c above
 ]
 
-shown_clean : (c : ℕ) (test : Bool) → is_markup c ≡ false → AreClean (encode_utf8 (cond test 0xfffd c))
-shown_clean c true plain = encoded 0xfffd refl
-shown_clean c false plain = encoded c plain
+-- the digits of a number
+glyph_clean : (d : ℕ) → d < 16 → is_markup (digit_glyph false d) ≡ false
+glyph_clean d small =
+    cond_both (nat_lt d 10) (48 + d) (87 + d) (λ (b : ℕ). is_markup b ≡ false)
+    (λ t. let low = ltb-true d 10 t in grind (arith, nat_tests))
+    (λ _. high (87 + d) (omega arith))
+
+digits_clean : (k n : ℕ) (acc : List ℕ) → AreClean acc → AreClean (digits_onto k 16 false n acc)
+digits_clean zero n acc clean = clean
+digits_clean (suc k) n acc clean =
+    let more = clean_cons (digit_glyph false (n % 16)) acc (glyph_clean (n % 16) (omega arith)) clean in
+    clean_if (n / 16 == 0) _ _ (λ _. more) (λ _. digits_clean k (n / 16) (digit_glyph false (n % 16) ∷ acc) more)
+
+clean_append : (a b : List ℕ) → AreClean a → AreClean b → AreClean (a ++ b)
+clean_append a b first rest = list_any-append is_markup a b ∙ or_from (list_any is_markup a) (list_any is_markup b) first rest
+
+number_clean : (c : ℕ) → AreClean (codes "\\u{" ++ digits 16 false c ++ codes "}")
+unfolding digits
+number_clean c =
+    clean_append (codes "\\u{") (digits 16 false c ++ codes "}") refl
+    (clean_append (digits 16 false c) (codes "}") (digits_clean 64 c [] refl) refl)
+
+shown_clean : (c : ℕ) → is_markup c ≡ false → AreClean (shown_char c)
+shown_clean c plain =
+    clean_if (c == 10) _ _ (λ _. refl)
+    (λ _. clean_if (c == 13) _ _ (λ _. refl)
+    (λ _. clean_if (c == 9) _ _ (λ _. refl)
+    (λ _. clean_if (c == 92) _ _ (λ _. refl)
+    (λ _. clean_if (is_hidden c) _ _ (λ _. number_clean c)
+    (λ _. encoded c plain)))))
 
 char_clean : (c : ℕ) → AreClean (escaped_char c)
 char_clean c =
@@ -75,7 +104,7 @@ char_clean c =
     (λ no_lt. clean_if (c == 62) _ _ (λ _. refl)
     (λ no_gt. clean_if (c == 34) _ _ (λ _. refl)
     (λ no_quote. clean_if (c == 39) _ _ (λ _. refl)
-    (λ no_tick. shown_clean c (is_forbidden c) (none_of (c == 60) (c == 62) (c == 34) (c == 39) no_lt no_gt no_quote no_tick))))))
+    (λ no_tick. shown_clean c (none_of (c == 60) (c == 62) (c == 34) (c == 39) no_lt no_gt no_quote no_tick))))))
 
 pub text_clean : (text : List ℕ) → list_any is_markup (flat_map escaped_char text) ≡ false
 text_clean [] = refl

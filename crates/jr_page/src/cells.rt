@@ -1,8 +1,11 @@
 ghost use Rattle.std.specs.Prelude.{◌≡◌, ◌≤◌, ◌<◌, ◌++◌, ◌∷◌, [], length, IfOk, OnOk};
+ghost use Rattle.std.specs.Prelude.{List};
+ghost use Rattle.jr_model.specs.declared.events.Event.{Event};
+ghost use Rattle.jr_places.specs.Marked.{AreMarksOf};
 ghost use Rattle.jr_page.specs.Cells.{AreCellsBy, AreCellsOf, IsCellAt};
 
-use jr_model::{Event, LARGEST_END, Memory};
-use jr_places::{Fate, FileMap, first_bads, map_of};
+use jr_model::{LARGEST_END, Memory};
+use jr_places::{Fate, FileMap, FileMarks, first_bads, map_of};
 use jr_plan::Plan;
 use jr_tallies::Bad;
 use std::alloc::Global;
@@ -18,11 +21,11 @@ pub(crate) struct Cell {
     pub first: Option<Bad>,
 }
 
-// The cells of the map of a file's first `end` bytes, with `most` of them or fewer.
+// The cells of the map of a file's first `end` bytes, with `most` of them or fewer, of a history of the plan whose marks these are.
 pub(crate) fn cells_of(
     alloc: Global,
     plan: &Plan,
-    history: &[Event],
+    marks: &FileMarks,
     bads: &[Bad],
     file: u32,
     end: u64,
@@ -30,9 +33,10 @@ pub(crate) fn cells_of(
 ) -> Result<Vec<Cell>, Memory>
     requires some { 1 ≤ most }
     requires end { end ≤ LARGEST_END }
-    ensures { IfOk result (λ cells. AreCellsOf plan.now history.now bads.now file end most cells.items) }
+    ensures { (history : List Event) → AreMarksOf plan.now history marks.now → file < length plan.now.files
+        → IfOk result (λ cells. AreCellsOf plan.now history bads.now file end most cells.items) }
 {
-    let map = map_of(alloc, plan, history, file, end, most)?;
+    let map = map_of(alloc, marks, file, end, most)?;
     let firsts = first_bads(alloc, plan, bads, file, map.size, map.fates.len())?;
     let cells = cells_by(alloc, &map, firsts.as_slice(), end)?;
     Ok(cells)

@@ -1,9 +1,10 @@
 ghost use Rattle.std.specs.Prelude.{◌≡◌, ◌++◌, OnOk, string_bytes};
-ghost use Rattle.jr_page.specs.Escapes.{escaped, escaped_char, is_forbidden, shown};
+ghost use Rattle.jr_page.specs.Escapes.{escaped, escaped_char};
 
+use jr_escape::EscapedChar;
 use std::alloc::AllocError;
 
-// Appends a text so that a page shows it as it is.
+// Appends a text so that a page shows it as a line of the program does.
 pub(crate) fn push_escaped(page: &mut String, raw: &str) -> Result<(), AllocError>
     ensures { OnOk result (string_bytes page.new ≡ string_bytes page.old ++ escaped raw.now) }
 {
@@ -22,23 +23,9 @@ fn push_char(page: &mut String, c: char) -> Result<(), AllocError>
         '>' => page.push_str("&gt;"),
         '"' => page.push_str("&quot;"),
         '\'' => page.push_str("&#39;"),
-        _ => page.push(shown(c)),
-    }
-}
-
-// The character itself, or what stands for one that no page may have.
-fn shown(c: char) -> char
-    ensures { result ≡ shown c }
-{
-    if is_forbidden(c) { '\u{fffd}' } else { c }
-}
-
-fn is_forbidden(c: char) -> bool
-    ensures { result ≡ is_forbidden c }
-{
-    match c {
-        '\t' | '\n' | '\r' => false,
-        '\0'..='\x1f' | '\x7f'..='\u{9f}' => true,
-        _ => false,
+        _ => {
+            let shown = EscapedChar(c);
+            write!(page, "{shown}")
+        }
     }
 }

@@ -12,5 +12,5 @@ mod status;
 mod styles;
 mod tables;
 
-pub use laws::nothing_comes_raw;
+pub use laws::{nothing_comes_raw, nothing_is_hidden};
 pub use pages::{Findings, page};

@@ -9,6 +9,7 @@ use crate::styles::STYLE;
 use crate::tables::{push_all_totals, push_faults, push_first, push_more, rest_of};
 use jr_faults::Faults;
 use jr_model::{Event, LARGEST_END, Memory, Totals};
+use jr_places::{FileMarks, marks_of};
 use jr_plan::{FileSpec, Plan};
 use jr_tallies::Bad;
 use std::alloc::{AllocError, Global};
@@ -87,10 +88,20 @@ fn push_maps(
     bads: &[Bad],
 ) -> Result<(), Memory> {
     push_legend(page)?;
+    let marks = marks_of(alloc, found.plan, found.history)?;
     let files = found.plan.files();
     let most = most_cells(files.len());
     for (index, file) in files.iter().enumerate() {
-        push_file(alloc, page, found, bads, index as u32, file, most)?;
+        push_file(
+            alloc,
+            page,
+            found.plan,
+            &marks,
+            bads,
+            index as u32,
+            file,
+            most,
+        )?;
     }
     Ok(())
 }
@@ -106,7 +117,8 @@ fn most_cells(files: usize) -> u32
 fn push_file(
     alloc: Global,
     page: &mut String,
-    found: &Findings<'_>,
+    plan: &Plan,
+    marks: &FileMarks,
     bads: &[Bad],
     index: u32,
     file: &FileSpec,
@@ -116,7 +128,7 @@ fn push_file(
 {
     // (no region of a plan ends behind that)
     let end = file.high().min(LARGEST_END);
-    let cells = cells_of(alloc, found.plan, found.history, bads, index, end, most)?;
+    let cells = cells_of(alloc, plan, marks, bads, index, end, most)?;
     page.push_str("<h2>")?;
     push_escaped(page, file.name())?;
     page.push_str("</h2>\n")?;

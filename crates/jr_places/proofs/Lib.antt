@@ -1,5 +1,6 @@
 pub mod Cells
 pub mod Lists
+mod Marking
 pub mod Pieces
 mod Rows
 pub mod Sweeping

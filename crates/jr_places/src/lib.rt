@@ -4,6 +4,7 @@
 mod bads;
 mod blocks;
 mod fates;
+mod files;
 mod firsts;
 mod maps;
 mod marks;
@@ -13,5 +14,6 @@ mod told;
 pub use bads::bads_of;
 pub use blocks::{bad_blocks, blocks_text};
 pub use fates::Fate;
+pub use files::{FileMarks, marks_of};
 pub use firsts::first_bads;
 pub use maps::{FileMap, map_of};

@@ -1,17 +1,18 @@
 ghost use Rattle.std.specs.Prelude.{◌≡◌, ◌≤◌, ◌<◌, ◌&&◌, ◌++◌, ◌∷◌, ℕ, []};
 ghost use Rattle.std.specs.Prelude.{nat_le, nat_lt, length, slice_index_or, IfOk, OnOk, Some, if◌then◌else◌};
 ghost use Rattle.jr_places.specs.declared.fates.Fate.{Fate as Shown};
+ghost use Rattle.std.specs.Prelude.{List};
+ghost use Rattle.jr_model.specs.declared.events.Event.{Event};
+ghost use Rattle.jr_model.specs.Plan.{Plan};
 ghost use Rattle.jr_places.specs.Maps.{cell_size, fate_of, marked, worse, IsMapOf};
+ghost use Rattle.jr_places.specs.Marked.{AreMarksOf, fate_by, saids_of};
 ghost use Rattle.jr_places.specs.Spans.{said_by};
-ghost use Rattle.jr_places.specs.Told.{IsTold};
-ghost use Rattle.std.specs.Option.{option_map};
 
 use crate::fates::{Fate, worse};
-use crate::marks::{Mark, mark_of};
+use crate::files::{FileMarks, Marks};
+use crate::marks::Mark;
 use crate::spans::{end_block, first_block, has_bytes};
-use crate::told::Told;
-use jr_model::{Event, LARGEST_END, Memory, SECTOR};
-use jr_plan::Plan;
+use jr_model::{LARGEST_END, Memory, SECTOR};
 use std::alloc::Global;
 
 /// A map of a file, from its start on: what happened to the bytes of each of its cells.
@@ -23,23 +24,25 @@ pub struct FileMap {
     pub fates: Vec<Fate>,
 }
 
-/// The map of the first `end` bytes of a file, with `most` cells or fewer. The file is given by its place in the plan.
+/// The map of the first `end` bytes of a file, with `most` cells or fewer, of a history whose marks these are. The file is given by its
+/// place in the plan.
 pub fn map_of(
     alloc: Global,
-    plan: &Plan,
-    history: &[Event],
+    marks: &FileMarks,
     file: u32,
     end: u64,
     most: u32,
 ) -> Result<FileMap, Memory>
     requires some { 1 ≤ most }
     requires end { end ≤ LARGEST_END }
-    ensures { IfOk result (IsMapOf plan.now history.now file end most) }
+    ensures map { (plan : Plan) (history : List Event) → AreMarksOf plan history marks.now → file < length plan.files
+        → IfOk result (IsMapOf plan history file end most) }
+    ensures least { IfOk result (λ map. SECTOR ≤ map.size) }
 {
-    let told = Told::new(alloc, history)?;
     let size = cell_size(end, most);
     let count = end.div_ceil(size) as usize;
-    let fates = painted(alloc, &told, plan, history, file, size, count)?;
+    let mut fates = blank(alloc, count)?;
+    paint_file(fates.as_mut_slice(), marks, file, size);
     Ok(FileMap { size, fates })
 }
 
@@ -52,27 +55,6 @@ fn cell_size(end: u64, most: u32) -> u64
 {
     let sector = u64::from(SECTOR);
     sector * end.div_ceil(sector * u64::from(most)).max(1)
-}
-
-// So many cells with all that a history says of them.
-fn painted(
-    alloc: Global,
-    told: &Told,
-    plan: &Plan,
-    history: &[Event],
-    file: u32,
-    size: u64,
-    count: usize,
-) -> Result<Vec<Fate>, Memory>
-    requires size { SECTOR ≤ size }
-    requires told { IsTold history.now told.now }
-    ensures count { IfOk result (λ fates. length fates.items ≡ count) }
-    ensures fates { IfOk result (λ fates. (cell : ℕ) (d : Shown) → cell < length fates.items
-        → slice_index_or fates.items cell d ≡ fate_of plan.now history.now file size cell) }
-{
-    let mut fates = blank(alloc, count)?;
-    paint_all(fates.as_mut_slice(), told, plan, history, file, size);
-    Ok(fates)
 }
 
 // So many cells that nothing is said of.
@@ -95,32 +77,32 @@ fn add_blank(fates: &mut Vec<Fate>) -> Result<(), Memory>
     Ok(())
 }
 
-// Paints what a history says over cells that nothing is said of.
-fn paint_all(fates: &mut [Fate], told: &Told, plan: &Plan, history: &[Event], file: u32, size: u64)
+// Paints what was said of this file over cells that nothing is said of.
+fn paint_file(fates: &mut [Fate], marks: &FileMarks, file: u32, size: u64)
     requires size { SECTOR ≤ size }
-    requires told { IsTold history.now told.now }
     requires blank { (cell : ℕ) (d : Shown) → cell < length fates.old
         → slice_index_or fates.old cell d ≡ Fate.Untouched }
-    ensures fates { (cell : ℕ) (d : Shown) → cell < length fates.new
-        → slice_index_or fates.new cell d ≡ fate_of plan.now history.now file size cell }
+    ensures fates { (plan : Plan) (history : List Event) → AreMarksOf plan history marks.now → file < length plan.files
+        → (cell : ℕ) (d : Shown) → cell < length fates.new → slice_index_or fates.new cell d ≡ fate_of plan history file size cell }
     ensures len { length fates.new ≡ length fates.old }
 {
-    for event in history {
-        let mark = mark_of(told, plan, event);
-        paint(fates, file, size, mark);
+    if let Some(marks) = marks.files.get(file as usize) {
+        paint_all(fates, marks, file, size);
     }
 }
 
-// Paints what was said over the cells that it is of.
-fn paint(fates: &mut [Fate], file: u32, size: u64, mark: Option<Mark>)
-    requires { SECTOR ≤ size }
-    ensures { (cell : ℕ) (d : Shown) → cell < length fates.old
-        → slice_index_or fates.new cell d ≡ marked file size cell (slice_index_or fates.old cell d) (option_map said_by mark) }
+// Paints these over cells that nothing is said of.
+fn paint_all(fates: &mut [Fate], marks: &Marks, file: u32, size: u64)
+    requires size { SECTOR ≤ size }
+    requires blank { (cell : ℕ) (d : Shown) → cell < length fates.old
+        → slice_index_or fates.old cell d ≡ Fate.Untouched }
+    ensures fates { (cell : ℕ) (d : Shown) → cell < length fates.new
+        → slice_index_or fates.new cell d ≡ fate_by file size cell (saids_of marks.now) }
+    ensures len { length fates.new ≡ length fates.old }
 {
-    let Some(mark) = mark else {
-        return;
-    };
-    paint_mark(fates, file, size, &mark);
+    for mark in marks.items.as_slice() {
+        paint_mark(fates, file, size, mark);
+    }
 }
 
 fn paint_mark(fates: &mut [Fate], file: u32, size: u64, mark: &Mark)

@@ -92,11 +92,16 @@ fn assert_refused(
     kind: ErrorKind,
     status: u8,
 ) -> Result<(), Fail> {
-    match choose(rt.alloc(), &["fiorun", word]) {
+    let words = ["fiorun", word];
+    match choose(rt.alloc(), &words) {
         Ok(_) => Err(Fail::from("a refused word is taken")),
         Err(error) => {
             same(rt, (word, error.kind()), (word, kind));
-            same(rt, (word, answer_words(rt, &error)), (word, Ok(status)));
+            same(
+                rt,
+                (word, answer_words(rt, &words, &error)),
+                (word, Ok(status)),
+            );
             Ok(())
         }
     }

@@ -6,11 +6,11 @@ use Rattle.jr_page.proofs.cells.cells_of.Goals as goal
 use Rattle.jr_tallies.specs.declared.tallies.Bad.{Bad}
 
 pub returns : goal.returns
-returns c =
+returns c = λ history marks within.
     let map = c.in_ok-map.map in
     let firsts = c.in_ok-firsts.firsts.items in
     let same : length firsts ≡ length map.fates.items = omega (arith, c.in_ok-firsts.ensures.count, c.len.ensures) in
-    all_cells map firsts c.args.plan.now c.args.history.now c.args.bads.now c.args.file c.args.end c.args.most c.in_ok-cells.cells.items
-    c.in_ok-map.ensures same c.in_ok-firsts.ensures.firsts
+    all_cells map firsts c.args.plan.now history c.args.bads.now c.args.file c.args.end c.args.most c.in_ok-cells.cells.items
+    (c.in_ok-map.ensures.map c.args.plan.now history marks within) same c.in_ok-firsts.ensures.firsts
     (subst (λ (xs : List (Option Bad)). AreCellsBy map xs c.args.end (length map.fates.items) c.in_ok-cells.cells.items)
     c.as_slice.ensures.value c.in_ok-cells.ensures)
