@@ -85,7 +85,7 @@ pub fn take_files<'a, R: Files<File = File> + AllocGlobal + Screen>(
         choice.drop_pipes
     };
     let launcher = Launcher::new(pipes);
-    let files = match claimed(rt, plan, choice, wishes, &launcher) {
+    let files = match claimed(rt, plan, choice, wishes) {
         Ok(files) => files,
         Err(refusal) => return Err(Stop::files(refusal)),
     };
@@ -101,13 +101,12 @@ pub fn take_files<'a, R: Files<File = File> + AllocGlobal + Screen>(
     })
 }
 
-// Claims the plan's files, and asks the launcher for those that are to go past the cache.
+// Claims the plan's files. The launcher is asked for those that are to go past the cache, and for devices, also where checks may read it.
 fn claimed<R: Files<File = File> + AllocGlobal>(
     rt: &R,
     plan: &Plan,
     choice: &Choice<'_>,
     wishes: &[Wish],
-    launcher: &Launcher<'_>,
 ) -> Result<FileEngine<SharedFile>, Refusal> {
     let claims = Claims {
         reads: if choice.cached {
@@ -122,11 +121,7 @@ fn claimed<R: Files<File = File> + AllocGlobal>(
         wanted.push(*wish == Wish::Direct)?;
     }
     // (no engine asks yet by the first pair of pipes)
-    let asked = if wanted.iter().any(|it| *it) {
-        launcher.dropper(rt, rt.alloc(), 0)?
-    } else {
-        None
-    };
+    let asked = Launcher::new(choice.drop_pipes).dropper(rt, rt.alloc(), 0)?;
     claim_wanted(rt, plan, claims, wanted.as_slice(), asked.as_deref())
 }
 
