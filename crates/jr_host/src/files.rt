@@ -20,7 +20,7 @@ use jr_text::{Section, sections};
 use jr_transfer::{Dropper, Launcher};
 use std::alloc::{AllocError, Global};
 use std::fs::{File, Files};
-use std::os::unix::fs::MetadataExt;
+use std::os::unix::fs::{FileTypeExt, MetadataExt};
 use std::{fs, io};
 
 /// The plan's files, open for this run, and the launcher that takes them out of the system's cache.
@@ -121,8 +121,22 @@ fn claimed<R: Files<File = File> + AllocGlobal>(
         wanted.push(*wish == Wish::Direct)?;
     }
     // (no engine asks yet by the first pair of pipes)
-    let asked = Launcher::new(choice.drop_pipes).dropper(rt, rt.alloc(), 0)?;
+    let asked = if has_device(rt, plan) || wanted.iter().any(|it| *it) {
+        Launcher::new(choice.drop_pipes).dropper(rt, rt.alloc(), 0)?
+    } else {
+        None
+    };
     claim_wanted(rt, plan, claims, wanted.as_slice(), asked.as_deref())
+}
+
+// Whether a file of the plan is a block device.
+fn has_device<R: Files>(rt: &R, plan: &Plan) -> bool {
+    for file in plan.files() {
+        if fs::metadata(rt, file.name()).is_ok_and(|it| it.file_type().is_block_device()) {
+            return true;
+        }
+    }
+    false
 }
 
 // Claims the plan's files, of which these are to go past the cache; this asks for it.
