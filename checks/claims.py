@@ -15,7 +15,9 @@ import sys
 import tempfile
 import time
 
-HERE = os.path.dirname(os.path.realpath(__file__))
+from program import TOP, find_program
+
+LAUNCH = os.path.join(TOP, "bin", "launch")
 MIB = 1 << 20
 OPEN = "fiorun: cannot open the files\n"
 # What is said of a run with checks that wasn't started by bin/fiorun.
@@ -48,6 +50,12 @@ def told(ended):
 def run(program, room, job, *words, before=""):
     """Runs a job text, behind a command of the shell where one is given."""
     command = ["sh", "-c", before + '\nexec "$@"', "sh", program, "--notes", *words]
+    return subprocess.run(command, input=job, cwd=room, capture_output=True, text=True, timeout=SECONDS, check=False)
+
+
+def launched(program, room, job, *words):
+    """The same below the launcher, which holds devices that are written."""
+    command = [LAUNCH, program, "--notes", *words]
     return subprocess.run(command, input=job, cwd=room, capture_output=True, text=True, timeout=SECONDS, check=False)
 
 
@@ -261,21 +269,22 @@ def a_device_that_is_too_small_is_refused(program, room):
     with loop_device(room) as device:
         for rw in ("write", "read"):
             job = job_of(os.path.basename(device), size="32m", rw=rw, more=["directory=/dev"])
-            refused(run(program, room, job), f"{device} has {16 * MIB} bytes, and its jobs want {32 * MIB}")
+            refused(launched(program, room, job), f"{device} has {16 * MIB} bytes, and its jobs want {32 * MIB}")
 
 
 def a_mounted_device_is_refused(program, room):
     with loop_device(room) as device, mounted(room, device) as place:
-        refused(run(program, room, job_of(device)), f"{device} is in use: mounted at {re.escape(place)}")
+        for start in (run, launched):
+            refused(start(program, room, job_of(device)), f"{device} is in use: mounted at {re.escape(place)}")
         ended = run(program, room, job_of(device, rw="read"))
         expect(ended.returncode == 0, "read alone: " + told(ended))
     with loop_device(os.path.join(room, "mounted")) as device:
-        ended = run(program, room, job_of(device))
+        ended = launched(program, room, job_of(device))
         expect((ended.returncode, ended.stdout) == (0, CLEAN), "a device that isn't in use: " + told(ended))
 
 
 def a_device_named_as_source_is_refused(program, room):
-    """A file system without a device of its own, as one of btrfs, names the device that it is on."""
+    """A file system without a device of its own, as one of btrfs, names the device that it is on. That counts where no device is held."""
     as_root("mount")
     with loop_device(room) as device:
         place = os.path.join(room, "mounted")
@@ -289,7 +298,7 @@ def a_device_named_as_source_is_refused(program, room):
             other = os.path.join(room, "others")
             os.mkdir(other)
             with loop_device(other) as another:
-                ended = run(program, room, job_of(another))
+                ended = launched(program, room, job_of(another))
                 expect((ended.returncode, ended.stdout) == (0, CLEAN), "another device: " + told(ended))
         finally:
             does("umount", place)
@@ -332,8 +341,8 @@ def a_mounted_partition_is_refused(program, room):
                 raise Skipped("no partitions are seen")
             with mounted(room, device + "p1") as place:
                 for it in (device, device + "p1"):
-                    refused(run(program, room, job_of(it)), f"{it} is in use: mounted at {re.escape(place)}")
-                ended = run(program, room, job_of(device + "p2"))
+                    refused(launched(program, room, job_of(it)), f"{it} is in use: mounted at {re.escape(place)}")
+                ended = launched(program, room, job_of(device + "p2"))
                 expect((ended.returncode, ended.stdout) == (0, CLEAN), "the other partition: " + told(ended))
         finally:
             does("partx", "-d", device)
@@ -346,7 +355,7 @@ def swap_is_refused(program, room):
             raise Skipped("no swap can be had")
         before = got(device)
         try:
-            refused(run(program, room, job_of(device)), f"{device} is in use: swap")
+            refused(launched(program, room, job_of(device)), f"{device} is in use: swap")
             expect(got(device) == before, "the swap was written")
         finally:
             does("swapoff", device)
@@ -359,7 +368,7 @@ def a_part_of_another_device_is_refused(program, room):
         if not does("dmsetup", "create", name, "--table", f"0 16384 linear {device} 0"):
             raise Skipped("no device mapper")
         try:
-            refused(run(program, room, job_of(device)), rf"{device} is in use: part of dm-\d+")
+            refused(launched(program, room, job_of(device)), rf"{device} is in use: part of dm-\d+")
             expect(got(device) == bytes(16 * MIB), "the device was written")
         finally:
             does("dmsetup", "remove", "--retry", name)
@@ -400,7 +409,7 @@ def tried(case, program):
 
 
 def main(words):
-    program = os.path.realpath(words[0] if words else os.path.join(HERE, "..", "bin", "fiorun"))
+    program = find_program(words[0] if words else None, "claims")
     failed = [case for case in CASES if not tried(case, program)]
     print(f"claims: {len(CASES)} cases, {len(failed)} failed")
     return 1 if failed else 0

@@ -11,15 +11,21 @@ import subprocess
 import sys
 import tempfile
 
-from program import TOP, Skipped, Wrong, expect
+from program import TOP, Skipped, Wrong, expect, find_program
 
 MIB = 1 << 20
+LAUNCH = os.path.join(TOP, "bin", "launch")
 CLEAN = "w: clone=0 reads=0 rbytes=0 writes=256 wbytes=1048576 checks=256 good=256 bad=0 skipped=0 void=0 faults=0\n"
 
 
 def run(program, room, job, *words, **more):
     """Runs a job text."""
     return subprocess.run([program, *words], input=job, cwd=room, capture_output=True, text=True, timeout=120, check=False, **more)
+
+
+def launched(program, room, job, *words, **more):
+    """The same below the launcher, which holds devices that are written."""
+    return run(LAUNCH, room, job, program, *words, **more)
 
 
 def job_of(size="1m", more=(), verify="md5", filename="f"):
@@ -75,18 +81,18 @@ def a_disk_that_is_too_small_is_found(program, room):
         place = ["directory=/dev"]
         for words in (("--workers=1",), ("--workers=4",)):
             job = job_of("16m", place + ["iodepth=8"], filename=os.path.basename(device))
-            ran = run(program, room, job, *words)
+            ran = launched(program, room, job, *words)
             expect(ran.returncode == 1, f"{words}: status {ran.returncode}: {ran.stdout}{ran.stderr}")
             totals = totals_of(ran.stdout)
             expect(totals["writes"] == 4096 and totals["faults"] + totals["bad"] > 0, f"{words}: {ran.stdout}")
         job = job_of("16m", place, filename=os.path.basename(device))
-        ran = run(program, room, job, "--workers=1", "--notes")
+        ran = launched(program, room, job, "--workers=1", "--notes")
         at = rf"clone=0 pass=0 number=\d+ file={device} offset=\d+ length=4096"
         reason = r"(?:No space left on device|Input/output error) \(os error \d+\)"
         found = re.search(rf"fiorun: note: check failed: {at}: {reason}\n", ran.stderr)
         expect(totals_of(ran.stdout)["faults"] == 0 or found, f"no note of the fault: {ran.stdout[:200]}{ran.stderr[:400]}")
         job = job_of("16m", place, verify="0", filename=os.path.basename(device))
-        ran = run(program, room, job)
+        ran = launched(program, room, job)
         expect((ran.returncode, ran.stderr) == (3, "fiorun: cannot write\n"), f"unchecked: status {ran.returncode}: {ran.stderr}")
         expect(totals_of(ran.stdout)["writes"] == 4096, f"unchecked: the report isn't there: {ran.stdout}")
 
@@ -176,7 +182,7 @@ def tried(case, program):
 
 
 def main(words):
-    program = os.path.realpath(words[0] if words else os.path.join(TOP, "bin", "fiorun"))
+    program = find_program(words[0] if words else None, "disk")
     failed = [case for case in CASES if not tried(case, program)]
     print(f"disk: {len(CASES)} cases, {len(failed)} failed")
     return 1 if failed else 0

@@ -17,16 +17,11 @@ import sys
 import tempfile
 import time
 
-from disk import CLEAN, MIB, Skipped, Wrong, expect, job_of, loop_device, needs, run, totals_of
+from disk import CLEAN, LAUNCH, MIB, Skipped, Wrong, expect, job_of, launched, loop_device, needs, run, totals_of
 
 HERE = os.path.dirname(os.path.realpath(__file__))
 BIN = os.path.join(HERE, "..", "bin")
-LAUNCH = os.path.join(BIN, "launch")
 SECONDS = 60
-
-
-def launched(program, room, job, *words, **more):
-    return run(LAUNCH, room, job, program, *words, **more)
 
 
 def clean(ran, what):
@@ -164,7 +159,8 @@ def each_check_stands_behind_a_drop(program, room):
 
 
 class Launcher:
-    """Starts the program with pairs of pipes, and answers each request by what `answer` gives for the file (none: all pipes end)."""
+    """Starts the program with pairs of pipes, and answers each request by what `answer` gives for the file (none: all pipes end). A device
+    is said to be held, and not asked about."""
 
     def __init__(self, program, room, job, *words, pairs=17):
         self.requests, self.answers, theirs = [], [], []
@@ -206,6 +202,9 @@ class Launcher:
                     os.close(requests)
                     os.close(self.answers.pop(place))
                     del self.requests[place]
+                    continue
+                if line.startswith(b"hold "):
+                    os.write(self.answers[place], b".")
                     continue
                 found = re.fullmatch(rb"(?:clean (?=\d+ \d+ \d+\n)|direct )(\d+)(?: \d+ \d+)?\n", line)
                 expect(found, f"no request: {line}")

@@ -1,1 +1,2 @@
+pub mod OverlapLemmas
 pub mod TwinLemmas

@@ -1,6 +1,7 @@
 ghost use Rattle.std.specs.Prelude.{◌≡◌, string_bytes, IfOk};
 ghost use Rattle.jr_devices.specs.Devices.{numbers_of, numbers_text};
 
+use crate::numbers::small_number_in;
 use std::alloc::{AllocError, Global};
 
 /// The numbers of a device's driver and, under it, of the device.
@@ -23,6 +24,25 @@ impl DeviceNumbers {
             major: major as u32,
             minor: minor as u32,
         }
+    }
+
+    /// The numbers in a text of the kernel's, `MAJOR:MINOR`.
+    pub(crate) fn in_text(text: &str) -> Option<DeviceNumbers> {
+        let (major, minor) = text.split_once(':')?;
+        Some(DeviceNumbers {
+            major: small_number_in(major)?,
+            minor: small_number_in(minor)?,
+        })
+    }
+
+    /// The one number that the system gives of a file, for these.
+    pub(crate) fn number(self) -> u64
+        ensures { numbers_of result ≡ self }
+    {
+        let major = u64::from(self.major);
+        let minor = u64::from(self.minor);
+        let low = minor % (1 << 8) + major % (1 << 12) * (1 << 8);
+        low + minor / (1 << 8) * (1 << 20) + major / (1 << 12) * (1 << 44)
     }
 
     /// `MAJOR:MINOR`, as the kernel's tables name the device.

@@ -1,5 +1,8 @@
 // By what a block device is in use. The kernel's tables are looked at by numbers: a name may be any path.
 use crate::devices::DeviceNumbers;
+use crate::identities::FileNumbers;
+use crate::layers::Layers;
+use crate::loops::Loops;
 use crate::tables::{field_of, is_anonymous, mount_of, names_of, place_of, source_of, text_of};
 use crate::uses::Use;
 use std::alloc::Global;
@@ -7,8 +10,8 @@ use std::os::unix::fs::{FileTypeExt, MetadataExt};
 use std::rt::Files;
 use std::{fs, io};
 
-/// By what this device, a partition of it, or the disk that it is a partition of is in use. If the kernel's tables can't be read
-/// nothing is. The one error is want of memory.
+/// By what this device, a partition of it, or the disk that it is a partition of is in use, as far as this process sees: nothing is
+/// where the kernel's tables aren't there. An error is want of memory, or says that a table wasn't read to its end.
 pub fn use_of<R: Files>(rt: &R, alloc: Global, device: DeviceNumbers) -> io::Result<Option<Use>> {
     let family = family_of(rt, alloc, device)?;
     let mounts = text_of(rt, alloc, "/proc/self/mountinfo")?;
@@ -26,6 +29,77 @@ pub fn use_of<R: Files>(rt: &R, alloc: Global, device: DeviceNumbers) -> io::Res
         }
     }
     source_use(rt, alloc, mounts.as_slice(), family.as_slice())
+}
+
+/// By what this file or device is in use that nobody's claim of it shows: a loop device over some of its bytes, a device that stands on
+/// it, or what uses the device that it stands on as a loop device. Errors are those of `use_of`.
+pub fn use_beside<R: Files>(
+    rt: &R,
+    alloc: Global,
+    numbers: FileNumbers,
+    loops: &Loops,
+) -> io::Result<Option<Use>> {
+    let layers = Layers::of(rt, alloc, numbers)?;
+    let by = loop_use(rt, alloc, numbers, &layers, loops)?;
+    if by.is_some() {
+        return Ok(by);
+    }
+    for backing in layers.backing() {
+        if let Some(by) = use_of(rt, alloc, backing.numbers)? {
+            let name = backing.name.as_str();
+            return Ok(Some(Use::Over(format!(in alloc; "{name}, {by}")?)));
+        }
+    }
+    if !numbers.is_block_device {
+        return Ok(None);
+    }
+    let family = family_of(rt, alloc, DeviceNumbers::of(numbers.device))?;
+    holder_of_any(rt, alloc, family.as_slice())
+}
+
+// The use by a loop device over this file or device: by the first that is in use itself, or else by the first.
+fn loop_use<R: Files>(
+    rt: &R,
+    alloc: Global,
+    numbers: FileNumbers,
+    layers: &Layers,
+    loops: &Loops,
+) -> io::Result<Option<Use>> {
+    let folder = if numbers.is_block_device { "" } else { "/dev/" };
+    let mut first = None;
+    for over in loops.all() {
+        if !over.is_over(layers) {
+            continue;
+        }
+        let name = over.name.as_str();
+        if let Some(by) = use_of(rt, alloc, over.numbers)? {
+            let text = format!(in alloc; "{folder}{name}, {by}")?;
+            return Ok(Some(use_by_loop(numbers, text)));
+        }
+        if first.is_none() {
+            first = Some(format!(in alloc; "{folder}{name}")?);
+        }
+    }
+    Ok(first.map(|text| use_by_loop(numbers, text)))
+}
+
+fn use_by_loop(numbers: FileNumbers, text: String) -> Use {
+    if numbers.is_block_device {
+        Use::PartOf(text)
+    } else {
+        Use::Under(text)
+    }
+}
+
+// The first device that stands on one of these.
+fn holder_of_any<R: Files>(rt: &R, alloc: Global, family: &[String]) -> io::Result<Option<Use>> {
+    for member in family {
+        let found = holder_of(rt, alloc, member.as_str())?;
+        if found.is_some() {
+            return Ok(found);
+        }
+    }
+    Ok(None)
 }
 
 // By the first mount of a file system without a device of its own that names one of these devices as its source.
@@ -100,8 +174,8 @@ fn holder_of<R: Files>(rt: &R, alloc: Global, device: &str) -> io::Result<Option
     Ok(None)
 }
 
-// Whether the name of a folder's entry is of something in it.
-fn is_entry(name: &[u8]) -> bool {
+/// Whether the name of a folder's entry is of something in it.
+pub(crate) fn is_entry(name: &[u8]) -> bool {
     !matches!(name, b"" | b"." | b"..")
 }
 

@@ -1,13 +1,20 @@
-// Which file of the system a file is, and by what a block device is in use.
+// Which file of the system a file is, which bytes of a disk or file a device has, and by what either is in use.
 #![tactic(auto)]
 
 mod devices;
+mod extents;
 mod identities;
 mod in_use;
+mod layers;
+mod loops;
+mod numbers;
 mod tables;
 mod uses;
 
 pub use devices::DeviceNumbers;
+pub use extents::{Extent, first_overlap};
 pub use identities::{FileNumbers, Identity, first_twins};
-pub use in_use::use_of;
+pub use in_use::{use_beside, use_of};
+pub use layers::Layers;
+pub use loops::Loops;
 pub use uses::Use;

@@ -15,32 +15,45 @@ const DEVICE: usize = 2;
 
 const MOUNT_POINT: usize = 4;
 
-// More than any such text has that is of use here.
-const MOST_READ: u64 = 1 << 20;
+// More than any such text has: a system has 100,000 mounts at most, unless it was told otherwise.
+const MOST_READ: u64 = 1 << 28;
 
-/// What the system answers for a file, or nothing if it can't be read. The one error is want of memory.
+// What the system answers for a device that has gone while its folder was looked at.
+const ENODEV: i32 = 19;
+
+/// All that the system answers for a file, or nothing if it isn't there. An error is want of memory, or says that its end wasn't seen.
 pub(crate) fn text_of<R: Files>(rt: &R, alloc: Global, path: &str) -> io::Result<Vec<u8>> {
     match File::open(rt, path) {
         Ok(file) => taken(alloc, file),
-        Err(_) => Ok(Vec::new(alloc)),
+        Err(error) => nothing_there(alloc, error),
     }
 }
 
-/// The names in a folder, each ended by a NUL, or nothing if it can't be read. A link is followed if the path ends in a slash.
-/// The one error is want of memory.
+/// The names in a folder, each ended by a NUL, or nothing if it isn't there. A link is followed if the path ends in a slash.
+/// An error is want of memory, or says that not all were seen.
 pub(crate) fn names_of<R: Files>(rt: &R, alloc: Global, path: &str) -> io::Result<Vec<u8>> {
     match rt.open_dir(path) {
         Ok(folder) => taken(alloc, folder),
-        Err(_) => Ok(Vec::new(alloc)),
+        Err(error) => nothing_there(alloc, error),
     }
 }
 
-// What comes of a source until it ends, fails, or has given all that is looked at.
+// All that comes of a source.
 fn taken<S: Read + Drop>(alloc: Global, source: S) -> io::Result<Vec<u8>> {
     let mut text = Vec::new(alloc);
     match source.take(MOST_READ).read_to_end(&mut text) {
-        Err(error) if error.kind() == ErrorKind::OutOfMemory => Err(error),
-        _ => Ok(text),
+        Ok(_) if text.len() as u64 >= MOST_READ => Err(io::Error::from(ErrorKind::FileTooLarge)),
+        Ok(_) => Ok(text),
+        Err(error) => nothing_there(alloc, error),
+    }
+}
+
+// No text, where the error says that there is none.
+fn nothing_there(alloc: Global, error: io::Error) -> io::Result<Vec<u8>> {
+    if error.kind() == ErrorKind::NotFound || error.raw_os_error() == Some(ENODEV) {
+        Ok(Vec::new(alloc))
+    } else {
+        Err(error)
     }
 }
 

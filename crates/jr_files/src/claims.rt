@@ -1,6 +1,7 @@
 ghost use Rattle.std.specs.Prelude.{◌≡◌, ◌<◌, length, IfOk, IfErr};
 ghost use Rattle.jr_files.specs.Engines.{IsFresh, IsOpenFault};
 
+use crate::devices::held;
 use crate::directs::Directs;
 use crate::faults::FileFault;
 use crate::file_engine::FileEngine;
@@ -8,10 +9,11 @@ use crate::making::opened_file;
 use crate::refusals::{Act, Refusal, Why};
 use crate::shares::{Reads, SharedFile};
 use crate::uses::{is_checked, is_written};
-use jr_devices::{DeviceNumbers, FileNumbers, first_twins, use_of};
+use jr_devices::{FileNumbers, Layers, first_overlap, first_twins};
 use jr_plan::Plan;
 use std::alloc::{AllocError, Global};
 use std::fs::{File, TryLockError};
+use std::io::ErrorKind;
 use std::rt::Files;
 use std::{fs, io};
 
@@ -20,13 +22,14 @@ use std::{fs, io};
 pub struct Claims {
     /// What a check reads.
     pub reads: Reads,
-    /// Whether a block device that is in use may be written.
+    /// Whether a block device may be written that is in use or can't be held, and a plain file under a loop device.
     pub devices_in_use: bool,
 }
 
-/// Takes the plan's files for a run, to be shared by its engines: each is opened, and made if it is missing; no two are one; no
-/// block device that a clone writes is in use; each is locked for this run alone, or among runs that only read it; and only then
-/// is each extended that is too short, by one zero byte at its end.
+/// Takes the plan's files for a run, to be shared by its engines: each is opened, and made if it is missing; no two are one or have
+/// bytes of one disk in common; each block device that a clone writes is held by the launcher, and no such device or plain file is
+/// in use; each is locked for this run alone, or among runs that only read it; and only then is each extended that is too short, by
+/// one zero byte at its end.
 ///
 /// A missing file of /dev isn't made. At a refusal the files that this call made go again, unless another run has locked or written them.
 /// What the file system has no locks for isn't locked. A file that isn't at its path any more once it is locked is refused.
@@ -87,10 +90,13 @@ fn claimed<R: Files<File = File>>(
         files.push(opened_file(rt, alloc, plan, index, reads, directs, made)?)?;
     }
     apart(alloc, plan, files.as_slice())?;
-    if !claims.devices_in_use {
-        unused(rt, alloc, plan, files.as_slice())?;
-    }
-    locked(rt, alloc, plan, files.as_slice())?;
+    without_overlap(rt, alloc, plan, files.as_slice())?;
+    let held = if claims.devices_in_use {
+        Vec::new(alloc)
+    } else {
+        held(rt, alloc, plan, files.as_slice(), directs.asked)?
+    };
+    locked(rt, alloc, plan, files.as_slice(), held.as_slice())?;
     extended(rt, alloc, plan, files.as_slice())?;
     Ok(FileEngine::over(files))
 }
@@ -112,8 +118,8 @@ fn apart(alloc: Global, plan: &Plan, files: &[SharedFile]) -> Result<(), Refusal
     Err(refused(second, Why::OneFile(first, second_name)))
 }
 
-// Whether none of the files that a clone writes is a block device that is in use.
-fn unused<R: Files<File = File>>(
+// Whether no two of the files have bytes of one disk or file in common: a disk and its partition, a loop device and its image.
+fn without_overlap<R: Files>(
     rt: &R,
     alloc: Global,
     plan: &Plan,
@@ -122,21 +128,23 @@ fn unused<R: Files<File = File>>(
     requires { length files.now ≡ length plan.now.files }
     ensures { IfErr result (λ refusal. IsOpenFault refusal.fault (length plan.now.files)) }
 {
+    let mut extents = Vec::new(alloc);
     for (index, file) in files.iter().enumerate() {
-        let numbers = file.numbers();
-        if !numbers.is_block_device || !is_written(plan, index) {
-            continue;
-        }
-        match use_of(rt, alloc, DeviceNumbers::of(numbers.device)) {
-            Ok(None) => {}
-            Ok(Some(by)) => {
+        match Layers::of(rt, alloc, file.numbers()) {
+            Ok(layers) => extents.push(layers.extent)?,
+            Err(error) if error.kind() == ErrorKind::OutOfMemory => return Err(Refusal::memory()),
+            Err(error) => {
                 let name = name_of(alloc, plan, index)?;
-                return Err(refused(index, Why::InUse(name, by)));
+                return Err(refused(index, Why::Unseen(name, error)));
             }
-            Err(_) => return Err(Refusal::memory()),
         }
     }
-    Ok(())
+    let Some((first, second)) = first_overlap(extents.as_slice()) else {
+        return Ok(());
+    };
+    let first = name_of(alloc, plan, first)?;
+    let second_name = name_of(alloc, plan, second)?;
+    Err(refused(second, Why::Overlap(first, second_name)))
 }
 
 // Removes a file that this call has made. One that another run has locked, has put in its place or has written stays.
@@ -164,13 +172,20 @@ fn is_empty_at<R: Files>(rt: &R, file: &File, path: &str) -> io::Result<bool> {
 }
 
 // Locks each file: for this run alone where a clone writes it. The lock is of the file at that path only if it is there still: another
-// run may have made and removed it meanwhile.
-fn locked<R: Files>(rt: &R, alloc: Global, plan: &Plan, files: &[SharedFile]) -> Result<(), Refusal>
+// run may have made and removed it meanwhile. A device that is held is this run's, whoever has its lock: who may only read can have that.
+fn locked<R: Files>(
+    rt: &R,
+    alloc: Global,
+    plan: &Plan,
+    files: &[SharedFile],
+    held: &[bool],
+) -> Result<(), Refusal>
     requires { length files.now ≡ length plan.now.files }
     ensures { IfErr result (λ refusal. IsOpenFault refusal.fault (length plan.now.files)) }
 {
     for (index, file) in files.iter().enumerate() {
-        if !file.lock(is_written(plan, index)) {
+        let is_held = held.get(index).is_some_and(|held| *held);
+        if !file.lock(is_written(plan, index)) && !is_held {
             let name = name_of(alloc, plan, index)?;
             return Err(refused(index, Why::Locked(name)));
         }

@@ -15,7 +15,7 @@ use std::rt::Files;
 pub struct Directs<'a> {
     /// For each file in the plan's order whether it is to be direct; those behind the last aren't.
     pub wanted: &'a [bool],
-    /// What asks the launcher. Without it all go through the system's cache.
+    /// What asks the launcher. Without it all go through the system's cache, and no block device can be held.
     pub asked: Option<&'a Dropper>,
 }
 

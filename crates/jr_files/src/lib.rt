@@ -2,6 +2,7 @@
 #![tactic(auto)]
 
 mod claims;
+mod devices;
 mod directs;
 mod faults;
 mod file_engine;

@@ -23,8 +23,16 @@ pub enum Why {
     System(Act, String, io::Error),
     /// These two names are of one file.
     OneFile(String, String),
-    /// The block device of this name is in use.
+    /// These two names are of devices or files that have bytes in common: a disk and its partition, a loop device and its image.
+    Overlap(String, String),
+    /// The block device of this name is in use, or a plain file under a loop device.
     InUse(String, Use),
+    /// Something has claimed the block device of this name, and can't be seen.
+    Claimed(String),
+    /// The block device of this name can't be held for this run alone.
+    Unheld(String),
+    /// It can't be seen what uses the block device of this name.
+    Unseen(String, io::Error),
     /// The block device of this name has so many bytes, and its jobs want so many.
     TooSmall(String, u64, u64),
     /// Another run holds the lock of the file of this name.
@@ -56,7 +64,19 @@ impl fmt::Display for Refusal {
         match &self.why {
             Why::System(act, name, error) => write!(f, "cannot {act} {name}: {error}"),
             Why::OneFile(first, second) => write!(f, "{first} and {second} are one file"),
+            Why::Overlap(first, second) => write!(f, "{first} and {second} have bytes in common"),
             Why::InUse(name, by) => write!(f, "{name} is in use: {by}"),
+            Why::Claimed(name) => {
+                write!(
+                    f,
+                    "{name} is in use by something that can't be seen from here"
+                )
+            }
+            Why::Unheld(name) => write!(
+                f,
+                "{name} can't be held for this run alone: that needs bin/fiorun, with perl and /proc (--allow-mounted-write goes without)"
+            ),
+            Why::Unseen(name, error) => write!(f, "it can't be seen what uses {name}: {error}"),
             Why::TooSmall(name, has, wants) => {
                 write!(f, "{name} has {has} bytes, and its jobs want {wants}")
             }

@@ -9,6 +9,7 @@ use jr_devices::{FileNumbers, Identity};
 use jr_model::Dir;
 use jr_transfer::{Dropper, FailedCall, Positioned, Room};
 use std::alloc::{AllocError, AllocFailed, Global};
+use std::fs::File;
 use std::rt::Files;
 use std::sync::Arc;
 use std::{fs, io};
@@ -76,6 +77,11 @@ impl SharedFile {
     /// The numbers by which the system knows it.
     pub(crate) fn numbers(&self) -> FileNumbers {
         self.file.numbers()
+    }
+
+    /// The open file itself.
+    pub(crate) fn file(&self) -> &File {
+        self.file.file()
     }
 
     /// Whether its calls go past the system's cache.

@@ -21,7 +21,7 @@ use jr_text::{Section, sections};
 use jr_transfer::{Dropper, Launcher};
 use std::alloc::{AllocError, Global};
 use std::fs::{File, Files};
-use std::os::unix::fs::MetadataExt;
+use std::os::unix::fs::{FileTypeExt, MetadataExt};
 use std::{fs, io};
 
 /// The plan's files, open for this run, and the launcher that takes them out of the system's cache.
@@ -86,7 +86,7 @@ pub fn take_files<'a, R: Files<File = File> + AllocGlobal + Screen>(
         choice.drop_pipes
     };
     let launcher = Launcher::new(pipes);
-    let files = match claimed(rt, plan, choice, wishes, &launcher) {
+    let files = match claimed(rt, plan, choice, wishes) {
         Ok(files) => files,
         Err(refusal) => return Err(Stop::files(refusal)),
     };
@@ -102,13 +102,12 @@ pub fn take_files<'a, R: Files<File = File> + AllocGlobal + Screen>(
     })
 }
 
-// Claims the plan's files, and asks the launcher for those that are to go past the cache.
+// Claims the plan's files. The launcher is asked for those that are to go past the cache, and for devices, also where checks may read it.
 fn claimed<R: Files<File = File> + AllocGlobal>(
     rt: &R,
     plan: &Plan,
     choice: &Choice<'_>,
     wishes: &[Wish],
-    launcher: &Launcher<'_>,
 ) -> Result<FileEngine<SharedFile>, Refusal> {
     let claims = Claims {
         reads: if choice.cached {
@@ -123,12 +122,22 @@ fn claimed<R: Files<File = File> + AllocGlobal>(
         wanted.push(*wish == Wish::Direct)?;
     }
     // (no engine asks yet by the first pair of pipes)
-    let asked = if wanted.iter().any(|it| *it) {
-        launcher.dropper(rt, rt.alloc(), 0)?
+    let asked = if has_device(rt, plan) || wanted.iter().any(|it| *it) {
+        Launcher::new(choice.drop_pipes).dropper(rt, rt.alloc(), 0)?
     } else {
         None
     };
     claim_wanted(rt, plan, claims, wanted.as_slice(), asked.as_deref())
+}
+
+// Whether a file of the plan is a block device.
+fn has_device<R: Files>(rt: &R, plan: &Plan) -> bool {
+    for file in plan.files() {
+        if fs::metadata(rt, file.name()).is_ok_and(|it| it.file_type().is_block_device()) {
+            return true;
+        }
+    }
+    false
 }
 
 // Claims the plan's files, of which these are to go past the cache; this asks for it.

@@ -1,5 +1,6 @@
 pub mod Cached
 pub mod Failures
+pub mod Holds
 pub mod Moves
 pub mod Parts
 pub mod Regions

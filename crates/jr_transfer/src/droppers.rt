@@ -1,5 +1,6 @@
 ghost use Rattle.std.specs.Prelude.{◌≡◌, ◌<◌, ◌≤◌, length, IfSome};
 ghost use Rattle.jr_transfer.specs.Cached.{cached_by, cached_by_byte};
+ghost use Rattle.jr_transfer.specs.Holds.{hold_by, hold_by_byte};
 
 use std::alloc::{AllocError, Global};
 use std::fs::{File, OpenOptions};
@@ -27,6 +28,39 @@ pub enum Made {
     Refused,
     /// Nothing: there is no answer, or the system doesn't let the launcher do it.
     Nothing,
+}
+
+/// What the launcher did about a block device that this run is to have alone.
+#[derive(Clone, Copy, Debug, PartialEq, Eq)]
+pub enum Hold {
+    /// It holds the device to the run's end: nothing else had claimed it, and nothing can mount it or claim it meanwhile.
+    Held,
+    /// Something else has claimed it: a mount in any namespace, swap, another device, another run.
+    Busy,
+    /// Nothing: there is no answer, or the system doesn't let the launcher do it.
+    Nothing,
+}
+
+impl Hold {
+    // What this answer of the launcher says.
+    fn of(answer: Option<u8>) -> Hold
+        ensures { result ≡ hold_by answer }
+    {
+        match answer {
+            Some(byte) => hold_by_byte(byte),
+            None => Hold::Nothing,
+        }
+    }
+}
+
+fn hold_by_byte(byte: u8) -> Hold
+    ensures { result ≡ hold_by_byte byte }
+{
+    match byte {
+        b'.' => Hold::Held,
+        b'-' => Hold::Busy,
+        _ => Hold::Nothing,
+    }
 }
 
 /// What the system's cache has of a file, or of some bytes of it, once it was asked to drop the file.
@@ -68,7 +102,8 @@ fn cached_by_byte(byte: u8) -> Cached
     }
 }
 
-/// The launcher that started the program, if one did. It takes files out of the system's cache, for which std has no call.
+/// The launcher that started the program, if one did. It takes files out of the system's cache and holds block devices, for which std has
+/// no calls.
 #[derive(Clone, Copy)]
 pub struct Launcher<'a> {
     pipes: Option<&'a str>,
@@ -141,6 +176,14 @@ impl Dropper {
             Some(REFUSED) => Made::Refused,
             _ => Made::Nothing,
         }
+    }
+
+    /// Claims this open block device for the run, to its end.
+    pub fn hold(&self, device: &File) -> Hold {
+        let Ok(request) = format!(in self.alloc; "hold {}\n", device.as_raw_fd()) else {
+            return Hold::Nothing;
+        };
+        Hold::of(self.answer(request.as_bytes()))
     }
 
     /// How many bytes it is from the begin of this memory to the next page, where the launcher can find that out. Its first two bytes are

@@ -11,7 +11,7 @@ mod regions;
 mod rooms;
 mod sectors;
 
-pub use droppers::{Cached, Dropper, Launcher, Made};
+pub use droppers::{Cached, Dropper, Hold, Launcher, Made};
 pub use failures::{FailedCall, Failures};
 pub use marks::{FileSync, Marks, Stage};
 pub use moving::{LARGEST_OFFSET, read_whole, write_whole};

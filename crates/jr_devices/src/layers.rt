@@ -1,0 +1,127 @@
+// What the bytes of a device are bytes of: of the disk of a partition, of the file under a loop device.
+use crate::devices::DeviceNumbers;
+use crate::extents::{Below, Extent, sector_start};
+use crate::identities::{FileNumbers, Identity};
+use crate::numbers::{line_at, number_at};
+use std::alloc::Global;
+use std::rt::Files;
+use std::{fs, io};
+
+// More than ever stand on one another.
+const MOST_LAYERS: usize = 32;
+
+/// The devices that the bytes of a file go through, and which bytes of the lowest disk or file they are.
+#[derive(Debug, Drop)]
+pub struct Layers {
+    /// The bytes of the lowest.
+    pub extent: Extent,
+    // The numbers of the devices, that of the file itself first.
+    devices: Vec<u64>,
+    // Those that loop devices stand on.
+    backing: Vec<Backing>,
+}
+
+/// A block device that a loop device stands on.
+#[derive(Debug, Drop)]
+pub(crate) struct Backing {
+    pub name: String,
+    pub numbers: DeviceNumbers,
+}
+
+impl Layers {
+    /// Those of the file with these numbers. The lowest is the last that the system says something of.
+    pub fn of<R: Files>(rt: &R, alloc: Global, numbers: FileNumbers) -> io::Result<Layers> {
+        let mut layers = Layers {
+            extent: whole(rt, alloc, numbers.identity())?,
+            devices: Vec::new(alloc),
+            backing: Vec::new(alloc),
+        };
+        for _ in 0..MOST_LAYERS {
+            if !layers.goes_down(rt, alloc)? {
+                break;
+            }
+        }
+        Ok(layers)
+    }
+
+    /// Whether the bytes go through the device of this number.
+    pub(crate) fn has(&self, device: u64) -> bool {
+        self.devices.iter().any(|it| *it == device)
+    }
+
+    /// The devices among them that loop devices stand on.
+    pub(crate) fn backing(&self) -> &[Backing] {
+        self.backing.as_slice()
+    }
+
+    // Goes down by one layer, if there is one.
+    fn goes_down<R: Files>(&mut self, rt: &R, alloc: Global) -> io::Result<bool> {
+        let Identity::Device(device) = self.extent.what else {
+            return Ok(false);
+        };
+        self.devices.push(device)?;
+        let numbers = DeviceNumbers::of(device).text(alloc)?;
+        let place = format!(in alloc; "/sys/dev/block/{numbers}")?;
+        if let Some(disk) = disk_of(rt, alloc, place.as_str())? {
+            self.extent = self.extent.part_of(disk);
+            return Ok(true);
+        }
+        let Some((file, name)) = file_under(rt, alloc, place.as_str())? else {
+            return Ok(false);
+        };
+        self.extent = self.extent.part_of(file);
+        if let Identity::Device(device) = self.extent.what {
+            let numbers = DeviceNumbers::of(device);
+            self.backing.push(Backing { name, numbers })?;
+        }
+        Ok(true)
+    }
+}
+
+// All bytes of a disk or file: as many as a device has. Those of a plain file may become more.
+fn whole<R: Files>(rt: &R, alloc: Global, what: Identity) -> io::Result<Extent> {
+    let Identity::Device(device) = what else {
+        return Ok(Extent::whole(what));
+    };
+    let numbers = DeviceNumbers::of(device).text(alloc)?;
+    let path = format!(in alloc; "/sys/dev/block/{numbers}/size")?;
+    match number_at(rt, alloc, path.as_str())? {
+        Some(sectors) => Ok(Extent {
+            what,
+            start: 0,
+            length: sector_start(sectors),
+        }),
+        None => Ok(Extent::whole(what)),
+    }
+}
+
+// The disk of the partition whose folder this is.
+fn disk_of<R: Files>(rt: &R, alloc: Global, place: &str) -> io::Result<Option<Below>> {
+    let path = format!(in alloc; "{place}/start")?;
+    let Some(sector) = number_at(rt, alloc, path.as_str())? else {
+        return Ok(None);
+    };
+    let path = format!(in alloc; "{place}/../dev")?;
+    let line = line_at(rt, alloc, path.as_str())?;
+    let Some(disk) = DeviceNumbers::in_text(line.as_str()) else {
+        return Ok(None);
+    };
+    let disk = Identity::Device(disk.number());
+    Ok(Some(Below::Disk(disk, sector)))
+}
+
+// The file under the loop device whose folder this is, and the file's name.
+fn file_under<R: Files>(rt: &R, alloc: Global, place: &str) -> io::Result<Option<(Below, String)>> {
+    let path = format!(in alloc; "{place}/loop/offset")?;
+    let Some(offset) = number_at(rt, alloc, path.as_str())? else {
+        return Ok(None);
+    };
+    let path = format!(in alloc; "{place}/loop/backing_file")?;
+    let name = line_at(rt, alloc, path.as_str())?;
+    // (a file that was removed has no name any more)
+    let Ok(metadata) = fs::metadata(rt, name.as_str()) else {
+        return Ok(None);
+    };
+    let file = FileNumbers::of(&metadata).identity();
+    Ok(Some((Below::File(file, offset), name)))
+}

@@ -1,0 +1,43 @@
+// Numbers in texts that the kernel makes.
+ghost use Rattle.std.specs.Prelude.{◌≡◌, ◌<◌, ◌^◌, ℕ, Some, decimal};
+
+use crate::tables::text_of;
+use std::alloc::Global;
+use std::io;
+use std::rt::Files;
+
+/// The number that stands alone in this file, if it can be read there.
+pub(crate) fn number_at<R: Files>(rt: &R, alloc: Global, path: &str) -> io::Result<Option<u64>> {
+    let line = line_at(rt, alloc, path)?;
+    Ok(number_in(line.as_str()))
+}
+
+/// The one line of this file, or nothing if it isn't there.
+pub(crate) fn line_at<R: Files>(rt: &R, alloc: Global, path: &str) -> io::Result<String> {
+    let text = text_of(rt, alloc, path)?;
+    let line = match text.as_slice() {
+        [line @ .., b'\n'] => line,
+        line => line,
+    };
+    Ok(String::from_utf8_lossy(alloc, line)?)
+}
+
+/// The number that these digits are.
+fn number_in(digits: &str) -> Option<u64>
+    ensures { (n : ℕ) → n < 2 ^ 64 → digits.now ≡ decimal n → result ≡ Some n }
+{
+    match digits.parse::<u64>() {
+        Ok(number) => Some(number),
+        Err(_) => None,
+    }
+}
+
+/// The same of one that has 32 bits.
+pub(crate) fn small_number_in(digits: &str) -> Option<u32>
+    ensures { (n : ℕ) → n < 2 ^ 32 → digits.now ≡ decimal n → result ≡ Some n }
+{
+    match digits.parse::<u32>() {
+        Ok(number) => Some(number),
+        Err(_) => None,
+    }
+}
