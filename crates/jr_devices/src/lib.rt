@@ -4,10 +4,12 @@
 mod devices;
 mod identities;
 mod in_use;
+mod links;
 mod tables;
 mod uses;
 
 pub use devices::DeviceNumbers;
 pub use identities::{FileNumbers, Identity, first_twins};
 pub use in_use::use_of;
+pub use links::{end_of_links, folder_of, linked, name_in};
 pub use uses::Use;

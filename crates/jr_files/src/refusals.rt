@@ -23,6 +23,8 @@ pub enum Why {
     System(Act, String, io::Error),
     /// These two names are of one file.
     OneFile(String, String),
+    /// The run has the file of this name for an output of its own, or one of its streams goes there.
+    Kept(String),
     /// The block device of this name is in use.
     InUse(String, Use),
     /// The block device of this name has so many bytes, and its jobs want so many.
@@ -56,6 +58,10 @@ impl fmt::Display for Refusal {
         match &self.why {
             Why::System(act, name, error) => write!(f, "cannot {act} {name}: {error}"),
             Why::OneFile(first, second) => write!(f, "{first} and {second} are one file"),
+            Why::Kept(name) => write!(
+                f,
+                "{name} is also an output of this run, or a stream of the program"
+            ),
             Why::InUse(name, by) => write!(f, "{name} is in use: {by}"),
             Why::TooSmall(name, has, wants) => {
                 write!(f, "{name} has {has} bytes, and its jobs want {wants}")

@@ -7,6 +7,7 @@ ghost use Rattle.jr_host.specs.Stops.{files_fault};
 use jr_command::{CliFault, memory_or};
 use jr_files::{FileFault, Refusal};
 use jr_notes::Note;
+use jr_outputs::Unfit;
 use std::alloc::Global;
 use std::io;
 use std::io::ErrorKind;
@@ -24,10 +25,8 @@ enum Notes {
     None,
     Job(Vec<Note>),
     Files(Refusal),
-    // The trace would go over a file that is read or written otherwise.
-    Trace,
-    // The output that this word asks for would go over one, or over another output or what is no file.
-    Output(&'static str),
+    // The output that this word asks for can't go where its path leads.
+    Output(&'static str, Unfit),
     Pipe,
     // This couldn't be done to the file of this name.
     File(&'static str, String, io::Error),
@@ -78,23 +77,13 @@ impl Stop {
         }
     }
 
-    /// The trace would go to a file that is read or written otherwise.
-    pub fn trace() -> Stop
+    /// The output that this word asks for can't go where its path leads.
+    pub fn output(word: &'static str, why: Unfit) -> Stop
         ensures { result ≡ CliFault.Write }
     {
         Stop {
             fault: CliFault::Write,
-            notes: Notes::Trace,
-        }
-    }
-
-    /// The output that this word asks for would go to such a file, to that of another output, or to what is no file.
-    pub fn output(word: &'static str) -> Stop
-        ensures { result ≡ CliFault.Write }
-    {
-        Stop {
-            fault: CliFault::Write,
-            notes: Notes::Output(word),
+            notes: Notes::Output(word, why),
         }
     }
 
@@ -163,15 +152,8 @@ impl Notes {
             Notes::File(act, name, error) => {
                 let _ = eprintln!(rt; "fiorun: note: cannot {act} {name}: {error}");
             }
-            Notes::Trace => {
-                let _ = eprintln!(rt;
-                    "fiorun: note: the trace's file is the job file or a file of a job"
-                );
-            }
-            Notes::Output(word) => {
-                let _ = eprintln!(rt;
-                    "fiorun: note: the path of {word} is that of the job file, a file of a job, a trace, another output or no file"
-                );
+            Notes::Output(word, why) => {
+                let _ = eprintln!(rt; "fiorun: note: the path of {word} is {why}");
             }
             Notes::Pipe => {
                 let _ = eprintln!(rt; "fiorun: note: --stop-fd names no pipe that can be read");
