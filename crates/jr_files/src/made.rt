@@ -39,7 +39,7 @@ impl Made {
         let Ok(file) = File::open(rt, self.path.as_str()) else {
             return;
         };
-        if found(rt, &file, self.path.as_str()).is_ok_and(|found| is_still_ours(
+        if looked_at(rt, &file, self.path.as_str()).is_ok_and(|found| is_still_ours(
             self.identity,
             found,
         )) {
@@ -56,7 +56,7 @@ fn is_still_ours(made: Identity, found: Found) -> bool
 }
 
 // Locks the file that was opened at this path, and looks at it then. A file system without locks counts as one where nobody else has any.
-fn found<R: Files>(rt: &R, file: &File, path: &str) -> io::Result<Found> {
+fn looked_at<R: Files>(rt: &R, file: &File, path: &str) -> io::Result<Found> {
     let is_locked = !matches!(file.try_lock(), Err(TryLockError::WouldBlock));
     let metadata = file.metadata()?;
     Ok(Found {
