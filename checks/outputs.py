@@ -25,7 +25,10 @@ SECONDS = 120
 WRITE = "fiorun: cannot write\n"
 OPEN = "fiorun: cannot open the files\n"
 ENGINES = ("memory", "null", "psync")
-WORDS = ("--trace", "--json", "--page", "--bad-blocks")
+# In the order in which they are looked at.
+WORDS = ("--trace", "--bad-blocks", "--json", "--page")
+# Those that take a job file of several files.
+OF_ANY = ("--trace", "--json", "--page")
 # How each output begins.
 FRONTS = {"--trace": b"I 0 ", "--json": b'{"badreads":', "--page": b"<!DOCTYPE html>", "--bad-blocks": b""}
 MIB = 1 << 20
@@ -92,7 +95,7 @@ class Room:
         ended = self.run(*words, **how)
         expect(ended.returncode == 3 and ended.stdout == b"", words, how, "isn't refused:", ended)
         said = ended.stderr.decode()
-        expect(said.startswith(fault) and re.fullmatch(f"fiorun: note: {why}\n", said[len(fault):]), words, how, "says", said)
+        expect(said.startswith(fault) and re.fullmatch(f"fiorun: note: (?:{why})\n", said[len(fault):]), words, how, "says", said)
         after = tree(self.path)
         changed = {it for it in before.keys() | after.keys() if before.get(it) != after.get(it)}
         expect(not changed, words, how, "changed", sorted(changed))
@@ -399,11 +402,11 @@ def nothing_is_made_for_a_refused_run(room):
     for word in WORDS:
         room.refuses(r"cannot make no/t: No such file or directory \(os error 2\)", f"{word}=no/t", text=one)
         room.refuses("cannot open no/f: .*|cannot make no/f: .*", f"{word}=old", text=job("psync", "no/f"), fault=OPEN)
-    for word in WORDS[:3]:
+    for word in OF_ANY:
         room.refuses(r"cannot make no/t: No such file or directory \(os error 2\)", f"{word}=no/t", "--json=old" if word != "--json" else "--page=old", text=text)
     with open(room.at("short"), "rb") as it:
         fcntl.flock(it, fcntl.LOCK_EX)
-        for word in WORDS[:3]:
+        for word in OF_ANY:
             room.refuses("short is locked by another run", f"{word}=old", text=text, fault=OPEN)
 
 
@@ -412,6 +415,7 @@ def a_folder_that_cant_be_written_is_refused(room):
         raise Skipped("not root")
     os.chmod(room.path, 0o755)
     shutil.copy(room.program, room.at("fiorun"))
+    os.chmod(room.at("fiorun"), 0o755)
     os.mkdir(room.at("open"))
     os.chmod(room.at("open"), 0o777)
     room.put("old", b"old")
@@ -533,7 +537,7 @@ def full_pipe():
 
 def progress_waits_for_nobody(room):
     """Where standard error's reader reads nothing, the run ends, with its report."""
-    text = job(more="").replace("size=16k", "size=64m\nloops=2")
+    text = job(more="").replace("size=16k", "size=16m")
     for workers in ("1", "2"):
         reading, writing = full_pipe()
         asked, asking = os.pipe()

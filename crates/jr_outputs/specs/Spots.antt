@@ -1,6 +1,6 @@
 -- Believed: when two places of files are one, whatever their names: a file that is there is known by its identity, a device of characters
 -- by its number, and a file that isn't there yet by its folder's identity and its name in it.
-use Rattle.std.specs.Prelude.{◌≡◌, ℕ, ◌<◌, List, length, slice_get, Some, string_bytes}
+use Rattle.std.specs.Prelude.{◌≡◌, ℕ, ◌<◌, List, slice_get, Some, string_bytes}
 use Rattle.jr_outputs.specs.declared.spots.Spot.{Spot}
 use Rattle.jr_outputs.specs.declared.spots.Spot.TheVariants as spot
 

@@ -68,7 +68,7 @@ impl Target {
         let mut end = String::from_str(alloc, path)?;
         let mut is_system = false;
         for _ in 0..MOST_LINKS {
-            let descriptor = descriptor_at(rt, end.as_str());
+            let descriptor = descriptor_at(rt, alloc, end.as_str());
             is_system = is_system || lies_in_system(rt, alloc, folder_of(end.as_str()))?;
             let next = if descriptor.is_some() {
                 None
@@ -199,12 +199,12 @@ fn is_folders(name: &str) -> bool {
     name.is_empty() || name == "." || name == ".."
 }
 
-// The number of the open file of the program that stands at this path.
-fn descriptor_at<R: Files>(rt: &R, path: &str) -> Option<u32> {
+// The number of the open file of the program that stands at this path. (the system gives the folder another inode where it needs the room)
+fn descriptor_at<R: Files>(rt: &R, alloc: Global, path: &str) -> Option<u32> {
     let number = name_in(path).parse::<u32>().ok()?;
-    let folder = identity_at(rt, folder_of(path))?;
-    let own = identity_at(rt, "/proc/self/fd")?;
-    (folder == own).then_some(number)
+    let folder = rt.canonicalize(alloc, folder_of(path)).ok()?.into_string();
+    let own = rt.canonicalize(alloc, "/proc/self/fd").ok()?.into_string();
+    (folder.as_str() == own.as_str()).then_some(number)
 }
 
 fn identity_at<R: Files>(rt: &R, path: &str) -> Option<Identity> {
