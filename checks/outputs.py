@@ -420,9 +420,11 @@ def a_folder_that_cant_be_written_is_refused(room):
     os.chmod(room.at("open"), 0o777)
     room.put("old", b"old")
     os.chmod(room.at("old"), 0o666)
+    room.put("open/kept", b"kept")
+    os.chmod(room.at("open/kept"), 0o444)
     other = Room(room.at("fiorun"), room.path)
     for word in WORDS:
-        for name in ("old", "new"):
+        for name in ("old", "new", "open/kept"):
             said = re.escape(f"cannot make {name}: Permission denied (os error 13)")
             other.refuses(said, f"{word}={name}", text=job("psync", "open/data"), **as_nobody())
 

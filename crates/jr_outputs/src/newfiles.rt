@@ -26,7 +26,7 @@ pub struct NewFile {
 }
 
 impl NewFile {
-    /// Makes it, under a name that nobody knows before.
+    /// Makes it, under a name that nobody knows before. Who may not write the file that is there may not replace it either.
     pub fn make<R: Files<File = File> + RandomSource>(
         rt: &R,
         alloc: Global,
@@ -39,10 +39,12 @@ impl NewFile {
         let path = format!(in alloc; "{folder}/.fiorun-{number:016x}")?;
         let name = String::from_str(alloc, target.path())?;
         let mut options = OpenOptions::new();
-        options.write(true).create_new(true);
+        options.write(true);
         if target.found().is_some() {
+            let _may_be_written = options.open(rt, target.path())?;
             options.mode(OWNER_ALONE);
         }
+        options.create_new(true);
         let file = options.open(rt, path.as_str())?;
         Ok(NewFile {
             file,
