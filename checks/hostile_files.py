@@ -98,7 +98,7 @@ class Files(Case):
                 ended = place.run("--trace=no/t", "--notes", f"--workers={workers}", text=job)
                 expect(ended == Ended(3, b"", missing.encode()), "a folder that isn't there:", ended)
         ended = place.run("--trace=data", "--notes", text=FOUR)
-        over = "fiorun: cannot write\nfiorun: note: the trace's file is the job file or a file of a job\n"
+        over = "fiorun: cannot write\nfiorun: note: the path of --trace is that of a file of a job\n"
         expect(ended == Ended(3, b"", over.encode()), "over a file of the job:", ended)
 
     def test_faults_beyond_a_hundred(self):

@@ -9,7 +9,7 @@ use jr_command::{
     Choice, CliFault, answer_words, choose, memory_or, print_plan, read_job, read_text, read_trace,
 };
 use jr_engines::Engine;
-use jr_host::{Machine, Screen, Stop, tell_all, wishes};
+use jr_host::{Machine, Outlet, Screen, Stop, tell_all, wishes};
 use jr_notes::{job_notes, plan_notes};
 use jr_plan::Plan;
 use jr_traces::Checked;
@@ -24,6 +24,7 @@ use traced::TraceReader;
 
 mod outputs;
 mod places;
+mod roads;
 mod running;
 mod traced;
 mod unfailing;
@@ -34,10 +35,20 @@ fn main(rt: HostRuntime) -> ExitCode {
     let run_shared = |job: SharedRun| -> Result<Ran, Stop> {
         let mut engines: Vec<Box<dyn Engine + Send>> = Vec::new(rt.alloc());
         let Ok(shared) = rt.clone() else {
-            return Err(Stop::from(CliFault::Memory));
+            return Err(job.given_up(&rt, CliFault::Memory));
         };
-        for share in shares(shared, rt.alloc(), &job.plan, job.workers)? {
-            add(&mut engines, boxed(rt.alloc(), share)?)?;
+        let shares = match shares(shared, rt.alloc(), &job.plan, job.workers) {
+            Ok(shares) => shares,
+            Err(fault) => return Err(job.given_up(&rt, fault)),
+        };
+        for share in shares {
+            let added = match boxed(rt.alloc(), share) {
+                Ok(share) => add(&mut engines, share),
+                Err(fault) => Err(fault),
+            };
+            if let Err(fault) = added {
+                return Err(job.given_up(&rt, fault));
+            }
         }
         run_memory(&rt, job, engines)
     };
@@ -82,10 +93,7 @@ fn held<R: Files>(
 }
 
 // Does what the words ask for, but for a run over a shared memory. They may ask for notes.
-fn begin<R: Env + Files<File = File> + Input + Print + Machine>(
-    rt: &R,
-    has_notes: &mut bool,
-) -> Result<Turn, Stop> {
+fn begin<R: Env + Input + Outlet + Machine>(rt: &R, has_notes: &mut bool) -> Result<Turn, Stop> {
     let words = words_of(rt)?;
     match choose(rt.alloc(), words.as_slice()) {
         Ok(choice) => {
@@ -103,7 +111,7 @@ fn words_of<R: Env + AllocGlobal>(rt: &R) -> Result<Vec<String>, CliFault> {
     }
 }
 
-fn perform<R: Files<File = File> + Input + Print + Machine>(
+fn perform<R: Input + Outlet + Machine>(
     rt: &R,
     choice: &Choice<'_>,
     has_notes: bool,
@@ -128,7 +136,7 @@ fn tell_notes<R: Eprint + AllocGlobal>(rt: &R, text: &[u8], section: Option<&str
 }
 
 // Runs the plan of this job text.
-fn carry_out<R: Files<File = File> + Print + Machine>(
+fn carry_out<R: Outlet + Machine>(
     rt: &R,
     choice: &Choice<'_>,
     text: &[u8],
@@ -141,13 +149,14 @@ fn carry_out<R: Files<File = File> + Print + Machine>(
 }
 
 // Prints the plan, or checks a trace of it, as the words say.
-fn show<R: Files + Print + Screen + AllocGlobal>(
-    rt: &R,
-    choice: &Choice<'_>,
-    plan: &Plan,
-) -> Result<(), Stop> {
+fn show<R: Outlet>(rt: &R, choice: &Choice<'_>, plan: &Plan) -> Result<(), Stop> {
     match choice.check_trace {
-        Some(path) if !choice.parse_only => check_trace(rt, choice, path, plan),
+        Some(path) if !choice.parse_only => {
+            let wanted = Wanted::of(rt, choice, plan)?;
+            let checked = check_trace(rt, choice, path, plan, &wanted);
+            wanted.outputs.clear(rt);
+            checked
+        }
         _ => {
             let mut out = to_output(rt)?;
             print_plan(rt.alloc(), plan, &mut out)?;
@@ -157,13 +166,13 @@ fn show<R: Files + Print + Screen + AllocGlobal>(
 }
 
 // Checks a trace of the plan, and tells of its run what is wanted beside the totals.
-fn check_trace<R: Files + Print + Screen + AllocGlobal>(
+fn check_trace<R: Outlet>(
     rt: &R,
     choice: &Choice<'_>,
     path: &str,
     plan: &Plan,
+    wanted: &Wanted,
 ) -> Result<(), Stop> {
-    let wanted = Wanted::of(rt, choice, plan)?;
     let events = trace_text(rt, path, plan)?;
     let run = print_totals(rt, choice.interrupted, plan, events.as_slice())?;
     wanted.tell_trace(rt, plan, &run)

@@ -1,19 +1,25 @@
-// The files that a run is told in beside its report. Each is refused before the run where its path is one that is read or written
-// otherwise, and written behind the report.
+// What a run is told in beside its report: its trace, the list, the JSON and the page. Where each goes is decided before the run, and made
+// ready there.
+use crate::roads::{Road, Sink};
+use crate::unfailing::Unfailing;
 use jr_cli::{Findings, Storage, json_text, list_text};
 use jr_command::{BlockSize, Choice, CliFault, list_size};
-use jr_host::{Settled, Stop, leads_to};
+use jr_devices::FileNumbers;
+use jr_files::Kept;
+use jr_host::{Outlet, Settled, Stop};
 use jr_model::{EngineKind, Memory};
+use jr_outputs::{Spot, Target, Unfit, Way, met_by};
 use jr_page::page;
 use jr_plan::Plan;
 use std::alloc::Global;
 use std::fs;
-use std::fs::{Files, OpenOptions};
-use std::io::{Error, Write};
+use std::io::{BufWriter, Write};
 
 // What an output says of a run.
 #[derive(Drop)]
 enum Content {
+    // Each of its events.
+    Trace,
     // The list of the bad blocks of the plan's only file, with blocks of this size.
     BadBlocks(BlockSize),
     // The report as JSON.
@@ -22,118 +28,334 @@ enum Content {
     Page,
 }
 
-// An output, and the path of its file.
+// An output: the path that the words give it, where that leads, and how it is written.
 #[derive(Drop)]
 struct Output {
-    path: String,
     content: Content,
+    path: String,
+    target: Target,
+    way: Way,
+    road: Road,
 }
 
-// The outputs of a run, in the order in which they are written, and what they may not go over, beside the files of the plan: the job
-// file and the traces.
+// The outputs of a run in the order in which they are written, and what they may not go over: the files of its jobs, by their names, what it
+// writes to otherwise, and standard input.
 #[derive(Drop)]
 pub struct Outputs {
     all: Vec<Output>,
-    kept: Vec<String>,
+    files: Vec<String>,
+    streams: Vec<Spot>,
+    input: Vec<Spot>,
 }
 
+// What writes the trace of a run.
+pub type TraceFile<'a, R> = Unfailing<BufWriter<Sink<'a, R>>>;
+
 impl Outputs {
-    // Those that the words ask for. One that can't be is refused.
-    pub fn of<R: Files + AllocGlobal>(
+    // Those that the words ask for, each ready to be written. One that can't be is refused, and then none is made.
+    pub fn of<R: Outlet>(rt: &R, choice: &Choice<'_>, plan: &Plan) -> Result<Outputs, Stop> {
+        let mut outputs = Outputs {
+            all: Vec::new(rt.alloc()),
+            files: file_names(rt.alloc(), plan)?,
+            streams: streams_of(rt, choice)?,
+            input: Vec::new(rt.alloc()),
+        };
+        add_stream(rt, &mut outputs.input, "0")?;
+        outputs.add_wanted(rt, choice, plan)?;
+        outputs.refuse(rt, choice)?;
+        match outputs.make(rt) {
+            Ok(()) => Ok(outputs),
+            Err(stop) => {
+                outputs.clear(rt);
+                Err(stop)
+            }
+        }
+    }
+
+    // Adds what the words ask for, with where it leads.
+    fn add_wanted<R: Outlet>(
+        &mut self,
         rt: &R,
         choice: &Choice<'_>,
         plan: &Plan,
-    ) -> Result<Outputs, Stop> {
-        let mut outputs = Outputs {
-            all: Vec::new(rt.alloc()),
-            kept: kept_by(rt.alloc(), choice)?,
-        };
-        if let Some(path) = choice.bad_blocks {
+    ) -> Result<(), Stop> {
+        // (the check of a trace has no trace of its own)
+        if choice.check_trace.is_none() {
+            self.add(rt, choice.trace, Content::Trace)?;
+        }
+        if choice.bad_blocks.is_some() {
             let size = list_size(plan, choice.bad_blocks_size)?;
-            outputs.add(rt, plan, path, Content::BadBlocks(size))?;
+            self.add(rt, choice.bad_blocks, Content::BadBlocks(size))?;
         }
-        if let Some(path) = choice.json {
-            outputs.add(rt, plan, path, Content::Json)?;
-        }
-        if let Some(path) = choice.page {
-            outputs.add(rt, plan, path, Content::Page)?;
-        }
-        Ok(outputs)
+        self.add(rt, choice.json, Content::Json)?;
+        self.add(rt, choice.page, Content::Page)
     }
 
-    fn add<R: Files + AllocGlobal>(
-        &mut self,
-        rt: &R,
-        plan: &Plan,
-        path: &str,
-        content: Content,
-    ) -> Result<(), Stop> {
-        if self.is_refused(rt, plan, path, self.all.len()) {
-            return Err(Stop::output(content.word()));
+    fn add<R: Outlet>(&mut self, rt: &R, path: Option<&str>, content: Content) -> Result<(), Stop> {
+        let Some(path) = path else {
+            return Ok(());
+        };
+        let target = match Target::at(rt, rt.alloc(), path) {
+            Ok(target) => target,
+            Err(error) => return Err(Stop::unmade(rt.alloc(), path, error)),
+        };
+        let way = match target.way() {
+            Ok(way) => way,
+            Err(why) => return Err(Stop::output(content.word(), why)),
+        };
+        let output = Output {
+            content,
+            path: owned(rt.alloc(), path)?,
+            target,
+            way,
+            road: Road::Unmade,
+        };
+        push(&mut self.all, output)
+    }
+
+    // Refuses the first output that would go over what the run has otherwise, or over another output.
+    fn refuse<R: Outlet>(&self, rt: &R, choice: &Choice<'_>) -> Result<(), Stop> {
+        let mut known = self.known(rt, choice)?;
+        for output in self.all.iter() {
+            let spot = match output.target.spot(rt, rt.alloc()) {
+                Ok(spot) => spot,
+                Err(error) => return Err(output.unmade(rt, error)),
+            };
+            let Some(spot) = spot else {
+                continue;
+            };
+            if !self.is_stream(rt, output) && self.is_of_stream(&spot) {
+                return Err(Stop::output(output.content.word(), Unfit::Stream));
+            }
+            if let Some(why) = known.why(&spot) {
+                return Err(Stop::output(output.content.word(), why));
+            }
+            known.add(Some(spot), Unfit::Output)?;
         }
-        let path = owned(rt.alloc(), path)?;
-        match self.all.push(Output { path, content }) {
-            Ok(()) => Ok(()),
+        Ok(())
+    }
+
+    // Whether the output is standard output or error by its number, or by that of another descriptor of the same file.
+    fn is_stream<R: Outlet>(&self, rt: &R, output: &Output) -> bool {
+        output
+            .target
+            .descriptor()
+            .is_some_and(|number| Road::stream(rt, number).is_some())
+    }
+
+    // Whether standard input, or a stream that the program writes to, has this place.
+    fn is_of_stream(&self, spot: &Spot) -> bool {
+        met_by(spot, self.streams.as_slice()).is_some()
+            || met_by(spot, self.input.as_slice()).is_some()
+    }
+
+    // What the run has otherwise: its job file, the trace that it checks, and the files of its jobs.
+    fn known<R: Outlet>(&self, rt: &R, choice: &Choice<'_>) -> Result<Known, Stop> {
+        let mut known = Known::new(rt.alloc());
+        match choice.job {
+            Some(path) => known.add(spot_at(rt, path), Unfit::Job)?,
+            None => known.add(plain_input(rt), Unfit::Job)?,
+        }
+        if let Some(path) = choice.check_trace {
+            known.add(spot_at(rt, path), Unfit::Trace)?;
+        }
+        for name in self.files.as_slice() {
+            known.add(spot_at(rt, name.as_str()), Unfit::File)?;
+        }
+        Ok(known)
+    }
+
+    // Opens the streams, which may have to wait for their readers, and then makes the new files.
+    fn make<R: Outlet>(&mut self, rt: &R) -> Result<(), Stop> {
+        self.make_those(rt, Way::Through)?;
+        self.make_those(rt, Way::Replace)
+    }
+
+    fn make_those<R: Outlet>(&mut self, rt: &R, way: Way) -> Result<(), Stop> {
+        for output in self.all.iter_mut() {
+            if output.way != way {
+                continue;
+            }
+            match Road::made(rt, &output.target, way) {
+                Ok(road) => output.road = road,
+                Err(error) => return Err(output.unmade(rt, error)),
+            }
+        }
+        Ok(())
+    }
+
+    // Removes the new files that haven't taken their names.
+    pub fn clear<R: Outlet>(&self, rt: &R) {
+        for output in self.all.iter() {
+            if let Road::New(file) = &output.road {
+                file.remove(rt);
+            }
+        }
+    }
+
+    // Whether none is asked for but a trace.
+    pub fn is_empty(&self) -> bool {
+        self.all
+            .iter()
+            .all(|output| matches!(&output.content, Content::Trace))
+    }
+
+    // What no file of a job may be: an output, or a stream of the program.
+    pub fn kept<R: Outlet>(&self, rt: &R) -> Result<Vec<Kept<'_>>, Stop> {
+        let mut kept = Vec::new(rt.alloc());
+        for output in self.all.iter() {
+            if let Some(one) = output.kept() {
+                push(&mut kept, one)?;
+            }
+        }
+        for stream in self.streams.as_slice() {
+            if let Spot::File(identity) = stream {
+                push(&mut kept, Kept::File(*identity))?;
+            }
+        }
+        Ok(kept)
+    }
+
+    // What writes the trace, where one is asked for.
+    pub fn trace<'a, R: Outlet>(&self, rt: &'a R) -> Result<Option<TraceFile<'a, R>>, Stop> {
+        let Some(output) = self.trace_output() else {
+            return Ok(None);
+        };
+        let sink = match output.road.sink(rt) {
+            Ok(sink) => sink,
+            Err(error) => return Err(output.unmade(rt, error)),
+        };
+        match BufWriter::new(rt.alloc(), sink) {
+            Ok(out) => Ok(Some(Unfailing::new(out))),
             Err(_) => Err(Stop::from(CliFault::Memory)),
         }
     }
 
-    // Whether a file of this path would go over what is read or written otherwise, over one of the first so many outputs, or over what is
-    // no file.
-    fn is_refused<R: Files>(&self, rt: &R, plan: &Plan, path: &str, place: usize) -> bool {
-        fs::metadata(rt, path).is_ok_and(|known| !known.is_file())
-            || self
-                .kept
-                .iter()
-                .any(|kept| leads_to(rt, path, kept.as_str()))
-            || self
-                .all
-                .iter()
-                .take(place)
-                .any(|other| leads_to(rt, path, other.path.as_str()))
-            || plan.engine() == EngineKind::File
-                && plan
-                    .files()
-                    .iter()
-                    .any(|file| leads_to(rt, path, file.name()))
+    fn trace_output(&self) -> Option<&Output> {
+        self.all
+            .iter()
+            .find(|output| matches!(&output.content, Content::Trace))
     }
 
-    // Whether none is asked for.
-    pub fn is_empty(&self) -> bool {
-        self.all.is_empty()
+    // Has the trace take its name, which was written whole.
+    pub fn finish_trace<R: Outlet>(&self, rt: &R) -> Result<(), Stop> {
+        match self.trace_output() {
+            Some(output) => self.finish(rt, output),
+            None => Ok(()),
+        }
     }
 
-    // Writes them, of a run that has its report. What can't be written keeps no other from it, and the first that can't is answered.
-    pub fn write<R: Files + AllocGlobal>(
+    // Writes the others, of a run that has its report. What can't be written keeps no other from it, and the first that can't is answered.
+    pub fn write<R: Outlet>(
         &self,
         rt: &R,
         findings: &Findings<'_>,
         settled: &Settled,
     ) -> Result<(), Stop> {
         let mut result = Ok(());
-        for (place, output) in self.all.iter().enumerate() {
-            let written = self.write_one(rt, place, output, findings, settled);
+        for output in self.all.iter() {
+            let written = self.write_one(rt, output, findings, settled);
             result = result.and(written);
         }
         result
     }
 
-    // (what the run has made may not have been there before)
-    fn write_one<R: Files + AllocGlobal>(
+    fn write_one<R: Outlet>(
         &self,
         rt: &R,
-        place: usize,
         output: &Output,
         findings: &Findings<'_>,
         settled: &Settled,
     ) -> Result<(), Stop> {
-        if self.is_refused(rt, findings.plan(), output.path.as_str(), place) {
-            return Err(Stop::output(output.content.word()));
+        if matches!(&output.content, Content::Trace) {
+            return Ok(());
         }
         let Ok(text) = output.content.text(rt.alloc(), findings, settled) else {
             return Err(Stop::from(CliFault::Memory));
         };
-        write_file(rt, output.path.as_str(), text.as_slice())
+        let mut sink = match output.road.sink(rt) {
+            Ok(sink) => sink,
+            Err(error) => return Err(output.unmade(rt, error)),
+        };
+        match sink.write_all(text.as_slice()) {
+            Ok(()) => self.finish(rt, output),
+            Err(error) => Err(output.unmade(rt, error)),
+        }
+    }
+
+    // Has an output that was written take its name, unless a file of a job has it by now.
+    fn finish<R: Outlet>(&self, rt: &R, output: &Output) -> Result<(), Stop> {
+        let Road::New(file) = &output.road else {
+            return Ok(());
+        };
+        if self.is_of_job(rt, file.target()) {
+            return Err(Stop::output(output.content.word(), Unfit::File));
+        }
+        match file.finish(rt) {
+            Ok(()) => Ok(()),
+            Err(error) => Err(output.unmade(rt, error)),
+        }
+    }
+
+    // Whether a file of a job stands at this path.
+    fn is_of_job<R: Outlet>(&self, rt: &R, path: &str) -> bool {
+        let Ok(found) = fs::symlink_metadata(rt, path) else {
+            return false;
+        };
+        let identity = FileNumbers::of(&found).identity();
+        self.files.iter().any(|name| {
+            fs::metadata(rt, name.as_str()).is_ok_and(|there| FileNumbers::of(&there).identity()
+                == identity)
+        })
+    }
+}
+
+impl Output {
+    fn unmade<R: Outlet>(&self, rt: &R, error: std::io::Error) -> Stop {
+        Stop::unmade(rt.alloc(), self.path.as_str(), error)
+    }
+
+    // What no file of a job may be for its sake.
+    fn kept(&self) -> Option<Kept<'_>> {
+        match &self.road {
+            Road::New(file) => Some(Kept::At(file.target())),
+            Road::Open(_) => match jr_outputs::spot_of(self.target.found()?)? {
+                Spot::File(identity) => Some(Kept::File(identity)),
+                _ => Some(Kept::At(self.target.path())),
+            },
+            Road::Unmade | Road::Out | Road::Error => None,
+        }
+    }
+}
+
+// Places that a run has, and what for.
+#[derive(Drop)]
+struct Known {
+    spots: Vec<Spot>,
+    whys: Vec<Unfit>,
+}
+
+impl Known {
+    fn new(alloc: Global) -> Known {
+        Known {
+            spots: Vec::new(alloc),
+            whys: Vec::new(alloc),
+        }
+    }
+
+    // Adds the place, if there is one.
+    fn add(&mut self, spot: Option<Spot>, why: Unfit) -> Result<(), Stop> {
+        let Some(spot) = spot else {
+            return Ok(());
+        };
+        push(&mut self.spots, spot)?;
+        push(&mut self.whys, why)
+    }
+
+    // What the first of them that is this place is for.
+    fn why(&self, spot: &Spot) -> Option<Unfit> {
+        let place = met_by(spot, self.spots.as_slice())?;
+        self.whys.get(place).copied()
     }
 }
 
@@ -141,6 +363,7 @@ impl Content {
     // The word that asks for it.
     fn word(&self) -> &'static str {
         match self {
+            Content::Trace => "--trace",
             Content::BadBlocks(_) => "--bad-blocks",
             Content::Json => "--json",
             Content::Page => "--page",
@@ -154,6 +377,7 @@ impl Content {
         settled: &Settled,
     ) -> Result<Vec<u8>, Memory> {
         match self {
+            Content::Trace => Ok(Vec::new(alloc)),
             Content::BadBlocks(size) => list_text(alloc, findings, size),
             Content::Json => {
                 json_text(
@@ -189,23 +413,63 @@ fn page_text(alloc: Global, findings: &Findings<'_>) -> Result<Vec<u8>, Memory> 
     )
 }
 
-// The paths of the job file and of the traces.
-fn kept_by(alloc: Global, choice: &Choice<'_>) -> Result<Vec<String>, CliFault> {
-    let mut kept = Vec::new(alloc);
-    for path in [choice.job, choice.trace, choice.check_trace] {
-        keep(alloc, &mut kept, path)?;
-    }
-    Ok(kept)
+// The place at which a path leads to a file that is read or written otherwise; none where that can't be said.
+fn spot_at<R: Outlet>(rt: &R, path: &str) -> Option<Spot> {
+    let target = Target::at(rt, rt.alloc(), path).ok()?;
+    target.spot(rt, rt.alloc()).ok()?
 }
 
-fn keep(alloc: Global, kept: &mut Vec<String>, path: Option<&str>) -> Result<(), CliFault> {
-    let Some(path) = path else {
-        return Ok(());
-    };
-    match kept.push(owned(alloc, path)?) {
-        Ok(()) => Ok(()),
-        Err(_) => Err(CliFault::Memory),
+// The place of the open file of this number, but for a device of characters, which nothing can go over.
+fn stream_spot<R: Outlet>(rt: &R, number: &str) -> Option<Spot> {
+    let path = format!(in rt.alloc(); "/proc/self/fd/{number}").ok()?;
+    let found = fs::metadata(rt, path.as_str()).ok()?;
+    match jr_outputs::spot_of(&found)? {
+        Spot::File(identity) if !found.is_dir() => Some(Spot::File(identity)),
+        _ => None,
     }
+}
+
+// The place of a job file that is read as standard input.
+fn plain_input<R: Outlet>(rt: &R) -> Option<Spot> {
+    let found = fs::metadata(rt, "/proc/self/fd/0").ok()?;
+    if found.is_file() {
+        jr_outputs::spot_of(&found)
+    } else {
+        None
+    }
+}
+
+// The places of what the program writes to: standard output and error, and the pipes to who started it.
+fn streams_of<R: Outlet>(rt: &R, choice: &Choice<'_>) -> Result<Vec<Spot>, Stop> {
+    let mut streams = Vec::new(rt.alloc());
+    for number in ["1", "2", choice.stop_fd.unwrap_or("")] {
+        add_stream(rt, &mut streams, number)?;
+    }
+    for pair in choice.drop_pipes.unwrap_or("").split(',') {
+        if let Some((requests, answers)) = pair.split_once(':') {
+            add_stream(rt, &mut streams, requests)?;
+            add_stream(rt, &mut streams, answers)?;
+        }
+    }
+    Ok(streams)
+}
+
+fn add_stream<R: Outlet>(rt: &R, streams: &mut Vec<Spot>, number: &str) -> Result<(), Stop> {
+    match stream_spot(rt, number) {
+        Some(spot) => push(streams, spot),
+        None => Ok(()),
+    }
+}
+
+// The names of the files of a plan, if its engine has files.
+fn file_names(alloc: Global, plan: &Plan) -> Result<Vec<String>, Stop> {
+    let mut names = Vec::new(alloc);
+    if plan.engine() == EngineKind::File {
+        for file in plan.files() {
+            push(&mut names, owned(alloc, file.name())?)?;
+        }
+    }
+    Ok(names)
 }
 
 fn owned(alloc: Global, text: &str) -> Result<String, CliFault> {
@@ -215,36 +479,9 @@ fn owned(alloc: Global, text: &str) -> Result<String, CliFault> {
     }
 }
 
-// Writes this to a new file, which then takes the name of this path.
-fn write_file<R: Files + AllocGlobal>(rt: &R, path: &str, text: &[u8]) -> Result<(), Stop> {
-    let alloc = rt.alloc();
-    let Ok(new) = format!(in alloc; "{path}.new") else {
-        return Err(Stop::from(CliFault::Memory));
-    };
-    match write_new(rt, new.as_str(), text) {
-        Ok(()) => {}
-        Err(error) => return Err(Stop::unmade(alloc, new.as_str(), error)),
-    }
-    match fs::rename(rt, new.as_str(), path) {
+fn push<X: Drop>(all: &mut Vec<X>, one: X) -> Result<(), Stop> {
+    match all.push(one) {
         Ok(()) => Ok(()),
-        Err(error) => {
-            let _ = fs::remove_file(rt, new.as_str());
-            Err(Stop::unmade(alloc, path, error))
-        }
-    }
-}
-
-// Writes this to a file that isn't there yet. Where that fails there is none.
-fn write_new<R: Files>(rt: &R, path: &str, text: &[u8]) -> Result<(), Error> {
-    let mut file = OpenOptions::new()
-        .write(true)
-        .create_new(true)
-        .open(rt, path)?;
-    match file.write_all(text) {
-        Ok(()) => Ok(()),
-        Err(error) => {
-            let _ = fs::remove_file(rt, path);
-            Err(error)
-        }
+        Err(_) => Err(Stop::from(CliFault::Memory)),
     }
 }

@@ -6,13 +6,12 @@ use crate::running::Ran;
 use jr_cli::Findings;
 use jr_command::{Choice, CliFault};
 use jr_escape::Escaped;
-use jr_host::{Screen, Settled, Stop};
+use jr_host::{Outlet, Settled, Stop};
 use jr_model::LARGEST_END;
 use jr_places::{Fate, FileMap, FileMarks, map_of, marks_of};
 use jr_plan::{FileSpec, Plan};
 use jr_traces::Checked;
 use std::alloc::{AllocError, Global};
-use std::fs::Files;
 
 // A row of a map has so many cells, and a map so many rows.
 const COLUMNS: u32 = 64;
@@ -22,17 +21,13 @@ const ROWS: u32 = 16;
 // What is to be told of a run beside its report: its outputs, and whether maps are shown.
 #[derive(Drop)]
 pub struct Wanted {
-    outputs: Outputs,
+    pub outputs: Outputs,
     has_maps: bool,
 }
 
 impl Wanted {
     // What the words ask for. An output that can't be is refused.
-    pub fn of<R: Files + Screen + AllocGlobal>(
-        rt: &R,
-        choice: &Choice<'_>,
-        plan: &Plan,
-    ) -> Result<Wanted, Stop> {
+    pub fn of<R: Outlet>(rt: &R, choice: &Choice<'_>, plan: &Plan) -> Result<Wanted, Stop> {
         Ok(Wanted {
             outputs: Outputs::of(rt, choice, plan)?,
             // (the check of a trace shows them where they are asked for)
@@ -41,12 +36,18 @@ impl Wanted {
     }
 
     // Tells it, of a run that has its report, with which what can't be told is kept.
-    pub fn tell<R: Files + Screen + AllocGlobal>(&self, rt: &R, ran: Ran) -> Ran {
+    pub fn tell<R: Outlet>(&self, rt: &R, ran: Ran) -> Ran {
+        let traced = if ran.is_trace_cut {
+            Ok(())
+        } else {
+            self.outputs.finish_trace(rt)
+        };
         let told = self.tell_run(rt, &ran);
-        ran.and(told)
+        self.outputs.clear(rt);
+        ran.and(traced).and(told)
     }
 
-    fn tell_run<R: Files + Screen + AllocGlobal>(&self, rt: &R, ran: &Ran) -> Result<(), Stop> {
+    fn tell_run<R: Outlet>(&self, rt: &R, ran: &Ran) -> Result<(), Stop> {
         if self.outputs.is_empty() && !self.has_maps {
             return Ok(());
         }
@@ -57,12 +58,7 @@ impl Wanted {
     }
 
     // Tells it, of the run that a trace of the plan is of.
-    pub fn tell_trace<R: Files + Screen + AllocGlobal>(
-        &self,
-        rt: &R,
-        plan: &Plan,
-        run: &Checked,
-    ) -> Result<(), Stop>
+    pub fn tell_trace<R: Outlet>(&self, rt: &R, plan: &Plan, run: &Checked) -> Result<(), Stop>
         requires { IsLegalRun plan.now run.now }
     {
         if self.outputs.is_empty() && !self.has_maps {
@@ -74,7 +70,7 @@ impl Wanted {
         self.tell_findings(rt, &findings, &Settled::of_no_files(rt.alloc()))
     }
 
-    fn tell_findings<R: Files + Screen + AllocGlobal>(
+    fn tell_findings<R: Outlet>(
         &self,
         rt: &R,
         findings: &Findings<'_>,

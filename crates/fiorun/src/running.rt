@@ -1,6 +1,7 @@
 // Runs of a plan over its kind of engine.
 ghost use Rattle.std.specs.Prelude.{◌≤◌, ◌^◌};
 
+use crate::outputs::TraceFile;
 use crate::places::Wanted;
 use crate::unfailing::Unfailing;
 use jr_cli::{Ended, execute, execute_serial};
@@ -9,16 +10,15 @@ use jr_direct::Wish;
 use jr_engines::{Engine, MemoryEngine, NullEngine, SharedMemory};
 use jr_files::{FileEngine, SharedFile};
 use jr_host::{
-    Asked, Extent, Machine, Pace, Screen, Settled, Stop, Taken, Wiper, asked_by, is_taken, shown,
-    take_files,
+    Asked, Extent, Machine, Outlet, Pace, Settled, Stop, Taken, Wiper, asked_by, shown, take_files,
 };
 use jr_model::EngineKind;
 use jr_plan::Plan;
 use std::alloc::Global;
 use std::fs::{File, Files};
+use std::io;
 use std::io::{BufWriter, Printer};
 use std::sync::{Arc, Wait};
-use std::{fs, io};
 
 // How far the program gets by itself: to its end with this status, to the end of a run, or to a run whose workers share a memory.
 #[derive(Drop)]
@@ -28,21 +28,25 @@ pub enum Turn {
     Shared(SharedRun),
 }
 
-// The file that a trace goes to.
-type TraceFile<F> = Unfailing<BufWriter<F>>;
-
 // How a run ended that has its report, what the system said of its files, and why the first of its other outputs couldn't be written,
 // where one couldn't.
 #[derive(Drop)]
 pub struct Ran {
     pub ended: Ended,
     pub settled: Settled,
+    // Whether a trace was asked for, and couldn't be written to its end.
+    pub is_trace_cut: bool,
     unwritten: Option<Stop>,
 }
 
 impl Ran {
     // A run over no files, whose report may be cut, with its trace where one was asked for.
-    fn new(alloc: Global, ended: Ended, is_cut: bool, trace: Option<TraceFile<File>>) -> Ran {
+    fn new<R: Outlet>(
+        alloc: Global,
+        ended: Ended,
+        is_cut: bool,
+        trace: Option<TraceFile<'_, R>>,
+    ) -> Ran {
         let is_trace_cut = match &trace {
             Some(trace) => trace.has_failed,
             None => false,
@@ -55,6 +59,7 @@ impl Ran {
         Ran {
             ended,
             settled: Settled::of_no_files(alloc),
+            is_trace_cut,
             unwritten,
         }
     }
@@ -64,11 +69,13 @@ impl Ran {
         let Ran {
             ended,
             settled: _nothing,
+            is_trace_cut,
             unwritten,
         } = self;
         Ran {
             ended,
             settled,
+            is_trace_cut,
             unwritten,
         }
     }
@@ -92,31 +99,22 @@ impl Ran {
     }
 }
 
-// A run whose workers share a memory: the plan, how many they are, the file that the trace goes to, what is asked of it, and what is told
-// behind its report.
+// A run whose workers share a memory: the plan, how many they are, what is asked of it, and what is told behind its report.
 #[derive(Drop)]
 pub struct SharedRun {
     pub plan: Plan,
     pub workers: u32,
-    events: Option<TraceFile<File>>,
     asked: Arc<Asked, Global>,
     wanted: Option<Wanted>,
 }
 
-// The file that the trace of a run goes to, made anew, where one is asked for.
-fn trace_file<R: Files + AllocGlobal>(
-    rt: &R,
-    trace: Option<&str>,
-) -> Result<Option<TraceFile<R::File>>, Stop> {
-    let Some(path) = trace else {
-        return Ok(None);
-    };
-    match fs::create(rt, path) {
-        Ok(file) => match BufWriter::new(rt.alloc(), file) {
-            Ok(out) => Ok(Some(Unfailing::new(out))),
-            Err(_) => Err(Stop::from(CliFault::Memory)),
-        },
-        Err(error) => Err(Stop::unmade(rt.alloc(), path, error)),
+impl SharedRun {
+    // Why the program ends where the run can't begin. Its outputs are as if it had not been asked for.
+    pub fn given_up<R: Outlet>(&self, rt: &R, fault: CliFault) -> Stop {
+        if let Some(wanted) = &self.wanted {
+            wanted.outputs.clear(rt);
+        }
+        Stop::from(fault)
     }
 }
 
@@ -129,19 +127,24 @@ pub fn to_output<P: Print + AllocGlobal>(rt: &P) -> Result<BufWriter<Printer<'_,
 }
 
 // Runs the plan, but for one over a memory that several workers share, and tells where it found what.
-pub fn run_plan<R: Files<File = File> + Print + Machine>(
+pub fn run_plan<R: Outlet + Machine>(
     rt: &R,
     choice: &Choice<'_>,
     wishes: &[Wish],
     plan: Plan,
 ) -> Result<Turn, Stop> {
     let wanted = Wanted::of(rt, choice, &plan)?;
-    let turn = run_engines(rt, choice, wishes, plan)?;
-    told(rt, wanted, turn)
+    match run_engines(rt, choice, wishes, &wanted, plan) {
+        Ok(turn) => told(rt, wanted, turn),
+        Err(stop) => {
+            wanted.outputs.clear(rt);
+            Err(stop)
+        }
+    }
 }
 
 // What is wanted is told of a run that has ended, and kept with one that is still to come.
-fn told<R: Files + Screen + AllocGlobal>(rt: &R, wanted: Wanted, turn: Turn) -> Result<Turn, Stop> {
+fn told<R: Outlet>(rt: &R, wanted: Wanted, turn: Turn) -> Result<Turn, Stop> {
     match turn {
         Turn::Ended(status) => Ok(Turn::Ended(status)),
         Turn::Ran(ran) => Ok(Turn::Ran(wanted.tell(rt, ran))),
@@ -153,43 +156,34 @@ fn told<R: Files + Screen + AllocGlobal>(rt: &R, wanted: Wanted, turn: Turn) -> 
 }
 
 // Runs the plan over its kind of engine.
-fn run_engines<R: Files<File = File> + Print + Machine>(
+fn run_engines<R: Outlet + Machine>(
     rt: &R,
     choice: &Choice<'_>,
     wishes: &[Wish],
+    wanted: &Wanted,
     plan: Plan,
 ) -> Result<Turn, Stop> {
-    if is_trace_refused(rt, choice, &plan) {
-        return Err(Stop::trace());
-    }
     let asked = asked_by(rt, Pace::of(rt, choice.progress), choice.stop_fd)?;
-    run_asked(rt, choice, asked, wishes, plan)
+    run_asked(rt, choice, asked, wishes, wanted, plan)
 }
 
 // The same, where this is asked of the run.
-fn run_asked<R: Files<File = File> + Print + Machine>(
+fn run_asked<R: Outlet + Machine>(
     rt: &R,
     choice: &Choice<'_>,
     asked: Arc<Asked, Global>,
     wishes: &[Wish],
+    wanted: &Wanted,
     plan: Plan,
 ) -> Result<Turn, Stop> {
     let workers = workers_of(&plan, choice.workers);
     match plan.engine() {
-        EngineKind::File => run_over_files(rt, choice, &asked, wishes, plan, workers),
+        EngineKind::File => run_over_files(rt, choice, &asked, wishes, wanted, plan, workers),
         EngineKind::Memory if is_alone(&plan, workers) => {
-            Ok(Turn::Ran(alone_over_memory(rt, choice, &asked, plan)?))
+            Ok(Turn::Ran(alone_over_memory(rt, wanted, &asked, plan)?))
         }
-        EngineKind::Memory => shared_run(rt, choice, asked, plan, workers),
-        EngineKind::Null => { Ok(Turn::Ran(run_over_nothing(rt, choice, &asked, plan, workers)?)) }
-    }
-}
-
-// Whether the trace would go over the job file or a file of the plan.
-fn is_trace_refused<R: Files>(rt: &R, choice: &Choice<'_>, plan: &Plan) -> bool {
-    match choice.trace {
-        Some(path) if plan.engine() == EngineKind::File => is_taken(rt, path, choice.job, plan),
-        _ => false,
+        EngineKind::Memory => Ok(shared_run(asked, plan, workers)),
+        EngineKind::Null => { Ok(Turn::Ran(run_over_nothing(rt, wanted, &asked, plan, workers)?)) }
     }
 }
 
@@ -199,16 +193,18 @@ fn is_alone(plan: &Plan, workers: u32) -> bool {
 }
 
 // Runs the plan over the system's files.
-fn run_over_files<R: Files<File = File> + Print + Machine>(
+fn run_over_files<R: Outlet + Machine>(
     rt: &R,
     choice: &Choice<'_>,
-    asked: &Asked,
+    asked: &Arc<Asked, Global>,
     wishes: &[Wish],
+    wanted: &Wanted,
     plan: Plan,
     workers: u32,
 ) -> Result<Turn, Stop> {
-    let files = take_files(rt, &plan, choice, wishes)?;
-    let ran = run_over_taken(rt, choice, asked, &files, plan, workers);
+    let kept = wanted.outputs.kept(rt)?;
+    let files = take_files(rt, &plan, choice, wishes, kept.as_slice())?;
+    let ran = run_over_taken(rt, wanted, asked, &files, plan, workers);
     settled(rt, &files, ran)
 }
 
@@ -224,108 +220,100 @@ fn settled<R: Eprint + AllocGlobal>(
 }
 
 // The same over these files, which were taken.
-fn run_over_taken<R: Files<File = File> + Print + Machine>(
+fn run_over_taken<R: Outlet + Machine>(
     rt: &R,
-    choice: &Choice<'_>,
-    asked: &Asked,
+    wanted: &Wanted,
+    asked: &Arc<Asked, Global>,
     files: &Taken<'_>,
     plan: Plan,
     workers: u32,
 ) -> Result<Ran, Stop> {
     if is_alone(&plan, workers) {
-        alone_over_files(rt, choice, asked, files, plan)
+        alone_over_files(rt, wanted, asked, files, plan)
     } else {
-        crew_over_files(rt, choice, asked, files, plan, workers)
+        crew_over_files(rt, wanted, asked, files, plan, workers)
     }
 }
 
 // The same with one worker, which judges its own checks.
-fn alone_over_files<R: Files<File = File> + Print + Machine>(
+fn alone_over_files<R: Outlet + Machine>(
     rt: &R,
-    choice: &Choice<'_>,
-    asked: &Asked,
+    wanted: &Wanted,
+    asked: &Arc<Asked, Global>,
     files: &Taken<'_>,
     plan: Plan,
 ) -> Result<Ran, Stop> {
     let mut engine = files.engine(rt, 0)?;
     files.begin(rt, &engine);
-    alone_over(rt, choice, asked, plan, &mut engine)
+    alone_over(rt, wanted, asked, plan, &mut engine)
 }
 
 // The same with so many workers.
-fn crew_over_files<R: Files<File = File> + Print + Machine>(
+fn crew_over_files<R: Outlet + Machine>(
     rt: &R,
-    choice: &Choice<'_>,
-    asked: &Asked,
+    wanted: &Wanted,
+    asked: &Arc<Asked, Global>,
     files: &Taken<'_>,
     plan: Plan,
     workers: u32,
 ) -> Result<Ran, Stop> {
-    let events = trace_file(rt, choice.trace)?;
+    let events = wanted.outputs.trace(rt)?;
     let engines = file_engines(rt, files, workers)?;
     Ok(run_files(rt, asked, plan, engines, events)?)
 }
 
 // Runs the plan with one worker over a memory.
-fn alone_over_memory<R: Files<File = File> + Print + Machine>(
+fn alone_over_memory<R: Outlet + Machine>(
     rt: &R,
-    choice: &Choice<'_>,
-    asked: &Asked,
+    wanted: &Wanted,
+    asked: &Arc<Asked, Global>,
     plan: Plan,
 ) -> Result<Ran, Stop> {
     match MemoryEngine::new(rt.alloc(), &plan) {
         Ok(engine) => {
             let mut engine = engine;
-            alone_over(rt, choice, asked, plan, &mut engine)
+            alone_over(rt, wanted, asked, plan, &mut engine)
         }
         Err(_) => Err(Stop::from(CliFault::Memory)),
     }
 }
 
 // A run with so many workers over a memory that they share is still to come.
-fn shared_run<R: Files<File = File> + AllocGlobal>(
-    rt: &R,
-    choice: &Choice<'_>,
-    asked: Arc<Asked, Global>,
-    plan: Plan,
-    workers: u32,
-) -> Result<Turn, Stop> {
-    let events = trace_file(rt, choice.trace)?;
-    Ok(Turn::Shared(SharedRun {
+fn shared_run(asked: Arc<Asked, Global>, plan: Plan, workers: u32) -> Turn {
+    Turn::Shared(SharedRun {
         plan,
         workers,
-        events,
         asked,
         wanted: None,
-    }))
+    })
 }
 
 // Runs the plan over nothing.
-fn run_over_nothing<R: Files<File = File> + Print + Machine>(
+fn run_over_nothing<R: Outlet + Machine>(
     rt: &R,
-    choice: &Choice<'_>,
-    asked: &Asked,
+    wanted: &Wanted,
+    asked: &Arc<Asked, Global>,
     plan: Plan,
     workers: u32,
 ) -> Result<Ran, Stop> {
     if is_alone(&plan, workers) {
-        return alone_over(rt, choice, asked, plan, &mut NullEngine::new());
+        return alone_over(rt, wanted, asked, plan, &mut NullEngine::new());
     }
-    let events = trace_file(rt, choice.trace)?;
+    let events = wanted.outputs.trace(rt)?;
     Ok(run_nulls(rt, asked, plan, workers, events)?)
 }
 
 // Runs the plan over this engine with one worker, which judges its own checks.
-fn alone_over<R: Files<File = File> + Print + Machine>(
+fn alone_over<R: Outlet + Machine>(
     rt: &R,
-    choice: &Choice<'_>,
-    asked: &Asked,
+    wanted: &Wanted,
+    asked: &Arc<Asked, Global>,
     plan: Plan,
     engine: &mut dyn Engine,
 ) -> Result<Ran, Stop>
     requires { (state engine.old).calls ≤ 2 ^ 63 }
 {
-    let events = trace_file(rt, choice.trace)?;
+    let events = wanted.outputs.trace(rt)?;
     Ok(run_over(rt, asked, events, plan, engine)?)
 }
 
@@ -362,10 +350,10 @@ pub fn add<X: Drop>(all: &mut Vec<X>, one: X) -> Result<(), CliFault> {
 }
 
 // Runs the plan over this engine with one worker, and writes the report and then the trace where one is asked for.
-fn run_over<R: Print + Machine>(
+fn run_over<R: Outlet + Machine>(
     rt: &R,
-    asked: &Asked,
-    events: Option<TraceFile<File>>,
+    asked: &Arc<Asked, Global>,
+    events: Option<TraceFile<'_, R>>,
     plan: Plan,
     engine: &mut dyn Engine,
 ) -> Result<Ran, CliFault>
@@ -391,12 +379,12 @@ fn run_over<R: Print + Machine>(
 }
 
 // Runs the plan over the system's files, with a worker for each of these engines.
-fn run_files<R: Print + Machine>(
+fn run_files<R: Outlet + Machine>(
     rt: &R,
-    asked: &Asked,
+    asked: &Arc<Asked, Global>,
     plan: Plan,
     shares: Vec<FileEngine<SharedFile>>,
-    events: Option<TraceFile<File>>,
+    events: Option<TraceFile<'_, R>>,
 ) -> Result<Ran, CliFault> {
     let mut engines: Vec<Box<dyn Engine + Send>> = Vec::new(rt.alloc());
     for engine in shares {
@@ -406,12 +394,12 @@ fn run_files<R: Print + Machine>(
 }
 
 // Runs the plan over nothing, with so many workers.
-fn run_nulls<R: Print + Machine>(
+fn run_nulls<R: Outlet + Machine>(
     rt: &R,
-    asked: &Asked,
+    asked: &Arc<Asked, Global>,
     plan: Plan,
     workers: u32,
-    events: Option<TraceFile<File>>,
+    events: Option<TraceFile<'_, R>>,
 ) -> Result<Ran, CliFault> {
     let mut engines: Vec<Box<dyn Engine + Send>> = Vec::new(rt.alloc());
     for _ in 0..workers {
@@ -437,7 +425,7 @@ pub fn shares<R: Wait + Clone + Drop>(
 }
 
 // Runs the job over the shares of a memory, writes its report to standard output, and tells where it found what.
-pub fn run_memory<R: Files + Print + Machine>(
+pub fn run_memory<R: Outlet + Machine>(
     rt: &R,
     job: SharedRun,
     engines: Vec<Box<dyn Engine + Send>>,
@@ -445,24 +433,40 @@ pub fn run_memory<R: Files + Print + Machine>(
     let SharedRun {
         plan,
         workers: _,
-        events,
         asked,
         wanted,
     } = job;
-    let ran = run_with(rt, &asked, plan, engines, events)?;
-    match wanted {
-        Some(wanted) => Ok(wanted.tell(rt, ran)),
-        None => Ok(ran),
+    let Some(wanted) = wanted else {
+        return Ok(run_with(rt, &asked, plan, engines, None)?);
+    };
+    match traced(rt, &asked, &wanted, plan, engines) {
+        Ok(ran) => Ok(wanted.tell(rt, ran)),
+        Err(stop) => {
+            wanted.outputs.clear(rt);
+            Err(stop)
+        }
     }
 }
 
-// Runs the plan with a worker for each engine, and writes the report and then the trace where one is asked for.
-fn run_with<R: Print + Machine>(
+// The same, with its trace.
+fn traced<R: Outlet + Machine>(
     rt: &R,
-    asked: &Asked,
+    asked: &Arc<Asked, Global>,
+    wanted: &Wanted,
     plan: Plan,
     engines: Vec<Box<dyn Engine + Send>>,
-    events: Option<TraceFile<File>>,
+) -> Result<Ran, Stop> {
+    let events = wanted.outputs.trace(rt)?;
+    Ok(run_with(rt, asked, plan, engines, events)?)
+}
+
+// Runs the plan with a worker for each engine, and writes the report and then the trace where one is asked for.
+fn run_with<R: Outlet + Machine>(
+    rt: &R,
+    asked: &Arc<Asked, Global>,
+    plan: Plan,
+    engines: Vec<Box<dyn Engine + Send>>,
+    events: Option<TraceFile<'_, R>>,
 ) -> Result<Ran, CliFault> {
     let alloc = rt.alloc();
     let mut out = to_output(rt)?;

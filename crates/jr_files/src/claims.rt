@@ -5,17 +5,19 @@ use crate::devices::held;
 use crate::directs::Directs;
 use crate::faults::FileFault;
 use crate::file_engine::FileEngine;
+use crate::kept::{Kept, is_kept};
+use crate::lengths::extended;
+use crate::made::Made;
 use crate::making::opened_file;
-use crate::refusals::{Act, Refusal, Why};
+use crate::refusals::{Refusal, Why};
 use crate::shares::{Reads, SharedFile};
-use crate::uses::{is_checked, is_written};
-use jr_devices::{FileNumbers, Layers, first_overlap, first_twins};
+use crate::uses::is_written;
+use jr_devices::{Layers, first_overlap, first_twins};
 use jr_plan::Plan;
 use std::alloc::{AllocError, Global};
-use std::fs::{File, TryLockError};
+use std::fs::File;
 use std::io::ErrorKind;
 use std::rt::Files;
-use std::{fs, io};
 
 /// How a plan's files are taken.
 #[derive(Clone, Copy, Debug, PartialEq, Eq)]
@@ -45,28 +47,30 @@ pub fn claim<R: Files<File = File>>(
     ensures ok { IfOk result (λ engine. IsFresh engine (length plan.now.files)) }
     ensures err { IfErr result (λ refusal. IsOpenFault refusal.fault (length plan.now.files)) }
 {
-    claim_direct(rt, alloc, plan, claims, Directs::none())
+    claim_direct(rt, alloc, plan, claims, Directs::none(), &[])
 }
 
 /// The same, but some of the files go past the system's cache. What is read of those comes from the device, with no sync before;
 /// those that can't go past it are as the others.
 ///
-/// Refused is also a file whose file system takes no such calls, and one of which a clone would use parts of sectors.
+/// Refused is also a file whose file system takes no such calls, one of which a clone would use parts of sectors, and one that the run keeps
+/// for something else, before any is extended.
 pub fn claim_direct<R: Files<File = File>>(
     rt: &R,
     alloc: Global,
     plan: &Plan,
     claims: Claims,
     directs: Directs<'_>,
+    kept: &[Kept<'_>],
 ) -> Result<FileEngine<SharedFile>, Refusal>
     ensures ok { IfOk result (λ engine. IsFresh engine (length plan.now.files)) }
     ensures err { IfErr result (λ refusal. IsOpenFault refusal.fault (length plan.now.files)) }
 {
     let mut made = Vec::new(alloc);
-    let claimed = claimed(rt, alloc, plan, claims, directs, &mut made);
+    let claimed = claimed(rt, alloc, plan, claims, directs, kept, &mut made);
     if claimed.is_err() {
-        for path in made.as_slice() {
-            remove_made(rt, path.as_str());
+        for one in made.as_slice() {
+            one.remove(rt);
         }
     }
     claimed
@@ -79,7 +83,8 @@ fn claimed<R: Files<File = File>>(
     plan: &Plan,
     claims: Claims,
     directs: Directs<'_>,
-    made: &mut Vec<String>,
+    kept: &[Kept<'_>],
+    made: &mut Vec<Made>,
 ) -> Result<FileEngine<SharedFile>, Refusal>
     ensures ok { IfOk result (λ engine. IsFresh engine (length plan.now.files)) }
     ensures err { IfErr result (λ refusal. IsOpenFault refusal.fault (length plan.now.files)) }
@@ -91,6 +96,7 @@ fn claimed<R: Files<File = File>>(
     }
     apart(alloc, plan, files.as_slice())?;
     without_overlap(rt, alloc, plan, files.as_slice())?;
+    unkept(rt, alloc, plan, files.as_slice(), kept)?;
     let held = if claims.devices_in_use {
         Vec::new(alloc)
     } else {
@@ -116,6 +122,26 @@ fn apart(alloc: Global, plan: &Plan, files: &[SharedFile]) -> Result<(), Refusal
     let first = name_of(alloc, plan, first)?;
     let second_name = name_of(alloc, plan, second)?;
     Err(refused(second, Why::OneFile(first, second_name)))
+}
+
+// Whether the run keeps none of the files for something else.
+fn unkept<R: Files>(
+    rt: &R,
+    alloc: Global,
+    plan: &Plan,
+    files: &[SharedFile],
+    kept: &[Kept<'_>],
+) -> Result<(), Refusal>
+    requires { length files.now ≡ length plan.now.files }
+    ensures { IfErr result (λ refusal. IsOpenFault refusal.fault (length plan.now.files)) }
+{
+    for (index, file) in files.iter().enumerate() {
+        if is_kept(rt, file, kept) {
+            let name = name_of(alloc, plan, index)?;
+            return Err(refused(index, Why::Kept(name)));
+        }
+    }
+    Ok(())
 }
 
 // Whether no two of the files have bytes of one disk or file in common: a disk and its partition, a loop device and its image.
@@ -147,30 +173,6 @@ fn without_overlap<R: Files>(
     Err(refused(second, Why::Overlap(first, second_name)))
 }
 
-// Removes a file that this call has made. One that another run has locked, has put in its place or has written stays.
-fn remove_made<R: Files<File = File>>(rt: &R, path: &str) {
-    let Ok(file) = File::open(rt, path) else {
-        return;
-    };
-    if matches!(file.try_lock(), Err(TryLockError::WouldBlock)) {
-        return;
-    }
-    if is_empty_at(rt, &file, path).unwrap_or(false) {
-        let _ = fs::remove_file(rt, path);
-    }
-}
-
-// Whether this open file has no bytes, and is the one at the path.
-fn is_empty_at<R: Files>(rt: &R, file: &File, path: &str) -> io::Result<bool> {
-    let metadata = file.metadata()?;
-    let there = FileNumbers::of(&fs::metadata(rt, path)?);
-    Ok(
-        metadata.is_file()
-            && metadata.len() == 0
-            && FileNumbers::of(&metadata).identity() == there.identity(),
-    )
-}
-
 // Locks each file: for this run alone where a clone writes it. The lock is of the file at that path only if it is there still: another
 // run may have made and removed it meanwhile. A device that is held is this run's, whoever has its lock: who may only read can have that.
 fn locked<R: Files>(
@@ -197,52 +199,14 @@ fn locked<R: Files>(
     Ok(())
 }
 
-// Extends each plain file that is too short. One that is only read and checked is read as it stands.
-fn extended<R: Files<File = File>>(
-    rt: &R,
-    alloc: Global,
-    plan: &Plan,
-    files: &[SharedFile],
-) -> Result<(), Refusal>
-    requires { length files.now ≡ length plan.now.files }
-    ensures { IfErr result (λ refusal. IsOpenFault refusal.fault (length plan.now.files)) }
-{
-    for (index, file) in files.iter().enumerate() {
-        let spec = &plan.files()[index];
-        if !is_written(plan, index) && is_checked(plan, index) {
-            continue;
-        }
-        if let Some(has) = file.device_length()
-            && has < spec.high()
-        {
-            let name = name_of(alloc, plan, index)?;
-            return Err(refused(index, Why::TooSmall(name, has, spec.high())));
-        }
-        if !file.is_plain() {
-            continue;
-        }
-        // (a byte is no sector: a direct file is opened anew for it)
-        let end = if is_written(plan, index) && !file.goes_direct() {
-            file.lengthen(spec.high())
-        } else {
-            file.lengthen_by_name(rt, spec.name(), spec.high())
-        };
-        if let Err(error) = end {
-            let name = name_of(alloc, plan, index)?;
-            return Err(refused(index, Why::System(Act::Extend, name, error)));
-        }
-    }
-    Ok(())
-}
-
 // The name of one of the plan's files.
-fn name_of(alloc: Global, plan: &Plan, index: usize) -> Result<String, AllocError>
+pub(crate) fn name_of(alloc: Global, plan: &Plan, index: usize) -> Result<String, AllocError>
     requires { index < length plan.now.files }
 {
     String::from_str(alloc, plan.files()[index].name())
 }
 
-fn refused(index: usize, why: Why) -> Refusal
+pub(crate) fn refused(index: usize, why: Why) -> Refusal
     ensures { result.fault ≡ FileFault.File index }
 {
     Refusal {

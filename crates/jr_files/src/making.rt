@@ -5,15 +5,16 @@ ghost use Rattle.jr_files.specs.Engines.{IsOpenFault};
 use crate::directs::{Directs, as_wanted};
 use crate::faults::FileFault;
 use crate::file_engine::open;
+use crate::made::Made;
 use crate::opened::{FileUses, OpenedFile};
 use crate::refusals::{Act, Refusal, Why};
 use crate::shares::{Reads, SharedFile};
 use crate::uses::{is_checked, is_written};
-use jr_devices::FileNumbers;
+use jr_devices::{FileNumbers, end_of_links};
 use jr_plan::Plan;
 use jr_transfer::{Failures, Marks};
 use std::alloc::Global;
-use std::fs::{File, OpenOptions};
+use std::fs::File;
 use std::io::ErrorKind;
 use std::os::unix::fs::FileTypeExt;
 use std::path::Path;
@@ -21,7 +22,7 @@ use std::rt::Files;
 use std::{fs, io};
 
 /// Opens this file of the plan, for reading alone if no clone writes it, and past the system's cache if that is wanted; and adds
-/// its path to `made` if it had to be made. One that is only read and checked has to be there.
+/// it to `made` if it had to be made. One that is only read and checked has to be there.
 pub(crate) fn opened_file<R: Files<File = File>>(
     rt: &R,
     alloc: Global,
@@ -29,7 +30,7 @@ pub(crate) fn opened_file<R: Files<File = File>>(
     index: usize,
     reads: Reads,
     directs: Directs<'_>,
-    made: &mut Vec<String>,
+    made: &mut Vec<Made>,
 ) -> Result<SharedFile, Refusal>
     requires { index < length plan.now.files }
     ensures { IfErr result (λ refusal. IsOpenFault refusal.fault (length plan.now.files)) }
@@ -85,7 +86,7 @@ fn open_or_make<R: Files<File = File>>(
     name: &str,
     is_written: bool,
     act: &mut Act,
-    made: &mut Vec<String>,
+    made: &mut Vec<Made>,
 ) -> io::Result<File> {
     match open_there(rt, name, is_written) {
         Err(error) if error.kind() == ErrorKind::NotFound => {
@@ -113,24 +114,19 @@ fn open_there<R: Files<File = File>>(rt: &R, name: &str, is_written: bool) -> io
     open(rt, name, is_written)
 }
 
-// Makes the file, also where a link to nothing leads, and adds its path to those that were made.
+// Makes the file, also where a link to nothing leads, and adds it to those that were made.
 fn make<R: Files<File = File>>(
     rt: &R,
     alloc: Global,
     name: &str,
-    made: &mut Vec<String>,
+    made: &mut Vec<Made>,
 ) -> io::Result<()> {
-    made.reserve(1)?;
     let path = String::from_str(alloc, name)?;
-    match File::create_new(rt, name) {
-        Ok(_) => {
-            made.push(path)?;
-            Ok(())
-        }
+    match make_at(rt, path, made) {
         Err(error) if error.kind() == ErrorKind::AlreadyExists && is_link(rt, name) => {
             make_behind(rt, alloc, name, made)
         }
-        Err(error) => Err(error),
+        result => result,
     }
 }
 
@@ -139,19 +135,21 @@ fn make_behind<R: Files<File = File>>(
     rt: &R,
     alloc: Global,
     name: &str,
-    made: &mut Vec<String>,
+    made: &mut Vec<Made>,
 ) -> io::Result<()> {
-    OpenOptions::new()
-        .read(true)
-        .write(true)
-        .create(true)
-        .open(rt, name)?;
-    let path = rt.canonicalize(alloc, name)?.into_string();
-    let in_dev = is_in_dev(rt, path.as_str());
-    made.push(path)?;
-    if in_dev {
+    let path = end_of_links(rt, alloc, name)?;
+    if is_in_dev(rt, path.as_str()) {
         return Err(io::Error::from(ErrorKind::NotFound));
     }
+    make_at(rt, path, made)
+}
+
+// Makes the file of this path, which isn't there.
+fn make_at<R: Files<File = File>>(rt: &R, path: String, made: &mut Vec<Made>) -> io::Result<()> {
+    made.reserve(1)?;
+    let file = File::create_new(rt, path.as_str())?;
+    let identity = FileNumbers::of(&file.metadata()?).identity();
+    made.push(Made::new(path, identity))?;
     Ok(())
 }
 

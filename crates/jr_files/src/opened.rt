@@ -146,12 +146,26 @@ impl OpenedFile {
         if self.length()? >= high {
             return Ok(());
         }
-        let mut file = OpenOptions::new().read(true).write(true).open(rt, name)?;
+        lengthen(&mut self.opened_anew(rt, name)?, high)
+    }
+
+    /// Lets the file have so many bytes, and no more.
+    pub fn shorten<R: Files>(&self, rt: &R, name: &str, length: u64) -> io::Result<()> {
+        if self.uses.is_written {
+            self.file.set_len(length)
+        } else {
+            self.opened_anew(rt, name)?.set_len(length)
+        }
+    }
+
+    // The file, opened by its name to be written. It is an error that another one has the name.
+    fn opened_anew<R: Files>(&self, rt: &R, name: &str) -> io::Result<R::File> {
+        let file = OpenOptions::new().read(true).write(true).open(rt, name)?;
         let there = FileNumbers::of(&file.metadata()?);
         if there.identity() != self.numbers.identity() {
             return Err(io::Error::from(ErrorKind::NotFound));
         }
-        lengthen(&mut file, high)
+        Ok(file)
     }
 
     /// Reads bytes from `offset` on, and of a file that is checked none that weren't synced, and then dropped, since they were

@@ -119,6 +119,16 @@ impl SharedFile {
         self.file.lock(alone)
     }
 
+    /// How many bytes it has.
+    pub(crate) fn length(&self) -> io::Result<u64> {
+        self.file.length()
+    }
+
+    /// Lets it have so many bytes, and no more.
+    pub(crate) fn shorten<R: Files>(&self, rt: &R, name: &str, length: u64) -> io::Result<()> {
+        self.file.shorten(rt, name, length)
+    }
+
     /// Lets it have at least so many bytes.
     pub(crate) fn lengthen(&self, high: u64) -> io::Result<()> {
         self.file.lengthen(high)

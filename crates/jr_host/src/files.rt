@@ -1,9 +1,8 @@
 // The files of a run: taken before it begins, shared by its engines, and settled at its end.
-ghost use Rattle.std.specs.Prelude.{◌≡◌, ◌⊎◌, length, map, IfOk, IfErr, IfSome, IsTrue, vec_len};
+ghost use Rattle.std.specs.Prelude.{◌≡◌, ◌⊎◌, length, map, IfOk, IfErr, IfSome, vec_len};
 ghost use Rattle.std.specs.List.{range_with_len};
 ghost use Rattle.std.specs.Option.{option_copied};
 ghost use Rattle.jr_direct.specs.Wishes.{wish_of};
-ghost use Rattle.jr_host.specs.Paths.{IsPathOf};
 ghost use Rattle.jr_host.specs.Wanted.{wishes_of};
 
 use crate::remarks::{Remarks, reasons_of};
@@ -14,15 +13,15 @@ use jr_command::{Choice, CliFault};
 use jr_direct::{Wish, wish_of};
 use jr_escape::Escaped;
 use jr_faults::Faults;
-use jr_files::{Claims, Directs, FileEngine, FileFault, Reads, Refusal, SharedFile, claim_direct};
+use jr_files::{Claims, Directs, FileEngine, Kept, Reads, Refusal, SharedFile, claim_direct};
 use jr_model::EngineKind;
 use jr_plan::Plan;
 use jr_text::{Section, sections};
 use jr_transfer::{Dropper, Launcher};
 use std::alloc::{AllocError, Global};
+use std::fs;
 use std::fs::{File, Files};
-use std::os::unix::fs::{FileTypeExt, MetadataExt};
-use std::{fs, io};
+use std::os::unix::fs::FileTypeExt;
 
 /// The plan's files, open for this run, and the launcher that takes them out of the system's cache.
 #[derive(Drop)]
@@ -71,12 +70,13 @@ fn wishes_in(
 }
 
 /// Takes the plan's files. Where checks are to read the device, a launcher drops what the system keeps of them, or has the I/O of those
-/// whose jobs say so go past its cache.
+/// whose jobs say so go past its cache. None of them may be one that the run keeps for something else.
 pub fn take_files<'a, R: Files<File = File> + AllocGlobal + Screen>(
     rt: &R,
     plan: &Plan,
     choice: &Choice<'a>,
     wishes: &[Wish],
+    kept: &[Kept<'_>],
 ) -> Result<Taken<'a>, Stop>
     ensures { IfErr result (λ fault. (fault ≡ CliFault.Open) ⊎ (fault ≡ CliFault.Memory)) }
 {
@@ -86,7 +86,7 @@ pub fn take_files<'a, R: Files<File = File> + AllocGlobal + Screen>(
         choice.drop_pipes
     };
     let launcher = Launcher::new(pipes);
-    let files = match claimed(rt, plan, choice, wishes) {
+    let files = match claimed(rt, plan, choice, wishes, kept) {
         Ok(files) => files,
         Err(refusal) => return Err(Stop::files(refusal)),
     };
@@ -108,6 +108,7 @@ fn claimed<R: Files<File = File> + AllocGlobal>(
     plan: &Plan,
     choice: &Choice<'_>,
     wishes: &[Wish],
+    kept: &[Kept<'_>],
 ) -> Result<FileEngine<SharedFile>, Refusal> {
     let claims = Claims {
         reads: if choice.cached {
@@ -127,7 +128,7 @@ fn claimed<R: Files<File = File> + AllocGlobal>(
     } else {
         None
     };
-    claim_wanted(rt, plan, claims, wanted.as_slice(), asked.as_deref())
+    claim_wanted(rt, plan, claims, wanted.as_slice(), asked.as_deref(), kept)
 }
 
 // Whether a file of the plan is a block device.
@@ -147,9 +148,10 @@ fn claim_wanted<'x, R: Files<File = File> + AllocGlobal>(
     claims: Claims,
     wanted: &'x [bool],
     asked: Option<&'x Dropper>,
+    kept: &[Kept<'_>],
 ) -> Result<FileEngine<SharedFile>, Refusal> {
     let directs = Directs { wanted, asked };
-    claim_direct(rt, rt.alloc(), plan, claims, directs)
+    claim_direct(rt, rt.alloc(), plan, claims, directs, kept)
 }
 
 // Says of which files the I/O goes through the system's cache, though a job says direct=1.
@@ -224,32 +226,5 @@ impl<'a> Taken<'a> {
             cached: self.cached(),
             unstored,
         })
-    }
-}
-
-/// Whether a file of this path would be written over the job file, or over a file of the plan.
-pub fn is_taken<R: Files>(rt: &R, path: &str, job: Option<&str>, plan: &Plan) -> bool
-    ensures { IsPathOf path.now plan.now.files → IsTrue result }
-{
-    for file in plan.files() {
-        if leads_to(rt, path, file.name()) {
-            return true;
-        }
-    }
-    job.is_some_and(|job| is_one(rt, path, job))
-}
-
-/// Whether two paths are equal, or lead to one file that is there.
-pub fn leads_to<R: Files>(rt: &R, one: &str, other: &str) -> bool
-    ensures { one.now ≡ other.now → IsTrue result }
-{
-    one == other || is_one(rt, one, other)
-}
-
-// Whether two paths lead to one file that is there.
-fn is_one<R: Files>(rt: &R, one: &str, other: &str) -> bool {
-    match (fs::metadata(rt, one), fs::metadata(rt, other)) {
-        (Ok(one), Ok(other)) => one.dev() == other.dev() && one.ino() == other.ino(),
-        _ => false,
     }
 }

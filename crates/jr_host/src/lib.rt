@@ -13,8 +13,8 @@ mod stops;
 
 pub use asked::{Asked, asked_by};
 pub use extents::Extent;
-pub use files::{Taken, is_taken, leads_to, take_files, wishes};
-pub use machine::Machine;
+pub use files::{Taken, take_files, wishes};
+pub use machine::{Machine, Outlet};
 pub use settled::Settled;
 pub use show::{Meter, Pace, Screen, Wiper, shown};
 pub use stops::{Stop, tell_all};

@@ -3,11 +3,14 @@ ghost use Rattle.std.specs.Prelude.{◌≡◌, ◌⊎◌, None, IfSome};
 
 use crate::asked::Asked;
 use crate::extents::Extent;
+use crate::machine::Machine;
 use jr_command::Wipe;
 use jr_staff::{Progress, Watch};
+use std::alloc::{AllocError, Global};
 use std::io::IsTerminal;
-use std::sync::{Mutex, Wait};
-use std::thread::Threads;
+use std::sync::atomic::{AtomicBool, Ordering};
+use std::sync::{Arc, Mutex, Wait};
+use std::thread::Parker;
 use std::time::{Clock, Duration, Instant};
 use std::{fmt, io, thread};
 
@@ -18,6 +21,9 @@ pub trait Screen: Eprint {
 
     /// Whether standard output goes to one.
     fn prints_to_terminal(&self) -> bool;
+
+    /// Writes these bytes, which need not be text, to standard error.
+    fn write_error(&self, text: &[u8]) -> io::Result<()>;
 }
 
 impl Screen for HostRuntime {
@@ -28,7 +34,16 @@ impl Screen for HostRuntime {
     fn prints_to_terminal(&self) -> bool {
         self.stdout().is_terminal()
     }
+
+    fn write_error(&self, text: &[u8]) -> io::Result<()> {
+        Print::write_all(&self.stderr(), text)
+    }
 }
+
+// So long and so often the end of a run waits for a line that is being written.
+const PAUSE_MILLISECONDS: u64 = 10;
+
+const MOST_PAUSES: u32 = 50;
 
 // Back to the line's begin, and nothing on it.
 const WIPED: &str = "\r\x1b[K";
@@ -68,35 +83,36 @@ impl Pace {
 
 /// Calls `f`, which may be asked to stop. Meanwhile standard error shows how far a run of this extent is, at its pace and where it is asked
 /// for. `f` is handed the meter, to end that before the report; else it ends with `f`.
-pub fn shown<
-    R: Screen + Clock + Threads + Wait + Sync,
-    T,
-    F: for<'p> FnOnce(Watch<'p>, &'p Meter) -> T,
->(rt: &R, extent: Extent, asked: &Asked, f: F) -> T
+pub fn shown<R: Machine, T, F: for<'p> FnOnce(Watch<'p>, &'p Meter) -> T>(
+    rt: &R,
+    extent: Extent,
+    asked: &Arc<Asked, Global>,
+    f: F,
+) -> T
     requires { F.IsAlwaysCallable f }
 {
     let stop = asked.stop();
-    let meter = Meter::new(rt, extent);
-    let meter = &meter;
-    if asked.pace().seconds().is_none() && !asked.has_pipe() {
+    let is_shown = asked.pace().seconds().is_some() || asked.has_pipe();
+    // (a run that can't be shown goes on)
+    let Some(meter) = is_shown.then(|| Meter::shared(rt, extent)).flatten() else {
         let progress = None;
-        return f(Watch { progress, stop }, meter);
-    }
-    thread::scope(
-        thread::scope_env(),
-        rt,
-        move |scope| -> T
-            requires { F.IsAlwaysCallable f }
-        {
-            // (a run that can't be shown goes on)
-            let _shown = scope.spawn(move || show(rt, meter, asked));
-            let progress = Some(&meter.progress);
-            let ended = f(Watch { progress, stop }, meter);
-            meter.end(rt);
-            asked.wake();
-            ended
-        },
-    )
+        return f(Watch { progress, stop }, &Meter::new(rt, extent));
+    };
+    begin_to_show(rt, &meter, asked);
+    let progress = Some(&meter.progress);
+    let ended = f(Watch { progress, stop }, &meter);
+    meter.end(rt);
+    asked.wake();
+    ended
+}
+
+// Has a thread show the run. It is never joined: who reads what it says may have stopped to, and the run's end doesn't wait for that.
+fn begin_to_show<R: Machine>(rt: &R, meter: &Arc<Meter, Global>, asked: &Arc<Asked, Global>) {
+    let own: Result<R, AllocError> = rt.clone();
+    let (Ok(meter), Ok(asked), Ok(own)) = (Arc::try_clone(meter), Arc::try_clone(asked), own) else {
+        return;
+    };
+    let _shown = thread::spawn(rt, move || show(&own, &meter, &asked));
 }
 
 // What is shown of a run.
@@ -142,6 +158,7 @@ pub struct Meter {
     progress: Progress,
     begun: Option<Instant>,
     stage: Mutex<Stage>,
+    is_over: AtomicBool,
 }
 
 // What stands on the terminal of a run.
@@ -151,8 +168,6 @@ enum Stage {
     Blank,
     // A line without its end.
     Drawn,
-    // Nothing, and no more lines come.
-    Over,
 }
 
 impl Meter {
@@ -163,7 +178,13 @@ impl Meter {
             progress: Progress::new(),
             begun: Instant::now(rt).ok(),
             stage: Mutex::new(Stage::Blank),
+            is_over: AtomicBool::new(false),
         }
+    }
+
+    // The same for two threads, if there is memory for it.
+    fn shared<R: Clock + AllocGlobal>(rt: &R, extent: Extent) -> Option<Arc<Meter, Global>> {
+        Arc::new(rt.alloc(), Meter::new(rt, extent)).ok()
     }
 
     // How long ago the run began; no time where the clock can't be read.
@@ -177,7 +198,7 @@ impl Meter {
     // Draws the line in place of the one that stands there.
     fn draw<R: Eprint + Wait>(&self, rt: &R) {
         let mut stage = self.stage.lock(rt);
-        if *stage != Stage::Over {
+        if !self.is_over() {
             let _ = eprint!(rt; "{WIPED}{}", Gauge::of(self));
             *stage = Stage::Drawn;
         }
@@ -186,7 +207,7 @@ impl Meter {
     // Prints the line and the time, and ends it. One that was drawn goes.
     fn print<R: Eprint + Clock + Wait>(&self, rt: &R) {
         let mut stage = self.stage.lock(rt);
-        if *stage == Stage::Over {
+        if self.is_over() {
             return;
         }
         let front = if *stage == Stage::Drawn { WIPED } else { "" };
@@ -195,17 +216,26 @@ impl Meter {
         *stage = Stage::Blank;
     }
 
-    // Wipes the line that was drawn, once. No more come.
+    // Wipes the line that was drawn, once. No more come. A line that is just being written is waited for, but not for long: its reader may
+    // never take it.
     fn end<R: Eprint + Wait>(&self, rt: &R) {
-        let mut stage = self.stage.lock(rt);
-        if *stage == Stage::Drawn {
-            let _ = eprint!(rt; "{WIPED}");
+        if self.is_over.swap(true, Ordering::SeqCst) {
+            return;
         }
-        *stage = Stage::Over;
+        let pause = Parker::new();
+        for _ in 0..MOST_PAUSES {
+            if let Some(stage) = self.stage.try_lock() {
+                if *stage == Stage::Drawn {
+                    let _ = eprint!(rt; "{WIPED}");
+                }
+                return;
+            }
+            pause.park_timeout(rt, Duration::from_millis(PAUSE_MILLISECONDS));
+        }
     }
 
-    fn is_over<R: Wait>(&self, rt: &R) -> bool {
-        *self.stage.lock(rt) == Stage::Over
+    fn is_over(&self) -> bool {
+        self.is_over.load(Ordering::SeqCst)
     }
 }
 
@@ -229,7 +259,7 @@ fn show<R: Eprint + Clock + Wait>(rt: &R, meter: &Meter, asked: &Asked) {
     for _ in rt.forever() {
         let left = Duration::from_secs(due).saturating_sub(meter.passed(rt));
         asked.sleep(rt, period.map(|_| left));
-        if meter.is_over(rt) {
+        if meter.is_over() {
             return;
         }
         print_asked(rt, meter, asked);

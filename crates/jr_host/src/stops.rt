@@ -8,6 +8,7 @@ use jr_command::{CliFault, memory_or};
 use jr_escape::Escaped;
 use jr_files::{FileFault, Refusal};
 use jr_notes::Note;
+use jr_outputs::Unfit;
 use std::alloc::Global;
 use std::io;
 use std::io::ErrorKind;
@@ -25,10 +26,8 @@ enum Notes {
     None,
     Job(Vec<Note>),
     Files(Refusal),
-    // The trace would go over a file that is read or written otherwise.
-    Trace,
-    // The output that this word asks for would go over one, or over another output or what is no file.
-    Output(&'static str),
+    // The output that this word asks for can't go where its path leads.
+    Output(&'static str, Unfit),
     Pipe,
     // This couldn't be done to the file of this name.
     File(&'static str, String, io::Error),
@@ -79,23 +78,13 @@ impl Stop {
         }
     }
 
-    /// The trace would go to a file that is read or written otherwise.
-    pub fn trace() -> Stop
+    /// The output that this word asks for can't go where its path leads.
+    pub fn output(word: &'static str, why: Unfit) -> Stop
         ensures { result ≡ CliFault.Write }
     {
         Stop {
             fault: CliFault::Write,
-            notes: Notes::Trace,
-        }
-    }
-
-    /// The output that this word asks for would go to such a file, to that of another output, or to what is no file.
-    pub fn output(word: &'static str) -> Stop
-        ensures { result ≡ CliFault.Write }
-    {
-        Stop {
-            fault: CliFault::Write,
-            notes: Notes::Output(word),
+            notes: Notes::Output(word, why),
         }
     }
 
@@ -165,15 +154,8 @@ impl Notes {
                 let name = Escaped(name);
                 let _ = eprintln!(rt; "fiorun: note: cannot {act} {name}: {error}");
             }
-            Notes::Trace => {
-                let _ = eprintln!(rt;
-                    "fiorun: note: the trace's file is the job file or a file of a job"
-                );
-            }
-            Notes::Output(word) => {
-                let _ = eprintln!(rt;
-                    "fiorun: note: the path of {word} is that of the job file, a file of a job, a trace, another output or no file"
-                );
+            Notes::Output(word, why) => {
+                let _ = eprintln!(rt; "fiorun: note: the path of {word} is {why}");
             }
             Notes::Pipe => {
                 let _ = eprintln!(rt; "fiorun: note: --stop-fd names no pipe that can be read");

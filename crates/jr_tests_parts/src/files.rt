@@ -108,7 +108,7 @@ fn unasked<R: Files<File = File>>(
         wanted: &[true],
         asked: None,
     };
-    claim_direct(rt, alloc, plan, claims, directs)
+    claim_direct(rt, alloc, plan, claims, directs, &[])
 }
 
 // Engines of files in this folder, each over the file of its own.
