@@ -26,7 +26,6 @@ use Rattle.jr_writes.specs.LoggedWrites.{logged}
 use Rattle.jr_laws_steps.proofs.DrawnLaws.{started_are_drawn-law, started_fit-law}
 use Rattle.jr_laws_steps.proofs.PlaceLemmas.{made_at, any_at}
 use Rattle.jr_laws_steps.proofs.StartedLemmas.{same_some}
-use Rattle.jr_laws_log.proofs.DrawLaws.{log_is_intact_of_draws}
 use Rattle.jr_laws_rounds.specs.Rounds.{HasRound}
 use Rattle.jr_laws_rounds.specs.Standing.{take_up_write}
 use Rattle.jr_laws_rounds.proofs.StandingLists.{numbered_at}
@@ -41,6 +40,7 @@ use Rattle.jr_board.specs.Standings.{IsStanding, name_of}
 use Rattle.jr_board.specs.WriteLogs.{checked_by}
 use Rattle.jr_board.proofs.ChoiceLists.{given_here, given_behind, given_nowhere}
 use Rattle.jr_board.proofs.ChoiceMoves.{IsLeft, left_write}
+use Rattle.jr_board.proofs.LogMoves.{log_intact}
 use Rattle.jr_board.proofs.StandingMoves.{settled_is}
 
 mapped : {X Y : Type 0} (f : X → Y) (o : Option X) (y : Y) → option_map f o ≡ Some y → (x : X) × (o ≡ Some x) × (f x ≡ y)
@@ -137,12 +137,12 @@ module _ (plan : Plan) (board : Board) (is : IsBoard plan board) (c : ℕ) (job 
             ∙ ap Some its.piece
 
         pub intact_is : (draw : Draw) → slice_get (draws_of_job job write.pass) write.number ≡ Some draw
-            → is_some (logged board.log write) ≡ is_intact history write draw.piece
+            → is_some (logged board.log.writes write) ≡ is_intact history write draw.piece
         intact_is draw drawn =
             let clone : clone_of plan write.clone ≡ Some job = ap (clone_of plan) its.clone ∙ own in
             let below : write.pass < job.passes = subst (λ (p : ℕ). p < job.passes) (sym its.pass) stands.in_pass.within in
-            ap (λ (log : List (WriteId × Logged)). is_some (logged log write)) is.log
-            ∙ ap is_some (log_is_intact_of_draws plan history (checked_by plan) write job draw is.planned is.legal clone below drawn)
+            ap (λ (log : List (WriteId × Logged)). is_some (logged log write)) is.log.entries
+            ∙ ap is_some (log_intact plan history write.clone write.pass write.number job draw is.planned is.legal clone rounds below drawn)
             ∙ by (record { piece = draw.piece; expected = checked_by plan write draw.piece }) (is_intact history write draw.piece)
           where
             by : (entry : Logged) (b : Bool) → is_some (cond b (Some entry) None) ≡ b

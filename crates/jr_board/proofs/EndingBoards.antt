@@ -14,7 +14,8 @@ use Rattle.jr_board.specs.declared.board.Board.{Board}
 use Rattle.jr_board.specs.Boards.{IsBoard}
 use Rattle.jr_board.specs.Flyings.{IsFlying}
 use Rattle.jr_board.specs.Standings.{AreStanding}
-use Rattle.jr_board.specs.WriteLogs.{log_of_run}
+use Rattle.jr_board.specs.declared.written.CheckedLog.{CheckedLog}
+use Rattle.jr_board.specs.WriteLogs.{IsLog}
 use Rattle.jr_board.proofs.EndingParts.{OwnParts, own_parts}
 
 -- where no event is put to it, the board stays that of its history
@@ -34,7 +35,8 @@ board_stays plan before after is history handed flying log tallies standings =
       legal = ap (is_legal plan) history ∙ is.legal;
       tickets = subst (λ (h : List Event). IsHanded plan h after.tickets) same handed;
       flying = subst (λ (h : List Event). IsFlying plan h after.flying) same flying;
-      log = log ∙ is.log ∙ ap (log_of_run plan) same;
+      log = subst (λ (l : CheckedLog). IsLog plan after.history.items l) (sym log)
+          (subst (λ (h : List Event). IsLog plan h before.log) same is.log);
       tallies = subst (λ (h : List Event). IsTallied plan h after.tallies) same tallies;
       standings = subst (λ (h : List Event). AreStanding plan h after.standings.items) same standings;
     }
@@ -57,7 +59,7 @@ pub board_begins : (plan : Plan) (board : Board) → board.history.items ≡ []
     → IsPlanned plan
     → IsHanded plan [] board.tickets
     → IsFlying plan [] board.flying
-    → board.log ≡ []
+    → IsLog plan [] board.log
     → IsTallied plan [] board.tallies
     → AreStanding plan [] board.standings.items
     → IsBoard plan board
@@ -68,7 +70,7 @@ board_begins plan board none planned handed flying log tallies standings =
       legal = ap (is_legal plan) none;
       tickets = subst (λ (h : List Event). IsHanded plan h board.tickets) same handed;
       flying = subst (λ (h : List Event). IsFlying plan h board.flying) same flying;
-      log = log ∙ ap (log_of_run plan) same;
+      log = subst (λ (h : List Event). IsLog plan h board.log) same log;
       tallies = subst (λ (h : List Event). IsTallied plan h board.tallies) same tallies;
       standings = subst (λ (h : List Event). AreStanding plan h board.standings.items) same standings;
     }

@@ -1,5 +1,5 @@
--- What each event makes of what is in flight and of the write log.
-use Rattle.std.proofs.Common.{◌≡◌, ℕ, ◌<◌, List, [], ◌∷◌, ◌++◌, length, Bool, true, false, cond, ◌&&◌, not, arith, refl, sym, ◌∙◌, ap, subst}
+-- What each event makes of what is in flight.
+use Rattle.std.proofs.Common.{◌≡◌, ℕ, List, [], ◌∷◌, ◌++◌, length, Bool, true, false, cond, arith, refl, sym, ◌∙◌, ap, subst}
 use Rattle.std.specs.Prelude.{Option, Some, None, IfSome, nat_lt, ◌==◌, is_none, slice_get}
 use Rattle.std.specs.Option.{option_map}
 use Rattle.std.specs.BTreeMap.{insert_entry, is_at}
@@ -10,47 +10,31 @@ use Rattle.std.specs.Ordering.{nat_cmp, is_eq}
 use Rattle.std.proofs.lemmas.Bool.{and_parts, eq-eqb, ne_eqb, le-ltb, ltb-true}
 use Rattle.std.proofs.lemmas.Cmp.{nat_cmp_total}
 use Rattle.jr_model.specs.declared.blocks.Dir.{Dir}
-use Rattle.jr_model.specs.declared.events.IssueKind.{IssueKind}
 use Rattle.jr_model.specs.declared.blocks.Piece.{Piece}
-use Rattle.jr_model.specs.declared.contents.Expected.{Expected}
 use Rattle.jr_model.specs.declared.events.Event.{Event}
-use Rattle.jr_model.specs.declared.events.Event.TheVariants.{Issue, Probe, Skip, End, Verdict as Judged}
+use Rattle.jr_model.specs.declared.events.Event.TheVariants.{Skip, End, Verdict as Judged}
 use Rattle.jr_model.specs.declared.events.Outcome.{Outcome}
 use Rattle.jr_model.specs.declared.events.Started.{Started}
 use Rattle.jr_model.specs.declared.events.Verdict.{Verdict}
 use Rattle.jr_model.specs.declared.events.WriteId.{WriteId}
-use Rattle.jr_model.specs.declared.tickets.Ticket.{Ticket}
-use Rattle.jr_model.specs.declared.workloads.Draw.{Draw}
-use Rattle.jr_model.specs.Draws.{draws_of_job}
-use Rattle.jr_model.specs.History.{started, started_by, flies, outcome_of, is_write, ended_whole}
-use Rattle.jr_model.specs.LastWrite.{is_intact}
-use Rattle.jr_model.specs.Legal.{is_legal, is_clear as is_clear_after}
-use Rattle.jr_model.specs.Plan.{Plan, SubJob, clone_of}
+use Rattle.jr_model.specs.History.{started, started_by, flies, outcome_of}
+use Rattle.jr_model.specs.Legal.{is_clear as is_clear_after}
+use Rattle.jr_model.specs.Plan.{Plan, SubJob}
 use Rattle.jr_model.specs.Races.{has_raced}
 use Rattle.jr_model.specs.Tickets.{piece_fits}
 use Rattle.jr_model.proofs.LegalLaws.{is_legal-more}
-use Rattle.jr_model.specs.PlanFacts.{IsPlanned}
-use Rattle.jr_header.specs.Served.{ticket_expected}
 use Rattle.jr_flight.specs.declared.ios.Ended.{Ended}
 use Rattle.jr_flight.specs.declared.ios.Io.{Io}
 use Rattle.jr_flight.specs.Flights.{flying_io, is_clear, is_raced, marked, raced_so_far, writes}
-use Rattle.jr_writes.specs.declared.logs.Logged.{Logged}
-use Rattle.jr_writes.specs.LoggedWrites.{logged, settled, unsettled}
 use Rattle.jr_writes.proofs.EntryLemmas.{remove-insert_entry}
 use Rattle.jr_laws_steps.proofs.DrawnLaws.{started_fit-law}
 use Rattle.jr_laws_steps.proofs.PlaceLemmas.{item_at}
 use Rattle.jr_laws_steps.proofs.StartedLemmas.{started_next}
-use Rattle.jr_laws_log.specs.Flying.{dir_of, io_of, entry_of, flight_of}
-use Rattle.jr_laws_log.proofs.DrawLaws.{log_is_intact_of_draws}
+use Rattle.jr_laws_log.specs.Flying.{io_of, entry_of, flight_of}
 use Rattle.jr_laws_log.proofs.FlyingLaws.{flying_is_started, next_is_free, clear_is_clear, next_flies, others_fly_on, ended_flies_no_more, flight-skips}
-use Rattle.jr_laws_log.proofs.IntactLaws.{fresh_at_end}
-use Rattle.jr_laws_log.proofs.LogGrowth.{log-same, log-read, log-whole, log-failed}
 use Rattle.jr_laws_steps.specs.Nexts.{IsNext, grown}
-use Rattle.jr_tickets.specs.Kept.{IsOwn}
-use Rattle.jr_tickets.proofs.OwnTickets.{own_started}
 use Rattle.jr_board.specs.declared.flying.Flying.{Flying}
 use Rattle.jr_board.specs.Flyings.{with_begun, CanBegin, IsFlying}
-use Rattle.jr_board.specs.WriteLogs.{checked_by, log_of_run}
 use Rattle.jr_board.proofs.FlyingEntries.{absent_still, absent_marked, put_at, put_elsewhere, remove_beside, flight_in_order}
 
 -- a skip changes nothing of what flies
@@ -226,109 +210,3 @@ raced_other_flying plan h id flying apart was flying_now = by flying.begun apart
         ap raced_so_far (sym (put_elsewhere nat_cmp ended.io.id ended id (other_number id ended.io.id (other ended refl)) flying.flight begins.new))
         ∙ sym (ap (λ (es : List (ℕ × Ended)). raced_so_far (flying_io id es)) all)
         ∙ raced_in_flight plan h id flying_now
-
--- the log
-
--- an issue is no step of the log
-pub log_issue : (plan : Plan) (history : List Event) (worker : ℕ) (dir : IssueKind) (write : WriteId) (piece : Piece)
-    → IsNext plan history (Issue worker dir write piece)
-    → log_of_run plan (grown history (Issue worker dir write piece)) ≡ log_of_run plan history
-log_issue plan history worker dir write piece next =
-    log-same plan history (checked_by plan) next.legal (Issue worker dir write piece) next.may refl
-
--- nor is a check
-pub log_probe : (plan : Plan) (history : List Event) (worker : ℕ) (write : WriteId) (piece : Piece)
-    → IsNext plan history (Probe worker write piece)
-    → log_of_run plan (grown history (Probe worker write piece)) ≡ log_of_run plan history
-log_probe plan history worker write piece next =
-    log-same plan history (checked_by plan) next.legal (Probe worker write piece) next.may refl
-
--- nor is a skip
-pub log_skip : (plan : Plan) (history : List Event) (worker : ℕ) (write : WriteId)
-    → IsNext plan history (Skip worker write)
-    → log_of_run plan (grown history (Skip worker write)) ≡ log_of_run plan history
-log_skip plan history worker write next =
-    log-same plan history (checked_by plan) next.legal (Skip worker write) next.may refl
-
--- nor is a verdict
-pub log_verdict : (plan : Plan) (history : List Event) (worker id : ℕ) (verdict : Verdict)
-    → IsNext plan history (Judged worker id verdict)
-    → log_of_run plan (grown history (Judged worker id verdict)) ≡ log_of_run plan history
-log_verdict plan history worker id verdict next =
-    log-same plan history (checked_by plan) next.legal (Judged worker id verdict) next.may refl
-
-module _ (plan : Plan) (history : List Event) (ticket : Ticket) (outcome : Outcome)
-    (next : IsNext plan history (End ticket.worker ticket.id outcome)) (own : IsOwn plan history ticket)
-    (log : List (WriteId × Logged)) (is : log ≡ log_of_run plan history) where
-  -- the whole end of a write that didn't race
-  pub log_whole : (expected : Expected)
-      → is_write ticket.kind ≡ true
-      → (ended_whole (Some outcome) && not (has_raced history ticket.id)) ≡ true
-      → expected ≡ ticket_expected ticket
-      → settled log ticket.write ticket.piece expected ≡ log_of_run plan (grown history (End ticket.worker ticket.id outcome))
-  log_whole expected kind whole right =
-      let out = own_started plan history ticket own in
-      let was = log_of_run plan history in
-      ap (λ (es : List (WriteId × Logged)). settled es ticket.write ticket.piece expected) is
-      ∙ ap (settled was ticket.write ticket.piece) right
-      ∙ sym (ap (λ (t : Ticket). settled was t.write t.piece (ticket_expected t)) out.2)
-      ∙ sym (log-whole plan history (checked_by plan) next.legal ticket.worker ticket.id outcome out.0 next.may out.1
-      (ap (λ (t : Ticket). is_write t.kind) out.2 ∙ kind) whole)
-
-  -- another end of a write
-  pub log_broken : is_write ticket.kind ≡ true
-      → (ended_whole (Some outcome) && not (has_raced history ticket.id)) ≡ false
-      → unsettled log ticket.piece ≡ log_of_run plan (grown history (End ticket.worker ticket.id outcome))
-  log_broken kind broken =
-      let out = own_started plan history ticket own in
-      ap (λ (es : List (WriteId × Logged)). unsettled es ticket.piece) is
-      ∙ sym (ap (λ (t : Ticket). unsettled (log_of_run plan history) t.piece) out.2)
-      ∙ sym (log-failed plan history (checked_by plan) next.legal ticket.worker ticket.id outcome out.0 next.may out.1
-      (ap (λ (t : Ticket). is_write t.kind) out.2 ∙ kind) broken)
-
-  -- the end of a read or a check
-  pub log_unwritten : is_write ticket.kind ≡ false → log ≡ log_of_run plan (grown history (End ticket.worker ticket.id outcome))
-  log_unwritten kind =
-      let out = own_started plan history ticket own in
-      is
-      ∙ sym (log-read plan history (checked_by plan) next.legal ticket.worker ticket.id outcome out.0 next.may out.1
-      (ap (λ (t : Ticket). is_write t.kind) out.2 ∙ kind))
-
--- a ticket of a legal history is of a piece of whole blocks
-pub own_fits : (plan : Plan) (history : List Event) (ticket : Ticket)
-    → IsPlanned plan
-    → is_legal plan history ≡ true
-    → IsOwn plan history ticket
-    → piece_fits ticket.piece ≡ true
-own_fits plan history ticket planned legal own =
-    let out = own_started plan history ticket own in
-    sym (ap (λ (t : Ticket). piece_fits t.piece) out.2)
-    ∙ (started_fit-law plan history ticket.id out.0 planned legal out.1).1.fits
-
--- where a write may end, the log has nothing of it yet
-pub log_fresh : (plan : Plan) (history : List Event) (worker id : ℕ) (outcome : Outcome) (ticket : Ticket)
-    → IsNext plan history (End worker id outcome)
-    → IsOwn plan history ticket
-    → ticket.id ≡ id
-    → is_write ticket.kind ≡ true
-    → logged (log_of_run plan history) ticket.write ≡ None
-log_fresh plan history worker id outcome ticket next own same kind =
-    let out = own_started plan history ticket own in
-    sym (ap (λ (t : Ticket). logged (log_of_run plan history) t.write) out.2)
-    ∙ fresh_at_end plan history (checked_by plan) worker id outcome out.0 next.planned next.legal next.may
-    (subst (λ (n : ℕ). slice_get (started history) n ≡ Some out.0) same out.1)
-    (ap (λ (t : Ticket). is_write t.kind) out.2 ∙ kind)
-
--- the log has a draw of the plan just where it is intact, with what its check is judged by
-pub log_intact : (plan : Plan) (history : List Event) (c p k : ℕ) (job : SubJob) (draw : Draw)
-    → IsPlanned plan
-    → is_legal plan history ≡ true
-    → clone_of plan c ≡ Some job
-    → p < job.passes
-    → slice_get (draws_of_job job p) k ≡ Some draw
-    → logged (log_of_run plan history) (record { clone = c; pass = p; number = k })
-    ≡ cond (is_intact history (record { clone = c; pass = p; number = k }) draw.piece)
-    (Some (record { piece = draw.piece; expected = checked_by plan (record { clone = c; pass = p; number = k }) draw.piece })) None
-log_intact plan history c p k job draw planned legal of_job below drawn =
-    let write : WriteId = record { clone = c; pass = p; number = k } in
-    log_is_intact_of_draws plan history (checked_by plan) write job draw planned legal of_job below drawn

@@ -9,7 +9,9 @@ pub mod FlyingEntries
 pub mod FlyingMoves
 pub mod IssueMoves
 pub mod Keeping
+pub mod KeptEntries
 pub mod Leading
+pub mod LogMoves
 pub mod Preparing
 pub mod RestMoves
 pub mod Serving

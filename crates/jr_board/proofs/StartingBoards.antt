@@ -14,7 +14,7 @@ use Rattle.jr_board.specs.declared.standings.Standing.{Standing}
 use Rattle.jr_board.specs.Boards.{IsBoard}
 use Rattle.jr_board.specs.Flyings.{IsFlying}
 use Rattle.jr_board.specs.Standings.{AreStanding, IsStanding}
-use Rattle.jr_board.specs.WriteLogs.{log_of_run}
+use Rattle.jr_board.specs.WriteLogs.{IsLog}
 
 -- each clone of the plan has its standing
 pub clone_stands : (plan : Plan) (board : Board) (c : ℕ) (job : SubJob) → IsBoard plan board → clone_of plan c ≡ Some job
@@ -47,7 +47,7 @@ pub board_grows : (plan : Plan) (before after : Board) (event : Event)
     → after.history.items ≡ grown before.history.items event
     → IsHanded plan (grown before.history.items event) after.tickets
     → IsFlying plan (grown before.history.items event) after.flying
-    → after.log ≡ log_of_run plan (grown before.history.items event)
+    → IsLog plan (grown before.history.items event) after.log
     → IsTallied plan (grown before.history.items event) after.tallies
     → AreStanding plan (grown before.history.items event) after.standings.items
     → IsBoard plan after
@@ -59,7 +59,7 @@ board_grows plan before after event is may history handed flying log tallies sta
           subst (λ (h : List Event). is_legal plan h ≡ true) same (is_legal-more plan before.history.items event is.legal may);
       tickets = subst (λ (h : List Event). IsHanded plan h after.tickets) same handed;
       flying = subst (λ (h : List Event). IsFlying plan h after.flying) same flying;
-      log = subst (λ (h : List Event). after.log ≡ log_of_run plan h) same log;
+      log = subst (λ (h : List Event). IsLog plan h after.log) same log;
       tallies = subst (λ (h : List Event). IsTallied plan h after.tallies) same tallies;
       standings = subst (λ (h : List Event). AreStanding plan h after.standings.items) same standings;
     }

@@ -24,7 +24,7 @@ use Rattle.jr_model.specs.LastWrite.{is_intact}
 use Rattle.jr_model.specs.Legal.{may_happen, may_issue, may_take_up, is_this_probe, step_of, step_of_draw, step_of_clone}
 use Rattle.jr_model.specs.Machine.{seed_of_draw}
 use Rattle.jr_model.specs.Plan.{Plan, SubJob, clone_of, issued_as, declines_of}
-use Rattle.jr_model.specs.Rounds.{pass_of, write_id}
+use Rattle.jr_model.specs.Rounds.{has_rounds, pass_of, write_id}
 use Rattle.jr_writes.specs.declared.logs.Logged.{Logged}
 use Rattle.jr_writes.specs.LoggedWrites.{logged}
 use Rattle.jr_flight.specs.declared.ios.Io.{Io}
@@ -39,7 +39,7 @@ use Rattle.jr_board.specs.declared.standings.Issued.{Issued}
 use Rattle.jr_board.specs.declared.standings.Standing.{Standing}
 use Rattle.jr_board.specs.Boards.{IsBoard}
 use Rattle.jr_board.specs.WriteLogs.{checked_by}
-use Rattle.jr_board.proofs.FlyingMoves.{log_intact}
+use Rattle.jr_board.proofs.LogMoves.{log_intact}
 
 -- what is read at a place is the item there
 got_there : {X : Type 0} (items all : List X) (i : ℕ) (x : X) → items ≡ all → true ≡ ltb i (length items) → x ≡ get_or items i x
@@ -221,18 +221,19 @@ pub probe_expects : (plan : Plan) (board : Board) (worker : ℕ) (write : WriteI
     (pass : ℕ)
     → IsBoard plan board
     → IsNamed plan write job draw
+    → has_rounds job ≡ true
     → draw.piece ≡ piece
     → pass < job.passes
     → pass ≡ write.pass
     → may_happen plan board.history.items (Probe worker write piece) ≡ true
-    → wanted_of (logged board.log write) ≡ checked_by plan write piece
-probe_expects plan board worker write piece job draw pass is named there within here may =
+    → wanted_of (logged board.log.writes write) ≡ checked_by plan write piece
+probe_expects plan board worker write piece job draw pass is named rounds there within here may =
     let history = board.history.items in
     let entry : Piece → Logged = λ (p : Piece). record { piece = p; expected = checked_by plan write p } in
     let below : write.pass < job.passes = subst (λ (p : ℕ). p < job.passes) here within in
-    ap (λ (entries : List (WriteId × Logged)). wanted_of (logged entries write)) is.log
+    ap (λ (entries : List (WriteId × Logged)). wanted_of (logged entries write)) is.log.entries
     ∙ ap wanted_of
-    (log_intact plan history write.clone write.pass write.number job draw is.planned is.legal named.planned below named.drawn)
+    (log_intact plan history write.clone write.pass write.number job draw is.planned is.legal named.planned rounds below named.drawn)
     ∙ ap (λ (b : Bool). wanted_of (cond b (Some (entry draw.piece)) None))
     (probe_intact plan history worker write piece job draw named may)
     ∙ ap (checked_by plan write) there

@@ -9,7 +9,7 @@ use Rattle.jr_board.specs.declared.board.Board.{Board}
 use Rattle.jr_board.specs.declared.standings.Standing.{Standing}
 use Rattle.jr_board.specs.Flyings.{IsFlying}
 use Rattle.jr_board.specs.Standings.{ArePrepared, AreStanding}
-use Rattle.jr_board.specs.WriteLogs.{log_of_run}
+use Rattle.jr_board.specs.WriteLogs.{IsLog}
 
 -- the history is legal, and each index is that of the history
 pub record IsBoard (plan : Plan) (board : Board) : Type 0 where
@@ -17,7 +17,7 @@ pub record IsBoard (plan : Plan) (board : Board) : Type 0 where
   pub legal : is_legal plan board.history.items ≡ true
   pub tickets : IsHanded plan board.history.items board.tickets
   pub flying : IsFlying plan board.history.items board.flying
-  pub log : board.log ≡ log_of_run plan board.history.items
+  pub log : IsLog plan board.history.items board.log
   pub tallies : IsTallied plan board.history.items board.tallies
   pub standings : AreStanding plan board.history.items board.standings.items
 

@@ -1,9 +1,9 @@
 use crate::flying::Flying;
 use crate::standings::Standing;
+use crate::written::CheckedLog;
 use jr_model::Event;
 use jr_tallies::Tallies;
 use jr_tickets::TicketTable;
-use jr_writes::WriteLog;
 
 /// What happened in a run, and what is kept of it, so that no call looks at the whole history.
 #[derive(Drop)]
@@ -12,7 +12,7 @@ pub struct Board {
     pub history: Vec<Event>,
     pub tickets: TicketTable,
     pub flying: Flying,
-    pub log: WriteLog,
+    pub log: CheckedLog,
     pub tallies: Tallies,
     pub standings: Vec<Standing>,
 }

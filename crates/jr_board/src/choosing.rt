@@ -32,7 +32,7 @@ pub(crate) fn choose(plan: &Plan, board: &Board, worker: u32) -> Option<Chosen>
     requires board { IsBoard plan.now board.now }
     requires ready { IsReady plan.now board.now }
     ensures step { option_map (λ chosen. chosen.event) result ≡ choice plan.now board.now.history.items worker }
-    ensures judged { IfSome result (λ chosen. judged_by board.now.log chosen.event ≡ Some chosen.expected) }
+    ensures judged { IfSome result (λ chosen. judged_by board.now.log.writes chosen.event ≡ Some chosen.expected) }
 {
     let phase = open_phase(plan, board);
     for clone in 0..plan.clones() {
@@ -59,7 +59,7 @@ fn step_of_clone(
         → phase_is_open plan.now board.now.history.items job ≡ nat_le job.phase phase }
     ensures step { (job : Clone) → clone_of plan.now clone ≡ Some job
         → option_map (λ chosen. chosen.event) result ≡ choice_of_clone plan.now board.now.history.items worker job }
-    ensures judged { IfSome result (λ chosen. judged_by board.now.log chosen.event ≡ Some chosen.expected) }
+    ensures judged { IfSome result (λ chosen. judged_by board.now.log.writes chosen.event ≡ Some chosen.expected) }
 {
     let job = plan.clone_at(clone);
     let standing = &board.standings[clone];
@@ -96,7 +96,7 @@ fn round_step(
         → is_under_way (current_round job board.now.history.items) ≡ true
         → option_map (λ chosen. chosen.event) result
         ≡ first_given (take_up_write plan.now board.now.history.items worker job) (current_round job board.now.history.items).to_check }
-    ensures judged { IfSome result (λ chosen. judged_by board.now.log chosen.event ≡ Some chosen.expected) }
+    ensures judged { IfSome result (λ chosen. judged_by board.now.log.writes chosen.event ≡ Some chosen.expected) }
 {
     for place in 0..standing.rounds.left() {
         let Some(write) = standing.rounds.write_at(place) else {
@@ -126,7 +126,7 @@ fn take_up(
         → has_rounds job ≡ true → declines ≡ job.declines → is_halted board.now.history.items job ≡ false
         → list_any (same_write write) (current_round job board.now.history.items).to_check ≡ true
         → option_map (λ chosen. chosen.event) result ≡ take_up_write plan.now board.now.history.items worker job write }
-    ensures judged { IfSome result (λ chosen. judged_by board.now.log chosen.event ≡ Some chosen.expected) }
+    ensures judged { IfSome result (λ chosen. judged_by board.now.log.writes chosen.event ≡ Some chosen.expected) }
 {
     let issued = *standing.issued.get(write.number as usize)?;
     if issued.is_taken_up {
@@ -136,7 +136,7 @@ fn take_up(
     if !board.flying.is_clear(&piece, Dir::Read, declines) {
         return None;
     }
-    match board.log.expected(&write) {
+    match board.log.writes.expected(&write) {
         Some(expected) => Some(Chosen {
             event: Event::Probe {
                 worker,
@@ -164,7 +164,7 @@ fn next_issue(plan: &Plan, board: &Board, clone: usize, worker: u32) -> Option<C
     ensures step { (job : Clone) (standing : Stood) → clone_of plan.now clone ≡ Some job
         → slice_get board.now.standings.items clone ≡ Some standing
         → option_map (λ chosen. chosen.event) result ≡ next_issue plan.now board.now.history.items worker job standing.pass }
-    ensures judged { IfSome result (λ chosen. judged_by board.now.log chosen.event ≡ Some chosen.expected) }
+    ensures judged { IfSome result (λ chosen. judged_by board.now.log.writes chosen.event ≡ Some chosen.expected) }
 {
     let standing = &board.standings[clone];
     if !pass_is_finished(plan, board, clone) {
@@ -202,7 +202,7 @@ fn issue_of(
     requires fits { IfSome draw (λ draw. piece_fits draw.piece ≡ true) }
     ensures step { (job : Clone) → clone_of plan.now clone ≡ Some job → phase_is_open plan.now board.now.history.items job ≡ true
         → option_map (λ chosen. chosen.event) result ≡ issue_of plan.now board.now.history.items worker (pass_of job pass) draw }
-    ensures judged { IfSome result (λ chosen. judged_by board.now.log chosen.event ≡ Some chosen.expected) }
+    ensures judged { IfSome result (λ chosen. judged_by board.now.log.writes chosen.event ≡ Some chosen.expected) }
 {
     let draw = draw?;
     let job = plan.clone_at(clone as usize);

@@ -97,7 +97,7 @@ pub(crate) fn probe(
     requires board { IsBoard plan.now board.old }
     requires ready { IsReady plan.now board.old }
     requires may { may_happen plan.now board.old.history.items (Probe worker write piece) ≡ true }
-    requires judged { judged_by board.old.log (Probe worker write piece) ≡ Some expected }
+    requires judged { judged_by board.old.log.writes (Probe worker write piece) ≡ Some expected }
     ensures board { IsBoard plan.now board.new }
     ensures history { board.new.history.items ≡ board.old.history.items ++ Probe worker write piece ∷ [] }
     ensures ticket { result ≡ ticket_of plan.now (

@@ -17,11 +17,11 @@ use crate::resting::is_complete;
 use crate::standings::Standing;
 use crate::starting::{issue, probe, skip};
 use crate::takes::{Take, answer_with};
+use crate::written::CheckedLog;
 use jr_model::{Event, Memory, Ticket};
 use jr_plan::Plan;
 use jr_tallies::Tallies;
 use jr_tickets::TicketTable;
-use jr_writes::WriteLog;
 use std::alloc::Global;
 
 /// Before anything happened.
@@ -37,7 +37,7 @@ pub fn new_board(alloc: Global, plan: &Plan) -> Result<Board, Memory>
         history: Vec::new(alloc),
         tickets: TicketTable::new(alloc),
         flying: Flying::new(alloc)?,
-        log: WriteLog::new(alloc),
+        log: CheckedLog::new(alloc, plan)?,
         tallies: Tallies::new(alloc, plan)?,
         standings,
     })

@@ -85,7 +85,7 @@ returns-in-Some-clause-step c clone job there at rounds declines runs left =
     let untaken = sym its.taken ∙ c.if-issued.false in
     let clear = ap (is_clear plan history job false) (sym piece) ∙ sym (c.if-not-is_clear.ensures plan history job c.requires.board.flying declines) in
     let intact = sym (intact_is plan board c.requires.board clone job there standing at rounds runs write left its.draw its.drawn)
-    ∙ sym (some_mapped (λ (entry : Logged). entry.expected) (logged board.log write)) ∙ ap is_some (sym c.in-Some.ensures) in
+    ∙ sym (some_mapped (λ (entry : Logged). entry.expected) (logged board.log.writes write)) ∙ ap is_some (sym c.in-Some.ensures) in
     ap {B = Option Event} (λ (p : Piece). Some (Probe c.args.worker write p)) piece
     ∙ sym (ap {B = Option Event} (λ (b : Bool). Some (cond b (Probe c.args.worker write its.draw.piece) (Skip c.args.worker write)))
     intact)
@@ -107,6 +107,6 @@ returns-in-None-clause-step c clone job there at rounds declines runs left =
     let untaken = sym its.taken ∙ c.if-issued.false in
     let clear = ap (is_clear plan history job false) (sym piece) ∙ sym (c.if-not-is_clear.ensures plan history job c.requires.board.flying declines) in
     let broken = sym (intact_is plan board c.requires.board clone job there standing at rounds runs write left its.draw its.drawn)
-    ∙ sym (some_mapped (λ (entry : Logged). entry.expected) (logged board.log write)) ∙ ap is_some (sym c.in-None.ensures) in
+    ∙ sym (some_mapped (λ (entry : Logged). entry.expected) (logged board.log.writes write)) ∙ ap is_some (sym c.in-None.ensures) in
     sym (ap {B = Option Event} (λ (b : Bool). Some (cond b (Probe c.args.worker write its.draw.piece) (Skip c.args.worker write))) broken)
     ∙ sym (taken_now plan history c.args.worker job write its.draw its.clone its.drawn untaken clear)

@@ -23,7 +23,7 @@ use Rattle.jr_backlog.specs.Deferred.{is_settled, round_now}
 use Rattle.jr_board.specs.declared.standings.Standing.{Standing}
 use Rattle.jr_board.specs.Standings.{IsStanding}
 use Rattle.jr_board.proofs.EndingBoards.{board_stays, own_below, parts_of}
-use Rattle.jr_board.proofs.FlyingMoves.{log_fresh, own_fits}
+use Rattle.jr_board.proofs.LogMoves.{file_there, log_fresh, own_fits}
 use Rattle.jr_board.proofs.StandingMoves.{check_left}
 use Rattle.jr_board.proofs.StandingSets.{read_after_set, standing_resettled, standings_set}
 use Rattle.jr_board.proofs.StandingStays.{standings_ended}
@@ -74,6 +74,12 @@ returns-in_err-settle-clause-board c =
     (standing_resettled history parts.job old c.settle.new.self (ap round_now c.in_err-settle.ensures.err)
     (stands_now plan board clone parts.job old is parts.planned c.index_mut.ensures.value)))
 
+pub log_end-requires-clause-file : goal.log_end-requires-clause-file
+log_end-requires-clause-file c =
+    let board = c.args.board.now in
+    let is = c.requires.board in
+    file_there c.args.plan.now board.history.items c.args.ticket.now board.log is.planned is.legal c.requires.own is.log
+
 pub log_end-requires-clause-fits : goal.log_end-requires-clause-fits
 log_end-requires-clause-fits c writes =
     own_fits c.args.plan.now c.args.board.now.history.items c.args.ticket.now c.requires.board.planned c.requires.board.legal c.requires.own
@@ -83,9 +89,9 @@ log_end-requires-clause-fresh c writes =
     let plan = c.args.plan.now in
     let board = c.args.board.now in
     let ticket = c.args.ticket.now in
-    ap (λ log. logged log ticket.write) c.requires.board.log
-    ∙ log_fresh plan board.history.items ticket.worker ticket.id c.args.outcome ticket
-    (next_of plan board (End ticket.worker ticket.id c.args.outcome) c.requires.board c.requires.may) c.requires.own refl writes
+    ap (λ log. logged log ticket.write) c.requires.board.log.entries
+    ∙ log_fresh plan board.history.items c.args.outcome ticket
+    (next_of plan board (End ticket.worker ticket.id c.args.outcome) c.requires.board c.requires.may) c.requires.own writes
 
 pub returns-in_err-log_end-clause-board : goal.returns-in_err-log_end-clause-board
 returns-in_err-log_end-clause-board c =

@@ -8,7 +8,8 @@ use Rattle.jr_laws_steps.proofs.StartedLemmas.{same_some}
 use Rattle.jr_laws_steps.specs.Nexts.{grown}
 use Rattle.jr_tallies.proofs.TallyMoves.{can_count, can_judge, tallied_same}
 use Rattle.jr_board.proofs.EndingBoards.{board_stays, own_below, parts_of}
-use Rattle.jr_board.proofs.FlyingMoves.{flying_verdict, log_verdict}
+use Rattle.jr_board.proofs.FlyingMoves.{flying_verdict}
+use Rattle.jr_board.proofs.LogMoves.{log_verdict}
 use Rattle.jr_board.proofs.StandingStays.{standings_judged}
 use Rattle.jr_board.proofs.StartingBoards.{board_grows, next_of}
 use Rattle.jr_board.proofs.ending.judge.Goals as goal
@@ -76,7 +77,7 @@ returns-clause-board c =
     (c.push_reserved.ensures.items ∙ ap (λ (h : List Event). grown h (Judged by ticket.id verdict)) c.reserve.ensures.items)
     (c.judge.ensures plan history by verdict next is.tickets)
     (flying_verdict plan history by ticket.id verdict board.flying next is.flying)
-    (is.log ∙ sym (log_verdict plan history by ticket.id verdict next))
+    (log_verdict plan history by ticket.id verdict next board.log is.log)
     (c.judged.ensures plan history by ticket.id parts.io parts.job parts.at parts.write parts.piece parts.planned fatal next
     (tallied_same plan history board.tallies c.reserve-2.new.self is.tallies c.reserve-2.ensures.counts c.reserve-2.ensures.totals
     c.reserve-2.ensures.bads))

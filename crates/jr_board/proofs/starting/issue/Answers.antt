@@ -10,7 +10,8 @@ use Rattle.jr_laws_steps.specs.Nexts.{IsNext, grown}
 use Rattle.jr_laws_steps.proofs.StartedFew.{started_small}
 use Rattle.jr_tallies.proofs.TallyMoves.{can_count}
 use Rattle.jr_tickets.proofs.HandingMoves.{headers_within}
-use Rattle.jr_board.proofs.FlyingMoves.{log_issue, start_fits}
+use Rattle.jr_board.proofs.FlyingMoves.{start_fits}
+use Rattle.jr_board.proofs.LogMoves.{log_issue}
 use Rattle.jr_board.proofs.IssueMoves.{issue_fills}
 use Rattle.jr_board.proofs.StandingMoves.{clone_is, clone_there, stays_other_issue}
 use Rattle.jr_board.proofs.StartingBoards.{board_grows, clone_stands, next_of, stands_at, stands_now}
@@ -128,7 +129,7 @@ returns-clause-board c =
     (issue_io plan (length (started history)) worker (kind_for dir) c.dir_for.result c.declines.result write piece c.count-id.result _ refl
     c.dir_for.ensures (declines_planned plan write.clone job c.declines.result planned c.declines.ensures) id)
     is.flying)
-    (is.log ∙ sym (log_issue plan history worker dir write piece next))
+    (log_issue plan history worker dir write piece next board.log is.log)
     (c.issued.ensures plan history worker dir write piece refl next is.tallies)
     (standing_moves plan history (grown history e) board.standings.items write.clone job c.issue.new.self is.standings planned
     (c.issue.ensures.kept plan history worker piece next planned id

@@ -9,13 +9,16 @@ use Rattle.jr_model.specs.declared.events.Started.{Started}
 use Rattle.jr_model.specs.declared.tickets.TicketKind.TheVariants as kind
 use Rattle.jr_model.specs.History.{started}
 use Rattle.jr_model.specs.Plan.{SubJob}
+use Rattle.jr_model.specs.Rounds.{pass_of}
 use Rattle.jr_laws_steps.proofs.StartedLemmas.{same_some}
 use Rattle.jr_laws_steps.proofs.StepLaws.{may_probe_of}
 use Rattle.jr_laws_steps.specs.Nexts.{grown}
 use Rattle.jr_laws_steps.proofs.StartedFew.{started_small}
+use Rattle.jr_laws_rounds.proofs.ChoiceSteps.{can_take}
 use Rattle.jr_tallies.proofs.TallyMoves.{can_count}
 use Rattle.jr_tickets.proofs.HandingMoves.{headers_within}
-use Rattle.jr_board.proofs.FlyingMoves.{log_probe, start_fits}
+use Rattle.jr_board.proofs.FlyingMoves.{start_fits}
+use Rattle.jr_board.proofs.LogMoves.{log_probe}
 use Rattle.jr_board.proofs.StandingMoves.{clone_is, clone_there, taken_up_here, stays_other_probe}
 use Rattle.jr_board.proofs.StartingBoards.{board_grows, clone_stands, next_of, stands_at, stands_now}
 use Rattle.jr_board.proofs.StartingStandings.{standing_moves}
@@ -96,7 +99,8 @@ returns-clause-ticket c =
     (c.seed_of.ensures plan job standing is planned at (sym here.0) here.1)
     (method_planned plan write.clone job c.method.result planned (c.method.ensures ∙ ap (λ (j : SubJob). j.method) read))
     (sym (ap (λ (o : Option Expected). unwrap_or o expected.Nothing) c.requires.judged)
-    ∙ probe_expects plan board worker write piece job probed.0.draw standing.pass is probed.0.named probed.1
+    ∙ probe_expects plan board worker write piece job probed.0.draw standing.pass is probed.0.named
+    (can_take plan board.history.items (pass_of job write.pass) probed.0.draw probed.0.may).rounds probed.1
     stands.in_pass.within (sym here.0) c.requires.may)
 
 pub returns-clause-board : goal.returns-clause-board
@@ -123,7 +127,7 @@ returns-clause-board c =
     (issue_io plan (length (started history)) worker kind.Probe Read c.declines.result write piece c.count-id.result _ refl refl
     (declines_planned plan write.clone job c.declines.result planned (c.declines.ensures ∙ ap (λ (j : SubJob). j.declines) read)) id)
     is.flying)
-    (is.log ∙ sym (log_probe plan history worker write piece next))
+    (log_probe plan history worker write piece next board.log is.log)
     (c.probed.ensures plan history worker write piece refl next is.tallies)
     (standing_moves plan history (grown history e) board.standings.items write.clone job c.take_up.new.self is.standings planned
     (c.take_up.ensures plan history job worker write piece next planned refl

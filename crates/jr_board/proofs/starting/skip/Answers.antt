@@ -4,7 +4,8 @@ use Rattle.jr_laws_steps.proofs.StepLaws.{may_skip_of}
 use Rattle.jr_laws_steps.specs.Nexts.{grown}
 use Rattle.jr_tallies.proofs.TallyMoves.{can_count}
 use Rattle.jr_tickets.proofs.HandingMoves.{handed_skip}
-use Rattle.jr_board.proofs.FlyingMoves.{flying_skip, log_skip}
+use Rattle.jr_board.proofs.FlyingMoves.{flying_skip}
+use Rattle.jr_board.proofs.LogMoves.{log_skip}
 use Rattle.jr_board.proofs.StandingMoves.{clone_is, clone_there, skip_left, skipped_here, stays_other_skip}
 use Rattle.jr_board.proofs.StartingBoards.{board_grows, clone_stands, next_of, stands_at, stands_now}
 use Rattle.jr_board.proofs.StartingStandings.{left_falls, prepared_moves, standing_moves}
@@ -74,7 +75,7 @@ returns-clause-board c =
     board_grows plan board _ (Skip worker write) is c.requires.may c.push_reserved.ensures.items
     (handed_skip plan history worker write board.tickets next is.tickets)
     (flying_skip plan history worker write board.flying next is.flying)
-    (is.log ∙ sym (log_skip plan history worker write next))
+    (log_skip plan history worker write next board.log is.log)
     (c.skipped.ensures plan history worker write refl next is.tallies)
     (standing_moves plan history (grown history (Skip worker write)) board.standings.items write.clone job c.skip.new.self
     is.standings planned

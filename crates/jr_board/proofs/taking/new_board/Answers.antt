@@ -19,8 +19,8 @@ loop-clone-preserved c =
 pub returns-clause-board : goal.returns-clause-board
 returns-clause-board c =
     let plan = c.args.plan.now in
-    board_begins plan _ c.new-2.ensures.items c.clones-clone-end.ensures.facts (c.new-3.ensures plan) (c.in_ok-new-2.ensures plan) c.new-5.ensures
-    c.in_ok-new-3.ensures
+    board_begins plan _ c.new-2.ensures.items c.clones-clone-end.ensures.facts (c.new-3.ensures plan) (c.in_ok-new-2.ensures plan)
+    c.in_ok-new-3.ensures c.in_ok-new-4.ensures
     (record {
       count =
           omega (arith, c.loop-clone.invariant.count, c.clones-clone-end.ensures.value, c.loop-clone-test.false);
