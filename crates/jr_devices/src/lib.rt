@@ -4,6 +4,7 @@
 mod devices;
 mod identities;
 mod in_use;
+mod places;
 mod tables;
 mod uses;
 
