@@ -3,6 +3,7 @@ use crate::devices::DeviceNumbers;
 use crate::identities::FileNumbers;
 use crate::layers::Layers;
 use crate::loops::Loops;
+use crate::places::path_of;
 use crate::tables::{field_of, is_anonymous, mount_of, names_of, place_of, source_of, text_of};
 use crate::uses::Use;
 use std::alloc::Global;
@@ -139,8 +140,8 @@ fn is_from<R: Files>(rt: &R, alloc: Global, line: &[u8], family: &[String]) -> i
 
 // The use by a mount.
 fn mounted(alloc: Global, line: &[u8]) -> io::Result<Use> {
-    let place = place_of(line).unwrap_or(line);
-    Ok(Use::Mounted(String::from_utf8_lossy(alloc, place)?))
+    let path = path_of(alloc, place_of(line).unwrap_or(line))?;
+    Ok(Use::Mounted(String::from_utf8_lossy(alloc, path.as_slice())?))
 }
 
 // By what the device with these numbers is in use, itself.

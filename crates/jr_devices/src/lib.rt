@@ -9,6 +9,7 @@ mod layers;
 mod links;
 mod loops;
 mod numbers;
+mod places;
 mod tables;
 mod uses;
 
