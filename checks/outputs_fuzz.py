@@ -1,8 +1,8 @@
 #!/usr/bin/env python3
-"""checks/outputs_fuzz.py [PROGRAM [TRIALS [SEED]]] runs short jobs with random words for their outputs, random streams and random names, in a
-tree of 200 files, links, pipes and nodes: of all that the tree has no byte, mode, owner or name differs but what the words name, and a run
-that is refused before its report changes nothing at all. Some 10,000 trials take a minute on four processors. The status is 1 where
-something is wrong."""
+"""checks/outputs_fuzz.py [PROGRAM [TRIALS [SEED]]] runs short jobs with random words for their outputs, random streams and random names,
+in a tree of 200 files, links, pipes and nodes. Links of its own stand for /dev/stdout, which a wrong program would replace for the whole
+machine. Of all that the tree has no byte, mode, owner or name differs but what the words name, and a run that is refused before its report
+changes nothing at all. Some 10,000 trials take a minute on four processors. The status is 1 where something is wrong."""
 
 import multiprocessing
 import os
@@ -115,7 +115,7 @@ def trial(program, tree, draw):
     """One run: what it changed is among what it names."""
     named, words = set(), []
     for word in draw.sample(WORDS, draw.choice((1, 1, 2, 3, 4))):
-        name = draw.choice((name_in(tree, draw),) * 6 + ("/dev/stdout", "/dev/stderr", "/dev/fd/1", "/dev/null", "/dev/fd/9"))
+        name = draw.choice((name_in(tree, draw),) * 6 + ("/dev/fd/1", "/dev/fd/2", "/dev/null", "/dev/fd/9"))
         words.append(f"{word}={name}")
         named.add(os.path.realpath(tree.at(name)))
     data = draw.choice((name_in(tree, draw), name_in(tree, draw), words[0].split("=")[1]))
