@@ -24,7 +24,7 @@ FOLDERS = ("crates", "checks", "bench", "bin", "docs", "examples", "tools")
 # What stands for whatever a reader puts there.
 HOLDERS = re.compile(r"\b(NAME|PATH|FILE|N|F|MODULE)\b")
 # Names of fio, of the system and of the kit, which no file here has.
-OUTSIDE = {"jr_", "POSIX_FADV_RANDOM", "buffer_pattern", "perf", "rattle-kit-13b", "rattle-kit-13f"}
+OUTSIDE = {"jr_", "POSIX_FADV_RANDOM", "buffer_pattern", "perf", "protected_symlinks", "rattle-kit-13b", "rattle-kit-13f"}
 
 
 def tracked():
