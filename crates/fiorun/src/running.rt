@@ -437,7 +437,7 @@ pub fn run_memory<R: Outlet + Machine>(
         wanted,
     } = job;
     let Some(wanted) = wanted else {
-        return Ok(run_with(rt, &asked, plan, engines, None)?);
+        return Ok(run_untraced(rt, &asked, plan, engines)?);
     };
     match traced(rt, &asked, &wanted, plan, engines) {
         Ok(ran) => Ok(wanted.tell(rt, ran)),
@@ -446,6 +446,17 @@ pub fn run_memory<R: Outlet + Machine>(
             Err(stop)
         }
     }
+}
+
+// The same, of which nothing more is wanted.
+fn run_untraced<'a, R: Outlet + Machine>(
+    rt: &'a R,
+    asked: &Arc<Asked, Global>,
+    plan: Plan,
+    engines: Vec<Box<dyn Engine + Send>>,
+) -> Result<Ran, CliFault> {
+    let events: Option<TraceFile<'a, R>> = None;
+    run_with(rt, asked, plan, engines, events)
 }
 
 // The same, with its trace.
