@@ -368,7 +368,9 @@ def nothing_takes_a_device_while_a_run_has_it(program, room):
             with running(program, room, device, *words):
                 expect(not does("mount", device, place), "it was mounted while a run has it")
                 expect(not does("mke2fs", "-q", "-F", device), "a file system was made while a run has it")
-        expect(does("mount", device, place) and does("umount", place), "it can't be mounted behind the run")
+        # (the run has written over what the file system had)
+        taken = does("mke2fs", "-q", "-F", device) and does("mount", device, place) and does("umount", place)
+        expect(taken, "it can't be mounted behind the run")
 
 
 def other_runs_are_refused_by_any_name(program, room):
