@@ -201,11 +201,11 @@ def is_made_again(clone):
 
 def is_told_where_it_fails(clone):
     """What the prover said is told, nothing more is begun, and the next start goes on."""
-    status, out, said, notes = clone.run(fails="jr_board", processors=ONE)
+    status, out, said, notes = clone.run(fails="jr_desk_state", processors=ONE)
     expect(status == 3 and out == "", f"status {status}, printed {out}")
-    expect("fiorun: jr_board was not built; the end of " in said and "\na hole in jr_board\n" in said, "it said", said)
+    expect("fiorun: jr_desk_state was not built; the end of " in said and "\na hole in jr_desk_state\n" in said, "it said", said)
     begun, made = ([it[1] for it in notes if it[0] == kind] for kind in ("begin", "end"))
-    expect(begun == [*made, "jr_board"], "begun:", *begun, "ended:", *made)
+    expect(begun == [*made, "jr_desk_state"], "begun:", *begun, "ended:", *made)
     clone.builds(set(BELOW) - set(made))
 
 

@@ -1,7 +1,7 @@
 #!/usr/bin/env python3
 """checks/keys.py [--print] compares the tables of docs/USING.md, of what is refused and what to write instead, with those of the program.
 
-The program's stand in crates/jr_notes/src/keys.rt: KEYS of the keys that aren't read, VALUES of the values that aren't. --print prints them
+The program's stand in crates/jr_job_notes/src/keys.rt: KEYS of the keys that aren't read, VALUES of the values that aren't. --print prints them
 as they have to stand in docs/USING.md. It also looks that no note grows past 140 characters, that no word is spoken of twice, and that KEYS
 has no key that is read. What is wrong is printed, and the status is 1 where something is.
 """
@@ -64,8 +64,8 @@ def faults_of(name, rows, known):
 
 
 def main():
-    keys = source("jr_notes", "keys.rt")
-    known = re.findall(r'\("(\w+)", Key::', source("jr_settings", "words.rt"))
+    keys = source("jr_job_notes", "keys.rt")
+    known = re.findall(r'\("(\w+)", Key::', source("jr_job_options", "words.rt"))
     tables = {name: table(keys, name) for name in HEADS}
     if sys.argv[1:] == ["--print"]:
         print("\n\n".join("\n".join(markdown(name, rows)) for name, rows in tables.items()))

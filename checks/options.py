@@ -1,9 +1,9 @@
 #!/usr/bin/env python3
 """checks/options.py compares what the documents say of options with the program: the keys of a job, and the words of the command line.
 
-The keys that a job may have stand in crates/jr_settings/src/words.rt. The tables of docs/FORMATS.md and docs/USING.md and the man page's
+The keys that a job may have stand in crates/jr_job_options/src/words.rt. The tables of docs/FORMATS.md and docs/USING.md and the man page's
 list have each of them and no others; where two of these say from which number to which a value goes, or what its default is, they say the
-same. The words of the command line stand in crates/jr_command/src/words.rt: docs/help.txt and the man page's list have each of them, with
+same. The words of the command line stand in crates/jr_cli_words/src/words.rt: docs/help.txt and the man page's list have each of them, with
 what it takes, the man page's synopsis has those of its list, and docs/USING.md speaks of each. The status is 1 where something differs."""
 
 import os
@@ -49,7 +49,7 @@ def said(text):
 
 
 def keys_of_program():
-    body = re.search(r"const KEYS: .*?\n\];", text_of("crates/jr_settings/src/words.rt"), re.S)[0]
+    body = re.search(r"const KEYS: .*?\n\];", text_of("crates/jr_job_options/src/words.rt"), re.S)[0]
     return set(re.findall(r'\("(\w+)", Key::', body))
 
 
@@ -99,7 +99,7 @@ def compare_keys():
 
 
 def words_of_program():
-    source = text_of("crates/jr_command/src/words.rt")
+    source = text_of("crates/jr_cli_words/src/words.rt")
     found = {}
     for part in re.split(r"Arg::new\(", source)[1:]:
         long = re.search(r'\.long\("([\w-]+)"\)', part)

@@ -2,17 +2,17 @@
 #![tactic(auto)]
 
 ghost use Rattle.std.specs.Prelude.{IfOk};
-ghost use Rattle.jr_traces.specs.Runs.{IsRunIn};
+ghost use Rattle.jr_replay_traces.specs.Runs.{IsRunIn};
 
 use jr_cli::{print_check, print_part};
-use jr_command::{
+use jr_cli_words::{
     Choice, CliFault, answer_words, choose, memory_or, print_plan, read_job, read_text, read_trace,
 };
 use jr_engines::Engine;
-use jr_host::{Machine, Outlet, Screen, Stop, tell_all, wishes};
-use jr_notes::{job_notes, plan_notes};
+use jr_job_notes::{job_notes, plan_notes};
 use jr_plan::Plan;
-use jr_traces::Checked;
+use jr_replay_traces::Checked;
+use jr_system::{Machine, Outlet, Screen, Stop, tell_all, wishes};
 use places::Wanted;
 use running::{Ran, SharedRun, Turn, add, boxed, run_memory, run_plan, shares, to_output};
 use std::alloc::Global;

@@ -3,14 +3,14 @@
 use crate::roads::{Road, Sink};
 use crate::unfailing::Unfailing;
 use jr_cli::{Findings, Storage, json_text, list_text};
-use jr_command::{BlockSize, Choice, CliFault, list_size};
-use jr_devices::FileNumbers;
-use jr_files::Kept;
-use jr_host::{Outlet, Settled, Stop};
+use jr_cli_words::{BlockSize, Choice, CliFault, list_size};
+use jr_io_devices::FileNumbers;
+use jr_io_files::Kept;
 use jr_model::{EngineKind, Memory};
-use jr_outputs::{Spot, Target, Unfit, Way, met_by};
-use jr_page::page;
 use jr_plan::Plan;
+use jr_report_outputs::{Spot, Target, Unfit, Way, met_by};
+use jr_report_page::page;
+use jr_system::{Outlet, Settled, Stop};
 use std::alloc::Global;
 use std::fs;
 use std::io::{BufWriter, Write};
@@ -319,7 +319,7 @@ impl Output {
     fn kept(&self) -> Option<Kept<'_>> {
         match &self.road {
             Road::New(file) => Some(Kept::At(file.target())),
-            Road::Open(_) => match jr_outputs::spot_of(self.target.found()?)? {
+            Road::Open(_) => match jr_report_outputs::spot_of(self.target.found()?)? {
                 Spot::File(identity) => Some(Kept::File(identity)),
                 _ => Some(Kept::At(self.target.path())),
             },
@@ -402,7 +402,7 @@ fn storage_of(settled: &Settled) -> Storage {
 fn page_text(alloc: Global, findings: &Findings<'_>) -> Result<Vec<u8>, Memory> {
     page(
         alloc,
-        &jr_page::Findings {
+        &jr_report_page::Findings {
             plan: findings.plan(),
             history: findings.history(),
             totals: findings.totals(),
@@ -423,7 +423,7 @@ fn spot_at<R: Outlet>(rt: &R, path: &str) -> Option<Spot> {
 fn stream_spot<R: Outlet>(rt: &R, number: &str) -> Option<Spot> {
     let path = format!(in rt.alloc(); "/proc/self/fd/{number}").ok()?;
     let found = fs::metadata(rt, path.as_str()).ok()?;
-    match jr_outputs::spot_of(&found)? {
+    match jr_report_outputs::spot_of(&found)? {
         Spot::File(identity) if !found.is_dir() => Some(Spot::File(identity)),
         _ => None,
     }
@@ -433,7 +433,7 @@ fn stream_spot<R: Outlet>(rt: &R, number: &str) -> Option<Spot> {
 fn plain_input<R: Outlet>(rt: &R) -> Option<Spot> {
     let found = fs::metadata(rt, "/proc/self/fd/0").ok()?;
     if found.is_file() {
-        jr_outputs::spot_of(&found)
+        jr_report_outputs::spot_of(&found)
     } else {
         None
     }

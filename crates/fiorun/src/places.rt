@@ -1,16 +1,16 @@
 // Where a run found what, told behind its report: a map of each file, and the outputs that are asked for.
-ghost use Rattle.jr_traces.specs.Runs.{IsLegalRun};
+ghost use Rattle.jr_replay_traces.specs.Runs.{IsLegalRun};
 
 use crate::outputs::Outputs;
 use crate::running::Ran;
 use jr_cli::Findings;
-use jr_command::{Choice, CliFault};
+use jr_cli_words::{Choice, CliFault};
 use jr_escape::Escaped;
-use jr_host::{Outlet, Settled, Stop};
 use jr_model::LARGEST_END;
-use jr_places::{Fate, FileMap, FileMarks, map_of, marks_of};
 use jr_plan::{FileSpec, Plan};
-use jr_traces::Checked;
+use jr_replay_traces::Checked;
+use jr_report_maps::{Fate, FileMap, FileMarks, map_of, marks_of};
+use jr_system::{Outlet, Settled, Stop};
 use std::alloc::{AllocError, Global};
 
 // A row of a map has so many cells, and a map so many rows.

@@ -1,7 +1,7 @@
 // How an output is written: to a new file, to a stream that was opened for it, or to a stream of the program.
-use jr_devices::FileNumbers;
-use jr_host::Outlet;
-use jr_outputs::{NewFile, Target, Way};
+use jr_io_devices::FileNumbers;
+use jr_report_outputs::{NewFile, Target, Way};
+use jr_system::Outlet;
 use std::fs::{File, Metadata, OpenOptions};
 use std::io::{Error, ErrorKind, Write};
 use std::{fs, io};

@@ -5,15 +5,15 @@ use crate::outputs::TraceFile;
 use crate::places::Wanted;
 use crate::unfailing::Unfailing;
 use jr_cli::{Ended, execute, execute_serial};
-use jr_command::{Choice, CliFault, Wiping, workers_of};
-use jr_direct::Wish;
+use jr_cli_words::{Choice, CliFault, Wiping, workers_of};
 use jr_engines::{Engine, MemoryEngine, NullEngine, SharedMemory};
-use jr_files::{FileEngine, SharedFile};
-use jr_host::{
-    Asked, Extent, Machine, Outlet, Pace, Settled, Stop, Taken, Wiper, asked_by, shown, take_files,
-};
+use jr_io_files::{FileEngine, SharedFile};
+use jr_job_direct::Wish;
 use jr_model::EngineKind;
 use jr_plan::Plan;
+use jr_system::{
+    Asked, Extent, Machine, Outlet, Pace, Settled, Stop, Taken, Wiper, asked_by, shown, take_files,
+};
 use std::alloc::Global;
 use std::fs::{File, Files};
 use std::io;

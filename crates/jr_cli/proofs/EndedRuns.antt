@@ -5,8 +5,8 @@ use Rattle.jr_model.specs.Legal.{is_complete}
 use Rattle.jr_model.specs.Plan.{Plan}
 use Rattle.jr_desk.specs.DeskState.{DeskState}
 use Rattle.jr_cli.specs.Executed.{IsDeskOf}
-use Rattle.jr_faults.specs.declared.faults.Faults.{Faults}
-use Rattle.jr_faults.specs.Faults.{AreFaultsOf}
+use Rattle.jr_report_faults.specs.declared.faults.Faults.{Faults}
+use Rattle.jr_report_faults.specs.Faults.{AreFaultsOf}
 
 not_false : (b : Bool) → not b ≡ false → b ≡ true
 not_false true h = refl

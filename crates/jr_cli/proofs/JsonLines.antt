@@ -5,9 +5,9 @@ use Rattle.serde_json.specs.Written.{compact_text}
 use Rattle.jr_model.specs.declared.totals.Totals.{Totals}
 use Rattle.jr_model.specs.Plan.{Plan}
 use Rattle.jr_model.specs.Report.{Miscompare, all_totals, in_order, miscompares}
-use Rattle.jr_faults.specs.declared.faults.Faults.{Faults}
-use Rattle.jr_faults.specs.Faults.{AreFaultsOf, NamedFault, faults_of, named, named_by}
-use Rattle.jr_json.specs.Json.{RunEnd, report_json}
+use Rattle.jr_report_faults.specs.declared.faults.Faults.{Faults}
+use Rattle.jr_report_faults.specs.Faults.{AreFaultsOf, NamedFault, faults_of, named, named_by}
+use Rattle.jr_report_json.specs.Json.{RunEnd, report_json}
 use Rattle.jr_cli.specs.declared.storage.Storage.{Storage}
 use Rattle.jr_cli.specs.Findings.{RunOf, end_of, json_line}
 

@@ -1,10 +1,10 @@
 -- Believed: why the check of a trace prints no totals (of this project).
 use Rattle.std.specs.Prelude.{List, Result, IsOk}
 use Rattle.jr_model.specs.declared.totals.Totals.{Totals}
-use Rattle.jr_traces.specs.declared.faults.TraceFault.{TraceFault}
-use Rattle.jr_traces.specs.TraceChecks.{IsRefusal}
-use Rattle.jr_command.specs.declared.faults.CliFault.{CliFault}
-use Rattle.jr_command.specs.declared.faults.CliFault.TheVariants as fault
+use Rattle.jr_replay_traces.specs.declared.faults.TraceFault.{TraceFault}
+use Rattle.jr_replay_traces.specs.TraceChecks.{IsRefusal}
+use Rattle.jr_cli_words.specs.declared.faults.CliFault.{CliFault}
+use Rattle.jr_cli_words.specs.declared.faults.CliFault.TheVariants as fault
 
 -- this is what was found wrong with the trace; or nothing was, and memory was wanting or writing failed
 abbrev pub IsCheckFault : Result (List Totals) TraceFault → CliFault → Type 0

@@ -6,12 +6,12 @@ use Rattle.jr_model.specs.declared.totals.Totals.{Totals}
 use Rattle.jr_model.specs.Legal.{is_complete, is_legal}
 use Rattle.jr_model.specs.Plan.{Plan}
 use Rattle.jr_model.specs.Report.{all_totals, miscompares}
-use Rattle.jr_faults.specs.declared.faults.Faults.{Faults}
-use Rattle.jr_faults.specs.Faults.{AreFaultsOf}
-use Rattle.jr_json.specs.Json.{RunEnd, json_of}
-use Rattle.jr_tallies.specs.declared.tallies.Bad.{Bad}
-use Rattle.jr_tallies.specs.Tallying.{miscompare_of}
-use Rattle.jr_command.specs.declared.words.TheConstants.{VERSION}
+use Rattle.jr_report_faults.specs.declared.faults.Faults.{Faults}
+use Rattle.jr_report_faults.specs.Faults.{AreFaultsOf}
+use Rattle.jr_report_json.specs.Json.{RunEnd, json_of}
+use Rattle.jr_desk_totals.specs.declared.tallies.Bad.{Bad}
+use Rattle.jr_desk_totals.specs.Tallying.{miscompare_of}
+use Rattle.jr_cli_words.specs.declared.words.TheConstants.{VERSION}
 use Rattle.jr_cli.specs.declared.storage.Storage.{Storage}
 use Rattle.jr_cli.specs.Status.{status_of, status_with}
 

@@ -3,7 +3,7 @@ use Rattle.std.specs.Prelude.{◌≡◌, ℕ, List}
 use Rattle.jr_model.specs.declared.events.Event.{Event}
 use Rattle.jr_model.specs.Plan.{Plan}
 use Rattle.jr_model.specs.Report.{miscompares}
-use Rattle.jr_places.specs.BadBlocks.{AreBadBlocks, blocks_text}
+use Rattle.jr_report_maps.specs.BadBlocks.{AreBadBlocks, blocks_text}
 
 -- the text is the list of the bad blocks of this history, of the only file of its plan
 abbrev pub IsListOf : Plan → List Event → ℕ → List ℕ → Type 0

@@ -2,7 +2,7 @@ ghost use Rattle.std.specs.Prelude.{◌≡◌};
 ghost use Rattle.jr_cli.specs.Status.{status_with};
 
 use jr_desk::Desk;
-use jr_faults::Faults;
+use jr_report_faults::Faults;
 
 /// How a run ended that has its report.
 #[derive(Debug, Drop)]

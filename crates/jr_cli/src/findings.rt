@@ -1,10 +1,10 @@
 ghost use Rattle.std.specs.Prelude.{◌≡◌, IfOk, map, not};
-ghost use Rattle.jr_faults.specs.Faults.{AreFaultsOf};
-ghost use Rattle.jr_json.specs.Rows.{ending_of, texts_of};
+ghost use Rattle.jr_report_faults.specs.Faults.{AreFaultsOf};
+ghost use Rattle.jr_report_json.specs.Rows.{ending_of, texts_of};
 ghost use Rattle.jr_model.specs.Legal.{is_complete};
 ghost use Rattle.jr_model.specs.Report.{all_totals, in_order, miscompares};
-ghost use Rattle.jr_tallies.specs.Tallying.{miscompare_of};
-ghost use Rattle.jr_traces.specs.Runs.{IsLegalRun};
+ghost use Rattle.jr_desk_totals.specs.Tallying.{miscompare_of};
+ghost use Rattle.jr_replay_traces.specs.Runs.{IsLegalRun};
 ghost use Rattle.jr_cli.specs.Findings.{end_of, json_line};
 ghost use Rattle.jr_cli.specs.Status.{status_of};
 
@@ -12,16 +12,16 @@ use crate::ended::status_with;
 use crate::found::faults_found;
 use crate::runs::status_of;
 use crate::storage::Storage;
-use jr_command::VERSION;
+use jr_cli_words::VERSION;
 use jr_desk::Desk;
-use jr_faults::{Faults, faults_among};
-use jr_json::Ending;
+use jr_desk_totals::Bad;
 use jr_model::{Event, Memory, Totals};
-use jr_places::bads_of;
 use jr_plan::Plan;
+use jr_replay_traces::Checked;
+use jr_report_faults::{Faults, faults_among};
+use jr_report_json::Ending;
+use jr_report_maps::bads_of;
 use jr_stats::bads_in_order;
-use jr_tallies::Bad;
-use jr_traces::Checked;
 use std::alloc::Global;
 use std::marker::Model;
 
@@ -152,7 +152,7 @@ pub fn json_text(
     let plan = findings.plan();
     let bads = sorted(alloc, findings)?;
     let ending = findings.ending(storage);
-    jr_json::json_text(
+    jr_report_json::json_text(
         alloc,
         plan,
         findings.totals(),

@@ -1,9 +1,9 @@
 ghost use Rattle.std.specs.Prelude.{IfOk};
-ghost use Rattle.jr_faults.specs.Faults.{AreFaultsOf};
+ghost use Rattle.jr_report_faults.specs.Faults.{AreFaultsOf};
 
 use jr_desk::Desk;
-use jr_faults::{Faults, faults_of};
 use jr_model::Memory;
+use jr_report_faults::{Faults, faults_of};
 use std::alloc::Global;
 
 // The faults of the desk's run so far.

@@ -10,7 +10,7 @@ mod storage;
 
 pub use ended::Ended;
 pub use findings::{Findings, json_text};
-pub use jr_command::{
+pub use jr_cli_words::{
     BlockSize, Choice, CliFault, Wipe, Wiping, answer_words, choose, list_size, memory_or,
     print_plan, read_job, read_text, read_trace, workers_of,
 };

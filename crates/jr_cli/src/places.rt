@@ -2,9 +2,9 @@ ghost use Rattle.std.specs.Prelude.{IfOk};
 ghost use Rattle.jr_cli.specs.Places.{IsListOf};
 
 use crate::findings::Findings;
-use jr_command::BlockSize;
+use jr_cli_words::BlockSize;
 use jr_model::Memory;
-use jr_places::{bad_blocks, blocks_text};
+use jr_report_maps::{bad_blocks, blocks_text};
 use std::alloc::Global;
 
 /// The list of the bad blocks of a run over one file: a number a line.

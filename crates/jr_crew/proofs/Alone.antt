@@ -12,8 +12,8 @@ use Rattle.jr_model.specs.PlanFacts.{IsPlanned}
 use Rattle.jr_engines.specs.Answers.{AnswerParts}
 use Rattle.jr_header.specs.Served.{is_to_judge}
 use Rattle.jr_laws_steps.proofs.CountLaws.{numbered_of}
-use Rattle.jr_board.specs.Takes.{IsChosen}
-use Rattle.jr_books.specs.Numbers.{is_numbered}
+use Rattle.jr_desk_state.specs.Takes.{IsChosen}
+use Rattle.jr_crew_books.specs.Numbers.{is_numbered}
 use Rattle.jr_crew.specs.Turns.{ended_by, judged_by}
 use Rattle.jr_crew.proofs.Chosen.{IsStep, appends_by}
 

@@ -12,8 +12,8 @@ use Rattle.jr_model.specs.Replies.{EngineState, FileBytes, asked, memory_with, n
 use Rattle.jr_model.specs.Tied.{KnownEngine, called}
 use Rattle.jr_engines.specs.Answers.{AnswerParts, Leaves}
 use Rattle.jr_header.specs.Served.{asked_with, is_whole_check}
-use Rattle.jr_tickets.specs.Tickets.{ticket_of}
-use Rattle.jr_board.proofs.Serving.{content_is}
+use Rattle.jr_desk_tickets.specs.Tickets.{ticket_of}
+use Rattle.jr_desk_state.proofs.Serving.{content_is}
 use Rattle.jr_crew.specs.Runs.{known_engine}
 
 abbrev engine_of : List FileBytes → List (ℕ × Reply) → ℕ → List (ℕ × List ℕ) → KnownEngine

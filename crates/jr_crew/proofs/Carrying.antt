@@ -25,10 +25,10 @@ use Rattle.jr_model.specs.PlanFacts.{IsPlanned}
 use Rattle.jr_engines.specs.Answers.{AnswerParts, Answers}
 use Rattle.jr_header.specs.Served.{asked_with, is_whole_check}
 use Rattle.jr_laws_steps.proofs.StartedLemmas.{started-other, started-append}
-use Rattle.jr_tickets.specs.Kept.{IsOwn, tickets_of}
-use Rattle.jr_tickets.specs.Tickets.{ticket_of}
-use Rattle.jr_board.specs.Takes.{IsChosen}
-use Rattle.jr_board.proofs.Keeping.{tickets_more, chosen_legal, chosen_started, may_end, may_judge}
+use Rattle.jr_desk_tickets.specs.Kept.{IsOwn, tickets_of}
+use Rattle.jr_desk_tickets.specs.Tickets.{ticket_of}
+use Rattle.jr_desk_state.specs.Takes.{IsChosen}
+use Rattle.jr_desk_state.proofs.Keeping.{tickets_more, chosen_legal, chosen_started, may_end, may_judge}
 use Rattle.jr_desk.proofs.Refusing.{judged_probe}
 use Rattle.jr_crew.specs.Turns.{ended_by, AreSettled}
 use Rattle.jr_crew.proofs.Chosen.{chosen_unended, chosen_unjudged, chosen_own}

@@ -18,11 +18,11 @@ use Rattle.jr_model.proofs.LegalLaws.{choice_is_step, cases_step_of}
 use Rattle.jr_model.proofs.SerialLaws.{IsWell, well-more, first_given-append, any-append, none_from, false_from}
 use Rattle.jr_model.specs.PlanFacts.{IsPlanned}
 use Rattle.jr_laws_steps.proofs.CountLaws.{numbered_of, along_legal}
-use Rattle.jr_tickets.specs.Kept.{IsOwn, tickets_of}
-use Rattle.jr_tickets.specs.Tickets.{ticket_of}
-use Rattle.jr_tickets.proofs.OwnTickets.{tickets_count}
-use Rattle.jr_board.specs.Takes.{IsChosen, last_started}
-use Rattle.jr_board.proofs.Keeping.{by_is_skip, tickets_more, chosen_started}
+use Rattle.jr_desk_tickets.specs.Kept.{IsOwn, tickets_of}
+use Rattle.jr_desk_tickets.specs.Tickets.{ticket_of}
+use Rattle.jr_desk_tickets.proofs.OwnTickets.{tickets_count}
+use Rattle.jr_desk_state.specs.Takes.{IsChosen, last_started}
+use Rattle.jr_desk_state.proofs.Keeping.{by_is_skip, tickets_more, chosen_started}
 
 -- an issue, a check or a skip by this worker
 abbrev pub IsStep : ℕ → Event → Type 0

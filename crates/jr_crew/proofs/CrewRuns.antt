@@ -7,9 +7,9 @@ use Rattle.jr_model.specs.declared.events.Event.{Event}
 use Rattle.jr_model.specs.Legal.{is_legal, is_complete}
 use Rattle.jr_model.specs.Plan.{Plan}
 use Rattle.jr_model.specs.Replies.{EngineState}
-use Rattle.jr_books.specs.declared.books.Done.{Done}
-use Rattle.jr_books.specs.Numbers.{is_numbered, judges_inline}
-use Rattle.jr_books.specs.Settled.{HasSettled}
+use Rattle.jr_crew_books.specs.declared.books.Done.{Done}
+use Rattle.jr_crew_books.specs.Numbers.{is_numbered, judges_inline}
+use Rattle.jr_crew_books.specs.Settled.{HasSettled}
 use Rattle.jr_desk.specs.DeskState.{DeskState}
 use Rattle.jr_crew.specs.Crews.{IsWorkers}
 use Rattle.jr_crew.specs.Whole.{IsBooked, IsCrewRun, IsEndedCrewRun}

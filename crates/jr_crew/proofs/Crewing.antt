@@ -13,22 +13,22 @@ use Rattle.jr_model.specs.Plan.{Plan}
 use Rattle.jr_model.specs.Replies.{EngineState}
 use Rattle.jr_model.specs.PlanFacts.{IsPlanned}
 use Rattle.jr_laws_steps.proofs.StartedLemmas.{same_some}
-use Rattle.jr_handover.specs.declared.parcel.Parcel.{Parcel}
-use Rattle.jr_handover.specs.declared.parcel.PassState.{PassState}
-use Rattle.jr_books.specs.declared.books.Done.{Done}
-use Rattle.jr_books.specs.Books.{dones_of}
-use Rattle.jr_books.specs.Numbers.{judges_inline, is_own_verdict}
+use Rattle.jr_crew_channel.specs.declared.parcel.Parcel.{Parcel}
+use Rattle.jr_crew_channel.specs.declared.parcel.PassState.{PassState}
+use Rattle.jr_crew_books.specs.declared.books.Done.{Done}
+use Rattle.jr_crew_books.specs.Books.{dones_of}
+use Rattle.jr_crew_books.specs.Numbers.{judges_inline, is_own_verdict}
 use Rattle.jr_crew.specs.Crews.{IsWorkers, AreCallsFor}
-use Rattle.jr_books.specs.Settled.{HasSettled}
-use Rattle.jr_staff.specs.Judging.{IsSourced}
-use Rattle.jr_staff.specs.Parts.{IsPutter, one_part}
+use Rattle.jr_crew_books.specs.Settled.{HasSettled}
+use Rattle.jr_crew_threads.specs.Judging.{IsSourced}
+use Rattle.jr_crew_threads.specs.Parts.{IsPutter, one_part}
 use Rattle.jr_crew.specs.Runs.{IsCovering}
 use Rattle.jr_crew.specs.Working.{AreDone, AreWorks, IsWork, all_handed_on}
 use Rattle.jr_crew.proofs.Judged.{IsPutBy, calls_judged}
 use Rattle.jr_crew.proofs.Matching.{AreSaidOn, walk}
-use Rattle.jr_staff.proofs.PartLemmas.{if_ok}
+use Rattle.jr_crew_threads.proofs.PartLemmas.{if_ok}
 use Rattle.jr_crew.proofs.Worked.{calls_count, calls_done, failures_count, work_puts}
-use Rattle.jr_tickets.specs.Kept.{tickets_of}
+use Rattle.jr_desk_tickets.specs.Kept.{tickets_of}
 
 nothing_said : (plan : Plan) (inline : Bool) (history : List Event) (worker : ℕ) → AreSaidOn plan inline history worker [] []
 nothing_said plan inline history worker so io s v at by ended given = cc

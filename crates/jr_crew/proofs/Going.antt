@@ -19,8 +19,8 @@ use Rattle.jr_laws_steps.proofs.CountLaws.{numbered_of, serial_stops_all}
 use Rattle.jr_laws_bytes.proofs.Memories.{holds_on}
 use Rattle.jr_laws_bytes.proofs.QuietRuns.{harmless_choice}
 use Rattle.jr_laws_steps.proofs.StartedLemmas.{length-started-other}
-use Rattle.jr_board.specs.Takes.{last_started}
-use Rattle.jr_board.proofs.Keeping.{by_is_skip, last-skip}
+use Rattle.jr_desk_state.specs.Takes.{last_started}
+use Rattle.jr_desk_state.proofs.Keeping.{by_is_skip, last-skip}
 use Rattle.jr_crew.proofs.Chosen.{IsStep, choice_steps}
 use Rattle.jr_crew.proofs.Remembering.{memory_step}
 

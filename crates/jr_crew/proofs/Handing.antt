@@ -12,12 +12,12 @@ use Rattle.jr_model.specs.Legal.{is_complete}
 use Rattle.jr_model.specs.Plan.{Plan}
 use Rattle.jr_model.specs.Tickets.{ticket_fits}
 use Rattle.jr_header.specs.Served.{ExpectsOwn}
-use Rattle.jr_tickets.specs.Kept.{IsOwn}
-use Rattle.jr_tickets.specs.Tickets.{ticket_of}
-use Rattle.jr_board.specs.declared.takes.Take.TheVariants as take
+use Rattle.jr_desk_tickets.specs.Kept.{IsOwn}
+use Rattle.jr_desk_tickets.specs.Tickets.{ticket_of}
+use Rattle.jr_desk_state.specs.declared.takes.Take.TheVariants as take
 use Rattle.jr_desk.specs.DeskState.{DeskState}
-use Rattle.jr_board.specs.Takes.{IsChosen, IsTaken, WaitsRightly, handing, answer_with, take_answer}
-use Rattle.jr_board.proofs.Keeping.{chosen_started}
+use Rattle.jr_desk_state.specs.Takes.{IsChosen, IsTaken, WaitsRightly, handing, answer_with, take_answer}
+use Rattle.jr_desk_state.proofs.Keeping.{chosen_started}
 use Rattle.jr_crew.specs.Turns.{AreSettled, IsBetweenTurns, IsOpen}
 use Rattle.jr_crew.proofs.Chosen.{chosen_unended, chosen_unjudged, chosen_own}
 use Rattle.jr_crew.proofs.Unraced.{chosen_unraced}

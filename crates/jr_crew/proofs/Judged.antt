@@ -25,22 +25,22 @@ use Rattle.jr_model.proofs.MachineLaws.{got_front}
 use Rattle.jr_model.proofs.SerialLaws.{first_given-append}
 use Rattle.jr_engines.specs.Answers.{AnswerParts}
 use Rattle.jr_header.specs.Served.{answer_verdict, is_to_judge, is_whole_check}
-use Rattle.jr_handover.specs.declared.parcel.Parcel.{Parcel}
-use Rattle.jr_handover.specs.declared.parcel.Parcel.TheVariants.{Check}
-use Rattle.jr_handover.specs.declared.parcel.PassState.{PassState}
-use Rattle.jr_handover.specs.PassStates.{with_put}
+use Rattle.jr_crew_channel.specs.declared.parcel.Parcel.{Parcel}
+use Rattle.jr_crew_channel.specs.declared.parcel.Parcel.TheVariants.{Check}
+use Rattle.jr_crew_channel.specs.declared.parcel.PassState.{PassState}
+use Rattle.jr_crew_channel.specs.PassStates.{with_put}
 use Rattle.jr_laws_steps.proofs.Grown.{end_names}
 use Rattle.jr_laws_steps.proofs.PlaceLemmas.{none_kept}
 use Rattle.jr_laws_steps.proofs.StartedLemmas.{started-append}
-use Rattle.jr_tickets.specs.Kept.{tickets_of}
-use Rattle.jr_tickets.proofs.OwnTickets.{got_ticket, own_started}
-use Rattle.jr_books.specs.declared.books.Done.{Done}
-use Rattle.jr_books.specs.Books.{done_by, done_with, dones_of, verdict_by, verdict_in}
-use Rattle.jr_books.specs.Settled.{HasSettled}
-use Rattle.jr_staff.specs.Judging.{IsSourced}
+use Rattle.jr_desk_tickets.specs.Kept.{tickets_of}
+use Rattle.jr_desk_tickets.proofs.OwnTickets.{got_ticket, own_started}
+use Rattle.jr_crew_books.specs.declared.books.Done.{Done}
+use Rattle.jr_crew_books.specs.Books.{done_by, done_with, dones_of, verdict_by, verdict_in}
+use Rattle.jr_crew_books.specs.Settled.{HasSettled}
+use Rattle.jr_crew_threads.specs.Judging.{IsSourced}
 use Rattle.jr_crew.specs.Crews.{AreCallsFor, IsSaidOf}
 use Rattle.jr_crew.specs.Working.{AreAnswered, AreDone, IsDoneOf, all_handed_on, handed_on}
-use Rattle.jr_staff.specs.Parts.{one_part}
+use Rattle.jr_crew_threads.specs.Parts.{one_part}
 use Rattle.jr_crew.proofs.Worked.{calls_done, said_by}
 
 -- what a worker completed, where these are the parcels that it handed over

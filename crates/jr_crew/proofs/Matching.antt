@@ -33,11 +33,11 @@ use Rattle.jr_laws_bytes.proofs.Starts.{draw_started, IsDrawOf}
 use Rattle.jr_laws_bytes.proofs.Contents.{lies_in_file, length-content_of_io}
 use Rattle.jr_laws_bytes.proofs.Memories.{covers_piece}
 use Rattle.jr_laws_steps.proofs.StartedLemmas.{started-append, same_some}
-use Rattle.jr_tickets.specs.Kept.{tickets_of}
-use Rattle.jr_tickets.specs.Tickets.{ticket_of}
-use Rattle.jr_board.proofs.Serving.{content_is, verdict_is}
-use Rattle.jr_books.specs.declared.books.Done.{Done}
-use Rattle.jr_books.specs.Books.{verdict_by, verdict_in, done_with, done_by}
+use Rattle.jr_desk_tickets.specs.Kept.{tickets_of}
+use Rattle.jr_desk_tickets.specs.Tickets.{ticket_of}
+use Rattle.jr_desk_state.proofs.Serving.{content_is, verdict_is}
+use Rattle.jr_crew_books.specs.declared.books.Done.{Done}
+use Rattle.jr_crew_books.specs.Books.{verdict_by, verdict_in, done_with, done_by}
 use Rattle.jr_crew.specs.Runs.{known_engine}
 use Rattle.jr_crew.specs.Crews.{IsCalledFor, AreCallsFor}
 use Rattle.jr_crew.proofs.Calling.{IsCall, is_call}

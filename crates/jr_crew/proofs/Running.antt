@@ -9,7 +9,7 @@ use Rattle.jr_model.specs.Replies.{EngineState}
 use Rattle.jr_model.specs.PlanFacts.{IsPlanned}
 use Rattle.jr_laws_steps.proofs.CountLaws.{started_few}
 use Rattle.jr_laws_steps.proofs.StartedFew.{started_small}
-use Rattle.jr_books.specs.Books.{dones_of}
+use Rattle.jr_crew_books.specs.Books.{dones_of}
 use Rattle.jr_desk.specs.DeskState.{DeskState}
 use Rattle.jr_crew.specs.Crews.{AreCallsFor}
 use Rattle.jr_crew.specs.Runs.{IsCovering}

@@ -31,9 +31,9 @@ use Rattle.jr_laws_bytes.proofs.Starts.{draw_started, IsDrawOf}
 use Rattle.jr_laws_bytes.proofs.Contents.{lies_in_file, length-content_of_io}
 use Rattle.jr_laws_bytes.proofs.Memories.{has_range, covers_piece, covers-fresh_memory, holds_write, holds_read, holds_on, holds_none, stored_check}
 use Rattle.jr_laws_bytes.proofs.Verdicts.{good_on_own}
-use Rattle.jr_board.specs.Takes.{IsChosen}
-use Rattle.jr_board.proofs.Keeping.{chosen_at}
-use Rattle.jr_board.proofs.Serving.{content_is, verdict_is}
+use Rattle.jr_desk_state.specs.Takes.{IsChosen}
+use Rattle.jr_desk_state.proofs.Keeping.{chosen_at}
+use Rattle.jr_desk_state.proofs.Serving.{content_is, verdict_is}
 use Rattle.jr_crew.specs.Runs.{IsFresh}
 use Rattle.jr_crew.specs.Turns.{AreSettled, IsTurn, IsLastTurn}
 use Rattle.jr_crew.proofs.Chosen.{chosen_worker, chosen_unended}

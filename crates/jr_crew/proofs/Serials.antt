@@ -22,11 +22,11 @@ use Rattle.jr_header.specs.Served.{is_whole_check, answer_verdict}
 use Rattle.jr_laws_steps.proofs.CountLaws.{numbered_of}
 use Rattle.jr_laws_steps.proofs.Grown.{all_known, is_known}
 use Rattle.jr_laws_steps.proofs.StartedLemmas.{started-append}
-use Rattle.jr_tickets.specs.Kept.{tickets_of}
-use Rattle.jr_tickets.specs.Tickets.{ticket_of}
-use Rattle.jr_board.specs.Takes.{IsChosen}
-use Rattle.jr_books.specs.declared.books.Done.{Done}
-use Rattle.jr_books.specs.Books.{verdict_by, verdict_in, done_with, done_by, dones_of}
+use Rattle.jr_desk_tickets.specs.Kept.{tickets_of}
+use Rattle.jr_desk_tickets.specs.Tickets.{ticket_of}
+use Rattle.jr_desk_state.specs.Takes.{IsChosen}
+use Rattle.jr_crew_books.specs.declared.books.Done.{Done}
+use Rattle.jr_crew_books.specs.Books.{verdict_by, verdict_in, done_with, done_by, dones_of}
 use Rattle.jr_crew.specs.Crews.{IsCalledFor, AreCallsFor}
 use Rattle.jr_crew.specs.Turns.{IsTurn, IsLastTurn}
 use Rattle.jr_crew.proofs.Carrying.{next_of, buffer_for, judged_with, ended_with, ended_by-with, ended_starts_none}

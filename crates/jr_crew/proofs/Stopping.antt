@@ -1,10 +1,10 @@
 -- One stop after another.
 use Rattle.std.proofs.Common.{◌≡◌, ℕ, zero, suc, ◌+◌, [], ◌∷◌, ◌++◌, replicate, refl, sym, ◌∙◌, ap, arith, append-nil}
-use Rattle.jr_handover.specs.declared.parcel.Parcel.TheVariants.{Stop}
-use Rattle.jr_handover.specs.declared.parcel.PassState.{PassState}
-use Rattle.jr_handover.specs.PassStates.{with_put}
-use Rattle.jr_staff.specs.Parts.{IsMore}
-use Rattle.jr_staff.proofs.PartLemmas.{more_on}
+use Rattle.jr_crew_channel.specs.declared.parcel.Parcel.TheVariants.{Stop}
+use Rattle.jr_crew_channel.specs.declared.parcel.PassState.{PassState}
+use Rattle.jr_crew_channel.specs.PassStates.{with_put}
+use Rattle.jr_crew_threads.specs.Parts.{IsMore}
+use Rattle.jr_crew_threads.proofs.PartLemmas.{more_on}
 
 more_of : {X : Type 0} (x : X) (n : ℕ) → replicate n x ++ x ∷ [] ≡ replicate (n + 1) x
 more_of x zero = refl

@@ -28,9 +28,9 @@ use Rattle.jr_laws_bytes.proofs.Starts.{draw_started, IsDrawOf}
 use Rattle.jr_laws_bytes.proofs.Contents.{lies_in_file, length-content_of_io}
 use Rattle.jr_laws_bytes.proofs.Memories.{covers_piece}
 use Rattle.jr_laws_steps.proofs.CountLaws.{numbered_of}
-use Rattle.jr_board.specs.Takes.{IsChosen}
-use Rattle.jr_board.proofs.Keeping.{chosen_legal, chosen_started, chosen_at}
-use Rattle.jr_board.proofs.Serving.{content_is, verdict_is}
+use Rattle.jr_desk_state.specs.Takes.{IsChosen}
+use Rattle.jr_desk_state.proofs.Keeping.{chosen_legal, chosen_started, chosen_at}
+use Rattle.jr_desk_state.proofs.Serving.{content_is, verdict_is}
 use Rattle.jr_crew.specs.Ends.{ends_of, failed_ends_of}
 use Rattle.jr_crew.specs.Runs.{known_engine, IsCovering}
 use Rattle.jr_crew.specs.Turns.{ended_by, AreSettled, IsTurn}

@@ -13,8 +13,8 @@ use Rattle.jr_model.proofs.RaceLaws.{raced_other, still_unraced, unstarted_is_un
 use Rattle.jr_model.proofs.SerialLaws.{first_given-append}
 use Rattle.jr_laws_steps.proofs.PlaceLemmas.{item_at}
 use Rattle.jr_laws_steps.proofs.StartedLemmas.{started-other, started-append}
-use Rattle.jr_board.specs.Takes.{IsChosen}
-use Rattle.jr_board.proofs.Keeping.{chosen_started}
+use Rattle.jr_desk_state.specs.Takes.{IsChosen}
+use Rattle.jr_desk_state.proofs.Keeping.{chosen_started}
 use Rattle.jr_crew.specs.Turns.{AreSettled}
 
 -- all that was started has ended

@@ -10,12 +10,12 @@ use Rattle.jr_model.specs.Replies.{EngineState}
 use Rattle.jr_model.specs.declared.tickets.Ticket.{Ticket}
 use Rattle.jr_engines.specs.Answers.{Answers, AnswerParts, is_failed}
 use Rattle.jr_header.specs.Served.{answer_verdict, asked_with, is_to_judge}
-use Rattle.jr_books.specs.declared.books.Done.{Done}
+use Rattle.jr_crew_books.specs.declared.books.Done.{Done}
 use Rattle.jr_crew.specs.Crews.{is_failed_done, IsCalledFor, AreCallsFor, IsSaidOf}
-use Rattle.jr_handover.specs.declared.parcel.Parcel.TheVariants.{Check}
-use Rattle.jr_handover.specs.declared.parcel.PassState.{PassState}
-use Rattle.jr_handover.specs.PassStates.{with_put}
-use Rattle.jr_staff.specs.Parts.{IsPutter, one_part}
+use Rattle.jr_crew_channel.specs.declared.parcel.Parcel.TheVariants.{Check}
+use Rattle.jr_crew_channel.specs.declared.parcel.PassState.{PassState}
+use Rattle.jr_crew_channel.specs.PassStates.{with_put}
+use Rattle.jr_crew_threads.specs.Parts.{IsPutter, one_part}
 use Rattle.jr_crew.specs.Working.{IsAnswered, AreAnswered, IsDoneOf, AreDone, IsWork, CanBeServed, handed_on, all_handed_on}
 use Rattle.jr_crew.proofs.Counting.{count-cons}
 

@@ -8,9 +8,9 @@ use Rattle.jr_model.specs.Replies.{EngineState}
 use Rattle.jr_model.specs.Tied.{IsTied}
 use Rattle.jr_engines.specs.Answers.{AnswerParts, Answers, is_failed}
 use Rattle.jr_header.specs.Served.{asked_with, is_to_judge, answer_verdict}
-use Rattle.jr_books.specs.declared.books.Done.{Done}
-use Rattle.jr_books.specs.Books.{dones_of}
-use Rattle.jr_books.specs.Numbers.{judges_inline}
+use Rattle.jr_crew_books.specs.declared.books.Done.{Done}
+use Rattle.jr_crew_books.specs.Books.{dones_of}
+use Rattle.jr_crew_books.specs.Numbers.{judges_inline}
 use Rattle.jr_crew.specs.Runs.{known_engine, IsCovering}
 
 -- it failed

@@ -14,10 +14,10 @@ use Rattle.jr_model.specs.PlanFacts.{IsPlanned}
 use Rattle.jr_model.specs.Races.{has_raced}
 use Rattle.jr_engines.specs.Answers.{AnswerParts, Answers}
 use Rattle.jr_header.specs.Served.{ExpectsOwn, asked_with, is_whole_check, is_to_judge, answer_verdict}
-use Rattle.jr_tickets.specs.Kept.{IsOwn}
-use Rattle.jr_tickets.specs.Tickets.{ticket_of}
+use Rattle.jr_desk_tickets.specs.Kept.{IsOwn}
+use Rattle.jr_desk_tickets.specs.Tickets.{ticket_of}
 use Rattle.jr_desk.specs.DeskState.{DeskState}
-use Rattle.jr_board.specs.Takes.{IsChosen}
+use Rattle.jr_desk_state.specs.Takes.{IsChosen}
 
 -- it has ended, and where it is a check that ended whole it has its verdict
 pub record IsSettled (history : List Event) (id : ℕ) (io : Started) : Type 0 where

@@ -6,11 +6,11 @@ use Rattle.jr_model.specs.Legal.{is_legal, is_complete}
 use Rattle.jr_model.specs.Plan.{Plan}
 use Rattle.jr_model.specs.Races.{has_raced}
 use Rattle.jr_model.specs.Replies.{EngineState}
-use Rattle.jr_tickets.specs.Kept.{tickets_of}
-use Rattle.jr_books.specs.declared.books.Done.{Done}
-use Rattle.jr_books.specs.Books.{dones_of}
-use Rattle.jr_books.specs.Numbers.{judges_inline, is_own_verdict, is_numbered}
-use Rattle.jr_books.specs.Settled.{HasSettled}
+use Rattle.jr_desk_tickets.specs.Kept.{tickets_of}
+use Rattle.jr_crew_books.specs.declared.books.Done.{Done}
+use Rattle.jr_crew_books.specs.Books.{dones_of}
+use Rattle.jr_crew_books.specs.Numbers.{judges_inline, is_own_verdict, is_numbered}
+use Rattle.jr_crew_books.specs.Settled.{HasSettled}
 use Rattle.jr_desk.specs.DeskState.{DeskState}
 use Rattle.jr_crew.specs.Crews.{AreCallsFor, IsWorkers}
 use Rattle.jr_crew.specs.Ends.{ends_of, failed_ends_of}

@@ -4,12 +4,12 @@ use Rattle.jr_model.specs.declared.tickets.Ticket.{Ticket}
 use Rattle.jr_model.specs.Replies.{EngineState}
 use Rattle.jr_model.specs.Tickets.{ticket_fits}
 use Rattle.jr_engines.specs.Answers.{AnswerParts, Answers}
-use Rattle.jr_handover.specs.declared.parcel.PassState.{PassState}
-use Rattle.jr_handover.specs.declared.parcel.Parcel.TheVariants.{Check}
-use Rattle.jr_handover.specs.PassStates.{with_put}
+use Rattle.jr_crew_channel.specs.declared.parcel.PassState.{PassState}
+use Rattle.jr_crew_channel.specs.declared.parcel.Parcel.TheVariants.{Check}
+use Rattle.jr_crew_channel.specs.PassStates.{with_put}
 use Rattle.jr_header.specs.Served.{ExpectsOwn, asked_with, is_to_judge}
-use Rattle.jr_staff.specs.Parts.{one_part}
-use Rattle.jr_books.specs.declared.books.Done.{Done}
+use Rattle.jr_crew_threads.specs.Parts.{one_part}
+use Rattle.jr_crew_books.specs.declared.books.Done.{Done}
 use Rattle.jr_crew.specs.Crews.{IsSaidOf}
 use Rattle.jr_crew.specs.declared.held.Started.{Started}
 use Rattle.jr_crew.specs.declared.held.Started.TheVariants as start

@@ -2,33 +2,35 @@ ghost use Rattle.std.specs.Prelude.{◌≡◌, ℕ, ◌+◌, ◌<◌, true, fals
 ghost use Rattle.std.specs.Prelude.{replicate, length, slice_get, slice_index_or};
 ghost use Rattle.std.specs.List.{list_all};
 ghost use Rattle.jr_model.specs.Legal.{is_legal, is_complete};
-ghost use Rattle.jr_tickets.specs.Kept.{tickets_of};
+ghost use Rattle.jr_desk_tickets.specs.Kept.{tickets_of};
 ghost use Rattle.jr_model.specs.declared.events.Verdict.{Verdict as GivenVerdict};
-ghost use Rattle.jr_books.specs.Books.{IsVerdictIn, dones_of};
-ghost use Rattle.jr_books.specs.Numbers.{judges_inline, is_own_verdict, is_numbered};
-ghost use Rattle.jr_staff.specs.Faults.{IsRefusal, IsUnmanned};
-ghost use Rattle.jr_books.specs.Settled.{HasSettled};
+ghost use Rattle.jr_crew_books.specs.Books.{IsVerdictIn, dones_of};
+ghost use Rattle.jr_crew_books.specs.Numbers.{judges_inline, is_own_verdict, is_numbered};
+ghost use Rattle.jr_crew_threads.specs.Faults.{IsRefusal, IsUnmanned};
+ghost use Rattle.jr_crew_books.specs.Settled.{HasSettled};
 ghost use Rattle.jr_crew.specs.Whole.{IsBooked};
-ghost use Rattle.jr_handover.specs.declared.parcel.Parcel.TheVariants.{Stop};
-ghost use Rattle.jr_handover.specs.PassStates.{first_state};
-ghost use Rattle.jr_handover.specs.Passes.{IsPassOf, pass_state};
-ghost use Rattle.jr_staff.specs.Judging.{IsJudging, IsSourced};
-ghost use Rattle.jr_staff.specs.Parts.{IsLess, IsMore, IsPutter, one_part};
+ghost use Rattle.jr_crew_channel.specs.declared.parcel.Parcel.TheVariants.{Stop};
+ghost use Rattle.jr_crew_channel.specs.PassStates.{first_state};
+ghost use Rattle.jr_crew_channel.specs.Passes.{IsPassOf, pass_state};
+ghost use Rattle.jr_crew_threads.specs.Judging.{IsJudging, IsSourced};
+ghost use Rattle.jr_crew_threads.specs.Parts.{IsLess, IsMore, IsPutter, one_part};
 ghost use Rattle.jr_crew.specs.Working.{AreWorks, IsWork};
 
 use crate::held::Shared;
 use crate::verifier::verify;
 use crate::work::{Post, work};
-use jr_books::{Account, Book, are_books, are_numbered, are_own_verdicts, are_said, has_settled};
-use jr_desk::Desk;
-use jr_engines::Engine;
-use jr_handover::{Handoff, Pass};
-use jr_model::Event;
-use jr_plan::Plan;
-use jr_staff::{
+use jr_crew_books::{
+    Account, Book, are_books, are_numbered, are_own_verdicts, are_said, has_settled,
+};
+use jr_crew_channel::{Handoff, Pass};
+use jr_crew_threads::{
     Books, ChannelEnd, Crowd, Ended, Halt, Judged, Judgements, Judges, Naming, RunFault, Seat,
     Shares, StopFlag, Verifiers, Watch, Worked, Worker, books_of, is_asked, room_for, staff_for,
 };
+use jr_desk::Desk;
+use jr_engines::Engine;
+use jr_model::Event;
+use jr_plan::Plan;
 use std::alloc::Global;
 use std::marker::Brand;
 use std::sync::Wait;

@@ -3,18 +3,18 @@ ghost use Rattle.jr_model.specs.Legal.{is_void};
 ghost use Rattle.jr_model.specs.Machine.{said_of};
 ghost use Rattle.jr_model.specs.Races.{has_raced};
 ghost use Rattle.jr_header.specs.Served.{answer_verdict};
-ghost use Rattle.jr_board.specs.Takes.{HandsOutOwn, is_fitting};
-ghost use Rattle.jr_staff.specs.Halts.{first_cause};
+ghost use Rattle.jr_desk_state.specs.Takes.{HandsOutOwn, is_fitting};
+ghost use Rattle.jr_crew_threads.specs.Halts.{first_cause};
 ghost use Rattle.jr_crew.specs.Working.{CanBeServed, CanStart};
 
 use crate::settled::{Settled, Told};
-use jr_desk::{Desk, DeskFault, Take};
-use jr_header::{Ruling, Served};
-use jr_model::{Event, Ticket, Verdict};
-use jr_staff::{
+use jr_crew_threads::{
     Crowd, Halt, MOST_BYTES, MOST_IOS, Naming, Shares, Watch, is_asked, note_start, note_verdict,
     push,
 };
+use jr_desk::{Desk, DeskFault, Take};
+use jr_header::{Ruling, Served};
+use jr_model::{Event, Ticket, Verdict};
 use std::marker::PhantomData;
 use std::sync::atomic::{AtomicU64, Ordering};
 use std::sync::{Condvar, Mutex, MutexGuard, Wait};

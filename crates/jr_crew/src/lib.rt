@@ -10,7 +10,7 @@ mod verifier;
 mod work;
 
 pub use crew::{Booked, run_booked};
-pub use jr_books::{Book, Done};
-pub use jr_staff::{Progress, RunFault, StopFlag, Watch};
+pub use jr_crew_books::{Book, Done};
+pub use jr_crew_threads::{Progress, RunFault, StopFlag, Watch};
 pub use ran::{Ran, run};
 pub use serial::run_serial;

@@ -4,19 +4,19 @@ ghost use Rattle.jr_model.specs.History.{outcome_of, is_judged};
 ghost use Rattle.jr_model.specs.Legal.{is_complete};
 ghost use Rattle.jr_model.specs.Races.{has_raced};
 ghost use Rattle.jr_model.specs.Serial.{serial_history};
-ghost use Rattle.jr_tickets.specs.Kept.{IsOwn};
+ghost use Rattle.jr_desk_tickets.specs.Kept.{IsOwn};
 ghost use Rattle.jr_crew.specs.Runs.{IsFresh};
 ghost use Rattle.jr_crew.specs.Turns.{IsBetweenTurns, IsOpen, IsNext, IsCarriedOut, IsTurn, IsLastTurn, judged_by};
 ghost use Rattle.jr_crew.specs.Whole.{IsRun, IsEndedRun};
 
+use jr_crew_threads::{
+    Progress, RunFault, StopFlag, Watch, is_asked, make_room, note_start, note_verdict,
+};
 use jr_desk::{Desk, Take};
 use jr_engines::Engine;
 use jr_header::{Served, rule, serve_own};
 use jr_model::{Event, Ticket};
 use jr_plan::Plan;
-use jr_staff::{
-    Progress, RunFault, StopFlag, Watch, is_asked, make_room, note_start, note_verdict,
-};
 use std::alloc::Global;
 use std::mem;
 

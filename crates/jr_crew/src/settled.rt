@@ -1,15 +1,15 @@
 ghost use Rattle.std.specs.Prelude.{◌≡◌, ◌++◌, ◌&&◌, All, List, false, map, IsTrue, OnOk, Some, None, is_some, if◌then◌else◌};
 ghost use Rattle.jr_model.specs.declared.events.Verdict.{Verdict};
 ghost use Rattle.jr_model.specs.Legal.{is_void};
-ghost use Rattle.jr_handover.specs.declared.parcel.Parcel.{Parcel};
+ghost use Rattle.jr_crew_channel.specs.declared.parcel.Parcel.{Parcel};
 ghost use Rattle.jr_header.specs.Served.{answer_verdict, is_to_judge};
-ghost use Rattle.jr_staff.specs.Judging.{AreChecksOf, IsSaidOfOne};
+ghost use Rattle.jr_crew_threads.specs.Judging.{AreChecksOf, IsSaidOfOne};
 ghost use Rattle.jr_crew.specs.Working.{AreDone};
 
-use jr_books::{Book, Done, Said};
+use jr_crew_books::{Book, Done, Said};
+use jr_crew_threads::{Halt, push};
 use jr_header::{Ruling, Served, rule};
 use jr_model::Verdict;
-use jr_staff::{Halt, push};
 
 // A ticket that was carried out, with the ruling on it where it is judged here and is a check that ended whole.
 #[derive(Drop)]

@@ -1,15 +1,15 @@
 ghost use Rattle.std.specs.Prelude.{◌≡◌, [], All, Contains, IfOk, List, OnOk};
-ghost use Rattle.jr_handover.specs.declared.parcel.Parcel.{Parcel};
-ghost use Rattle.jr_handover.specs.Passes.{pass_state};
-ghost use Rattle.jr_staff.specs.Judging.{AreChecksOf, IsJudging, IsSaidOfOne};
-ghost use Rattle.jr_staff.specs.Parts.{IsTaker, one_part};
+ghost use Rattle.jr_crew_channel.specs.declared.parcel.Parcel.{Parcel};
+ghost use Rattle.jr_crew_channel.specs.Passes.{pass_state};
+ghost use Rattle.jr_crew_threads.specs.Judging.{AreChecksOf, IsJudging, IsSaidOfOne};
+ghost use Rattle.jr_crew_threads.specs.Parts.{IsTaker, one_part};
 
 use crate::held::Shared;
 use crate::settled::{note_said, settle_all};
-use jr_books::Said;
-use jr_handover::Parcel;
+use jr_crew_books::Said;
+use jr_crew_channel::Parcel;
+use jr_crew_threads::{ChannelEnd, Halt, Judged, Naming, Verifier, push};
 use jr_header::Served;
-use jr_staff::{ChannelEnd, Halt, Judged, Naming, Verifier, push};
 use std::alloc::Global;
 use std::sync::Wait;
 

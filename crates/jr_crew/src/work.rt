@@ -1,18 +1,18 @@
 ghost use Rattle.std.specs.Prelude.{◌≡◌, All, IfOk, OnOk};
 ghost use Rattle.jr_model.specs.Replies.{EngineState};
 ghost use Rattle.jr_model.specs.Tickets.{ticket_fits};
-ghost use Rattle.jr_handover.specs.Passes.{pass_state};
+ghost use Rattle.jr_crew_channel.specs.Passes.{pass_state};
 ghost use Rattle.jr_header.specs.Served.{ExpectsOwn};
-ghost use Rattle.jr_handover.specs.declared.parcel.PassState.{PassState};
+ghost use Rattle.jr_crew_channel.specs.declared.parcel.PassState.{PassState};
 ghost use Rattle.jr_crew.specs.Working.{AreAnswered, AreDone, CanBeServed, IsAnswered, IsWork, all_handed_on};
 
 use crate::held::{Shared, Step};
 use crate::settled::{note_all, settle_all};
-use jr_books::Book;
+use jr_crew_books::Book;
+use jr_crew_threads::{ChannelEnd, Crowd, Halt, Naming, make_room, push};
 use jr_engines::Engine;
 use jr_header::{Served, ready_own};
 use jr_model::Ticket;
-use jr_staff::{ChannelEnd, Crowd, Halt, Naming, make_room, push};
 use std::alloc::Global;
 use std::sync::Wait;
 use std::time::Clock;

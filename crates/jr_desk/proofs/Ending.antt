@@ -29,13 +29,13 @@ use Rattle.jr_laws_steps.proofs.DrawnLaws.{started_fit-law}
 use Rattle.jr_laws_bytes.proofs.Memories.{covers_piece}
 use Rattle.jr_laws_bytes.proofs.Starts.{draw_started}
 use Rattle.jr_desk.specs.declared.plays.Player.{Player}
-use Rattle.jr_tickets.specs.Kept.{tickets_of}
-use Rattle.jr_tickets.specs.Tickets.{ticket_of}
+use Rattle.jr_desk_tickets.specs.Kept.{tickets_of}
+use Rattle.jr_desk_tickets.specs.Tickets.{ticket_of}
 use Rattle.jr_desk.specs.DeskState.{DeskState}
 use Rattle.jr_desk.specs.Plays.{GoesOn, IsReady, KeepsReads, kept_by, read_back_of, state_of}
 use Rattle.jr_desk.proofs.Playing.{known, same_states}
 use Rattle.jr_desk.proofs.Reading.{keeps_ended}
-use Rattle.jr_board.proofs.Serving.{content_is}
+use Rattle.jr_desk_state.proofs.Serving.{content_is}
 
 -- the bytes read are kept, where it is a read or a check
 abbrev read_by : TicketKind → ℕ → List ℕ → List (ℕ × List ℕ) → List (ℕ × List ℕ)

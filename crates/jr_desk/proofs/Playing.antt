@@ -30,19 +30,19 @@ use Rattle.jr_laws_steps.proofs.StartedLemmas.{started_below, same_some}
 use Rattle.jr_laws_bytes.proofs.Verdicts.{judged_check}
 use Rattle.jr_laws_bytes.specs.Memory.{CoversFiles}
 use Rattle.jr_desk.specs.declared.plays.Player.{Player}
-use Rattle.jr_tickets.specs.Kept.{tickets_of}
-use Rattle.jr_tickets.specs.Tickets.{ticket_of}
-use Rattle.jr_tickets.proofs.OwnTickets.{got_ticket, tickets_count}
-use Rattle.jr_board.specs.declared.takes.Take.{Take}
-use Rattle.jr_board.specs.declared.takes.Take.TheVariants as take
+use Rattle.jr_desk_tickets.specs.Kept.{tickets_of}
+use Rattle.jr_desk_tickets.specs.Tickets.{ticket_of}
+use Rattle.jr_desk_tickets.proofs.OwnTickets.{got_ticket, tickets_count}
+use Rattle.jr_desk_state.specs.declared.takes.Take.{Take}
+use Rattle.jr_desk_state.specs.declared.takes.Take.TheVariants as take
 use Rattle.jr_desk.specs.DeskState.{DeskState}
 use Rattle.jr_desk.specs.Plays.{GoesOn, IsReady, KeepsReads, is_for, judge_reply, judged_desk, last_read, read_back_of, reply_for, state_of, IsJudgeable}
 use Rattle.jr_desk.specs.Refusals.{judge_fault}
-use Rattle.jr_board.specs.Takes.{IsTaken, answer_with, handing, last_started, ticket_for}
-use Rattle.jr_board.proofs.Answering.{fits_by, no_ends}
+use Rattle.jr_desk_state.specs.Takes.{IsTaken, answer_with, handing, last_started, ticket_for}
+use Rattle.jr_desk_state.proofs.Answering.{fits_by, no_ends}
 use Rattle.jr_desk.proofs.Refusing.{judged_probe, none_from}
 use Rattle.jr_desk.proofs.Reading.{keeps_on, last_read_for}
-use Rattle.jr_board.proofs.Serving.{verdict_is}
+use Rattle.jr_desk_state.proofs.Serving.{verdict_is}
 
 -- a verdict
 

@@ -21,10 +21,10 @@ use Rattle.jr_engines.specs.Answers.{AnswerParts}
 use Rattle.jr_header.specs.Served.{is_to_judge, is_whole_check}
 use Rattle.jr_laws_steps.proofs.StartedLemmas.{started-other, started-append, started_stays, got_within, same_some}
 use Rattle.jr_desk.specs.Plays.{KeepsReads, kept_by, last_read, is_for, IsJudgeable}
-use Rattle.jr_tickets.specs.Kept.{IsOwn, tickets_of}
-use Rattle.jr_tickets.specs.Tickets.{ticket_of}
-use Rattle.jr_tickets.proofs.OwnTickets.{own_started}
-use Rattle.jr_board.proofs.Answering.{ends_started}
+use Rattle.jr_desk_tickets.specs.Kept.{IsOwn, tickets_of}
+use Rattle.jr_desk_tickets.specs.Tickets.{ticket_of}
+use Rattle.jr_desk_tickets.proofs.OwnTickets.{own_started}
+use Rattle.jr_desk_state.proofs.Answering.{ends_started}
 
 -- tickets stay the desk's own
 

@@ -9,7 +9,7 @@ use Rattle.jr_model.specs.declared.tickets.TicketKind.{TicketKind}
 use Rattle.jr_model.specs.declared.tickets.TicketKind.TheVariants as ticket
 use Rattle.jr_model.specs.History.{outcome_of, is_judged, is_judged_kind, ended_whole}
 use Rattle.jr_header.specs.Served.{is_whole_check}
-use Rattle.jr_tickets.specs.Kept.{IsOwn}
+use Rattle.jr_desk_tickets.specs.Kept.{IsOwn}
 use Rattle.jr_desk.specs.DeskState.{DeskState}
 use Rattle.jr_desk.specs.Refusals.{Owns, judge_fault}
 

@@ -19,9 +19,9 @@ use Rattle.jr_model.specs.Races.{has_raced}
 use Rattle.jr_header.specs.Served.{answer_verdict, is_to_judge}
 use Rattle.jr_laws_bytes.specs.Memory.{CoversFiles}
 use Rattle.jr_desk.specs.declared.plays.Player.{Player}
-use Rattle.jr_tickets.specs.Kept.{IsOwn}
-use Rattle.jr_board.specs.declared.takes.Take.{Take}
-use Rattle.jr_board.specs.declared.takes.Take.TheVariants as take
+use Rattle.jr_desk_tickets.specs.Kept.{IsOwn}
+use Rattle.jr_desk_state.specs.declared.takes.Take.{Take}
+use Rattle.jr_desk_state.specs.declared.takes.Take.TheVariants as take
 use Rattle.jr_desk.specs.DeskState.{DeskState}
 
 -- the answer to a step that takes

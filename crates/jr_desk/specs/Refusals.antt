@@ -4,7 +4,7 @@ use Rattle.jr_model.specs.declared.steps.DeskFault.{DeskFault}
 use Rattle.jr_model.specs.declared.steps.DeskFault.TheVariants.{Stranger, Twice, WrongKind, Stopped}
 use Rattle.jr_model.specs.declared.tickets.Ticket.{Ticket}
 use Rattle.jr_model.specs.History.{outcome_of, is_judged, ended_whole}
-use Rattle.jr_tickets.specs.Kept.{IsOwn}
+use Rattle.jr_desk_tickets.specs.Kept.{IsOwn}
 use Rattle.jr_desk.specs.DeskState.{DeskState}
 
 -- whether the ticket is the desk's own

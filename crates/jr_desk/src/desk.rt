@@ -6,18 +6,20 @@ ghost use Rattle.jr_model.specs.Machine.{said_of};
 ghost use Rattle.jr_model.specs.Races.{has_raced};
 ghost use Rattle.jr_model.specs.Report.{all_totals, miscompares};
 ghost use Rattle.jr_header.specs.Served.{answer_verdict};
-ghost use Rattle.jr_tickets.specs.Handing.{IsHanded};
-ghost use Rattle.jr_tickets.specs.Kept.{tickets_of, IsOwn};
+ghost use Rattle.jr_desk_tickets.specs.Handing.{IsHanded};
+ghost use Rattle.jr_desk_tickets.specs.Kept.{tickets_of, IsOwn};
 ghost use Rattle.jr_desk.specs.Refusals.{Owns, end_fault, judge_fault};
-ghost use Rattle.jr_board.specs.Takes.{HandsOutOwn, IsTaken, is_finished, is_fitting, WaitsRightly};
-ghost use Rattle.jr_tallies.specs.Tallying.{miscompare_of};
+ghost use Rattle.jr_desk_state.specs.Takes.{HandsOutOwn, IsTaken, is_finished, is_fitting, WaitsRightly};
+ghost use Rattle.jr_desk_totals.specs.Tallying.{miscompare_of};
 
-use jr_board::{Board, Take, answer_to, end, is_complete, judge, new_board, prepare, start_next};
+use jr_desk_state::{
+    Board, Take, answer_to, end, is_complete, judge, new_board, prepare, start_next,
+};
+use jr_desk_tickets::TicketTable;
+use jr_desk_totals::Bad;
 use jr_header::{Ruling, Served};
 use jr_model::{DeskFault, Event, Ticket, Totals, Verdict};
 use jr_plan::Plan;
-use jr_tallies::Bad;
-use jr_tickets::TicketTable;
 use std::alloc::Global;
 use std::fmt;
 use std::marker::Model;
@@ -41,7 +43,7 @@ impl fmt::Debug for Desk {
 }
 
 impl Model for Desk {
-    ghost use Rattle.jr_board.specs.Boards.{IsBoard};
+    ghost use Rattle.jr_desk_state.specs.Boards.{IsBoard};
     ghost use Rattle.jr_desk.specs.DeskState.{DeskState};
 
     ghost Value = { DeskState };

@@ -8,7 +8,7 @@ mod plays;
 mod scripted;
 
 pub use desk::Desk;
-pub use jr_board::Take;
+pub use jr_desk_state::Take;
+pub use jr_desk_totals::Bad;
 pub use jr_model::{DeskFault, Step, StepReply, Totals, is_same};
-pub use jr_tallies::Bad;
 pub use plays::{Played, play};

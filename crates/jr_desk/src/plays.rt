@@ -4,14 +4,14 @@ ghost use Rattle.jr_model.specs.declared.events.Started.{Started};
 ghost use Rattle.jr_model.specs.Machine.{end_refusal, first_state, judge_refusal, machine_end, machine_judge, machine_run};
 ghost use Rattle.jr_model.specs.Machine.{machine_step, machine_take};
 ghost use Rattle.jr_header.specs.Served.{is_to_judge};
-ghost use Rattle.jr_tickets.specs.Kept.{IsOwn, tickets_of};
+ghost use Rattle.jr_desk_tickets.specs.Kept.{IsOwn, tickets_of};
 ghost use Rattle.jr_desk.specs.DeskOf.{desk_in};
 ghost use Rattle.jr_desk.specs.Plays.{GoesOn, IsJudgeable, IsReady, judge_reply, judged_desk, kept_by, last_read, reply_for, state_of};
 ghost use Rattle.jr_desk.specs.Refusals.{judge_fault};
 
 use crate::desk::Desk;
 use crate::scripted::{carried_out, copy_of};
-use jr_board::Take;
+use jr_desk_state::Take;
 use jr_engines::{MemoryEngine, ScriptedEngine};
 use jr_header::{Served, room_for, rule};
 use jr_model::{DeskFault, IoId, Memory, Reply, Step, StepReply, Ticket, TicketKind};

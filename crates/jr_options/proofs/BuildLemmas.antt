@@ -7,16 +7,16 @@ use Rattle.jr_text.specs.Records.{SectionText}
 use Rattle.jr_options.specs.declared.planned.PlannedJob.{PlannedJob}
 use Rattle.jr_options.specs.declared.sections.Reading.TheVariants as reading
 use Rattle.jr_options.specs.declared.tallies.Tally.{Tally}
-use Rattle.jr_settings.specs.declared.faults.JobFault.{JobFault}
-use Rattle.jr_settings.specs.declared.options.JobOptions.{JobOptions}
-use Rattle.jr_settings.specs.Lookups.{value_from}
-use Rattle.jr_settings.specs.Options.{default_options}
+use Rattle.jr_job_options.specs.declared.faults.JobFault.{JobFault}
+use Rattle.jr_job_options.specs.declared.options.JobOptions.{JobOptions}
+use Rattle.jr_job_options.specs.Lookups.{value_from}
+use Rattle.jr_job_options.specs.Options.{default_options}
 use Rattle.jr_plan.specs.Drafts.{Clones}
 use Rattle.jr_options.specs.Jobs.{planned_job, job_with, shaped_job}
 use Rattle.jr_model.specs.PlanFacts.{work_of}
 use Rattle.jr_options.specs.PlanOf.{HasRoom, PhasedJob, job_asked, jobs_below, phased_job, clones_asked, planned_as, with_asked, no_clones, clones_of}
 use Rattle.jr_options.specs.Sections.{asked_job, reading_of}
-use Rattle.jr_settings.specs.Shapes.{shape_in, shape_of}
+use Rattle.jr_job_options.specs.Shapes.{shape_in, shape_of}
 use Rattle.jr_options.specs.Surveys.{first_survey, is_global, is_named, is_planned, survey_from, tally_fault, tally_in, empty_tally}
 use Rattle.jr_options.proofs.CloneLemmas.{next_phase, with_jobs, clones_more, work_more, clones_of-jobs}
 use Rattle.jr_options.proofs.CountLemmas.{Counts, counts-first, counts-global, counts-other, counts-read, counts-options, counts-file, counts-directory}

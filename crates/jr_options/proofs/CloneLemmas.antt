@@ -14,7 +14,7 @@ use Rattle.jr_plan.specs.Drafts.{Clones, with_clone}
 use Rattle.jr_plan.specs.Files.{file_place}
 use Rattle.jr_model.specs.PlanFacts.{work_of}
 use Rattle.jr_options.specs.PlanOf.{JobAsked, PhasedJob, HasRoom, stonewalls, clones_asked, planned_as, with_asked, no_clones, clones_of, file_of}
-use Rattle.jr_settings.specs.Shapes.{shape_in}
+use Rattle.jr_job_options.specs.Shapes.{shape_in}
 use Rattle.jr_options.specs.Surveys.{start_of}
 
 -- the cells that all passes of one clone of a job visit

@@ -1,12 +1,12 @@
 -- What counts below sections: the options and the names of files that the global lines among them give.
 use Rattle.std.proofs.Common.{◌≡◌, ℕ, Bool, true, false, not, ◌&&◌, cond, List, [], ◌∷◌, ◌++◌, Option, None, Result, Ok, Err, ap, ◌∙◌, sym, refl, codes}
 use Rattle.jr_text.specs.Records.{SectionText}
-use Rattle.jr_settings.specs.declared.faults.JobFault.{JobFault}
-use Rattle.jr_settings.specs.declared.options.JobOptions.{JobOptions}
-use Rattle.jr_settings.specs.Lookups.{last_value, value_from}
-use Rattle.jr_settings.specs.Options.{default_options, options_from}
-use Rattle.jr_settings.proofs.LookupLemmas.{value_from-append, value_from-none}
-use Rattle.jr_settings.proofs.OptionLemmas.{options_from-append, fault_stays}
+use Rattle.jr_job_options.specs.declared.faults.JobFault.{JobFault}
+use Rattle.jr_job_options.specs.declared.options.JobOptions.{JobOptions}
+use Rattle.jr_job_options.specs.Lookups.{last_value, value_from}
+use Rattle.jr_job_options.specs.Options.{default_options, options_from}
+use Rattle.jr_job_options.proofs.LookupLemmas.{value_from-append, value_from-none}
+use Rattle.jr_job_options.proofs.OptionLemmas.{options_from-append, fault_stays}
 use Rattle.jr_options.specs.declared.surveys.Survey.{Survey}
 use Rattle.jr_options.specs.declared.tallies.Tally.{Tally}
 use Rattle.jr_options.specs.Jobs.{global_lines, effective_lines, options_of}

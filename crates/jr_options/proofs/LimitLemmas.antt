@@ -4,10 +4,10 @@ use Rattle.std.proofs.lemmas.Bool.{and_parts, and_from, le-ltb, le-leb, lt-leb, 
 use Rattle.jr_model.specs.declared.workloads.IoType.{IoType}
 use Rattle.jr_model.specs.declared.workloads.IoType.TheVariants as io
 use Rattle.jr_model.specs.Tickets.{interval_fits}
-use Rattle.jr_settings.specs.declared.options.JobOptions.{JobOptions}
-use Rattle.jr_settings.specs.declared.shapes.Shape.{Shape}
-use Rattle.jr_settings.specs.Options.{AreInRange}
-use Rattle.jr_settings.specs.Shapes.{HasShape}
+use Rattle.jr_job_options.specs.declared.options.JobOptions.{JobOptions}
+use Rattle.jr_job_options.specs.declared.shapes.Shape.{Shape}
+use Rattle.jr_job_options.specs.Options.{AreInRange}
+use Rattle.jr_job_options.specs.Shapes.{HasShape}
 use Rattle.jr_plan.specs.Drafts.{Clones, clone_fault}
 use Rattle.jr_model.specs.PlanFacts.{SizesFit, has_reads, has_writes, work_of}
 use Rattle.jr_plan.specs.Sizes.{split_fits}

@@ -1,9 +1,9 @@
 -- What follows from how a section was read, and the survey's step by it.
 use Rattle.std.proofs.Common.{◌≡◌, ℕ, Bool, true, false, not, ◌&&◌, cond, List, Option, Result, Ok, Err, refl}
 use Rattle.jr_text.specs.Records.{SectionText}
-use Rattle.jr_settings.specs.declared.faults.JobFault.{JobFault}
-use Rattle.jr_settings.specs.declared.options.JobOptions.{JobOptions}
-use Rattle.jr_settings.specs.Options.{options_from}
+use Rattle.jr_job_options.specs.declared.faults.JobFault.{JobFault}
+use Rattle.jr_job_options.specs.declared.options.JobOptions.{JobOptions}
+use Rattle.jr_job_options.specs.Options.{options_from}
 use Rattle.jr_options.specs.declared.sections.Reading.{Reading}
 use Rattle.jr_options.specs.declared.sections.Reading.TheVariants as reading
 use Rattle.jr_options.specs.declared.surveys.Survey.{Survey}

@@ -11,22 +11,22 @@ use Rattle.jr_model.specs.declared.workloads.EngineKind.{EngineKind}
 use Rattle.jr_model.proofs.SerialLaws.{first_given-append}
 use Rattle.jr_text.specs.Records.{LineText, SectionText}
 use Rattle.jr_plan.specs.declared.faults.Bound.TheVariants as bound
-use Rattle.jr_settings.specs.declared.faults.JobFault.{JobFault}
-use Rattle.jr_settings.specs.declared.faults.JobFault.TheVariants as fault
-use Rattle.jr_settings.specs.declared.options.JobOptions.{JobOptions}
+use Rattle.jr_job_options.specs.declared.faults.JobFault.{JobFault}
+use Rattle.jr_job_options.specs.declared.faults.JobFault.TheVariants as fault
+use Rattle.jr_job_options.specs.declared.options.JobOptions.{JobOptions}
 use Rattle.jr_options.specs.declared.surveys.Survey.{Survey}
 use Rattle.jr_options.specs.declared.tallies.Tally.{Tally}
-use Rattle.jr_settings.specs.declared.settings.Setting.{Setting}
-use Rattle.jr_settings.specs.declared.shapes.Shape.{Shape}
-use Rattle.jr_settings.specs.Options.{options_from, and_setting, with_setting}
+use Rattle.jr_job_options.specs.declared.settings.Setting.{Setting}
+use Rattle.jr_job_options.specs.declared.shapes.Shape.{Shape}
+use Rattle.jr_job_options.specs.Options.{options_from, and_setting, with_setting}
 use Rattle.jr_options.specs.PlanOf.{JobAsked, jobs_below}
 use Rattle.jr_options.specs.Refusals.{counts, lines_of, counting_lines, line_fault, job_fault, has_other_engine, are_mixed, clones_in, is_far, is_long, work_in, joint_fault, jobs_fault, refusal_of}
-use Rattle.jr_settings.specs.Settings.{setting_of}
-use Rattle.jr_settings.specs.Shapes.{shape_of}
+use Rattle.jr_job_options.specs.Settings.{setting_of}
+use Rattle.jr_job_options.specs.Shapes.{shape_of}
 use Rattle.jr_options.specs.Surveys.{is_global, is_named, is_planned, start_of, engine_number, is_other_engine, counted, and_shape, and_job, empty_tally, tally_fault, first_survey, survey_from, tally_in, refusal_in, survey_refusal}
-use Rattle.jr_settings.proofs.OptionLemmas.{fault_stays}
+use Rattle.jr_job_options.proofs.OptionLemmas.{fault_stays}
 use Rattle.jr_options.proofs.SectionLemmas.{survey_stays}
-use Rattle.jr_settings.proofs.ShapeLemmas.{shaped_as}
+use Rattle.jr_job_options.proofs.ShapeLemmas.{shaped_as}
 use Rattle.jr_options.proofs.SurveyLemmas.{tally_from, after, surveyed}
 
 -- lines that are read one after another are refused by their first fault

@@ -4,12 +4,12 @@ use Rattle.std.proofs.Common.{◌≡◌, ℕ, List, [], ◌∷◌, map, Some, No
 use Rattle.jr_model.specs.Plan.{SubJob}
 use Rattle.jr_text.specs.Number.{number_of}
 use Rattle.jr_text.specs.Records.{LineText, SectionText}
-use Rattle.jr_settings.specs.declared.faults.JobFault.TheVariants as fault
+use Rattle.jr_job_options.specs.declared.faults.JobFault.TheVariants as fault
 use Rattle.jr_options.specs.PlanOf.{default_name, plan_of}
 use Rattle.jr_plan.specs.PlanText.{plan_text, place_text, size_text, work_text}
 use Rattle.jr_options.specs.Refusals.{refusal_of}
-use Rattle.jr_settings.specs.Settings.{setting_of}
-use Rattle.jr_settings.specs.Shapes.{shape_of}
+use Rattle.jr_job_options.specs.Settings.{setting_of}
+use Rattle.jr_job_options.specs.Shapes.{shape_of}
 
 -- the option `key=value` on a line, and one without a value
 setting : ℕ → List ℕ → List ℕ → LineText

@@ -2,7 +2,7 @@
 use Rattle.std.proofs.Common.{◌≡◌, ℕ, ◌+◌, ◌<◌, List, [], ◌∷◌, length, drop, slice_index_or, Option, Ok, Err, ap, ◌∙◌, sym, refl}
 use Rattle.std.proofs.lemmas.List.{at_drop_more}
 use Rattle.jr_text.specs.Records.{SectionText}
-use Rattle.jr_settings.specs.declared.faults.JobFault.{JobFault}
+use Rattle.jr_job_options.specs.declared.faults.JobFault.{JobFault}
 use Rattle.jr_options.specs.declared.surveys.Survey.{Survey}
 use Rattle.jr_options.specs.Surveys.{survey_from, with_section}
 

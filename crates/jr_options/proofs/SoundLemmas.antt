@@ -6,15 +6,15 @@ use Rattle.std.proofs.lemmas.Bool.{or_parts, ltb-false}
 use Rattle.jr_model.specs.declared.workloads.EngineKind.{EngineKind}
 use Rattle.jr_model.specs.declared.workloads.EngineKind.TheVariants as engine
 use Rattle.jr_plan.specs.declared.faults.Bound.TheVariants as bound
-use Rattle.jr_settings.specs.declared.faults.JobFault.{JobFault}
-use Rattle.jr_settings.specs.declared.faults.JobFault.TheVariants as fault
-use Rattle.jr_settings.specs.declared.options.JobOptions.{JobOptions}
+use Rattle.jr_job_options.specs.declared.faults.JobFault.{JobFault}
+use Rattle.jr_job_options.specs.declared.faults.JobFault.TheVariants as fault
+use Rattle.jr_job_options.specs.declared.options.JobOptions.{JobOptions}
 use Rattle.jr_options.specs.declared.tallies.Tally.{Tally}
-use Rattle.jr_settings.specs.declared.shapes.Shape.{Shape}
+use Rattle.jr_job_options.specs.declared.shapes.Shape.{Shape}
 use Rattle.jr_options.specs.PlanOf.{JobAsked, engine_of, verifiers_of}
-use Rattle.jr_settings.specs.Shapes.{shape_of, shape_in}
+use Rattle.jr_job_options.specs.Shapes.{shape_of, shape_in}
 use Rattle.jr_options.specs.Surveys.{start_of, counted, and_shape, and_job, empty_tally, tally_fault}
-use Rattle.jr_settings.proofs.ShapeLemmas.{shaped_as}
+use Rattle.jr_job_options.proofs.ShapeLemmas.{shaped_as}
 use Rattle.jr_options.proofs.SurveyLemmas.{tally_from}
 
 -- a job within the limits of one job

@@ -1,16 +1,16 @@
 -- A survey that finds no fault has read each planned job, and its tally is that of the jobs.
 use Rattle.std.proofs.Common.{◌≡◌, ℕ, Bool, true, false, not, ◌&&◌, cond, List, [], ◌∷◌, ◌++◌, Option, Result, Ok, Err, ap, ◌∙◌, sym, refl, append_assoc, append-nil}
 use Rattle.jr_text.specs.Records.{LineText, SectionText}
-use Rattle.jr_settings.specs.declared.faults.JobFault.{JobFault}
-use Rattle.jr_settings.specs.declared.options.JobOptions.{JobOptions}
+use Rattle.jr_job_options.specs.declared.faults.JobFault.{JobFault}
+use Rattle.jr_job_options.specs.declared.options.JobOptions.{JobOptions}
 use Rattle.jr_options.specs.declared.surveys.Survey.{Survey}
 use Rattle.jr_options.specs.declared.tallies.Tally.{Tally}
 use Rattle.jr_options.specs.Jobs.{global_lines, effective_lines, options_of}
-use Rattle.jr_settings.specs.Options.{default_options, options_from}
+use Rattle.jr_job_options.specs.Options.{default_options, options_from}
 use Rattle.jr_options.specs.PlanOf.{JobAsked, job_asked, jobs_below}
 use Rattle.jr_options.specs.Surveys.{is_global, is_named, is_planned, and_job, first_survey, survey_from, tally_in}
-use Rattle.jr_settings.proofs.LookupLemmas.{options_read}
-use Rattle.jr_settings.proofs.OptionLemmas.{options_from-append}
+use Rattle.jr_job_options.proofs.LookupLemmas.{options_read}
+use Rattle.jr_job_options.proofs.OptionLemmas.{options_from-append}
 use Rattle.jr_options.proofs.SectionLemmas.{survey_stays}
 
 -- a tally once more jobs come

@@ -2,11 +2,11 @@
 use Rattle.std.specs.Prelude.{ℕ, ◌+◌, List, [], ◌∷◌, ◌++◌, Result, Ok, Err, if◌then◌else◌}
 use Rattle.jr_text.specs.Records.{LineText, SectionText}
 use Rattle.jr_options.specs.declared.planned.PlannedJob.{PlannedJob}
-use Rattle.jr_settings.specs.declared.faults.JobFault.{JobFault}
-use Rattle.jr_settings.specs.declared.options.JobOptions.{JobOptions}
-use Rattle.jr_settings.specs.declared.shapes.Shape.{Shape}
-use Rattle.jr_settings.specs.Options.{default_options, options_from}
-use Rattle.jr_settings.specs.Shapes.{shape_of}
+use Rattle.jr_job_options.specs.declared.faults.JobFault.{JobFault}
+use Rattle.jr_job_options.specs.declared.options.JobOptions.{JobOptions}
+use Rattle.jr_job_options.specs.declared.shapes.Shape.{Shape}
+use Rattle.jr_job_options.specs.Options.{default_options, options_from}
+use Rattle.jr_job_options.specs.Shapes.{shape_of}
 use Rattle.jr_options.specs.Surveys.{is_global}
 
 -- the lines of the global sections among these

@@ -6,4 +6,4 @@ pub mod Planned
 pub mod Refusals
 pub mod Sections
 pub mod Surveys
-pub use Rattle.jr_settings.specs.FaultTexts
+pub use Rattle.jr_job_options.specs.FaultTexts

@@ -7,15 +7,15 @@ use Rattle.jr_model.specs.declared.workloads.EngineKind.TheVariants as engine
 use Rattle.jr_model.specs.Plan.{Plan}
 use Rattle.jr_text.specs.Records.{SectionText}
 use Rattle.jr_options.specs.declared.planned.PlannedJob.{PlannedJob}
-use Rattle.jr_settings.specs.declared.options.JobOptions.{JobOptions}
+use Rattle.jr_job_options.specs.declared.options.JobOptions.{JobOptions}
 use Rattle.jr_plan.specs.Drafts.{Clones, with_clone}
 pub use Rattle.jr_plan.specs.Drafts.{no_clones}
 use Rattle.jr_options.specs.Planned.{workload_of}
 use Rattle.jr_model.specs.declared.limits.TheConstants.{LARGEST_END, MOST_CELLS, MOST_CLONES, MOST_WORK}
 use Rattle.jr_options.specs.Jobs.{effective_lines}
-use Rattle.jr_settings.specs.Lookups.{options_in, last_value}
+use Rattle.jr_job_options.specs.Lookups.{options_in, last_value}
 use Rattle.jr_model.specs.PlanFacts.{work_of}
-use Rattle.jr_settings.specs.Shapes.{shape_in}
+use Rattle.jr_job_options.specs.Shapes.{shape_in}
 use Rattle.jr_options.specs.Surveys.{is_planned, start_of}
 
 -- what the lines that count for a job ask for

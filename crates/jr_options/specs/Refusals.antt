@@ -8,11 +8,11 @@ use Rattle.jr_model.specs.declared.limits.TheConstants.{LARGEST_END, MOST_CELLS,
 use Rattle.jr_model.specs.History.{first_given}
 use Rattle.jr_text.specs.Records.{LineText, SectionText}
 use Rattle.jr_plan.specs.declared.faults.Bound.TheVariants as bound
-use Rattle.jr_settings.specs.declared.faults.JobFault.{JobFault}
-use Rattle.jr_settings.specs.declared.faults.JobFault.TheVariants as fault
+use Rattle.jr_job_options.specs.declared.faults.JobFault.{JobFault}
+use Rattle.jr_job_options.specs.declared.faults.JobFault.TheVariants as fault
 use Rattle.jr_options.specs.PlanOf.{JobAsked, jobs_below, engine_of}
-use Rattle.jr_settings.specs.Settings.{setting_of}
-use Rattle.jr_settings.specs.Shapes.{shape_of, shape_in}
+use Rattle.jr_job_options.specs.Settings.{setting_of}
+use Rattle.jr_job_options.specs.Shapes.{shape_of, shape_in}
 use Rattle.jr_options.specs.Surveys.{is_global, is_planned, start_of, engine_number}
 
 -- the lines that are looked at, in the order of the file: those of all global sections and of planned jobs

@@ -1,9 +1,9 @@
 -- Internal: what a section says, read behind the global options above it, and a job by what has been read of it.
 use Rattle.std.specs.Prelude.{ℕ, List, Option, Result, Ok, Err, if◌then◌else◌}
 use Rattle.jr_text.specs.Records.{SectionText}
-use Rattle.jr_settings.specs.declared.faults.JobFault.{JobFault}
-use Rattle.jr_settings.specs.declared.options.JobOptions.{JobOptions}
-use Rattle.jr_settings.specs.Options.{AreInRange, options_from}
+use Rattle.jr_job_options.specs.declared.faults.JobFault.{JobFault}
+use Rattle.jr_job_options.specs.declared.options.JobOptions.{JobOptions}
+use Rattle.jr_job_options.specs.Options.{AreInRange, options_from}
 use Rattle.jr_options.specs.declared.planned.PlannedJob.{PlannedJob}
 use Rattle.jr_options.specs.declared.sections.Reading.{Reading}
 use Rattle.jr_options.specs.declared.sections.Reading.TheVariants as reading

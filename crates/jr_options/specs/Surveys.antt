@@ -6,15 +6,15 @@ use Rattle.jr_model.specs.declared.workloads.EngineKind.{EngineKind}
 use Rattle.jr_model.specs.declared.workloads.EngineKind.TheVariants as engine
 use Rattle.jr_text.specs.Records.{SectionText}
 use Rattle.jr_plan.specs.declared.faults.Bound.TheVariants as bound
-use Rattle.jr_settings.specs.declared.faults.JobFault.{JobFault}
-use Rattle.jr_settings.specs.declared.faults.JobFault.TheVariants as fault
-use Rattle.jr_settings.specs.declared.options.JobOptions.{JobOptions}
+use Rattle.jr_job_options.specs.declared.faults.JobFault.{JobFault}
+use Rattle.jr_job_options.specs.declared.faults.JobFault.TheVariants as fault
+use Rattle.jr_job_options.specs.declared.options.JobOptions.{JobOptions}
 use Rattle.jr_options.specs.declared.surveys.Survey.{Survey}
 use Rattle.jr_options.specs.declared.tallies.Tally.{Tally}
-use Rattle.jr_settings.specs.declared.shapes.Shape.{Shape}
+use Rattle.jr_job_options.specs.declared.shapes.Shape.{Shape}
 use Rattle.jr_plan.specs.Files.{same_text}
-use Rattle.jr_settings.specs.Options.{default_options, options_from}
-use Rattle.jr_settings.specs.Shapes.{shape_of}
+use Rattle.jr_job_options.specs.Options.{default_options, options_from}
+use Rattle.jr_job_options.specs.Shapes.{shape_of}
 
 -- where the clone of this place within its job begins
 abbrev pub start_of : JobOptions → ℕ → ℕ

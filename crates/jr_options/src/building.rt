@@ -1,9 +1,9 @@
 // The second walk over the sections: it builds the plan of those that the first has found sound.
 ghost use Rattle.std.specs.Prelude.{◌≡◌, ◌≤◌, true, fold, IfOk, IfErr, None, Ok, option_copied};
 ghost use Rattle.std.specs.List.{list_any};
-ghost use Rattle.jr_settings.specs.declared.faults.JobFault.TheVariants.{Memory as OutOfMemory};
-ghost use Rattle.jr_settings.specs.Options.{AreInRange};
-ghost use Rattle.jr_settings.specs.Shapes.{HasShape, shape_of};
+ghost use Rattle.jr_job_options.specs.declared.faults.JobFault.TheVariants.{Memory as OutOfMemory};
+ghost use Rattle.jr_job_options.specs.Options.{AreInRange};
+ghost use Rattle.jr_job_options.specs.Shapes.{HasShape, shape_of};
 ghost use Rattle.jr_options.specs.Jobs.{shaped_job};
 ghost use Rattle.jr_options.specs.PlanOf.{HasRoom, clones_asked, plan_of, planned_as, with_asked};
 ghost use Rattle.jr_options.specs.Sections.{asked_job};
@@ -13,9 +13,9 @@ use crate::names::Names;
 use crate::planned::PlannedJob;
 use crate::sections::{Reading, read_section};
 use crate::tallies::{Tally, start_of};
+use jr_job_options::{JobFault, JobOptions};
 use jr_model::EngineKind;
 use jr_plan::{Draft, Plan, PlanFault};
-use jr_settings::{JobFault, JobOptions};
 use jr_text::Section;
 use std::alloc::Global;
 

@@ -10,7 +10,7 @@ mod sections;
 mod surveys;
 mod tallies;
 
+pub use jr_job_options::JobFault;
 pub use jr_plan::{Bound, EngineKind, FileSpec, Plan, SubJob, plan_text};
-pub use jr_settings::JobFault;
 pub use laws::{files_are_asked, high_is_greatest, low_is_least};
 pub use reading::plan;

@@ -1,6 +1,6 @@
 // The names of the files of a job's clones.
 ghost use Rattle.std.specs.Prelude.{◌≡◌, IfOk, None, Some, codes, option_copied, string_bytes, unwrap_or};
-ghost use Rattle.jr_settings.specs.Lookups.{value_from};
+ghost use Rattle.jr_job_options.specs.Lookups.{value_from};
 ghost use Rattle.jr_options.specs.PlanOf.{default_name, path_in};
 
 use jr_text::Line;

@@ -1,9 +1,9 @@
 ghost use Rattle.std.specs.Prelude.{◌≡◌, ◌≤◌};
 ghost use Rattle.jr_options.specs.Planned.{workload_of};
 
+use jr_job_options::{JobOptions, Shape};
 use jr_model::{MOST_CELLS, Method};
 use jr_plan::Workload;
-use jr_settings::{JobOptions, Shape};
 
 /// A job that has been found sound, with its place in the order of phases.
 #[derive(Clone, Copy, Debug)]

@@ -1,6 +1,6 @@
 ghost use Rattle.std.specs.Prelude.{◌≡◌, not, IfErr, IfOk, IfSome, Err, None, option_copied};
 ghost use Rattle.std.specs.List.{list_any};
-ghost use Rattle.jr_settings.specs.declared.faults.JobFault.TheVariants.{Memory as OutOfMemory};
+ghost use Rattle.jr_job_options.specs.declared.faults.JobFault.TheVariants.{Memory as OutOfMemory};
 ghost use Rattle.jr_options.specs.PlanOf.{plan_of};
 ghost use Rattle.jr_options.specs.Refusals.{refusal_of};
 ghost use Rattle.jr_options.specs.Surveys.{is_global, is_planned};
@@ -8,8 +8,8 @@ ghost use Rattle.jr_options.specs.Surveys.{is_global, is_planned};
 use crate::building::build;
 use crate::sections::{is_global, is_planned};
 use crate::surveys::{Survey, tally_of};
+use jr_job_options::JobFault;
 use jr_plan::Plan;
-use jr_settings::JobFault;
 use jr_text::Section;
 use std::alloc::Global;
 

@@ -2,9 +2,9 @@
 ghost use Rattle.std.specs.Prelude.{◌≡◌, IfOk, option_copied};
 ghost use Rattle.jr_options.specs.Sections.{IsInRange, reading_of};
 ghost use Rattle.jr_options.specs.Surveys.{is_global, is_planned};
-ghost use Rattle.jr_settings.specs.Options.{AreInRange};
+ghost use Rattle.jr_job_options.specs.Options.{AreInRange};
 
-use jr_settings::{JobFault, JobOptions};
+use jr_job_options::{JobFault, JobOptions};
 use jr_text::Section;
 
 // The section's lines count for the jobs below it; it is no job.

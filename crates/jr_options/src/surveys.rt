@@ -1,11 +1,11 @@
 // The first walk over the sections: it finds all faults before anything is built.
 ghost use Rattle.std.specs.Prelude.{◌≡◌, IfOk, Ok, option_copied};
-ghost use Rattle.jr_settings.specs.Options.{AreInRange};
+ghost use Rattle.jr_job_options.specs.Options.{AreInRange};
 ghost use Rattle.jr_options.specs.Surveys.{IsCapped, first_survey, with_section, survey_from, tally_in};
 
 use crate::sections::{Reading, read_section};
 use crate::tallies::Tally;
-use jr_settings::{JobFault, JobOptions};
+use jr_job_options::{JobFault, JobOptions};
 use jr_text::Section;
 
 // The options that count so far, and what is known of the jobs so far.

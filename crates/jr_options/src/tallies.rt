@@ -1,12 +1,12 @@
 // What the planned jobs come to together: counted job by job, and tested at the end.
 ghost use Rattle.std.specs.Prelude.{◌≡◌, ◌<◌, ◌-◌, ◌*◌, ◌^◌, Ok};
-ghost use Rattle.jr_settings.specs.Options.{AreInRange};
+ghost use Rattle.jr_job_options.specs.Options.{AreInRange};
 ghost use Rattle.jr_options.specs.Surveys.{IsCapped, start_of, empty_tally, and_job, and_shape};
 ghost use Rattle.jr_options.specs.Surveys.{tally_fault, is_other_engine, engine_number};
 
+use jr_job_options::{JobFault, JobOptions, Shape};
 use jr_model::{EngineKind, LARGEST_END, MOST_CELLS, MOST_CLONES, MOST_WORK};
 use jr_plan::Bound;
-use jr_settings::{JobFault, JobOptions, Shape};
 
 // What is known of the planned jobs so far.
 #[derive(Clone, Copy)]

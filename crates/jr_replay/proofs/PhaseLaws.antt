@@ -28,9 +28,9 @@ use Rattle.jr_laws_rounds.proofs.CurrentPhases.{groups_turn}
 use Rattle.jr_laws_rounds.proofs.KeptSettled.{ran_before}
 use Rattle.jr_laws_rounds.proofs.StandingPasses.{issue_in, stays_finished, unbegun}
 use Rattle.jr_laws_rounds.proofs.StandingSteps.{always_in_pass, before_at, before_from, finished_before}
-use Rattle.jr_passes.specs.Passes.{IsLastBelow, NoneBelow}
+use Rattle.jr_replay_passes.specs.Passes.{IsLastBelow, NoneBelow}
 use Rattle.jr_replay.specs.Phases.{lets_go_on}
-use Rattle.jr_passes.proofs.RankLemmas.{IsOwn}
+use Rattle.jr_replay_passes.proofs.RankLemmas.{IsOwn}
 
 -- ---- a write that wasn't taken up
 -- the draw stands at its number

@@ -9,13 +9,13 @@ ghost use Rattle.jr_model.specs.Plan.{clone_of};
 ghost use Rattle.jr_model.specs.Races.{has_raced};
 
 use crate::legal::{is_over, step_of};
-use jr_history::{Past, ended_whole, is_judged_kind, is_void};
 use jr_model::{
     Draw, Event, IssueKind, Memory, Method, Outcome, Piece, SECTOR, Started, TicketKind, Verdict,
     VerifyKind, What, WriteId, same_piece, same_write,
 };
-use jr_passes::{Agenda, PlannedClone, PlannedPass};
 use jr_plan::Plan;
+use jr_replay_history::{Past, ended_whole, is_judged_kind, is_void};
+use jr_replay_passes::{Agenda, PlannedClone, PlannedPass};
 use std::alloc::Global;
 
 // What may happen with a draw that may not be there.

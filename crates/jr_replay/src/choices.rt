@@ -2,10 +2,10 @@ ghost use Rattle.std.specs.Prelude.{◌≡◌, IfOk};
 ghost use Rattle.jr_model.specs.Choice.{choice_of_pass, choice_of_clone, choice};
 
 use crate::legal::step_of;
-use jr_history::Past;
 use jr_model::{Event, Memory};
-use jr_passes::{Agenda, PlannedClone, PlannedPass};
 use jr_plan::Plan;
+use jr_replay_history::Past;
+use jr_replay_passes::{Agenda, PlannedClone, PlannedPass};
 use std::alloc::Global;
 
 // The least step of a pass, by number.

@@ -5,10 +5,10 @@ ghost use Rattle.jr_model.specs.Plan.{Plan as Planned, clone_of};
 ghost use Rattle.jr_model.specs.Rounds.{pass_of};
 ghost use Rattle.jr_replay.specs.Courses.{IsCourse, numbered};
 
-use jr_history::Past;
 use jr_model::{Event, Memory};
-use jr_passes::PlannedPass;
 use jr_plan::{Plan, SubJob};
+use jr_replay_history::Past;
+use jr_replay_passes::PlannedPass;
 use std::alloc::Global;
 use std::collections::HashMap;
 

@@ -10,10 +10,10 @@ ghost use Rattle.jr_model.specs.Rounds.{pass_finished, passes_of};
 use crate::rounds::{
     flying_count, is_open, issued_count, nothing_flies_of, pass_finished, waits_for_round,
 };
-use jr_history::{Past, is_intact, is_of_clone, is_write};
 use jr_model::{Draw, Event, Piece, Started, overlaps};
-use jr_passes::{Agenda, PlannedClone, PlannedPass, has_rounds, is_write_draw};
 use jr_plan::{Plan, SubJob};
+use jr_replay_history::{Past, is_intact, is_of_clone, is_write};
+use jr_replay_passes::{Agenda, PlannedClone, PlannedPass, has_rounds, is_write_draw};
 
 // Whether a clone is halted, by whether it has a fault, and a bad verdict that is fatal.
 fn halts(faulty: bool, fatal: bool, condemned: bool) -> bool

@@ -17,10 +17,10 @@ use crate::legal::{awaits_verdict, check_or_skip, is_halted, is_left, is_next, i
 use crate::rounds::{
     is_full, is_pending, issued_count, no_issue_flies, nothing_flies_of, pass_finished,
 };
-use jr_history::Past;
 use jr_model::{Draw, Event, Memory, WriteId};
-use jr_passes::{PlannedPass, has_rounds};
 use jr_plan::{Plan, SubJob};
+use jr_replay_history::Past;
+use jr_replay_passes::{PlannedPass, has_rounds};
 use std::alloc::Global;
 
 // Whether both hold.

@@ -7,9 +7,9 @@ ghost use Rattle.jr_model.specs.Rounds.{is_closed, no_issue_flies, is_open, wait
 ghost use Rattle.jr_model.specs.Rounds.{nothing_flies_in, pass_finished};
 ghost use Rattle.jr_replay.specs.Rounds.{is_full_at};
 
-use jr_history::{Past, is_of_clone, is_probe};
 use jr_model::{Draw, WriteId};
-use jr_passes::{PlannedPass, has_rounds};
+use jr_replay_history::{Past, is_of_clone, is_probe};
+use jr_replay_passes::{PlannedPass, has_rounds};
 
 /// How many I/Os and checks a clone has in flight.
 pub(crate) fn flying_count(past: &Past, clone: u32) -> usize

@@ -1,3 +1,10 @@
+pub mod FlatMaps
+pub mod Found
 pub mod Lines
+pub mod Named
+pub mod Ordered
 pub mod ReportLemmas
+pub mod Reported
 pub mod SortedBads
+pub mod Unique
+pub mod Writes

@@ -8,8 +8,8 @@ use Rattle.jr_model.specs.declared.totals.Totals.{Totals}
 use Rattle.jr_model.specs.Plan.{Plan}
 use Rattle.jr_model.specs.Report.{all_totals, in_order, miscompare_line, miscompares, report_of, totals_lines}
 use Rattle.jr_stats.specs.Miscompares.{bad_line}
-use Rattle.jr_tallies.specs.declared.tallies.Bad.{Bad}
-use Rattle.jr_tallies.specs.Tallying.{miscompare_of}
+use Rattle.jr_desk_totals.specs.declared.tallies.Bad.{Bad}
+use Rattle.jr_desk_totals.specs.Tallying.{miscompare_of}
 
 -- the parts of a line, one after another
 pub chained : (t0 t1 t2 t3 t4 t5 t6 m a b w k n : List ℕ) → t1 ≡ t0 ++ m → t2 ≡ t1 ++ a → t3 ≡ t2 ++ b → t4 ≡ t3 ++ w → t5 ≡ t4 ++ k → t6 ≡ t5 ++ n → t6 ≡ t0 ++ m ++ a ++ b ++ w ++ k ++ n

@@ -18,13 +18,13 @@ use Rattle.jr_model.specs.Plan.{Plan}
 use Rattle.jr_model.specs.Report.{Miscompare, in_order, miscompares}
 use Rattle.jr_model.proofs.Equality.{write_order_total, eq_write}
 use Rattle.jr_model.specs.PlanFacts.{IsPlanned}
-use Rattle.jr_laws_report.specs.InOrder.{by_write}
-use Rattle.jr_laws_report.proofs.FlatMaps.{all_weaker}
-use Rattle.jr_laws_report.proofs.Found.{all_distinct}
-use Rattle.jr_laws_report.proofs.Reported.{sorted_lines}
-use Rattle.jr_laws_report.proofs.Writes.{AreDistinct, NoneIsOn}
-use Rattle.jr_tallies.specs.declared.tallies.Bad.{Bad}
-use Rattle.jr_tallies.specs.Tallying.{miscompare_of}
+use Rattle.jr_stats.specs.InOrder.{by_write}
+use Rattle.jr_stats.proofs.FlatMaps.{all_weaker}
+use Rattle.jr_stats.proofs.Found.{all_distinct}
+use Rattle.jr_stats.proofs.Reported.{sorted_lines}
+use Rattle.jr_stats.proofs.Writes.{AreDistinct, NoneIsOn}
+use Rattle.jr_desk_totals.specs.declared.tallies.Bad.{Bad}
+use Rattle.jr_desk_totals.specs.Tallying.{miscompare_of}
 
 -- writes that are not in order the other way round, and are two, are in order
 

@@ -1,7 +1,7 @@
 ghost use Rattle.std.specs.Prelude.{◌≡◌, ◌++◌, IfOk, OnOk, flat_map, map};
 ghost use Rattle.jr_model.specs.Plan.{clone_of};
 ghost use Rattle.jr_model.specs.Report.{file_name, found_word, in_order, miscompares, part_text, report_of, what_text};
-ghost use Rattle.jr_tallies.specs.Tallying.{miscompare_of};
+ghost use Rattle.jr_desk_totals.specs.Tallying.{miscompare_of};
 ghost use Rattle.jr_stats.specs.Miscompares.{AreOfRun, bad_line, named_fields, place_fields};
 
 use crate::totals::totals_text;

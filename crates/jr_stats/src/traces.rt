@@ -1,12 +1,12 @@
 ghost use Rattle.std.specs.Prelude.{◌≡◌, Err, IfOk, Ok, if◌then◌else◌};
 ghost use Rattle.jr_model.specs.Legal.{is_complete};
 ghost use Rattle.jr_model.specs.Report.{all_totals};
-ghost use Rattle.jr_traces.specs.TraceChecks.{check_of};
-ghost use Rattle.jr_traces.specs.Traces.{trace_of};
+ghost use Rattle.jr_replay_traces.specs.TraceChecks.{check_of};
+ghost use Rattle.jr_replay_traces.specs.Traces.{trace_of};
 
 use jr_desk::Desk;
 use jr_model::Memory;
-use jr_traces::{TraceFault, trace_text};
+use jr_replay_traces::{TraceFault, trace_text};
 use std::alloc::Global;
 
 /// The trace of a run: a line for each event of its history. Checked, it is accepted if the run is complete, with its

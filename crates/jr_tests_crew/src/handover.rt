@@ -1,5 +1,5 @@
 // (That what was put is what was taken, whoever did it, is a clause of `account`.)
-use jr_handover::{Handoff, Parcel};
+use jr_crew_channel::{Handoff, Parcel};
 use std::test::Fail;
 
 #[test]

@@ -1,6 +1,6 @@
 use crate::asserts::same;
-use jr_history::{PART, Past, is_intact, last_write, part_of};
 use jr_model::{Event, IssueKind, Outcome, Piece, Verdict, What, WriteId};
+use jr_replay_history::{PART, Past, is_intact, last_write, part_of};
 use std::alloc::Global;
 use std::process::Abort;
 use std::test::Fail;

@@ -1,4 +1,4 @@
-use jr_tallies::{
+use jr_desk_totals::{
     clones_are_all, counts_are_few, ends_are_counted, one_clone_changes, one_event_more,
     tests_are_compared, verdicts_are_counted,
 };

@@ -4,8 +4,8 @@ use jr_model::{
     Event, IoType, IssueKind, Method, Outcome, Pattern, Piece, Totals, Verdict, VerifyKind, What,
     WriteId,
 };
-use jr_passes::{Agenda, PlannedClone, PlannedPass, totals};
 use jr_plan::Workload;
+use jr_replay_passes::{Agenda, PlannedClone, PlannedPass, totals};
 use std::test::Fail;
 
 const WRITE_0: WriteId = WriteId {

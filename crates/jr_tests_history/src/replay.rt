@@ -1,12 +1,12 @@
 use crate::asserts::same;
 use crate::plans::{checked, plan_of};
-use jr_history::{Past, is_intact, last_write, started};
 use jr_model::{
     Event, IoType, IssueKind, Method, Outcome, Part, Piece, TicketKind, Verdict, VerifyKind, What,
     WriteId,
 };
 use jr_plan::{Plan, Workload};
 use jr_replay::{allowed, choice, complete};
+use jr_replay_history::{Past, is_intact, last_write, started};
 use std::alloc::Global;
 use std::process::Abort;
 use std::test::Fail;

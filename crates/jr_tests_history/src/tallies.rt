@@ -1,12 +1,12 @@
 ghost use Rattle.std.specs.Prelude.{◌≡◌, ◌≤◌, slice_get, Some, IsTrue};
-ghost use Rattle.jr_tallies.specs.Tallying.{AreLow, AreSmall, CanCount, flying_in};
-ghost use Rattle.jr_tallies.specs.declared.tallies.Counts.{Counts as Kept};
+ghost use Rattle.jr_desk_totals.specs.Tallying.{AreLow, AreSmall, CanCount, flying_in};
+ghost use Rattle.jr_desk_totals.specs.declared.tallies.Counts.{Counts as Kept};
 
 use crate::asserts::same;
 use crate::plans::plan_of;
+use jr_desk_totals::{Bad, Counts, Tallies};
 use jr_model::{IoType, Outcome, Piece, TicketKind, Totals, Verdict, What, WriteId};
 use jr_plan::{Plan, Workload};
-use jr_tallies::{Bad, Counts, Tallies};
 use std::alloc::Global;
 use std::process::Abort;
 use std::test::Fail;

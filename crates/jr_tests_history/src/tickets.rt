@@ -1,11 +1,11 @@
 use crate::asserts::{holds, same};
 use crate::plans::plan_of;
+use jr_desk_tickets::{IoState, TicketTable};
 use jr_model::{
     Expected, IoType, Method, Outcome, Pattern, Piece, Ticket, TicketKind, VerifyKind, WriteId,
     is_same,
 };
 use jr_plan::{Plan, Workload};
-use jr_tickets::{IoState, TicketTable};
 use std::alloc::Global;
 use std::process::Abort;
 use std::test::Fail;

@@ -4,7 +4,7 @@ use crate::asserts::same;
 use crate::plans::{checked, plan_of};
 use jr_model::Totals;
 use jr_plan::{Plan, Workload};
-use jr_traces::{TraceFault, check_trace};
+use jr_replay_traces::{TraceFault, check_trace};
 use std::alloc::Global;
 use std::process::Abort;
 use std::test::Fail;

@@ -4,13 +4,13 @@ ghost use Rattle.std.specs.Prelude.{◌+◌, ◌≤◌, IfOk};
 use crate::asserts::same;
 use crate::plans::in_sectors;
 use jr_engines::{Engine, EngineFault};
-use jr_files::{
+use jr_io_blocks::{Positioned, Room, read_whole, write_whole};
+use jr_io_files::{
     Claims, Directs, FileEngine, FileFault, Reads, Refusal, SharedFile, claim, claim_direct,
     lay_out,
 };
 use jr_model::{EngineKind, IoType, VerifyKind};
 use jr_plan::{Draft, Plan, Workload};
-use jr_transfer::{Positioned, Room, read_whole, write_whole};
 use std::alloc::{AllocError, Global};
 use std::fs::File;
 use std::io::ErrorKind;
@@ -201,7 +201,7 @@ impl Piecemeal {
 }
 
 impl Positioned for Piecemeal {
-    ghost use Rattle.jr_transfer.specs.Parts.{unknown_view};
+    ghost use Rattle.jr_io_blocks.specs.Parts.{unknown_view};
 
     ghost view = { λ _. unknown_view };
 
@@ -351,7 +351,7 @@ impl Particular {
 }
 
 impl Positioned for Particular {
-    ghost use Rattle.jr_transfer.specs.Parts.{unknown_view};
+    ghost use Rattle.jr_io_blocks.specs.Parts.{unknown_view};
 
     ghost view = { λ _. unknown_view };
 

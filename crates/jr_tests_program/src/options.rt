@@ -1,8 +1,8 @@
 use crate::asserts::same;
+use jr_job_options::JobFault;
 use jr_model::EngineKind;
 use jr_options::plan;
 use jr_plan::Plan;
-use jr_settings::JobFault;
 use jr_text::sections;
 use std::alloc::Global;
 use std::process::Abort;

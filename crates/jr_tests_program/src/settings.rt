@@ -1,5 +1,5 @@
 use crate::asserts::same;
-use jr_settings::{JobFault, JobOptions, Shape};
+use jr_job_options::{JobFault, JobOptions, Shape};
 use jr_text::sections;
 use std::alloc::Global;
 use std::test::Fail;

@@ -1,7 +1,7 @@
 use Rattle.std.proofs.Common.{◌∙◌, ap, map}
 use Rattle.std.proofs.lemmas.Result.{IfOk-weaker}
-use Rattle.jr_json.specs.Rows.{ending_of, texts_of}
-use Rattle.jr_tallies.specs.Tallying.{miscompare_of}
+use Rattle.jr_report_json.specs.Rows.{ending_of, texts_of}
+use Rattle.jr_desk_totals.specs.Tallying.{miscompare_of}
 use Rattle.jr_cli.proofs.JsonLines.{line_of_parts}
 use Rattle.jr_cli.proofs.findings.json_text.Goals as goal
 

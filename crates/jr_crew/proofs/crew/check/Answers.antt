@@ -2,8 +2,8 @@ use Rattle.std.proofs.Common.{◌∙◌, ap, List}
 use Rattle.std.specs.Prelude.{slice_get}
 use Rattle.jr_model.specs.declared.events.Event.{Event}
 use Rattle.jr_model.specs.Plan.{Plan}
-use Rattle.jr_books.specs.AccountRecords.{AccountRecord}
-use Rattle.jr_books.specs.Books.{dones_of}
+use Rattle.jr_crew_books.specs.AccountRecords.{AccountRecord}
+use Rattle.jr_crew_books.specs.Books.{dones_of}
 use Rattle.jr_crew.proofs.crew.check.Goals as goal
 
 pub returns-clause-each : goal.returns-clause-each

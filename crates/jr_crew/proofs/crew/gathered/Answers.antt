@@ -1,9 +1,9 @@
 use Rattle.std.proofs.Common.{◌∙◌, ap, Bool}
 use Rattle.jr_model.specs.Plan.{Plan}
-use Rattle.jr_books.specs.Books.{dones_of}
-use Rattle.jr_books.specs.Numbers.{judges_inline}
-use Rattle.jr_handover.specs.Passes.{pass_state}
-use Rattle.jr_staff.proofs.PartLemmas.{sourced}
+use Rattle.jr_crew_books.specs.Books.{dones_of}
+use Rattle.jr_crew_books.specs.Numbers.{judges_inline}
+use Rattle.jr_crew_channel.specs.Passes.{pass_state}
+use Rattle.jr_crew_threads.proofs.PartLemmas.{sourced}
 use Rattle.jr_crew.proofs.crew.gathered.Goals as goal
 
 pub returns-clause-each : goal.returns-clause-each

@@ -5,14 +5,14 @@ use Rattle.jr_model.specs.declared.events.Event.TheVariants.{Verdict}
 use Rattle.jr_model.specs.declared.events.Verdict.{Verdict as GivenVerdict}
 use Rattle.jr_model.specs.Plan.{Plan}
 use Rattle.jr_model.specs.Legal.{is_legal}
-use Rattle.jr_books.specs.Numbers.{is_numbered, is_own_verdict, judges_inline}
-use Rattle.jr_books.specs.Books.{dones_of}
-use Rattle.jr_handover.specs.Passes.{pass_state}
-use Rattle.jr_staff.specs.Judging.{IsSourced}
+use Rattle.jr_crew_books.specs.Numbers.{is_numbered, is_own_verdict, judges_inline}
+use Rattle.jr_crew_books.specs.Books.{dones_of}
+use Rattle.jr_crew_channel.specs.Passes.{pass_state}
+use Rattle.jr_crew_threads.specs.Judging.{IsSourced}
 use Rattle.jr_crew.proofs.CrewRuns.{booked, crew_run}
 use Rattle.jr_crew.proofs.Crewing.{AreOwn, all_putters, each_part, engines_size, books_size}
 use Rattle.jr_crew.proofs.crew.run_as.Goals as goal
-use Rattle.jr_tickets.specs.Kept.{tickets_of}
+use Rattle.jr_desk_tickets.specs.Kept.{tickets_of}
 
 pub gathered-requires-clause-ended : goal.gathered-requires-clause-ended
 gathered-requires-clause-ended g c =

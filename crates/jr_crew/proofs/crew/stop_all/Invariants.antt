@@ -1,7 +1,7 @@
 use Rattle.std.proofs.Common.{[], replicate}
-use Rattle.jr_handover.specs.declared.parcel.Parcel.TheVariants.{Stop}
-use Rattle.jr_handover.specs.Passes.{pass_state}
-use Rattle.jr_staff.specs.Parts.{IsMore}
+use Rattle.jr_crew_channel.specs.declared.parcel.Parcel.TheVariants.{Stop}
+use Rattle.jr_crew_channel.specs.Passes.{pass_state}
+use Rattle.jr_crew_threads.specs.Parts.{IsMore}
 use Rattle.jr_crew.proofs.crew.stop_all.Given as goal
 
 -- so many were told so far

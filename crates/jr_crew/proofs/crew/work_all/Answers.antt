@@ -1,8 +1,8 @@
 use Rattle.std.proofs.Common.{sym, subst}
 use Rattle.std.specs.Prelude.{IfOk, slice_index_or}
-use Rattle.jr_handover.specs.Passes.{pass_state}
+use Rattle.jr_crew_channel.specs.Passes.{pass_state}
 use Rattle.jr_crew.specs.Working.{IsWork}
-use Rattle.jr_staff.specs.Parts.{one_part}
+use Rattle.jr_crew_threads.specs.Parts.{one_part}
 use Rattle.jr_crew.proofs.crew.work_all.Goals as goal
 
 pub returns-clause-each : goal.returns-clause-each

@@ -4,7 +4,7 @@ use Rattle.jr_model.specs.History.{outcome_of}
 use Rattle.jr_model.specs.Races.{has_raced}
 use Rattle.jr_model.specs.declared.events.Event.TheVariants.{End}
 use Rattle.jr_model.proofs.RaceLaws.{raced_other}
-use Rattle.jr_tickets.specs.Kept.{IsOwn}
+use Rattle.jr_desk_tickets.specs.Kept.{IsOwn}
 use Rattle.jr_desk.specs.DeskState.{DeskState}
 use Rattle.jr_crew.proofs.Carrying.{own_then, outcome_then}
 use Rattle.jr_crew.proofs.serial.carry_out.Goals as goal

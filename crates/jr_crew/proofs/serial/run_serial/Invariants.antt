@@ -2,7 +2,7 @@ use Rattle.std.proofs.Common.{◌≡◌, ◌-◌, ◌*◌, length, true, false}
 use Rattle.jr_model.specs.History.{started}
 use Rattle.jr_model.specs.Machine.{work_of}
 use Rattle.jr_model.specs.PlanFacts.{IsPlanned}
-use Rattle.jr_books.specs.Books.{dones_of}
+use Rattle.jr_crew_books.specs.Books.{dones_of}
 use Rattle.jr_crew.specs.Crews.{AreCallsFor}
 use Rattle.jr_crew.specs.Runs.{IsFresh}
 use Rattle.jr_crew.proofs.Serially.{IsSerialSoFar}

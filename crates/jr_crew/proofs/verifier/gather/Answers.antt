@@ -1,11 +1,11 @@
 use Rattle.std.proofs.Common.{[], sym, subst}
 use Rattle.std.specs.Prelude.{Contains}
 use Rattle.std.proofs.lemmas.List.Elements.{All-nil, All-same}
-use Rattle.jr_handover.specs.declared.parcel.Parcel.TheVariants.{Check}
-use Rattle.jr_handover.specs.declared.parcel.PassState.{PassState}
-use Rattle.jr_handover.specs.Passes.{pass_state}
-use Rattle.jr_staff.specs.Judging.{AreChecksOf}
-use Rattle.jr_staff.proofs.PartLemmas.{checks_on, just_taken, on_ok, taken_first, taken_on}
+use Rattle.jr_crew_channel.specs.declared.parcel.Parcel.TheVariants.{Check}
+use Rattle.jr_crew_channel.specs.declared.parcel.PassState.{PassState}
+use Rattle.jr_crew_channel.specs.Passes.{pass_state}
+use Rattle.jr_crew_threads.specs.Judging.{AreChecksOf}
+use Rattle.jr_crew_threads.proofs.PartLemmas.{checks_on, just_taken, on_ok, taken_first, taken_on}
 use Rattle.jr_crew.proofs.verifier.gather.Goals as goal
 
 pub loop-init : goal.loop-init

@@ -1,7 +1,7 @@
 use Rattle.std.specs.Prelude.{Contains}
-use Rattle.jr_handover.specs.Passes.{pass_state}
-use Rattle.jr_staff.specs.Judging.{AreChecksOf}
-use Rattle.jr_staff.specs.Parts.{IsTaker}
+use Rattle.jr_crew_channel.specs.Passes.{pass_state}
+use Rattle.jr_crew_threads.specs.Judging.{AreChecksOf}
+use Rattle.jr_crew_threads.specs.Parts.{IsTaker}
 use Rattle.jr_crew.proofs.verifier.gather.Given as goal
 
 -- what was taken so far, the next of it too

@@ -1,9 +1,9 @@
 use Rattle.std.proofs.Common.{◌≡◌, ◌∙◌, ◌++◌, List, ap, map, subst, sym}
 use Rattle.jr_engines.specs.Answers.{AnswerParts}
-use Rattle.jr_staff.specs.Judging.{AreChecksOf}
+use Rattle.jr_crew_threads.specs.Judging.{AreChecksOf}
 use Rattle.jr_crew.specs.declared.settled.Settled.{Settled}
 use Rattle.jr_crew.specs.declared.settled.Told.{Told}
-use Rattle.jr_staff.proofs.PartLemmas.{on_ok}
+use Rattle.jr_crew_threads.proofs.PartLemmas.{on_ok}
 use Rattle.jr_crew.proofs.verifier.judge.Goals as goal
 
 pub returns : goal.returns

@@ -1,7 +1,7 @@
 use Rattle.std.proofs.Common.{subst}
 use Rattle.std.specs.Prelude.{Contains}
 use Rattle.std.proofs.lemmas.List.Elements.{All-push, All-same}
-use Rattle.jr_handover.specs.declared.parcel.Parcel.TheVariants.{Check}
+use Rattle.jr_crew_channel.specs.declared.parcel.Parcel.TheVariants.{Check}
 use Rattle.jr_crew.proofs.verifier.keep.Goals as goal
 
 pub returns-in_ok-push-in-Check : goal.returns-in_ok-push-in-Check

@@ -1,8 +1,8 @@
 use Rattle.std.proofs.Common.{sym, List, subst}
 use Rattle.jr_engines.specs.Answers.{AnswerParts}
-use Rattle.jr_handover.specs.Passes.{pass_state}
-use Rattle.jr_staff.specs.Judging.{AreChecksOf}
-use Rattle.jr_staff.proofs.PartLemmas.{judged_on}
+use Rattle.jr_crew_channel.specs.Passes.{pass_state}
+use Rattle.jr_crew_threads.specs.Judging.{AreChecksOf}
+use Rattle.jr_crew_threads.proofs.PartLemmas.{judged_on}
 use Rattle.jr_crew.proofs.verifier.work.Goals as goal
 
 pub returns-then-not-goes_on : goal.returns-then-not-goes_on

@@ -1,5 +1,5 @@
-use Rattle.jr_handover.specs.Passes.{pass_state}
-use Rattle.jr_staff.specs.Judging.{IsJudging}
+use Rattle.jr_crew_channel.specs.Passes.{pass_state}
+use Rattle.jr_crew_threads.specs.Judging.{IsJudging}
 use Rattle.jr_crew.proofs.verifier.work.Given as goal
 
 -- what was said so far is of what was taken so far

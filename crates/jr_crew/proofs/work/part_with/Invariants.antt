@@ -1,5 +1,5 @@
 use Rattle.std.specs.Prelude.{◌≡◌}
-use Rattle.jr_handover.specs.Passes.{pass_state}
+use Rattle.jr_crew_channel.specs.Passes.{pass_state}
 use Rattle.jr_crew.specs.Working.{all_handed_on}
 use Rattle.jr_crew.proofs.work.part_with.Given as goal
 

@@ -1,5 +1,5 @@
 use Rattle.std.specs.Prelude.{All}
-use Rattle.jr_handover.specs.Passes.{pass_state}
+use Rattle.jr_crew_channel.specs.Passes.{pass_state}
 use Rattle.jr_crew.specs.Working.{CanBeServed, IsWork}
 use Rattle.jr_crew.proofs.work.work_on.Given as goal
 

@@ -5,8 +5,8 @@ use Rattle.jr_model.specs.declared.workloads.EngineKind.{EngineKind}
 use Rattle.jr_model.specs.declared.workloads.EngineKind.TheVariants as engine
 use Rattle.jr_model.specs.Plan.{Plan}
 use Rattle.jr_plan.specs.Drafts.{Clones}
-use Rattle.jr_settings.specs.Lookups.{value_from}
-use Rattle.jr_settings.specs.Options.{AreInRange}
+use Rattle.jr_job_options.specs.Lookups.{value_from}
+use Rattle.jr_job_options.specs.Options.{AreInRange}
 use Rattle.jr_options.specs.declared.names.Names.{Names}
 use Rattle.jr_options.specs.declared.sections.Reading.TheVariants as reading
 use Rattle.jr_options.specs.declared.tallies.Tally.{Tally}

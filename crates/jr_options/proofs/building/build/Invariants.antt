@@ -1,6 +1,6 @@
 use Rattle.std.proofs.Common.{[], take, drop}
 use Rattle.std.specs.Option.{option_copied}
-use Rattle.jr_settings.specs.Options.{AreInRange}
+use Rattle.jr_job_options.specs.Options.{AreInRange}
 use Rattle.jr_options.specs.PlanOf.{clones_of, jobs_below}
 use Rattle.jr_options.proofs.BuildLemmas.{Stands}
 use Rattle.jr_options.proofs.building.build.Given as goal

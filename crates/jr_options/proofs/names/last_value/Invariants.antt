@@ -1,6 +1,6 @@
 use Rattle.std.proofs.Common.{◌≡◌, drop}
 use Rattle.std.specs.Option.{option_copied}
-use Rattle.jr_settings.specs.Lookups.{value_from}
+use Rattle.jr_job_options.specs.Lookups.{value_from}
 use Rattle.jr_options.proofs.names.last_value.Given as goal
 
 -- the value so far, with the other lines

@@ -1,7 +1,7 @@
 use Rattle.std.proofs.Common.{◌≡◌, true, false, not, Ok, Err, ◌∙◌, sym}
 use Rattle.std.specs.List.{list_any}
 use Rattle.std.specs.Option.{option_copied}
-use Rattle.jr_settings.specs.declared.faults.JobFault.TheVariants as fault
+use Rattle.jr_job_options.specs.declared.faults.JobFault.TheVariants as fault
 use Rattle.jr_options.specs.Refusals.{refusal_of}
 use Rattle.jr_options.specs.Surveys.{is_global, is_planned}
 use Rattle.jr_options.proofs.RefusalLemmas.{no_job, no_section, passed, same_fault, never_memory, none_refused}

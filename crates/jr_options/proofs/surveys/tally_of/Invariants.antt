@@ -1,6 +1,6 @@
 use Rattle.std.proofs.Common.{◌≡◌, drop, Ok}
 use Rattle.std.specs.Option.{option_copied}
-use Rattle.jr_settings.specs.Options.{AreInRange}
+use Rattle.jr_job_options.specs.Options.{AreInRange}
 use Rattle.jr_options.specs.Surveys.{IsCapped, survey_from}
 use Rattle.jr_options.proofs.surveys.tally_of.Given as goal
 

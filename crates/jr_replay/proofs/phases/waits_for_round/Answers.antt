@@ -1,6 +1,6 @@
 use Rattle.std.proofs.Common.{ℕ, ◌&&◌, not, ap, refl, subst, ◌∙◌}
 use Rattle.jr_model.specs.Rounds.{writes_of, has_rounds, is_full, is_closed}
-use Rattle.jr_passes.specs.Passes.{IsLastBelow, NoneBelow}
+use Rattle.jr_replay_passes.specs.Passes.{IsLastBelow, NoneBelow}
 use Rattle.jr_replay.proofs.PhaseLaws.{waits_after, waits_never}
 use Rattle.jr_replay.proofs.phases.waits_for_round.Goals as goal
 

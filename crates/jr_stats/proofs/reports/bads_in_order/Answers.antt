@@ -3,7 +3,7 @@ use Rattle.std.proofs.lemmas.Fn.{always_returns_same}
 use Rattle.jr_model.specs.Report.{in_order}
 use Rattle.jr_stats.proofs.SortedBads.{sorted_by_writes}
 use Rattle.jr_stats.proofs.reports.bads_in_order.Goals as goal
-use Rattle.jr_tallies.specs.declared.tallies.Bad.{Bad}
+use Rattle.jr_desk_totals.specs.declared.tallies.Bad.{Bad}
 
 pub returns : goal.returns
 returns c =

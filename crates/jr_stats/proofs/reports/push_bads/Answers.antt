@@ -2,7 +2,7 @@ use Rattle.jr_model.specs.declared.events.What.TheVariants.{Header}
 use Rattle.jr_stats.specs.Miscompares.{bad_line}
 use Rattle.jr_stats.proofs.ReportLemmas.{line_more}
 use Rattle.jr_stats.proofs.reports.push_bads.Goals as goal
-use Rattle.jr_tallies.specs.declared.tallies.Bad.{Bad}
+use Rattle.jr_desk_totals.specs.declared.tallies.Bad.{Bad}
 
 pub loop-bad-preserved : goal.loop-bad-preserved
 loop-bad-preserved c =

@@ -1,4 +1,4 @@
-use Rattle.jr_traces.proofs.RoundTrip.{text_is_checked}
+use Rattle.jr_replay_traces.proofs.RoundTrip.{text_is_checked}
 use Rattle.jr_stats.proofs.traces.trace.Goals as goal
 
 pub returns-clause-checked : goal.returns-clause-checked

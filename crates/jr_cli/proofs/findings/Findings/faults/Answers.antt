@@ -1,5 +1,5 @@
 use Rattle.std.proofs.Common.{subst}
-use Rattle.jr_faults.specs.Faults.{AreFaultsOf}
+use Rattle.jr_report_faults.specs.Faults.{AreFaultsOf}
 use Rattle.jr_cli.specs.Findings.{RunOf}
 use Rattle.jr_cli.proofs.findings.Findings.faults.Goals as goal
 

@@ -1,7 +1,7 @@
 use Rattle.std.proofs.Common.{◌∙◌, List, map, ap, subst, sym}
 use Rattle.jr_model.specs.declared.events.Event.{Event}
 use Rattle.jr_model.specs.Plan.{Plan}
-use Rattle.jr_tallies.specs.Tallying.{miscompare_of}
+use Rattle.jr_desk_totals.specs.Tallying.{miscompare_of}
 use Rattle.jr_cli.specs.Findings.{AreFindings}
 use Rattle.jr_cli.proofs.findings.Findings.of_desk.Goals as goal
 

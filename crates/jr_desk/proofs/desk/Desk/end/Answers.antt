@@ -6,7 +6,7 @@ use Rattle.jr_model.specs.declared.tickets.Ticket.{Ticket}
 use Rattle.jr_model.specs.History.{outcome_of}
 use Rattle.jr_model.specs.Legal.{may_happen, outcome_fits}
 use Rattle.jr_desk.specs.DeskState.{DeskState}
-use Rattle.jr_board.proofs.Keeping.{may_end}
+use Rattle.jr_desk_state.proofs.Keeping.{may_end}
 use Rattle.jr_desk.proofs.Refusing.{end_refused, none_from}
 use Rattle.jr_desk.proofs.desk.Desk.end.Goals as goal
 

@@ -11,9 +11,9 @@ use Rattle.jr_model.specs.PlanFacts.{IsPlanned}
 use Rattle.jr_model.specs.Races.{has_raced}
 use Rattle.jr_header.specs.Served.{answer_verdict}
 use Rattle.jr_engines.specs.Answers.{AnswerParts}
-use Rattle.jr_tickets.specs.Kept.{IsOwn}
+use Rattle.jr_desk_tickets.specs.Kept.{IsOwn}
 use Rattle.jr_desk.specs.DeskState.{DeskState}
-use Rattle.jr_board.proofs.Keeping.{may_judge}
+use Rattle.jr_desk_state.proofs.Keeping.{may_judge}
 use Rattle.jr_desk.proofs.Refusing.{judge_refused_twice, judge_refused_kind, judged_probe, judge_accepts, not_stopped}
 use Rattle.jr_desk.proofs.desk.Desk.judge.Goals as goal
 

@@ -3,10 +3,10 @@ use Rattle.std.specs.Prelude.{Option, length}
 use Rattle.jr_model.specs.History.{started}
 use Rattle.jr_model.specs.declared.tickets.Ticket.{Ticket}
 use Rattle.jr_model.specs.Legal.{is_complete}
-use Rattle.jr_board.specs.declared.takes.Take.{Take}
+use Rattle.jr_desk_state.specs.declared.takes.Take.{Take}
 use Rattle.jr_desk.specs.DeskState.{DeskState}
-use Rattle.jr_board.specs.Takes.{HandsOutOwn, answer_with, is_fitting, is_finished, WaitsRightly}
-use Rattle.jr_board.proofs.Answering.{answer_fits, answer_own, answer_waits, answer_finished}
+use Rattle.jr_desk_state.specs.Takes.{HandsOutOwn, answer_with, is_fitting, is_finished, WaitsRightly}
+use Rattle.jr_desk_state.proofs.Answering.{answer_fits, answer_own, answer_waits, answer_finished}
 use Rattle.jr_desk.proofs.desk.Desk.take.Goals as goal
 
 pub returns-clause-fits : goal.returns-clause-fits

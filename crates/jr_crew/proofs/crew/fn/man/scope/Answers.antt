@@ -1,6 +1,6 @@
 use Rattle.std.proofs.Common.{◌≡◌, true, arith, eqb-true}
 use Rattle.std.specs.Prelude.{◌==◌}
-use Rattle.jr_staff.proofs.PartLemmas.{all_there, rest_of}
+use Rattle.jr_crew_threads.proofs.PartLemmas.{all_there, rest_of}
 use Rattle.jr_crew.proofs.crew.fn.man.scope.Goals as goal
 
 pub invariant_of-result : goal.invariant_of-result

@@ -1,9 +1,0 @@
-use Rattle.jr_board.specs.Boards.{left_of}
-use Rattle.jr_board.proofs.Takings.{IsTaking}
-use Rattle.jr_board.proofs.taking.start_next.Given as goal
-
-abbrev pub invariant-choices : goal.invariant-choices
-invariant-choices l = IsTaking l.plan l.worker l.initial.board.history.items l.board
-
-abbrev pub decreases-choices : goal.decreases-choices
-decreases-choices l = left_of l.board.standings.items

@@ -1,0 +1,22 @@
+-- Believed: what the program says, behind its name, where it ends without a report.
+use Rattle.std.specs.Prelude.{ℕ, List, codes}
+use Rattle.jr_text.specs.FaultTexts.{text_fault_text}
+use Rattle.jr_options.specs.FaultTexts.{job_fault_text}
+use Rattle.jr_crew_threads.specs.FaultTexts.{run_fault_text}
+use Rattle.jr_replay_traces.specs.FaultTexts.{trace_fault_text}
+use Rattle.jr_cli_words.specs.declared.faults.CliFault.{CliFault}
+use Rattle.jr_cli_words.specs.declared.faults.CliFault.TheVariants as fault
+
+abbrev pub fault_text : CliFault → List ℕ
+fault_text fault.Words = codes "command line: not UTF-8"
+fault_text (fault.Text text) = text_fault_text text
+fault_text (fault.Job job) = job_fault_text job
+fault_text fault.SeveralFiles = codes "bad blocks of several files"
+fault_text fault.BlockSize = codes "command line: bad block size"
+fault_text fault.Read = codes "cannot read the job file"
+fault_text fault.Open = codes "cannot open the files"
+fault_text (fault.Run run) = run_fault_text run
+fault_text (fault.Trace trace) = trace_fault_text trace
+fault_text fault.ReadTrace = codes "cannot read the trace"
+fault_text fault.Write = codes "cannot write"
+fault_text fault.Memory = codes "out of memory"

@@ -1,0 +1,140 @@
+ghost use Rattle.std.specs.Prelude.{◌≡◌};
+
+use jr_crew_threads::RunFault;
+use jr_model::Memory;
+use jr_options::JobFault;
+use jr_replay_traces::TraceFault;
+use jr_text::TextFault;
+use std::alloc::AllocError;
+use std::error::Error;
+use std::fmt;
+
+/// Why the program ends without a report, or with a cut one.
+#[derive(Clone, Copy, Debug, PartialEq, Eq)]
+pub enum CliFault {
+    /// A word of the command line isn't text.
+    Words,
+    Text(TextFault),
+    Job(JobFault),
+    /// A list of bad blocks is wanted of several files.
+    SeveralFiles,
+    /// The size of its blocks isn't one that they may have.
+    BlockSize,
+    /// Standard input or the job file can't be read.
+    Read,
+    /// The files of the plan can't be made, made long enough or opened.
+    Open,
+    Run(RunFault),
+    Trace(TraceFault),
+    /// The trace to check can't be read.
+    ReadTrace,
+    /// Writing failed; nothing is said of how much went out.
+    Write,
+    Memory,
+}
+
+impl CliFault {
+    ghost use Rattle.jr_cli_words.specs.Status.{status_of_fault};
+
+    /// The exit status of a program that ends with it: 2 if the words or the job file were
+    /// refused, 3 for memory, files and threads.
+    pub fn status(&self) -> u8
+        ensures { result ≡ status_of_fault self.now }
+    {
+        match self {
+            CliFault::Text(TextFault::Memory)
+            | CliFault::Job(JobFault::Memory)
+            | CliFault::Trace(TraceFault::Memory) => 3,
+            CliFault::Words | CliFault::Text(_) | CliFault::Job(_) => 2,
+            CliFault::Trace(_) | CliFault::SeveralFiles | CliFault::BlockSize => 2,
+            CliFault::Read | CliFault::ReadTrace | CliFault::Open | CliFault::Run(_) => 3,
+            CliFault::Write | CliFault::Memory => 3,
+        }
+    }
+}
+
+impl fmt::Display for CliFault {
+    ghost use Rattle.std.specs.Prelude.{Some};
+    ghost use Rattle.jr_cli_words.specs.FaultTexts.{fault_text};
+
+    ghost output = { λ fault. Some (fault_text fault) };
+
+    fn fmt<W: fmt::Write>(&self, f: &mut fmt::Formatter<W>) -> fmt::Result {
+        match self {
+            CliFault::Words => write!(f, "command line: not UTF-8"),
+            CliFault::Text(fault) => write!(f, "{fault}"),
+            CliFault::Job(fault) => write!(f, "{fault}"),
+            CliFault::SeveralFiles => write!(f, "bad blocks of several files"),
+            CliFault::BlockSize => write!(f, "command line: bad block size"),
+            CliFault::Read => write!(f, "cannot read the job file"),
+            CliFault::Open => write!(f, "cannot open the files"),
+            CliFault::Run(fault) => write!(f, "{fault}"),
+            CliFault::Trace(fault) => write!(f, "{fault}"),
+            CliFault::ReadTrace => write!(f, "cannot read the trace"),
+            CliFault::Write => write!(f, "cannot write"),
+            CliFault::Memory => write!(f, "out of memory"),
+        }
+    }
+}
+
+impl Error for CliFault {}
+
+impl From<TextFault> for CliFault {
+    ghost use Rattle.jr_cli_words.specs.declared.faults.CliFault.TheVariants as fault;
+
+    ghost from_gives = { λ text e. e ≡ fault.Text text };
+
+    fn from(fault: TextFault) -> CliFault {
+        CliFault::Text(fault)
+    }
+}
+
+impl From<JobFault> for CliFault {
+    ghost use Rattle.jr_cli_words.specs.declared.faults.CliFault.TheVariants as fault;
+
+    ghost from_gives = { λ job e. e ≡ fault.Job job };
+
+    fn from(fault: JobFault) -> CliFault {
+        CliFault::Job(fault)
+    }
+}
+
+impl From<RunFault> for CliFault {
+    ghost use Rattle.jr_cli_words.specs.declared.faults.CliFault.TheVariants as fault;
+
+    ghost from_gives = { λ run e. e ≡ fault.Run run };
+
+    fn from(fault: RunFault) -> CliFault {
+        CliFault::Run(fault)
+    }
+}
+
+impl From<TraceFault> for CliFault {
+    ghost use Rattle.jr_cli_words.specs.declared.faults.CliFault.TheVariants as fault;
+
+    ghost from_gives = { λ trace e. e ≡ fault.Trace trace };
+
+    fn from(fault: TraceFault) -> CliFault {
+        CliFault::Trace(fault)
+    }
+}
+
+impl From<Memory> for CliFault {
+    ghost use Rattle.jr_cli_words.specs.declared.faults.CliFault.TheVariants as fault;
+
+    ghost from_gives = { λ _ e. e ≡ fault.Memory };
+
+    fn from(_error: Memory) -> CliFault {
+        CliFault::Memory
+    }
+}
+
+impl From<AllocError> for CliFault {
+    ghost use Rattle.jr_cli_words.specs.declared.faults.CliFault.TheVariants as fault;
+
+    ghost from_gives = { λ _ e. e ≡ fault.Memory };
+
+    fn from(_error: AllocError) -> CliFault {
+        CliFault::Memory
+    }
+}

@@ -1,0 +1,76 @@
+-- What the board keeps, and where a ticket of its own stands.
+use Rattle.std.proofs.Common.{◌≡◌, ◌<◌, List, [], length, sym, ◌∙◌, ap, subst, arith}
+use Rattle.jr_model.specs.declared.events.Event.{Event}
+use Rattle.jr_model.specs.declared.tickets.Ticket.{Ticket}
+use Rattle.jr_model.specs.Legal.{is_legal}
+use Rattle.jr_model.specs.Plan.{Plan}
+use Rattle.jr_model.specs.PlanFacts.{IsPlanned}
+use Rattle.jr_laws_steps.proofs.StartedLemmas.{started_below}
+use Rattle.jr_desk_totals.specs.Tallying.{IsTallied}
+use Rattle.jr_desk_tickets.specs.Handing.{IsHanded}
+use Rattle.jr_desk_tickets.specs.Kept.{IsOwn}
+use Rattle.jr_desk_tickets.proofs.HandingMoves.{handed_length}
+use Rattle.jr_desk_state.specs.declared.board.Board.{Board}
+use Rattle.jr_desk_state.specs.Boards.{IsBoard}
+use Rattle.jr_desk_state.specs.Flyings.{IsFlying}
+use Rattle.jr_desk_state.specs.Standings.{AreStanding}
+use Rattle.jr_desk_state.specs.declared.written.CheckedLog.{CheckedLog}
+use Rattle.jr_desk_state.specs.WriteLogs.{IsLog}
+use Rattle.jr_desk_state.proofs.EndingParts.{OwnParts, own_parts}
+
+-- where no event is put to it, the board stays that of its history
+pub board_stays : (plan : Plan) (before after : Board)
+    → IsBoard plan before
+    → after.history.items ≡ before.history.items
+    → IsHanded plan before.history.items after.tickets
+    → IsFlying plan before.history.items after.flying
+    → after.log ≡ before.log
+    → IsTallied plan before.history.items after.tallies
+    → AreStanding plan before.history.items after.standings.items
+    → IsBoard plan after
+board_stays plan before after is history handed flying log tallies standings =
+    let same = sym history in
+    record {
+      planned = is.planned;
+      legal = ap (is_legal plan) history ∙ is.legal;
+      tickets = subst (λ (h : List Event). IsHanded plan h after.tickets) same handed;
+      flying = subst (λ (h : List Event). IsFlying plan h after.flying) same flying;
+      log = subst (λ (l : CheckedLog). IsLog plan after.history.items l) (sym log)
+          (subst (λ (h : List Event). IsLog plan h before.log) same is.log);
+      tallies = subst (λ (h : List Event). IsTallied plan h after.tallies) same tallies;
+      standings = subst (λ (h : List Event). AreStanding plan h after.standings.items) same standings;
+    }
+
+-- the parts of a ticket of the board's own
+pub parts_of : (plan : Plan) (board : Board) (ticket : Ticket) → IsBoard plan board → IsOwn plan board.history.items ticket
+    → OwnParts plan board.history.items ticket
+parts_of plan board ticket is own = own_parts plan board.history.items ticket is.planned is.legal own
+
+-- the ticket's number is one of those that were handed out
+pub own_below : (plan : Plan) (board : Board) (ticket : Ticket) → IsBoard plan board → IsOwn plan board.history.items ticket
+    → ticket.id < length board.tickets.states.items
+own_below plan board ticket is own =
+    let parts = parts_of plan board ticket is own in
+    let below = started_below board.history.items ticket.id parts.io parts.at in
+    omega (arith, below, handed_length plan board.history.items board.tickets is.tickets)
+
+-- the board of no event
+pub board_begins : (plan : Plan) (board : Board) → board.history.items ≡ []
+    → IsPlanned plan
+    → IsHanded plan [] board.tickets
+    → IsFlying plan [] board.flying
+    → IsLog plan [] board.log
+    → IsTallied plan [] board.tallies
+    → AreStanding plan [] board.standings.items
+    → IsBoard plan board
+board_begins plan board none planned handed flying log tallies standings =
+    let same = sym none in
+    record {
+      planned = planned;
+      legal = ap (is_legal plan) none;
+      tickets = subst (λ (h : List Event). IsHanded plan h board.tickets) same handed;
+      flying = subst (λ (h : List Event). IsFlying plan h board.flying) same flying;
+      log = subst (λ (h : List Event). IsLog plan h board.log) same log;
+      tallies = subst (λ (h : List Event). IsTallied plan h board.tallies) same tallies;
+      standings = subst (λ (h : List Event). AreStanding plan h board.standings.items) same standings;
+    }

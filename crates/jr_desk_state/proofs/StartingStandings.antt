@@ -1,0 +1,85 @@
+-- The standings of all clones, where one of them changes and the others stay.
+use Rattle.std.proofs.Common.{◌≡◌, ◌<◌, ℕ, List, [], ◌∷◌, length, get_or, Bool, true, not, cond, refl, sym, ◌∙◌, ap, subst, arith, inl, inr}
+use Rattle.std.proofs.Math.ListN.{set}
+use Rattle.std.specs.Prelude.{Some, slice_get, count_by, filter}
+use Rattle.std.specs.List.{list_any}
+use Rattle.std.proofs.lemmas.List.{length-set}
+use Rattle.std.proofs.lemmas.Bool.{or_cases}
+use Rattle.std.proofs.lemmas.List.Filters.{length-filter_both}
+use Rattle.std.proofs.lemmas.List.Sums.{length-filter, sum_by-cons, sum_by-set}
+use Rattle.std.proofs.lemmas.Option.{get_or_from_slice_get, slice_get_within}
+use Rattle.jr_model.specs.declared.events.Event.{Event}
+use Rattle.jr_model.specs.Plan.{Plan, SubJob, clone_of}
+use Rattle.jr_laws_steps.proofs.StartedLemmas.{same_some}
+use Rattle.jr_laws_steps.proofs.Lists.{got_set}
+use Rattle.jr_desk_state.specs.declared.standings.Standing.{Standing}
+use Rattle.jr_desk_state.specs.Boards.{left_of}
+use Rattle.jr_desk_state.specs.Standings.{ArePrepared, AreStanding, IsPrepared, IsStanding}
+
+-- what holds of each clone's standing holds of each where one is put in its place
+each_set : (plan : Plan) (P Q : SubJob → Standing → Type 0) (standings : List Standing) (c : ℕ) (job : SubJob) (new : Standing)
+    → ((k : ℕ) (other : SubJob) (standing : Standing) → clone_of plan k ≡ Some other → slice_get standings k ≡ Some standing
+    → P other standing)
+    → clone_of plan c ≡ Some job
+    → Q job new
+    → ((k : ℕ) (other : SubJob) (standing : Standing) → clone_of plan k ≡ Some other → (c ≡ k → ⊥) → P other standing
+    → Q other standing)
+    → (k : ℕ) (other : SubJob) (standing : Standing) → clone_of plan k ≡ Some other → slice_get (set standings c new) k ≡ Some standing
+    → Q other standing
+each_set plan P Q standings c job new each planned here others k other standing there got =
+    elim (got_set standings c k standing new got) [
+      | inl same ↦
+          let jobs : job ≡ other = same_some job other (sym planned ∙ ap (clone_of plan) (sym same.0) ∙ there) in
+          subst (λ (s : Standing). Q other s) (sym same.1) (subst (λ (j : SubJob). Q j new) jobs here)
+      | inr apart ↦ others k other standing there apart.0 (each k other standing there apart.1)
+    ]
+
+-- the clone that moves moves with the history, and the others stand as before
+pub standing_moves : (plan : Plan) (before after : List Event) (standings : List Standing) (c : ℕ) (job : SubJob) (new : Standing)
+    → AreStanding plan before standings
+    → clone_of plan c ≡ Some job
+    → IsStanding after job new
+    → ((k : ℕ) (other : SubJob) (standing : Standing) → clone_of plan k ≡ Some other → (c ≡ k → ⊥)
+    → IsStanding before other standing → IsStanding after other standing)
+    → AreStanding plan after (set standings c new)
+standing_moves plan before after standings c job new are planned here others = record {
+  count = length-set standings c new ∙ are.count;
+  each = each_set plan (IsStanding before) (IsStanding after) standings c job new are.each planned here others;
+}
+
+-- the same of what they are prepared for
+pub prepared_moves : (plan : Plan) (standings : List Standing) (c : ℕ) (job : SubJob) (new : Standing)
+    → ArePrepared plan standings
+    → clone_of plan c ≡ Some job
+    → IsPrepared job new
+    → ArePrepared plan (set standings c new)
+prepared_moves plan standings c job new are planned here =
+    each_set plan IsPrepared IsPrepared standings c job new are planned here
+    (λ k other standing there apart is. is)
+
+-- where one clone has fewer writes to check, all of them have
+pub left_falls : (standings : List Standing) (c : ℕ) (old new : Standing)
+    → slice_get standings c ≡ Some old
+    → length new.rounds.round.to_check < length old.rounds.round.to_check
+    → left_of (set standings c new) < left_of standings
+left_falls standings c old new at fewer =
+    let to_check : Standing → ℕ = λ (standing : Standing). length standing.rounds.round.to_check in
+    let both = sum_by-set to_check standings c new old (slice_get_within standings c old at) in
+    let was : to_check (get_or standings c old) ≡ to_check old = ap to_check (get_or_from_slice_get standings c old old at) in
+    omega (arith, both, was, fewer)
+
+-- without the items that pass a test, of which there is one, a list is shorter
+some_counted : {X : Type 0} (p : X → Bool) (xs : List X) → list_any p xs ≡ true → 0 < count_by p xs
+some_counted p [] some = cc
+some_counted p (x ∷ xs) some =
+    let first = sum_by-cons (λ y. cond (p y) 1 0) x xs in
+    elim (or_cases (p x) (list_any p xs) some) [
+      | inl here ↦ let one : cond (p x) 1 0 ≡ 1 = ap {B = ℕ} (λ (b : Bool). cond b 1 0) here in omega (arith, first, one)
+      | inr later ↦ omega (arith, first, some_counted p xs later)
+    ]
+
+pub fewer_without : {X : Type 0} (p : X → Bool) (xs : List X) → list_any p xs ≡ true
+    → length (filter (λ (x : X). not (p x)) xs) < length xs
+fewer_without {X = X} p xs some =
+    let both = length-filter_both p (λ (x : X). not (p x)) (λ (x : X). refl) xs in
+    omega (arith, both, length-filter p xs, some_counted p xs some)

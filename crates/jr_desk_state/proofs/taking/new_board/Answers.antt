@@ -1,0 +1,28 @@
+-- Each part is that of the empty history.
+use Rattle.std.proofs.Common.{[], ◌∙◌, ap, arith}
+use Rattle.jr_model.specs.Plan.{clone_of}
+use Rattle.jr_desk_state.proofs.EndingBoards.{board_begins}
+use Rattle.jr_desk_state.proofs.Preparing.{stand_more, stand_none}
+use Rattle.jr_desk_state.proofs.taking.new_board.Goals as goal
+
+pub loop-clone-init : goal.loop-clone-init
+loop-clone-init c = stand_none c.args.plan.now [] c.new-standings.result.items c.new-standings.ensures.items
+
+pub loop-clone-preserved : goal.loop-clone-preserved
+loop-clone-preserved c =
+    let plan = c.args.plan.now in
+    let at = c.clone_at.ensures.value in
+    stand_more plan [] c.loop-clone.clone c.clone_at.result.now c.loop-clone.standings.items c.push.new.self.items c.in_ok-new.field-0
+    c.loop-clone.invariant c.in_ok-push.ensures.items at
+    (c.in_ok-new.ensures plan c.clones-clone-end.ensures.facts (ap (clone_of plan) c.clone_at.ensures.placed.number ∙ at))
+
+pub returns-clause-board : goal.returns-clause-board
+returns-clause-board c =
+    let plan = c.args.plan.now in
+    board_begins plan _ c.new-2.ensures.items c.clones-clone-end.ensures.facts (c.new-3.ensures plan) (c.in_ok-new-2.ensures plan)
+    c.in_ok-new-3.ensures c.in_ok-new-4.ensures
+    (record {
+      count =
+          omega (arith, c.loop-clone.invariant.count, c.clones-clone-end.ensures.value, c.loop-clone-test.false);
+      each = c.loop-clone.invariant.each;
+    })

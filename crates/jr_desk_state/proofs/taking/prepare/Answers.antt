@@ -1,0 +1,59 @@
+-- All parts stay those of the history.
+use Rattle.std.proofs.Common.{◌≡◌, ℕ, List, refl, sym, ◌∙◌, ap}
+use Rattle.std.specs.Prelude.{Some, slice_get}
+use Rattle.jr_desk_state.specs.declared.standings.Standing.{Standing}
+use Rattle.jr_desk_state.proofs.EndingBoards.{board_stays}
+use Rattle.jr_desk_state.proofs.Preparing.{prepared_settled}
+use Rattle.jr_desk_state.proofs.taking.prepare.Goals as goal
+
+pub prepare_standings-requires-clause-within : goal.prepare_standings-requires-clause-within
+prepare_standings-requires-clause-within c clone job standing there got =
+    (c.requires.standings.each clone job standing there got).in_pass.within
+
+pub returns-in_err-prepare_standings-clause-board : goal.returns-in_err-prepare_standings-clause-board
+returns-in_err-prepare_standings-clause-board c =
+    let board = c.args.board.now in
+    let history = board.history.items in
+    let is = c.requires in
+    board_stays c.args.plan.now board _ is refl
+    (record {
+      launches = c.reserve.ensures.launches ∙ is.tickets.launches;
+      headers = c.reserve.ensures.headers ∙ is.tickets.headers;
+      states = c.reserve.ensures.states ∙ is.tickets.states;
+    })
+    (c.in_ok-settle.ensures.kept c.args.plan.now history is.flying) refl is.tallies (c.prepare_standings.ensures.kept history is.standings)
+
+pub left_in-requires : goal.left_in-requires
+left_in-requires c = record {
+  settled = λ (k : ℕ) (standing : Standing) (got : slice_get c.deref.result.now k ≡ Some standing).
+      prepared_settled c.args.plan.now c.args.board.now.history.items c.prepare_standings.new.standings.items
+      (c.prepare_standings.ensures.kept c.args.board.now.history.items c.requires.standings)
+      c.in_ok-prepare_standings.ensures.prepared k standing
+      (ap (λ (standings : List Standing). slice_get standings k) (sym c.deref.ensures.value) ∙ got);
+}
+
+pub returns-in_err-reserve-2-clause-board : goal.returns-in_err-reserve-2-clause-board
+returns-in_err-reserve-2-clause-board c =
+    let board = c.args.board.now in
+    let history = board.history.items in
+    let is = c.requires in
+    board_stays c.args.plan.now board _ is c.reserve-2.ensures.items
+    (record {
+      launches = c.reserve.ensures.launches ∙ is.tickets.launches;
+      headers = c.reserve.ensures.headers ∙ is.tickets.headers;
+      states = c.reserve.ensures.states ∙ is.tickets.states;
+    })
+    (c.in_ok-settle.ensures.kept c.args.plan.now history is.flying) refl is.tallies (c.prepare_standings.ensures.kept history is.standings)
+
+pub returns-clause-board : goal.returns-clause-board
+returns-clause-board c =
+    let board = c.args.board.now in
+    let history = board.history.items in
+    let is = c.requires in
+    board_stays c.args.plan.now board _ is c.reserve-2.ensures.items
+    (record {
+      launches = c.reserve.ensures.launches ∙ is.tickets.launches;
+      headers = c.reserve.ensures.headers ∙ is.tickets.headers;
+      states = c.reserve.ensures.states ∙ is.tickets.states;
+    })
+    (c.in_ok-settle.ensures.kept c.args.plan.now history is.flying) refl is.tallies (c.prepare_standings.ensures.kept history is.standings)

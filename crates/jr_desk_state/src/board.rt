@@ -1,0 +1,18 @@
+use crate::flying::Flying;
+use crate::standings::Standing;
+use crate::written::CheckedLog;
+use jr_desk_tickets::TicketTable;
+use jr_desk_totals::Tallies;
+use jr_model::Event;
+
+/// What happened in a run, and what is kept of it, so that no call looks at the whole history.
+#[derive(Drop)]
+pub struct Board {
+    /// All events, the oldest first. It is appended to alone.
+    pub history: Vec<Event>,
+    pub tickets: TicketTable,
+    pub flying: Flying,
+    pub log: CheckedLog,
+    pub tallies: Tallies,
+    pub standings: Vec<Standing>,
+}

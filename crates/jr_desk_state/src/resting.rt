@@ -1,0 +1,88 @@
+ghost use Rattle.std.specs.Prelude.{◌≡◌, ℕ, false, nat_le, slice_get, Some};
+ghost use Rattle.jr_model.specs.Legal.{is_at_rest, is_complete, is_halted, phase_is_open};
+ghost use Rattle.jr_model.specs.Plan.{SubJob as Clone, clone_of};
+ghost use Rattle.jr_model.specs.Rounds.{pass_finished, pass_of};
+ghost use Rattle.jr_desk_state.specs.Boards.{IsBoard};
+ghost use Rattle.jr_desk_state.specs.declared.standings.Standing.{Standing as Stood};
+
+use crate::board::Board;
+use crate::standings::has_rounds;
+use jr_plan::Plan;
+
+// Whether the pass that a clone is in is finished, where the clone isn't halted.
+pub(crate) fn pass_is_finished(plan: &Plan, board: &Board, clone: usize) -> bool
+    requires board { IsBoard plan.now board.now }
+    requires runs { (job : Clone) → clone_of plan.now clone ≡ Some job → is_halted board.now.history.items job ≡ false }
+    ensures { (job : Clone) (standing : Stood) → clone_of plan.now clone ≡ Some job
+        → slice_get board.now.standings.items clone ≡ Some standing
+        → result ≡ pass_finished board.now.history.items (pass_of job standing.pass) }
+{
+    if clone >= plan.clones()
+        || clone >= board.standings.len()
+        || clone >= board.tallies.counts.len()
+    {
+        return false;
+    }
+    let standing = &board.standings[clone];
+    let counts = &board.tallies.counts[clone];
+    if !standing.draws.is_over() || counts.issues > 0 || counts.checks > 0 {
+        return false;
+    }
+    !has_rounds(plan.clone_at(clone)) || standing.rounds.is_closed()
+}
+
+// Whether a clone is finished or halted, with nothing in flight and no verdict to come.
+pub(crate) fn is_at_rest(plan: &Plan, board: &Board, clone: usize) -> bool
+    requires board { IsBoard plan.now board.now }
+    ensures { (job : Clone) → clone_of plan.now clone ≡ Some job → result ≡ is_at_rest board.now.history.items job }
+{
+    if clone >= plan.clones()
+        || clone >= board.standings.len()
+        || clone >= board.tallies.counts.len()
+    {
+        return false;
+    }
+    let counts = &board.tallies.counts[clone];
+    if counts.issues > 0 || counts.checks > 0 || counts.verdicts > 0 {
+        return false;
+    }
+    if counts.is_halted {
+        return true;
+    }
+    let passes = plan.clone_at(clone).passes();
+    let standing = &board.standings[clone];
+    if standing.pass + 1 < passes {
+        return false;
+    }
+    pass_is_finished(plan, board, clone)
+}
+
+// The first phase of which a clone isn't at rest: draws of later phases may not be issued. No phase is later where all
+// clones are at rest.
+pub(crate) fn open_phase(plan: &Plan, board: &Board) -> u32
+    requires { IsBoard plan.now board.now }
+    ensures { (clone : ℕ) (job : Clone) → clone_of plan.now clone ≡ Some job
+        → phase_is_open plan.now board.now.history.items job ≡ nat_le job.phase result }
+{
+    let mut phase = u32::MAX;
+    for clone in 0..plan.clones() {
+        let own = plan.clone_at(clone).phase();
+        if !is_at_rest(plan, board, clone) {
+            phase = phase.min(own);
+        }
+    }
+    phase
+}
+
+/// Whether nothing is in flight, no verdict is missing, and each clone is finished or halted.
+pub fn is_complete(plan: &Plan, board: &Board) -> bool
+    requires { IsBoard plan.now board.now }
+    ensures { result ≡ is_complete plan.now board.now.history.items }
+{
+    for clone in 0..plan.clones() {
+        if !is_at_rest(plan, board, clone) {
+            return false;
+        }
+    }
+    true
+}

@@ -1,0 +1,132 @@
+ghost use Rattle.std.specs.Prelude.{◌≡◌, ◌<◌, ◌-◌, ◌^◌, ℕ, true, List, [], length, slice_get, IfOk, OnOk, Option, Some};
+ghost use Rattle.jr_model.specs.declared.events.Event.{Event as Happening};
+ghost use Rattle.jr_model.specs.History.{started};
+ghost use Rattle.jr_model.specs.declared.events.Started.{Started};
+ghost use Rattle.jr_model.specs.Plan.{SubJob as Clone, clone_of};
+ghost use Rattle.jr_backlog.specs.Deferred.{is_settled};
+ghost use Rattle.jr_desk_state.specs.Boards.{IsBoard, IsReady, left_of};
+ghost use Rattle.jr_desk_state.specs.Standings.{ArePrepared, AreStanding};
+ghost use Rattle.jr_desk_state.specs.declared.standings.Standing.{Standing as Stood};
+ghost use Rattle.jr_model.specs.Legal.{is_complete};
+ghost use Rattle.jr_desk_state.specs.Takes.{IsChosen, answer_with, ticket_for};
+
+use crate::board::Board;
+use crate::choosing::choose;
+use crate::flying::Flying;
+use crate::resting::is_complete;
+use crate::standings::Standing;
+use crate::starting::{issue, probe, skip};
+use crate::takes::{Take, answer_with};
+use crate::written::CheckedLog;
+use jr_desk_tickets::TicketTable;
+use jr_desk_totals::Tallies;
+use jr_model::{Event, Memory, Ticket};
+use jr_plan::Plan;
+use std::alloc::Global;
+
+/// Before anything happened.
+pub fn new_board(alloc: Global, plan: &Plan) -> Result<Board, Memory>
+    ensures board { IfOk result (IsBoard plan.now) }
+    ensures history { IfOk result (λ board. board.history.items ≡ []) }
+{
+    let mut standings = Vec::new(alloc);
+    for clone in 0..plan.clones() {
+        standings.push(Standing::new(alloc, plan.clone_at(clone))?)?;
+    }
+    Ok(Board {
+        history: Vec::new(alloc),
+        tickets: TicketTable::new(alloc),
+        flying: Flying::new(alloc)?,
+        log: CheckedLog::new(alloc, plan)?,
+        tallies: Tallies::new(alloc, plan)?,
+        standings,
+    })
+}
+
+/// Asks for all memory that a take can want. What happened is the same, whether it is refused or not.
+pub fn prepare(alloc: Global, plan: &Plan, board: &mut Board) -> Result<(), Memory>
+    requires { IsBoard plan.now board.old }
+    ensures board { IsBoard plan.now board.new }
+    ensures history { board.new.history.items ≡ board.old.history.items }
+    ensures ready { OnOk result (IsReady plan.now board.new) }
+{
+    board.flying.settle()?;
+    board.tickets.reserve()?;
+    prepare_standings(alloc, plan, &mut board.standings)?;
+    let most = left_in(&board.standings).saturating_add(1);
+    board.history.reserve(most)?;
+    Ok(())
+}
+
+/// Starts the next I/O or check for a worker, if one may be started; writes that are not checked are skipped on the way.
+pub fn start_next(plan: &Plan, board: &mut Board, worker: u32) -> Option<Ticket>
+    requires board { IsBoard plan.now board.old }
+    requires ready { IsReady plan.now board.old }
+    ensures board { IsBoard plan.now board.new }
+    ensures taken { (io : Option Started) × IsChosen plan.now worker board.old.history.items board.new.history.items io
+        × (result ≡ ticket_for plan.now (length (started board.old.history.items)) io) }
+{
+    'choices: loop {
+        let Some(chosen) = choose(plan, board, worker) else {
+            return None;
+        };
+        match chosen.event {
+            Event::Skip { write, .. } => skip(plan, board, worker, write),
+            Event::Issue {
+                kind,
+                write,
+                piece,
+                ..
+            } => return Some(issue(plan, board, worker, kind, write, piece)),
+            Event::Probe { write, piece, .. } => {
+                return Some(probe(plan, board, worker, write, piece, chosen.expected));
+            }
+            // These two are no choice.
+            Event::End { .. } => return None,
+            Event::Verdict { .. } => return None,
+        }
+    }
+}
+
+// Prepares each clone for its next draw. Where the clones stand is the same, whether it is refused or not.
+fn prepare_standings(
+    alloc: Global,
+    plan: &Plan,
+    standings: &mut Vec<Standing>,
+) -> Result<(), Memory>
+    requires count { length standings.old.items ≡ length plan.now.clones }
+    requires within { (clone : ℕ) (job : Clone) (standing : Stood) → clone_of plan.now clone ≡ Some job
+        → slice_get standings.old.items clone ≡ Some standing → standing.pass < job.passes }
+    ensures kept { (history : List Happening) → AreStanding plan.now history standings.old.items
+        → AreStanding plan.now history standings.new.items }
+    ensures prepared { OnOk result (ArePrepared plan.now standings.new.items) }
+{
+    for clone in 0..plan.clones() {
+        standings[clone].prepare(alloc, plan.clone_at(clone))?;
+    }
+    Ok(())
+}
+
+// How many writes are still to check, where that is a number below the largest.
+fn left_in(standings: &[Standing]) -> usize
+    requires settled { (clone : ℕ) (standing : Stood) → slice_get standings.now clone ≡ Some standing
+        → is_settled standing.rounds ≡ true }
+    ensures { result < 2 ^ 64 - 1 → result ≡ left_of standings.now }
+{
+    let mut left = 0usize;
+    for standing in standings {
+        left = left.saturating_add(standing.rounds.left());
+    }
+    left
+}
+
+/// The answer to a take that handed out this ticket, if it did.
+pub fn answer_to(plan: &Plan, board: &Board, ticket: &Option<Ticket>) -> Take
+    requires { IsBoard plan.now board.now }
+    ensures { result ≡ answer_with (is_complete plan.now board.now.history.items) ticket.now }
+{
+    match ticket {
+        None => answer_with(is_complete(plan, board), ticket),
+        Some(_) => answer_with(false, ticket),
+    }
+}

@@ -1,0 +1,7 @@
+use Rattle.std.proofs.Common.{◌≡◌, false, take}
+use Rattle.std.specs.List.{list_any}
+use Rattle.jr_io_files.specs.Uses.{checks_file}
+use Rattle.jr_io_files.proofs.uses.is_checked.Given as goal
+
+abbrev pub invariant-loop-i : goal.invariant-loop-i
+invariant-loop-i l = list_any (checks_file l.file) (take l.i l.plan.clones) ≡ false

@@ -1,7 +1,0 @@
-pub mod FlatMaps
-pub mod Found
-pub mod Named
-pub mod Ordered
-pub mod Reported
-pub mod Unique
-pub mod Writes

@@ -1,5 +1,0 @@
-use Rattle.jr_settings.specs.Options.{AreInRange}
-use Rattle.jr_notes.proofs.jobs.jobs.Given as goal
-
-abbrev pub invariant-loop-section : goal.invariant-loop-section
-invariant-loop-section l = AreInRange l.globals

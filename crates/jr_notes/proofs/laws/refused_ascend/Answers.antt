@@ -1,5 +1,0 @@
-use Rattle.jr_notes.proofs.OrderLemmas.{ascending}
-use Rattle.jr_notes.proofs.laws.refused_ascend.Goals as goal
-
-pub returns : goal.returns
-returns c = ascending

@@ -1,5 +1,0 @@
-use Rattle.jr_page.specs.Cells.{AreCellsBy}
-use Rattle.jr_page.proofs.cells.cells_by.Given as goal
-
-abbrev pub invariant-loop-place : goal.invariant-loop-place
-invariant-loop-place l = AreCellsBy l.map l.firsts l.end l.place l.cells.items

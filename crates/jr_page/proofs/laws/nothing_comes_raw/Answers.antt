@@ -1,6 +1,0 @@
-use Rattle.std.specs.Prelude.{chars}
-use Rattle.jr_page.proofs.RawLemmas.{text_clean}
-use Rattle.jr_page.proofs.laws.nothing_comes_raw.Goals as goal
-
-pub returns : goal.returns
-returns c = λ text. text_clean (chars text)

@@ -1,5 +1,0 @@
-use Rattle.std.proofs.Common.{◌∙◌}
-use Rattle.jr_places.proofs.marks.is_skipped.Goals as goal
-
-pub returns : goal.returns
-returns c = λ history told. c.contains.ensures ∙ told.skipped c.args.write.now

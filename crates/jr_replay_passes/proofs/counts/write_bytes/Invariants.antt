@@ -1,0 +1,11 @@
+use Rattle.std.proofs.Common.{◌≡◌, ◌*◌, ◌≤◌, length, take}
+use Rattle.std.specs.Prelude.{filter_map}
+use Rattle.jr_model.specs.History.{is_write}
+use Rattle.jr_model.specs.Totals.{moved_by, bytes_of}
+use Rattle.jr_replay_passes.proofs.counts.write_bytes.Given as goal
+
+abbrev pub invariant-loop-event : goal.invariant-loop-event
+invariant-loop-event l = record {
+  is : l.total ≡ bytes_of (filter_map (moved_by l.ios is_write l.clone) (take l.event-index l.events));
+  most : l.total ≤ 4294967295 * length (filter_map (moved_by l.ios is_write l.clone) (take l.event-index l.events));
+}

@@ -1,0 +1,28 @@
+use Rattle.std.proofs.Common.{ℕ, List, ◌++◌, codes, map, ap, ◌∙◌}
+use Rattle.jr_report_faults.specs.Faults.{named}
+use Rattle.jr_desk_totals.specs.Tallying.{miscompare_of}
+use Rattle.jr_report_json.specs.Rows.{end_text, ending_of, found_text, head_text, reads_text, texts_of}
+use Rattle.jr_report_json.proofs.Members.{four_more, report_text}
+use Rattle.jr_report_json.proofs.texts.json_text.Goals as goal
+
+pub returns : goal.returns
+returns c =
+    let ending = ending_of c.args.ending.now in
+    let plan = c.args.plan.now in
+    let totals = c.args.totals.now in
+    let found = map miscompare_of c.args.bads.now in
+    let faults = map named c.args.faults.now.first.items in
+    let reasons = texts_of c.args.reasons.now in
+    let more = c.args.faults.now.more in
+    let empty = c.new-text.result.items in
+    c.in_ok-push_text.ensures
+    ∙ ap (λ (t : List ℕ). t ++ codes "\n")
+    (four_more empty c.push_reads.new.text.items c.push_head.new.text.items c.push_found.new.text.items c.push_end.new.text.items
+    (reads_text plan found) (head_text ending faults reasons) (found_text plan totals found) (end_text ending more)
+    c.in_ok-push_reads.ensures
+    (c.in_ok-push_head.ensures
+    ∙ ap (λ (notes : _). c.push_reads.new.text.items ++ head_text ending (map named notes) reasons) c.as_slice.ensures.value)
+    c.in_ok-push_found.ensures c.in_ok-push_end.ensures
+    ∙ ap (λ (t : List ℕ). t ++ (reads_text plan found ++ head_text ending faults reasons ++ found_text plan totals found
+    ++ end_text ending more)) c.new-text.ensures.items
+    ∙ report_text ending plan totals found faults reasons more)

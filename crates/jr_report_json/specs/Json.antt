@@ -1,0 +1,124 @@
+-- Believed: the report of a run as a JSON value (RFC 8259; the names are of this project). An object has its members in the order of
+-- their names.
+use Rattle.std.specs.Prelude.{ℕ, ◌-◌, Bool, false, not, List, [], ◌∷◌, length, map, filter, take, Option, Some, None, unwrap_or, codes}
+use Rattle.std.specs.Option.{option_map}
+use Rattle.serde_json.specs.Data.{Data, null, boolean, number, string, array, object, unsigned, member, no_members}
+use Rattle.serde_json.specs.View.{items_of}
+use Rattle.jr_model.specs.declared.events.Event.{Event}
+use Rattle.jr_model.specs.declared.events.Outcome.{Outcome}
+use Rattle.jr_model.specs.declared.events.Outcome.TheVariants.{Whole, Failed, Short}
+use Rattle.jr_model.specs.declared.totals.Totals.{Totals}
+use Rattle.jr_model.specs.Plan.{Plan, SubJob, checks_reads, clone_of}
+use Rattle.jr_model.specs.Report.{Miscompare, all_totals, file_name, in_order, miscompares, what_text}
+use Rattle.jr_report_faults.specs.declared.faults.TheConstants.{MOST_NAMED}
+use Rattle.jr_report_faults.specs.Faults.{NamedFault, faults_of, kind_word, named_by}
+
+abbrev pub natural : ℕ → Data
+natural n = number (unsigned n)
+
+-- what the report's line of a clone says
+abbrev pub clone_json : SubJob → Totals → Data
+clone_json job t = object
+    (member (codes "bad") (natural t.bad)
+    (member (codes "checks") (natural t.checks)
+    (member (codes "clone") (natural job.clone)
+    (member (codes "faults") (natural t.faults)
+    (member (codes "good") (natural t.good)
+    (member (codes "job") (string job.job)
+    (member (codes "rbytes") (natural t.rbytes)
+    (member (codes "reads") (natural t.reads)
+    (member (codes "skipped") (natural t.skipped)
+    (member (codes "void") (natural t.void)
+    (member (codes "wbytes") (natural t.wbytes)
+    (member (codes "writes") (natural t.writes) no_members))))))))))))
+
+-- the clones, by their totals
+abbrev pub clones_json : List SubJob → List Totals → List Data
+clones_json [] totals = []
+clones_json (job ∷ jobs) [] = []
+clones_json (job ∷ jobs) (t ∷ totals) = clone_json job t ∷ clones_json jobs totals
+
+-- what the report's line of a bad verdict says
+abbrev pub miscompare_json : Plan → Miscompare → Data
+miscompare_json plan m = object
+    (member (codes "clone") (natural m.write.clone)
+    (member (codes "file") (string (file_name plan m.piece.file))
+    (member (codes "length") (natural m.piece.len)
+    (member (codes "number") (natural m.write.number)
+    (member (codes "offset") (natural m.piece.offset)
+    (member (codes "pass") (natural m.write.pass)
+    (member (codes "what") (string (what_text m.what)) no_members)))))))
+
+-- it is on a read that was checked, which the report calls `badread:` (`found_word`): its clone checks its reads
+abbrev pub is_bad_read : Plan → Miscompare → Bool
+is_bad_read plan m = unwrap_or (option_map checks_reads (clone_of plan m.write.clone)) false
+
+abbrev pub outcome_word : Outcome → List ℕ
+outcome_word Whole = codes "whole"
+outcome_word Failed = codes "failed"
+outcome_word (Short n) = codes "short"
+
+-- after how many bytes it ended, where it ended short
+abbrev pub moved_json : Outcome → Data
+moved_json Whole = null
+moved_json Failed = null
+moved_json (Short n) = natural n
+
+-- the system's reason, where there is one
+abbrev pub reason_json : Option (List ℕ) → Data
+reason_json None = null
+reason_json (Some text) = string text
+
+-- a fault: which I/O it was, where, and how it ended
+abbrev pub fault_json : NamedFault → Option (List ℕ) → Data
+fault_json of reason = object
+    (member (codes "clone") (natural of.fault.write.clone)
+    (member (codes "file") (string of.name)
+    (member (codes "kind") (string (kind_word of.fault.kind))
+    (member (codes "length") (natural of.fault.piece.len)
+    (member (codes "moved") (moved_json of.fault.outcome)
+    (member (codes "number") (natural of.fault.write.number)
+    (member (codes "offset") (natural of.fault.piece.offset)
+    (member (codes "outcome") (string (outcome_word of.fault.outcome))
+    (member (codes "pass") (natural of.fault.write.pass)
+    (member (codes "reason") (reason_json reason) no_members))))))))))
+
+-- the faults, of which these have reasons of the system
+abbrev pub faults_json : List NamedFault → List (Option (List ℕ)) → List Data
+faults_json [] reasons = []
+faults_json (fault ∷ faults) [] = fault_json fault None ∷ faults_json faults []
+faults_json (fault ∷ faults) (reason ∷ reasons) = fault_json fault reason ∷ faults_json faults reasons
+
+-- how a run ended: the version of the program, its status, whether it was interrupted, how many reads of files that are checked the
+-- system's cache may have answered, where it was over files, and whether all that it wrote is stored
+pub record RunEnd : Type 0 where
+  pub version : List ℕ
+  pub status : ℕ
+  pub is_interrupted : Bool
+  pub cached : Option ℕ
+  pub is_stored : Bool
+
+-- a number, where there is one
+abbrev pub count_json : Option ℕ → Data
+count_json None = null
+count_json (Some n) = natural n
+
+-- the report that these totals, bad verdicts and faults give, where there are so many faults more
+abbrev pub report_json : RunEnd → Plan → List Totals → List Miscompare → List NamedFault → List (Option (List ℕ)) → ℕ → Data
+report_json ending plan totals found faults reasons more = object
+    (member (codes "badreads") (array (items_of (map (miscompare_json plan) (filter (is_bad_read plan) found))))
+    (member (codes "cached") (count_json ending.cached)
+    (member (codes "faults") (array (items_of (faults_json faults reasons)))
+    (member (codes "fiorun") (string ending.version)
+    (member (codes "interrupted") (boolean ending.is_interrupted)
+    (member (codes "jobs") (array (items_of (clones_json plan.clones totals)))
+    (member (codes "miscompares") (array (items_of (map (miscompare_json plan) (filter (λ m. not (is_bad_read plan m)) found))))
+    (member (codes "more_faults") (natural more)
+    (member (codes "status") (natural ending.status)
+    (member (codes "stored") (boolean ending.is_stored) no_members))))))))))
+
+-- the report of a history: the totals and the bad verdicts of its text, and the first of its faults
+abbrev pub json_of : RunEnd → Plan → List Event → List (Option (List ℕ)) → Data
+json_of ending plan history reasons =
+    report_json ending plan (all_totals plan history) (in_order plan (miscompares history))
+    (map (named_by plan) (take MOST_NAMED (faults_of history))) reasons (length (faults_of history) - MOST_NAMED)

@@ -1,0 +1,97 @@
+-- Internal: a report that is written item by item: what is written of each part, and what is left of an array.
+use Rattle.std.specs.Prelude.{ℕ, zero, suc, Bool, false, true, not, List, [], ◌∷◌, ◌++◌, map, filter, Option, Some, None}
+use Rattle.std.specs.Prelude.{String, string_bytes, codes}
+use Rattle.std.specs.Borrow.{Bor}
+use Rattle.std.specs.Option.{option_map}
+use Rattle.std.specs.declared.alloc.Global.{Global}
+use Rattle.json.specs.Print.{quoted}
+use Rattle.serde_json.specs.Data.{Data, array, boolean, string}
+use Rattle.serde_json.specs.View.{items_of}
+use Rattle.serde_json.specs.Written.{comma_if, compact_text, items_text}
+use Rattle.jr_model.specs.declared.totals.Totals.{Totals}
+use Rattle.jr_model.specs.Plan.{Plan}
+use Rattle.jr_model.specs.Report.{Miscompare}
+use Rattle.jr_report_faults.specs.Faults.{NamedFault}
+use Rattle.jr_report_json.specs.declared.endings.Ending.{Ending}
+use Rattle.jr_report_json.specs.Json.{RunEnd, clones_json, count_json, faults_json, is_bad_read, miscompare_json, natural}
+
+abbrev pub text_of : Option (Bor (String Global)) → Option (List ℕ)
+text_of None = None
+text_of (Some s) = Some (string_bytes s.now)
+
+-- the texts of the reasons
+abbrev pub texts_of : List (Option (String Global)) → List (Option (List ℕ))
+texts_of reasons = map (option_map string_bytes) reasons
+
+-- the reason at this place, if there is one
+abbrev pub reason_at : List (Option (List ℕ)) → ℕ → Option (List ℕ)
+reason_at [] place = None
+reason_at (reason ∷ reasons) zero = reason
+reason_at (reason ∷ reasons) (suc place) = reason_at reasons place
+
+-- an item of this place stands behind others
+abbrev pub is_later : ℕ → Bool
+is_later zero = false
+is_later (suc place) = true
+
+-- the text of the reason that was looked up
+abbrev pub told_by : Option (Option (String Global)) → Option (List ℕ)
+told_by None = None
+told_by (Some None) = None
+told_by (Some (Some reason)) = Some (string_bytes reason)
+
+-- what is written of the item of this place
+abbrev pub item_text : ℕ → Data → List ℕ
+item_text place d = comma_if (is_later place) ++ compact_text d
+
+-- the items that are left from this place on, with the closing bracket
+abbrev pub rest_text : ℕ → List Data → List ℕ
+rest_text place ds = items_text (is_later place) (items_of ds)
+
+-- an array
+abbrev pub array_text : List Data → List ℕ
+array_text ds = compact_text (array (items_of ds))
+
+-- it is a bad read, or it isn't, as is wanted
+abbrev pub is_wanted : Plan → Bool → Miscompare → Bool
+is_wanted plan true m = is_bad_read plan m
+is_wanted plan false m = not (is_bad_read plan m)
+
+-- the bad reads, or the other bad verdicts
+abbrev pub bads_json : Plan → Bool → List Miscompare → List Data
+bads_json plan of_reads found = map (miscompare_json plan) (filter (is_wanted plan of_reads) found)
+
+-- a member of this name, with what stands before it
+abbrev pub member_text : List ℕ → List ℕ → Data → List ℕ
+member_text before name d = before ++ (quoted name ++ 58 ∷ compact_text d)
+
+-- how the run ended
+abbrev pub ending_of : Ending → RunEnd
+ending_of ending = record {
+  version = ending.version.now;
+  status = ending.status;
+  is_interrupted = ending.is_interrupted;
+  cached = ending.cached;
+  is_stored = ending.is_stored;
+}
+
+abbrev pub reads_text : Plan → List Miscompare → List ℕ
+reads_text plan found = member_text (codes "{") (codes "badreads") (array (items_of (bads_json plan true found)))
+
+abbrev pub head_text : RunEnd → List NamedFault → List (Option (List ℕ)) → List ℕ
+head_text ending faults reasons =
+    member_text (codes ",") (codes "cached") (count_json ending.cached)
+    ++ member_text (codes ",") (codes "faults") (array (items_of (faults_json faults reasons)))
+    ++ member_text (codes ",") (codes "fiorun") (string ending.version)
+    ++ member_text (codes ",") (codes "interrupted") (boolean ending.is_interrupted)
+
+abbrev pub found_text : Plan → List Totals → List Miscompare → List ℕ
+found_text plan totals found =
+    member_text (codes ",") (codes "jobs") (array (items_of (clones_json plan.clones totals)))
+    ++ member_text (codes ",") (codes "miscompares") (array (items_of (bads_json plan false found)))
+
+abbrev pub end_text : RunEnd → ℕ → List ℕ
+end_text ending more =
+    member_text (codes ",") (codes "more_faults") (natural more)
+    ++ member_text (codes ",") (codes "status") (natural ending.status)
+    ++ member_text (codes ",") (codes "stored") (boolean ending.is_stored) ++ codes "}"

@@ -1,0 +1,149 @@
+// The objects of a report, one at a time.
+ghost use Rattle.std.specs.Prelude.{◌≡◌, IfOk, Option, String, codes, if◌then◌else◌, map, string_bytes};
+ghost use Rattle.std.specs.Option.{option_map};
+ghost use Rattle.jr_model.specs.Plan.{clone_of};
+ghost use Rattle.jr_model.specs.Report.{file_name, found_word, part_text, what_text};
+ghost use Rattle.jr_report_faults.specs.Faults.{named};
+ghost use Rattle.jr_report_json.specs.Json.{clone_json, fault_json, is_bad_read, miscompare_json, moved_json, outcome_word, reason_json};
+ghost use Rattle.jr_report_json.specs.Rows.{text_of};
+ghost use Rattle.jr_desk_totals.specs.Tallying.{miscompare_of};
+ghost use Rattle.serde_json.specs.View.{view};
+
+use jr_desk_totals::Bad;
+use jr_model::{Outcome, Part, Totals, What};
+use jr_plan::{Plan, SubJob};
+use jr_report_faults::{FaultNote, kind_word};
+use serde_json::{Value, json};
+use std::alloc::{AllocError, Global};
+
+// The object of a clone.
+pub(crate) fn clone_row(alloc: Global, job: &SubJob, totals: &Totals) -> Result<Value, AllocError>
+    ensures { IfOk result (λ value. view value ≡ clone_json job.now totals.now) }
+{
+    json!(in alloc; {
+        "bad": totals.bad,
+        "checks": totals.checks,
+        "clone": job.clone_number(),
+        "faults": totals.faults,
+        "good": totals.good,
+        "job": job.job(),
+        "rbytes": totals.rbytes,
+        "reads": totals.reads,
+        "skipped": totals.skipped,
+        "void": totals.void,
+        "wbytes": totals.wbytes,
+        "writes": totals.writes
+    })
+}
+
+// Whether a bad verdict is on a read that was checked: its clone checks its reads.
+pub(crate) fn is_bad_read(plan: &Plan, bad: &Bad) -> bool
+    ensures value { result ≡ is_bad_read plan.now (miscompare_of bad.now) }
+    ensures word { found_word (clone_of plan.now bad.now.write.clone)
+        ≡ (if result then codes "badread:" else codes "miscompare:") }
+{
+    let clone = bad.write.clone as usize;
+    clone < plan.clones() && plan.clone_at(clone).checks_reads()
+}
+
+// The object of a bad verdict.
+pub(crate) fn miscompare_row(alloc: Global, plan: &Plan, bad: &Bad) -> Result<Value, AllocError>
+    ensures { IfOk result (λ value. view value ≡ miscompare_json plan.now (miscompare_of bad.now)) }
+{
+    let what = what_string(alloc, bad.what)?;
+    json!(in alloc; {
+        "clone": bad.write.clone,
+        "file": file_name(plan, bad.piece.file),
+        "length": bad.piece.len,
+        "number": bad.write.number,
+        "offset": bad.piece.offset,
+        "pass": bad.write.pass,
+        "what": what
+    })
+}
+
+fn file_name(plan: &Plan, file: u32) -> &str
+    ensures { result.now ≡ file_name plan.now file }
+{
+    match plan.files().get(file as usize) {
+        Some(spec) => spec.name(),
+        None => "",
+    }
+}
+
+fn what_string(alloc: Global, what: What) -> Result<String, AllocError>
+    ensures { IfOk result (λ text. string_bytes text ≡ what_text what) }
+{
+    match what {
+        What::Header => String::from_str(alloc, part_word(Part::Header)),
+        What::Digest => String::from_str(alloc, part_word(Part::Digest)),
+        What::DataArea => String::from_str(alloc, part_word(Part::DataArea)),
+        What::Byte(place) => format!(in alloc; "byte:{place}"),
+        What::Chunk(chunk, part) => {
+            let word = part_word(part);
+            format!(in alloc; "{word}:{chunk}")
+        }
+    }
+}
+
+fn part_word(part: Part) -> &'static str
+    ensures { result.now ≡ part_text part }
+{
+    match part {
+        Part::Header => "header",
+        Part::Digest => "digest",
+        Part::DataArea => "data",
+    }
+}
+
+// The object of a fault, with the system's reason where there is one.
+pub(crate) fn fault_row(
+    alloc: Global,
+    note: &FaultNote,
+    reason: Option<&String>,
+) -> Result<Value, AllocError>
+    ensures { IfOk result (λ value. view value ≡ fault_json (named note.now) (text_of reason.entry)) }
+{
+    let fault = &note.fault;
+    let reason = reason_value(alloc, reason)?;
+    json!(in alloc; {
+        "clone": fault.write.clone,
+        "file": &note.name,
+        "kind": kind_word(fault.kind),
+        "length": fault.piece.len,
+        "moved": moved_value(fault.outcome),
+        "number": fault.write.number,
+        "offset": fault.piece.offset,
+        "outcome": outcome_word(fault.outcome),
+        "pass": fault.write.pass,
+        "reason": reason
+    })
+}
+
+fn reason_value(alloc: Global, reason: Option<&String>) -> Result<Value, AllocError>
+    ensures { IfOk result (λ value. view value ≡ reason_json (text_of reason.entry)) }
+{
+    match reason {
+        None => Ok(Value::Null),
+        Some(text) => Value::try_from_str(alloc, text.as_str()),
+    }
+}
+
+fn moved_value(outcome: Outcome) -> Value
+    ensures { view result ≡ moved_json outcome }
+{
+    match outcome {
+        Outcome::Whole | Outcome::Failed => Value::Null,
+        Outcome::Short(moved) => Value::from(moved),
+    }
+}
+
+fn outcome_word(outcome: Outcome) -> &'static str
+    ensures { result.now ≡ outcome_word outcome }
+{
+    match outcome {
+        Outcome::Whole => "whole",
+        Outcome::Failed => "failed",
+        Outcome::Short(_) => "short",
+    }
+}

@@ -1,0 +1,198 @@
+ghost use Rattle.std.specs.Prelude.{◌≡◌, ◌≤◌, IfOk, IsPermutation};
+
+use crate::cells::cells_of;
+use crate::escapes::push_escaped;
+use crate::maps::{push_legend, push_map};
+use crate::plans::push_clones;
+use crate::status::{Status, push_status};
+use crate::styles::STYLE;
+use crate::tables::{push_all_totals, push_faults, push_first, push_more, rest_of};
+use jr_desk_totals::Bad;
+use jr_model::{Event, LARGEST_END, Memory, Totals};
+use jr_plan::{FileSpec, Plan};
+use jr_report_faults::Faults;
+use jr_report_maps::{FileMarks, marks_of};
+use std::alloc::{AllocError, Global};
+
+// The maps of a page have so many cells at most, all together, but for a row of each; and one of them half of them.
+const MOST_CELLS: u32 = 4096;
+
+const LEAST_CELLS: u32 = 64;
+
+/// What came of a run.
+#[derive(Clone, Copy, Debug)]
+pub struct Findings<'a> {
+    /// What was run.
+    pub plan: &'a Plan,
+    /// All that happened, the oldest first.
+    pub history: &'a [Event],
+    /// What each clone did, in the order of the clones.
+    pub totals: &'a [Totals],
+    /// The bad verdicts.
+    pub bads: &'a [Bad],
+    /// The faults: the first of them, and how many more.
+    pub faults: &'a Faults,
+    /// It was stopped before it was complete.
+    pub is_interrupted: bool,
+}
+
+/// A page that shows a run. Of its text no more is said than its parts' contracts say.
+pub fn page(alloc: Global, found: &Findings<'_>) -> Result<Vec<u8>, Memory> {
+    let mut page = String::new(alloc);
+    let bads = by_write(alloc, found.bads)?;
+    push_head(&mut page, &Status::of(found.totals, found.is_interrupted))?;
+    push_maps(alloc, &mut page, found, bads.as_slice())?;
+    push_tables(&mut page, found, bads.as_slice())?;
+    page.push_str("</body>\n</html>\n")?;
+    Ok(page.into_bytes())
+}
+
+// The bad verdicts by clone, pass and number, as a report has them.
+fn by_write(alloc: Global, bads: &[Bad]) -> Result<Vec<Bad>, Memory>
+    ensures { IfOk result (λ sorted. IsPermutation bads.now sorted.items) }
+{
+    let mut sorted = Vec::from_slice(alloc, bads)?;
+    sorted.sort_unstable_by_key(|bad| bad.write);
+    Ok(sorted)
+}
+
+fn push_head(page: &mut String, status: &Status) -> Result<(), AllocError> {
+    page.push_str("<!DOCTYPE html>\n<html lang=\"en\">\n<head>\n<meta charset=\"utf-8\">\n")?;
+    page.push_str(
+        "<meta name=\"viewport\" content=\"width=device-width, initial-scale=1\">\n<title>",
+    )?;
+    push_status(page, status)?;
+    page.push_str(" - fiorun</title>\n<style>")?;
+    page.push_str(STYLE)?;
+    page.push_str("</style>\n</head>\n<body>\n")?;
+    page.push_str(if status.bad == 0 && status.faults == 0 {
+        "<h1>"
+    } else {
+        "<h1 class=\"found\">"
+    })?;
+    push_status(page, status)?;
+    page.push_str("</h1>\n")?;
+    if status.is_interrupted {
+        page.push_str(
+            "<p>The run was stopped before its end. This page is partial: it has what was done until then.</p>\n",
+        )?;
+    }
+    Ok(())
+}
+
+// The legend, and the map of each file.
+fn push_maps(
+    alloc: Global,
+    page: &mut String,
+    found: &Findings<'_>,
+    bads: &[Bad],
+) -> Result<(), Memory> {
+    push_legend(page)?;
+    let marks = marks_of(alloc, found.plan, found.history)?;
+    let files = found.plan.files();
+    let most = most_cells(files.len());
+    for (index, file) in files.iter().enumerate() {
+        push_file(
+            alloc,
+            page,
+            found.plan,
+            &marks,
+            bads,
+            index as u32,
+            file,
+            most,
+        )?;
+    }
+    Ok(())
+}
+
+// How many cells the map of one of so many files has at most: whole rows of 64.
+fn most_cells(files: usize) -> u32
+    ensures { 1 ≤ result }
+{
+    let rows = MOST_CELLS / LEAST_CELLS / (files.clamp(2, 64) as u32);
+    LEAST_CELLS * rows
+}
+
+fn push_file(
+    alloc: Global,
+    page: &mut String,
+    plan: &Plan,
+    marks: &FileMarks,
+    bads: &[Bad],
+    index: u32,
+    file: &FileSpec,
+    most: u32,
+) -> Result<(), Memory>
+    requires { 1 ≤ most }
+{
+    // (no region of a plan ends behind that)
+    let end = file.high().min(LARGEST_END);
+    let cells = cells_of(alloc, plan, marks, bads, index, end, most)?;
+    page.push_str("<h2>")?;
+    push_escaped(page, file.name())?;
+    page.push_str("</h2>\n")?;
+    push_map(page, cells.as_slice())?;
+    if let Some(cell) = cells.first() {
+        let bytes = cell.end.saturating_sub(cell.begin);
+        write!(page, "<p>{end} bytes, {bytes} a cell</p>\n")?;
+    }
+    Ok(())
+}
+
+fn push_tables(page: &mut String, found: &Findings<'_>, bads: &[Bad]) -> Result<(), AllocError> {
+    push_totals_table(page, found)?;
+    if !bads.is_empty() {
+        push_bads_table(page, found.plan, bads)?;
+    }
+    if !found.faults.first.is_empty() {
+        push_faults_table(page, found.faults)?;
+    }
+    push_plan_table(page, found.plan)
+}
+
+fn push_totals_table(page: &mut String, found: &Findings<'_>) -> Result<(), AllocError> {
+    page.push_str(
+        "<h2>Totals</h2>\n<div class=\"table\"><table class=\"totals\">\n<tr><th>job</th><th>clone</th><th>reads</th>",
+    )?;
+    page.push_str(
+        "<th>rbytes</th><th>writes</th><th>wbytes</th><th>checks</th><th>good</th><th>bad</th><th>skipped</th>",
+    )?;
+    page.push_str("<th>void</th><th>faults</th></tr>\n")?;
+    push_all_totals(page, found.plan, found.totals)?;
+    page.push_str("</table></div>\n")
+}
+
+fn push_bads_table(page: &mut String, plan: &Plan, bads: &[Bad]) -> Result<(), AllocError> {
+    page.push_str(
+        "<h2>Miscompares and bad reads</h2>\n<div class=\"table\"><table class=\"miscompares\">\n<tr><th>clone</th><th>pass</th>",
+    )?;
+    page.push_str(
+        "<th>number</th><th>file</th><th>offset</th><th>length</th><th>what</th></tr>\n",
+    )?;
+    push_first(page, plan, bads)?;
+    page.push_str("</table></div>\n")?;
+    push_more(page, rest_of(bads))
+}
+
+fn push_faults_table(page: &mut String, faults: &Faults) -> Result<(), AllocError> {
+    page.push_str(
+        "<h2>Faults</h2>\n<div class=\"table\"><table class=\"faults\">\n<tr><th>what</th><th>clone</th><th>pass</th>",
+    )?;
+    page.push_str("<th>number</th><th>file</th><th>offset</th><th>length</th></tr>\n")?;
+    push_faults(page, faults.first.as_slice())?;
+    page.push_str("</table></div>\n")?;
+    push_more(page, faults.more)
+}
+
+fn push_plan_table(page: &mut String, plan: &Plan) -> Result<(), AllocError> {
+    page.push_str(
+        "<h2>Plan</h2>\n<div class=\"table\"><table class=\"plan\">\n<tr><th>job</th><th>clone</th><th>phase</th>",
+    )?;
+    page.push_str(
+        "<th>file</th><th>start</th><th>size</th><th>cell</th><th>cells</th><th>rw</th><th>iodepth</th><th>loops</th>",
+    )?;
+    page.push_str("<th>verify</th></tr>\n")?;
+    push_clones(page, plan)?;
+    page.push_str("</table></div>\n")
+}

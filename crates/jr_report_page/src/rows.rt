@@ -1,0 +1,161 @@
+ghost use Rattle.std.specs.Prelude.{◌≡◌, ◌++◌, OnOk, string_bytes};
+ghost use Rattle.jr_model.specs.Report.{file_name, part_text, what_text};
+ghost use Rattle.jr_report_page.specs.Rows.{bad_row, end_cell, fault_row, judged_cells, moved_cells};
+ghost use Rattle.jr_report_page.specs.Rows.{number_cell, piece_cells, text_cell, totals_row, what_cell, write_cells};
+ghost use Rattle.jr_report_faults.specs.Faults.{named};
+
+use crate::escapes::push_escaped;
+use jr_desk_totals::Bad;
+use jr_model::{Outcome, Part, Piece, TicketKind, Totals, What, WriteId};
+use jr_plan::{Plan, SubJob};
+use jr_report_faults::{FaultNote, kind_word};
+use std::alloc::AllocError;
+
+// The row of a clone's totals.
+pub(crate) fn push_totals(
+    page: &mut String,
+    job: &SubJob,
+    totals: &Totals,
+) -> Result<(), AllocError>
+    ensures { OnOk result (string_bytes page.new ≡ string_bytes page.old ++ totals_row job.now totals.now) }
+{
+    page.push_str("<tr>")?;
+    push_text(page, job.job())?;
+    push_number(page, u64::from(job.clone_number()))?;
+    push_moved(page, totals)?;
+    push_judged(page, totals)?;
+    page.push_str("</tr>\n")
+}
+
+fn push_moved(page: &mut String, totals: &Totals) -> Result<(), AllocError>
+    ensures { OnOk result (string_bytes page.new ≡ string_bytes page.old ++ moved_cells totals.now) }
+{
+    push_number(page, totals.reads)?;
+    push_number(page, totals.rbytes)?;
+    push_number(page, totals.writes)?;
+    push_number(page, totals.wbytes)
+}
+
+fn push_judged(page: &mut String, totals: &Totals) -> Result<(), AllocError>
+    ensures { OnOk result (string_bytes page.new ≡ string_bytes page.old ++ judged_cells totals.now) }
+{
+    push_number(page, totals.checks)?;
+    push_number(page, totals.good)?;
+    push_number(page, totals.bad)?;
+    push_number(page, totals.skipped)?;
+    push_number(page, totals.void)?;
+    push_number(page, totals.faults)
+}
+
+// The row of a bad verdict.
+pub(crate) fn push_bad(page: &mut String, plan: &Plan, bad: &Bad) -> Result<(), AllocError>
+    ensures { OnOk result (string_bytes page.new ≡ string_bytes page.old ++ bad_row plan.now bad.now) }
+{
+    page.push_str("<tr>")?;
+    push_write(page, &bad.write)?;
+    push_file(page, plan, bad.piece.file)?;
+    push_piece(page, &bad.piece)?;
+    push_what_cell(page, bad.what)?;
+    page.push_str("</tr>\n")
+}
+
+// The row of an I/O or check that failed or ended short.
+pub(crate) fn push_fault(page: &mut String, note: &FaultNote) -> Result<(), AllocError>
+    ensures { OnOk result (string_bytes page.new ≡ string_bytes page.old ++ fault_row (named note.now)) }
+{
+    page.push_str("<tr>")?;
+    push_end(page, note.fault.kind, note.fault.outcome)?;
+    push_write(page, &note.fault.write)?;
+    push_text(page, note.name.as_str())?;
+    push_piece(page, &note.fault.piece)?;
+    page.push_str("</tr>\n")
+}
+
+// Which write it is.
+fn push_write(page: &mut String, write: &WriteId) -> Result<(), AllocError>
+    ensures { OnOk result (string_bytes page.new ≡ string_bytes page.old ++ write_cells write.now) }
+{
+    push_number(page, u64::from(write.clone))?;
+    push_number(page, u64::from(write.pass))?;
+    push_number(page, u64::from(write.number))
+}
+
+// Which bytes of its file.
+fn push_piece(page: &mut String, piece: &Piece) -> Result<(), AllocError>
+    ensures { OnOk result (string_bytes page.new ≡ string_bytes page.old ++ piece_cells piece.now) }
+{
+    push_number(page, piece.offset)?;
+    push_number(page, u64::from(piece.len))
+}
+
+fn push_file(page: &mut String, plan: &Plan, file: u32) -> Result<(), AllocError>
+    ensures { OnOk result (string_bytes page.new ≡ string_bytes page.old ++ text_cell (file_name plan.now file)) }
+{
+    match plan.files().get(file as usize) {
+        None => push_text(page, ""),
+        Some(spec) => push_text(page, spec.name()),
+    }
+}
+
+fn push_what_cell(page: &mut String, what: What) -> Result<(), AllocError>
+    ensures { OnOk result (string_bytes page.new ≡ string_bytes page.old ++ what_cell what) }
+{
+    page.push_str("<td>")?;
+    push_what(page, what)?;
+    page.push_str("</td>")
+}
+
+// What is wrong with the bytes, as a report says it.
+pub(crate) fn push_what(page: &mut String, what: What) -> Result<(), AllocError>
+    ensures { OnOk result (string_bytes page.new ≡ string_bytes page.old ++ what_text what) }
+{
+    match what {
+        What::Header => page.push_str(part_word(Part::Header)),
+        What::Digest => page.push_str(part_word(Part::Digest)),
+        What::DataArea => page.push_str(part_word(Part::DataArea)),
+        What::Byte(place) => write!(page, "byte:{place}"),
+        What::Chunk(chunk, part) => {
+            let word = part_word(part);
+            write!(page, "{word}:{chunk}")
+        }
+    }
+}
+
+fn part_word(part: Part) -> &'static str
+    ensures { result.now ≡ part_text part }
+{
+    match part {
+        Part::Header => "header",
+        Part::Digest => "digest",
+        Part::DataArea => "data",
+    }
+}
+
+// What it was, and how it ended.
+fn push_end(page: &mut String, kind: TicketKind, outcome: Outcome) -> Result<(), AllocError>
+    ensures { OnOk result (string_bytes page.new ≡ string_bytes page.old ++ end_cell kind outcome) }
+{
+    let word = kind_word(kind);
+    match outcome {
+        Outcome::Whole => write!(page, "<td>{word} ended</td>"),
+        Outcome::Failed => write!(page, "<td>{word} failed</td>"),
+        Outcome::Short(moved) => write!(page, "<td>{word} ended after {moved} bytes</td>"),
+    }
+}
+
+// A cell with a number.
+#[tactic(auto, unfolding(crate::specs::Rows::number_cell))]
+pub(crate) fn push_number(page: &mut String, n: u64) -> Result<(), AllocError>
+    ensures { OnOk result (string_bytes page.new ≡ string_bytes page.old ++ number_cell n) }
+{
+    write!(page, "<td>{n}</td>")
+}
+
+// A cell with a text, which may be of a job file.
+pub(crate) fn push_text(page: &mut String, text: &str) -> Result<(), AllocError>
+    ensures { OnOk result (string_bytes page.new ≡ string_bytes page.old ++ text_cell text.now) }
+{
+    page.push_str("<td>")?;
+    push_escaped(page, text)?;
+    page.push_str("</td>")
+}

@@ -1,5 +1,0 @@
-use Rattle.jr_settings.proofs.CutLemmas.{cut_is}
-use Rattle.jr_settings.proofs.values.cut.Goals as goal
-
-pub returns : goal.returns
-returns c = cut_is c.args.text.now c.split_once.result c.split_once.ensures.cases

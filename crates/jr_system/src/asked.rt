@@ -1,0 +1,149 @@
+// What a run is asked for from outside, by a pipe whose other end the launcher holds, or another supervisor: to stop, and to say how far
+// it is.
+ghost use Rattle.std.specs.Prelude.{◌≡◌, ◌⊎◌, ◌↔◌, None, IfOk, IfErr, IsSome, IsTrue, is_some};
+ghost use Rattle.std.specs.Arc.{arc_value};
+ghost use Rattle.jr_system.specs.Askable.{can_be_asked, pace_of};
+
+use crate::show::Pace;
+use crate::stops::Stop;
+use jr_cli_words::CliFault;
+use jr_crew_threads::StopFlag;
+use std::alloc::Global;
+use std::fs::{File, Files};
+use std::io::{ErrorKind, Read};
+use std::sync::atomic::{AtomicU64, Ordering};
+use std::sync::{Arc, Wait};
+use std::thread;
+use std::thread::{Parker, Threads};
+use std::time::Duration;
+
+// The byte that asks for a line of how far the run is.
+const LINE: u8 = b'p';
+
+/// What is asked of a run: by its words, when to say how far it is; and by the pipe.
+#[derive(Drop)]
+pub struct Asked {
+    pace: Pace,
+    has_pipe: bool,
+    stop: StopFlag,
+    lines: AtomicU64,
+    sleeper: Parker,
+}
+
+impl Asked {
+    fn new(pace: Pace, has_pipe: bool) -> Asked
+        ensures pace { pace_of result ≡ pace }
+        ensures pipe { can_be_asked result ≡ has_pipe }
+    {
+        Asked {
+            pace,
+            has_pipe,
+            stop: StopFlag::new(),
+            lines: AtomicU64::new(0),
+            sleeper: Parker::new(),
+        }
+    }
+
+    /// When the run says by itself how far it is.
+    pub fn pace(&self) -> Pace
+        ensures { result ≡ pace_of self.now }
+    {
+        self.pace
+    }
+
+    /// Whether anybody can ask while it goes on.
+    pub fn has_pipe(&self) -> bool
+        ensures { result ≡ can_be_asked self.now }
+    {
+        self.has_pipe
+    }
+
+    /// What asks the run to stop, where anybody can.
+    pub fn stop(&self) -> Option<&StopFlag>
+        ensures { IsSome result ↔ IsTrue (can_be_asked self.now) }
+    {
+        if self.has_pipe {
+            Some(&self.stop)
+        } else {
+            None
+        }
+    }
+
+    /// How many lines were asked for since this was last called.
+    pub fn take_lines(&self) -> u64 {
+        self.lines.swap(0, Ordering::Relaxed)
+    }
+
+    /// Sleeps until it is woken, or a line is asked for, and no longer than this where there is a limit. It may end early.
+    pub fn sleep<R: Wait>(&self, rt: &R, limit: Option<Duration>) {
+        match limit {
+            Some(limit) => self.sleeper.park_timeout(rt, limit),
+            None => self.sleeper.park(rt),
+        }
+    }
+
+    /// Ends the sleep of the one thread that may sleep here, or its next one.
+    pub fn wake(&self) {
+        self.sleeper.unpark();
+    }
+
+    // Takes in what came by the pipe.
+    fn hear(&self, said: &[u8]) {
+        let lines = said.iter().filter(|&&byte| byte == LINE).count();
+        if lines > 0 {
+            self.lines.fetch_add(lines as u64, Ordering::Relaxed);
+            self.wake();
+        }
+    }
+}
+
+/// What is asked of a run that says so by itself how far it is, and asks at the pipe of this number. Where none is named, nobody asks there.
+pub fn asked_by<R: Files<File = File> + AllocGlobal + Threads>(
+    rt: &R,
+    pace: Pace,
+    pipe: Option<&str>,
+) -> Result<Arc<Asked, Global>, Stop>
+    ensures pace { IfOk result (λ asked. pace_of (arc_value asked) ≡ pace) }
+    ensures pipe { IfOk result (λ asked. can_be_asked (arc_value asked) ≡ is_some pipe.entry) }
+    ensures unasked { pipe.entry ≡ None → IfErr result (λ fault. fault ≡ CliFault.Memory) }
+    ensures failed { IfErr result (λ fault. (fault ≡ CliFault.Open) ⊎ (fault ≡ CliFault.Memory)) }
+{
+    let Ok(asked) = Arc::new(rt.alloc(), Asked::new(pace, pipe.is_some())) else {
+        return Err(Stop::from(CliFault::Memory));
+    };
+    let Some(number) = pipe else {
+        return Ok(asked);
+    };
+    if number.parse::<u32>().is_err() {
+        return Err(Stop::pipe());
+    }
+    let Ok(path) = format!(in rt.alloc(); "/proc/self/fd/{number}") else {
+        return Err(Stop::from(CliFault::Memory));
+    };
+    let Ok(theirs) = Arc::try_clone(&asked) else {
+        return Err(Stop::from(CliFault::Memory));
+    };
+    let Ok(file) = File::open(rt, path.as_str()) else {
+        return Err(Stop::pipe());
+    };
+    // (it is never joined: where the pipe stays open, the program's end cuts it off; and a run that can't be asked goes on)
+    let _listens = thread::spawn(rt, move || listen(file, &theirs));
+    Ok(asked)
+}
+
+// Takes in what comes by the pipe. Once it has no other end any more, the run is to stop.
+fn listen(pipe: File, asked: &Asked) {
+    let mut pipe = pipe;
+    let mut some = [0; 16];
+    for _ in 0..u64::MAX {
+        match pipe.read(&mut some) {
+            Ok(0) => {
+                asked.stop.set();
+                return;
+            }
+            Ok(count) => asked.hear(&some[..count]),
+            Err(error) if error.kind() == ErrorKind::Interrupted => {}
+            Err(_) => return,
+        }
+    }
+}

@@ -1,0 +1,230 @@
+// The files of a run: taken before it begins, shared by its engines, and settled at its end.
+ghost use Rattle.std.specs.Prelude.{◌≡◌, ◌⊎◌, length, map, IfOk, IfErr, IfSome, vec_len};
+ghost use Rattle.std.specs.List.{range_with_len};
+ghost use Rattle.std.specs.Option.{option_copied};
+ghost use Rattle.jr_job_direct.specs.Wishes.{wish_of};
+ghost use Rattle.jr_system.specs.Wanted.{wishes_of};
+
+use crate::remarks::{Remarks, reasons_of};
+use crate::settled::Settled;
+use crate::show::Screen;
+use crate::stops::Stop;
+use jr_cli_words::{Choice, CliFault};
+use jr_escape::Escaped;
+use jr_io_blocks::{Dropper, Launcher};
+use jr_io_files::{Claims, Directs, FileEngine, Kept, Reads, Refusal, SharedFile, claim_direct};
+use jr_job_direct::{Wish, wish_of};
+use jr_model::EngineKind;
+use jr_plan::Plan;
+use jr_report_faults::Faults;
+use jr_text::{Section, sections};
+use std::alloc::{AllocError, Global};
+use std::fs;
+use std::fs::{File, Files};
+use std::os::unix::fs::FileTypeExt;
+
+/// The plan's files, open for this run, and the launcher that takes them out of the system's cache.
+#[derive(Drop)]
+pub struct Taken<'a> {
+    files: FileEngine<SharedFile>,
+    launcher: Launcher<'a>,
+    is_cached: bool,
+    remarks: Remarks,
+}
+
+/// What the jobs say of the I/O to each file of their plan; nothing where none of it may go past the system's cache.
+pub fn wishes(
+    alloc: Global,
+    text: &[u8],
+    choice: &Choice<'_>,
+    plan: &Plan,
+) -> Result<Vec<Wish>, AllocError>
+    ensures { IfOk result (λ wishes. wishes.items
+        ≡ wishes_of text.now (option_copied choice.now.section) choice.now.cached plan.now) }
+{
+    if !matches!(plan.engine(), EngineKind::File) || choice.cached {
+        return Ok(Vec::new(alloc));
+    }
+    // (a text that makes a plan has sections, unless memory is wanting)
+    let Ok(sections) = sections(alloc, text) else {
+        return Err(AllocError);
+    };
+    wishes_in(alloc, sections.as_slice(), choice.section, plan)
+}
+
+// What the jobs of these sections say of each file.
+fn wishes_in(
+    alloc: Global,
+    sections: &[Section],
+    only: Option<&str>,
+    plan: &Plan,
+) -> Result<Vec<Wish>, AllocError>
+    ensures { IfOk result (λ wishes. wishes.items
+        ≡ map (wish_of sections.now (option_copied only.entry) plan.now.clones) (range_with_len 0 (length plan.now.files))) }
+{
+    let mut wishes = Vec::new(alloc);
+    for file in 0..plan.files().len() {
+        wishes.push(wish_of(sections, only, plan, file))?;
+    }
+    Ok(wishes)
+}
+
+/// Takes the plan's files. Where checks are to read the device, a launcher drops what the system keeps of them, or has the I/O of those
+/// whose jobs say so go past its cache. None of them may be one that the run keeps for something else.
+pub fn take_files<'a, R: Files<File = File> + AllocGlobal + Screen>(
+    rt: &R,
+    plan: &Plan,
+    choice: &Choice<'a>,
+    wishes: &[Wish],
+    kept: &[Kept<'_>],
+) -> Result<Taken<'a>, Stop>
+    ensures { IfErr result (λ fault. (fault ≡ CliFault.Open) ⊎ (fault ≡ CliFault.Memory)) }
+{
+    let pipes = if choice.cached {
+        None
+    } else {
+        choice.drop_pipes
+    };
+    let launcher = Launcher::new(pipes);
+    let files = match claimed(rt, plan, choice, wishes, kept) {
+        Ok(files) => files,
+        Err(refusal) => return Err(Stop::files(refusal)),
+    };
+    let has_notes = choice.notes || rt.is_shown();
+    if has_notes {
+        tell_cached(rt, plan, wishes, &files);
+    }
+    Ok(Taken {
+        files,
+        launcher,
+        is_cached: choice.cached,
+        remarks: Remarks::new(rt, plan, choice)?,
+    })
+}
+
+// Claims the plan's files. The launcher is asked for those that are to go past the cache, and for devices, also where checks may read it.
+fn claimed<R: Files<File = File> + AllocGlobal>(
+    rt: &R,
+    plan: &Plan,
+    choice: &Choice<'_>,
+    wishes: &[Wish],
+    kept: &[Kept<'_>],
+) -> Result<FileEngine<SharedFile>, Refusal> {
+    let claims = Claims {
+        reads: if choice.cached {
+            Reads::Cached
+        } else {
+            Reads::Synced
+        },
+        devices_in_use: choice.allow_mounted_write,
+    };
+    let mut wanted = Vec::new(rt.alloc());
+    for wish in wishes {
+        wanted.push(*wish == Wish::Direct)?;
+    }
+    // (no engine asks yet by the first pair of pipes)
+    let asked = if has_device(rt, plan) || wanted.iter().any(|it| *it) {
+        Launcher::new(choice.drop_pipes).dropper(rt, rt.alloc(), 0)?
+    } else {
+        None
+    };
+    claim_wanted(rt, plan, claims, wanted.as_slice(), asked.as_deref(), kept)
+}
+
+// Whether a file of the plan is a block device.
+fn has_device<R: Files>(rt: &R, plan: &Plan) -> bool {
+    for file in plan.files() {
+        if fs::metadata(rt, file.name()).is_ok_and(|it| it.file_type().is_block_device()) {
+            return true;
+        }
+    }
+    false
+}
+
+// Claims the plan's files, of which these are to go past the cache; this asks for it.
+fn claim_wanted<'x, R: Files<File = File> + AllocGlobal>(
+    rt: &R,
+    plan: &Plan,
+    claims: Claims,
+    wanted: &'x [bool],
+    asked: Option<&'x Dropper>,
+    kept: &[Kept<'_>],
+) -> Result<FileEngine<SharedFile>, Refusal> {
+    let directs = Directs { wanted, asked };
+    claim_direct(rt, rt.alloc(), plan, claims, directs, kept)
+}
+
+// Says of which files the I/O goes through the system's cache, though a job says direct=1.
+fn tell_cached<R: Eprint>(rt: &R, plan: &Plan, wishes: &[Wish], files: &FileEngine<SharedFile>) {
+    for (index, spec) in plan.files().iter().enumerate() {
+        let why = match wishes.get(index) {
+            Some(Wish::Mixed) => "its jobs disagree on direct",
+            Some(Wish::Direct) if !files.is_direct(index) => {
+                "direct=1 needs bin/fiorun, with perl, and a system that lets it"
+            }
+            _ => continue,
+        };
+        let name = Escaped(&spec.name());
+        let _ = eprintln!(rt; "fiorun: note: {name} goes through the system's cache: {why}");
+    }
+}
+
+impl<'a> Taken<'a> {
+    /// The engine of the worker of this number over these files.
+    pub fn engine<R: Files<File = File> + AllocGlobal>(
+        &self,
+        rt: &R,
+        place: usize,
+    ) -> Result<FileEngine<SharedFile>, CliFault>
+        ensures uncalled { IfOk result (λ engine. engine.calls ≡ 0) }
+        ensures failed { IfErr result (λ fault. fault ≡ CliFault.Memory) }
+    {
+        let alloc = rt.alloc();
+        let Ok(dropper) = self.launcher.dropper(rt, alloc, place) else {
+            return Err(CliFault::Memory);
+        };
+        match self.files.share_with(alloc, dropper) {
+            Ok(engine) => Ok(engine),
+            Err(_) => Err(CliFault::Memory),
+        }
+    }
+
+    /// Has the system store and drop what it keeps of the files from before the run, by this engine of theirs.
+    pub fn begin<R: Eprint>(&self, rt: &R, engine: &FileEngine<SharedFile>) {
+        if self.is_cached {
+            return;
+        }
+        // (what was lost before the run isn't the run's)
+        if let Err(failed) = engine.begin() {
+            self.remarks.tell_unsynced(rt, &failed);
+        }
+        self.remarks.tell_tried(rt, engine);
+    }
+
+    // How many reads of files that are checked the system's cache may have answered.
+    fn cached(&self) -> Option<u64> {
+        Some(self.files.cached_reads())
+    }
+
+    /// Tells the faults of a run that has ended, has all that it wrote synced, and answers what the system said of the files.
+    pub fn settled<R: Eprint + AllocGlobal>(&self, rt: &R, faults: &Faults) -> Result<Settled, Stop>
+        ensures reasons { IfOk result (λ settled. vec_len settled.reasons ≡ vec_len faults.now.first) }
+        ensures unstored { IfOk result (λ settled. IfSome settled.unstored (λ stop. stop ≡ CliFault.Write)) }
+        ensures failed { IfErr result (λ fault. fault ≡ CliFault.Memory) }
+    {
+        self.remarks.faults(rt, &self.files, faults);
+        self.remarks.undropped(rt, self.files.cached_reads());
+        let Ok(reasons) = reasons_of(rt.alloc(), &self.files, faults) else {
+            return Err(Stop::from(CliFault::Memory));
+        };
+        let unstored = match self.files.settle() {
+            Ok(()) => None,
+            Err(failed) => Some(self.remarks.unsettled(rt.alloc(), &failed)),
+        };
+        Ok(Settled {
+            reasons,
+            cached: self.cached(),
+            unstored,
+        })
+    }
+}

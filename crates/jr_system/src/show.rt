@@ -1,0 +1,297 @@
+// What standard error shows of a run that goes on: how much was started, what was checked, and how much of that was bad.
+ghost use Rattle.std.specs.Prelude.{◌≡◌, ◌⊎◌, None, IfSome};
+
+use crate::asked::Asked;
+use crate::extents::Extent;
+use crate::machine::Machine;
+use jr_cli_words::Wipe;
+use jr_crew_threads::{Progress, Watch};
+use std::alloc::{AllocError, Global};
+use std::io::IsTerminal;
+use std::sync::atomic::{AtomicBool, Ordering};
+use std::sync::{Arc, Mutex, Wait};
+use std::thread::Parker;
+use std::time::{Clock, Duration, Instant};
+use std::{fmt, io, thread};
+
+/// What knows where standard output and standard error go.
+pub trait Screen: Eprint {
+    /// Whether that is a terminal.
+    fn is_shown(&self) -> bool;
+
+    /// Whether standard output goes to one.
+    fn prints_to_terminal(&self) -> bool;
+
+    /// Writes these bytes, which need not be text, to standard error.
+    fn write_error(&self, text: &[u8]) -> io::Result<()>;
+}
+
+impl Screen for HostRuntime {
+    fn is_shown(&self) -> bool {
+        self.stderr().is_terminal()
+    }
+
+    fn prints_to_terminal(&self) -> bool {
+        self.stdout().is_terminal()
+    }
+
+    fn write_error(&self, text: &[u8]) -> io::Result<()> {
+        Print::write_all(&self.stderr(), text)
+    }
+}
+
+// So long and so often the end of a run waits for a line that is being written.
+const PAUSE_MILLISECONDS: u64 = 10;
+
+const MOST_PAUSES: u32 = 50;
+
+// Back to the line's begin, and nothing on it.
+const WIPED: &str = "\r\x1b[K";
+
+/// When a run says by itself how far it is.
+#[derive(Clone, Copy)]
+pub enum Pace {
+    Never,
+    // Once a second, on the one line of a terminal.
+    Drawn,
+    // Each so many seconds, on a line of its own.
+    Printed(u32),
+}
+
+impl Pace {
+    /// As it was asked for; else on a terminal only.
+    pub fn of<R: Screen>(rt: &R, seconds: Option<u32>) -> Pace
+        ensures asked { IfSome seconds (λ n. result ≡ Pace.Printed n) }
+        ensures unasked { seconds ≡ None → (result ≡ Pace.Drawn) ⊎ (result ≡ Pace.Never) }
+    {
+        match seconds {
+            Some(seconds) => Pace::Printed(seconds),
+            None if rt.is_shown() => Pace::Drawn,
+            None => Pace::Never,
+        }
+    }
+
+    // The seconds from one line to the next.
+    fn seconds(self) -> Option<u64> {
+        match self {
+            Pace::Never => None,
+            Pace::Drawn => Some(1),
+            Pace::Printed(seconds) => Some(u64::from(seconds)),
+        }
+    }
+}
+
+/// Calls `f`, which may be asked to stop. Meanwhile standard error shows how far a run of this extent is, at its pace and where it is asked
+/// for. `f` is handed the meter, to end that before the report; else it ends with `f`.
+pub fn shown<R: Machine, T, F: for<'p> FnOnce(Watch<'p>, &'p Meter) -> T>(
+    rt: &R,
+    extent: Extent,
+    asked: &Arc<Asked, Global>,
+    f: F,
+) -> T
+    requires { F.IsAlwaysCallable f }
+{
+    let stop = asked.stop();
+    let is_shown = asked.pace().seconds().is_some() || asked.has_pipe();
+    // (a run that can't be shown goes on)
+    let Some(meter) = is_shown.then(|| Meter::shared(rt, extent)).flatten() else {
+        let progress = None;
+        return f(Watch { progress, stop }, &Meter::new(rt, extent));
+    };
+    begin_to_show(rt, &meter, asked);
+    let progress = Some(&meter.progress);
+    let ended = f(Watch { progress, stop }, &meter);
+    meter.end(rt);
+    asked.wake();
+    ended
+}
+
+// Has a thread show the run. It is never joined: who reads what it says may have stopped to, and the run's end doesn't wait for that.
+fn begin_to_show<R: Machine>(rt: &R, meter: &Arc<Meter, Global>, asked: &Arc<Asked, Global>) {
+    let own: Result<R, AllocError> = rt.clone();
+    let (Ok(meter), Ok(asked), Ok(own)) = (Arc::try_clone(meter), Arc::try_clone(asked), own) else {
+        return;
+    };
+    let _shown = thread::spawn(rt, move || show(&own, &meter, &asked));
+}
+
+// What is shown of a run.
+#[derive(Clone, Copy)]
+struct Gauge {
+    percent: u64,
+    ios: u64,
+    checks: u64,
+    bad: u64,
+}
+
+impl Gauge {
+    fn of(meter: &Meter) -> Gauge {
+        let progress = &meter.progress;
+        // (what counts fewer is read first, so that no number of a line is above one that it can't be above)
+        let bad = progress.bad();
+        let checks = progress.checks();
+        let bytes = progress.bytes().saturating_add(progress.checked_bytes());
+        let percent = meter.extent.percent(bytes);
+        Gauge {
+            percent,
+            ios: progress.ios(),
+            checks,
+            bad,
+        }
+    }
+}
+
+impl fmt::Display for Gauge {
+    fn fmt<W: fmt::Write>(&self, f: &mut fmt::Formatter<W>) -> fmt::Result {
+        write!(
+            f,
+            "fiorun: {} % done, {} I/Os, {} checked, {} bad",
+            self.percent, self.ios, self.checks, self.bad
+        )
+    }
+}
+
+/// What measures a run that goes on, and shows it.
+#[derive(Drop)]
+pub struct Meter {
+    extent: Extent,
+    progress: Progress,
+    begun: Option<Instant>,
+    stage: Mutex<Stage>,
+    is_over: AtomicBool,
+}
+
+// What stands on the terminal of a run.
+#[derive(Clone, Copy, PartialEq, Eq)]
+enum Stage {
+    // Nothing.
+    Blank,
+    // A line without its end.
+    Drawn,
+}
+
+impl Meter {
+    // Of a run of this extent that begins now.
+    fn new<R: Clock>(rt: &R, extent: Extent) -> Meter {
+        Meter {
+            extent,
+            progress: Progress::new(),
+            begun: Instant::now(rt).ok(),
+            stage: Mutex::new(Stage::Blank),
+            is_over: AtomicBool::new(false),
+        }
+    }
+
+    // The same for two threads, if there is memory for it.
+    fn shared<R: Clock + AllocGlobal>(rt: &R, extent: Extent) -> Option<Arc<Meter, Global>> {
+        Arc::new(rt.alloc(), Meter::new(rt, extent)).ok()
+    }
+
+    // How long ago the run began; no time where the clock can't be read.
+    fn passed<R: Clock>(&self, rt: &R) -> Duration {
+        match self.begun {
+            Some(begun) => begun.elapsed(rt).unwrap_or(Duration::ZERO),
+            None => Duration::ZERO,
+        }
+    }
+
+    // Draws the line in place of the one that stands there.
+    fn draw<R: Eprint + Wait>(&self, rt: &R) {
+        let mut stage = self.stage.lock(rt);
+        if !self.is_over() {
+            let _ = eprint!(rt; "{WIPED}{}", Gauge::of(self));
+            *stage = Stage::Drawn;
+        }
+    }
+
+    // Prints the line and the time, and ends it. One that was drawn goes.
+    fn print<R: Eprint + Clock + Wait>(&self, rt: &R) {
+        let mut stage = self.stage.lock(rt);
+        if self.is_over() {
+            return;
+        }
+        let front = if *stage == Stage::Drawn { WIPED } else { "" };
+        let seconds = self.passed(rt).as_secs();
+        let _ = eprintln!(rt; "{front}{}, after {seconds} s", Gauge::of(self));
+        *stage = Stage::Blank;
+    }
+
+    // Wipes the line that was drawn, once. No more come. A line that is just being written is waited for, but not for long: its reader may
+    // never take it.
+    fn end<R: Eprint + Wait>(&self, rt: &R) {
+        if self.is_over.swap(true, Ordering::SeqCst) {
+            return;
+        }
+        let pause = Parker::new();
+        for _ in 0..MOST_PAUSES {
+            if let Some(stage) = self.stage.try_lock() {
+                if *stage == Stage::Drawn {
+                    let _ = eprint!(rt; "{WIPED}");
+                }
+                return;
+            }
+            pause.park_timeout(rt, Duration::from_millis(PAUSE_MILLISECONDS));
+        }
+    }
+
+    fn is_over(&self) -> bool {
+        self.is_over.load(Ordering::SeqCst)
+    }
+}
+
+/// What wipes the line of a run before its report.
+#[derive(Drop)]
+pub struct Wiper<'a, R> {
+    pub rt: &'a R,
+    pub meter: &'a Meter,
+}
+
+impl<'a, R: Eprint + Wait> Wipe for Wiper<'a, R> {
+    fn wipe(&self) {
+        self.meter.end(self.rt);
+    }
+}
+
+// Shows how far the run is, at its pace and where it is asked for, until it is over.
+fn show<R: Eprint + Clock + Wait>(rt: &R, meter: &Meter, asked: &Asked) {
+    let period = asked.pace().seconds();
+    let mut due = period.unwrap_or(0);
+    for _ in rt.forever() {
+        let left = Duration::from_secs(due).saturating_sub(meter.passed(rt));
+        asked.sleep(rt, period.map(|_| left));
+        if meter.is_over() {
+            return;
+        }
+        print_asked(rt, meter, asked);
+        let seconds = meter.passed(rt).as_secs();
+        if let Some(period) = period
+            && seconds >= due
+        {
+            show_one(rt, meter, asked);
+            due = next_of(seconds, period);
+        }
+    }
+}
+
+// The next multiple of the period.
+fn next_of(seconds: u64, period: u64) -> u64 {
+    let past = seconds / period.max(1);
+    past.saturating_add(1).saturating_mul(period)
+}
+
+// Prints the lines that were asked for.
+fn print_asked<R: Eprint + Clock + Wait>(rt: &R, meter: &Meter, asked: &Asked) {
+    for _ in 0..asked.take_lines() {
+        meter.print(rt);
+    }
+}
+
+// Shows one line as the pace has it. None is drawn once the run is asked to stop.
+fn show_one<R: Eprint + Clock + Wait>(rt: &R, meter: &Meter, asked: &Asked) {
+    let is_stopped = asked.stop().is_some_and(|stop| stop.is_set());
+    match asked.pace() {
+        Pace::Printed(_) => meter.print(rt),
+        Pace::Drawn if !is_stopped => meter.draw(rt),
+        Pace::Drawn | Pace::Never => {}
+    }
+}

@@ -1,5 +1,0 @@
-use Rattle.jr_tallies.proofs.Bads.{ends_counted}
-use Rattle.jr_tallies.proofs.laws.ends_are_counted.Goals as goal
-
-pub returns : goal.returns
-returns c = ends_counted

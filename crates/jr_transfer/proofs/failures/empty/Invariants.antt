@@ -1,5 +1,0 @@
-use Rattle.std.proofs.Common.{◌≡◌, vec_len}
-use Rattle.jr_transfer.proofs.failures.empty.Given as goal
-
-abbrev pub invariant-loop : goal.invariant-loop
-invariant-loop l = vec_len l.kept ≡ l.counter

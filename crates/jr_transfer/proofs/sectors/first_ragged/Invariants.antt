@@ -1,7 +1,0 @@
-use Rattle.std.proofs.Common.{◌≡◌, false, take}
-use Rattle.std.specs.List.{list_any}
-use Rattle.jr_transfer.specs.Sectors.{is_ragged}
-use Rattle.jr_transfer.proofs.sectors.first_ragged.Given as goal
-
-abbrev pub invariant-loop-i : goal.invariant-loop-i
-invariant-loop-i l = list_any (is_ragged l.file l.sector) (take l.i l.plan.clones) ≡ false
