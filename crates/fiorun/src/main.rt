@@ -14,7 +14,7 @@ use jr_plan::Plan;
 use jr_replay_traces::Checked;
 use jr_system::{Machine, Outlet, Screen, Stop, tell_all, wishes};
 use places::Wanted;
-use running::{Ran, SharedRun, Turn, add, boxed, run_memory, run_plan, shares, to_output};
+use running::{Finished, SharedRun, Turn, add, boxed, run_memory, run_plan, shares, to_output};
 use std::alloc::Global;
 use std::env::Env;
 use std::fs::{File, Files};
@@ -32,7 +32,7 @@ mod unfailing;
 fn main(rt: HostRuntime) -> ExitCode {
     let _held = held(&rt);
     // The shares of a memory keep the runtime, so they are boxed here.
-    let run_shared = |job: SharedRun| -> Result<Ran, Stop> {
+    let run_shared = |job: SharedRun| -> Result<Finished, Stop> {
         let mut engines: Vec<Box<dyn Engine + Send>> = Vec::new(rt.alloc());
         let Ok(shared) = rt.clone() else {
             return Err(job.given_up(&rt, CliFault::Memory));
@@ -70,7 +70,7 @@ fn main(rt: HostRuntime) -> ExitCode {
 
 // Says on standard error where a run was interrupted, and the first thing that couldn't be stored or written of it, and gives the exit
 // status.
-fn told<R: Eprint>(rt: &R, ran: &Ran, has_notes: bool) -> u8 {
+fn told<R: Eprint>(rt: &R, ran: &Finished, has_notes: bool) -> u8 {
     if ran.ended.is_interrupted {
         let _ = eprintln!(rt; "fiorun: interrupted");
     }

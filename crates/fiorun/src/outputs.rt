@@ -5,12 +5,12 @@ use crate::unfailing::Unfailing;
 use jr_cli::{Findings, Storage, json_text, list_text};
 use jr_cli_words::{BlockSize, Choice, CliFault, list_size};
 use jr_io_devices::FileNumbers;
-use jr_io_files::Kept;
+use jr_io_files::Reserved;
 use jr_model::{EngineKind, Memory};
 use jr_plan::Plan;
 use jr_report_outputs::{Spot, Target, Unfit, Way, met_by};
 use jr_report_page::page;
-use jr_system::{Outlet, Settled, Stop};
+use jr_system::{Closed, Outlet, Stop};
 use std::alloc::Global;
 use std::fs;
 use std::io::{BufWriter, Write};
@@ -150,8 +150,8 @@ impl Outputs {
     }
 
     // What the run has otherwise: its job file, the trace that it checks, and the files of its jobs.
-    fn known<R: Outlet>(&self, rt: &R, choice: &Choice<'_>) -> Result<Known, Stop> {
-        let mut known = Known::new(rt.alloc());
+    fn known<R: Outlet>(&self, rt: &R, choice: &Choice<'_>) -> Result<TakenSpots, Stop> {
+        let mut known = TakenSpots::new(rt.alloc());
         match choice.job {
             Some(path) => known.add(spot_at(rt, path), Unfit::Job)?,
             None => known.add(plain_input(rt), Unfit::Job)?,
@@ -201,7 +201,7 @@ impl Outputs {
     }
 
     // What no file of a job may be: an output, or a stream of the program.
-    pub fn kept<R: Outlet>(&self, rt: &R) -> Result<Vec<Kept<'_>>, Stop> {
+    pub fn kept<R: Outlet>(&self, rt: &R) -> Result<Vec<Reserved<'_>>, Stop> {
         let mut kept = Vec::new(rt.alloc());
         for output in self.all.iter() {
             if let Some(one) = output.kept() {
@@ -210,7 +210,7 @@ impl Outputs {
         }
         for stream in self.streams.as_slice() {
             if let Spot::File(identity) = stream {
-                push(&mut kept, Kept::File(*identity))?;
+                push(&mut kept, Reserved::File(*identity))?;
             }
         }
         Ok(kept)
@@ -250,11 +250,11 @@ impl Outputs {
         &self,
         rt: &R,
         findings: &Findings<'_>,
-        settled: &Settled,
+        closed: &Closed,
     ) -> Result<(), Stop> {
         let mut result = Ok(());
         for output in self.all.iter() {
-            let written = self.write_one(rt, output, findings, settled);
+            let written = self.write_one(rt, output, findings, closed);
             result = result.and(written);
         }
         result
@@ -265,12 +265,12 @@ impl Outputs {
         rt: &R,
         output: &Output,
         findings: &Findings<'_>,
-        settled: &Settled,
+        closed: &Closed,
     ) -> Result<(), Stop> {
         if matches!(&output.content, Content::Trace) {
             return Ok(());
         }
-        let Ok(text) = output.content.text(rt.alloc(), findings, settled) else {
+        let Ok(text) = output.content.text(rt.alloc(), findings, closed) else {
             return Err(Stop::from(CliFault::Memory));
         };
         let mut sink = match output.road.sink(rt) {
@@ -316,12 +316,12 @@ impl Output {
     }
 
     // What no file of a job may be for its sake.
-    fn kept(&self) -> Option<Kept<'_>> {
+    fn kept(&self) -> Option<Reserved<'_>> {
         match &self.road {
-            Road::New(file) => Some(Kept::At(file.target())),
+            Road::New(file) => Some(Reserved::At(file.target())),
             Road::Open(_) => match jr_report_outputs::spot_of(self.target.found()?)? {
-                Spot::File(identity) => Some(Kept::File(identity)),
-                _ => Some(Kept::At(self.target.path())),
+                Spot::File(identity) => Some(Reserved::File(identity)),
+                _ => Some(Reserved::At(self.target.path())),
             },
             Road::Unmade | Road::Out | Road::Error => None,
         }
@@ -330,14 +330,14 @@ impl Output {
 
 // Places that a run has, and what for.
 #[derive(Drop)]
-struct Known {
+struct TakenSpots {
     spots: Vec<Spot>,
     whys: Vec<Unfit>,
 }
 
-impl Known {
-    fn new(alloc: Global) -> Known {
-        Known {
+impl TakenSpots {
+    fn new(alloc: Global) -> TakenSpots {
+        TakenSpots {
             spots: Vec::new(alloc),
             whys: Vec::new(alloc),
         }
@@ -374,7 +374,7 @@ impl Content {
         &self,
         alloc: Global,
         findings: &Findings<'_>,
-        settled: &Settled,
+        closed: &Closed,
     ) -> Result<Vec<u8>, Memory> {
         match self {
             Content::Trace => Ok(Vec::new(alloc)),
@@ -383,8 +383,8 @@ impl Content {
                 json_text(
                     alloc,
                     findings,
-                    settled.reasons.as_slice(),
-                    &storage_of(settled),
+                    closed.reasons.as_slice(),
+                    &storage_of(closed),
                 )
             }
             Content::Page => page_text(alloc, findings),
@@ -392,10 +392,10 @@ impl Content {
     }
 }
 
-fn storage_of(settled: &Settled) -> Storage {
+fn storage_of(closed: &Closed) -> Storage {
     Storage {
-        cached: settled.cached,
-        is_stored: settled.unstored.is_none(),
+        cached: closed.cached,
+        is_stored: closed.unstored.is_none(),
     }
 }
 

@@ -2,7 +2,7 @@
 ghost use Rattle.jr_replay_traces.specs.Runs.{IsLegalRun};
 
 use crate::outputs::Outputs;
-use crate::running::Ran;
+use crate::running::Finished;
 use jr_cli::Findings;
 use jr_cli_words::{Choice, CliFault};
 use jr_escape::Escaped;
@@ -10,7 +10,7 @@ use jr_model::LARGEST_END;
 use jr_plan::{FileSpec, Plan};
 use jr_replay_traces::Checked;
 use jr_report_maps::{Fate, FileMap, FileMarks, map_of, marks_of};
-use jr_system::{Outlet, Settled, Stop};
+use jr_system::{Closed, Outlet, Stop};
 use std::alloc::{AllocError, Global};
 
 // A row of a map has so many cells, and a map so many rows.
@@ -36,7 +36,7 @@ impl Wanted {
     }
 
     // Tells it, of a run that has its report, with which what can't be told is kept.
-    pub fn tell<R: Outlet>(&self, rt: &R, ran: Ran) -> Ran {
+    pub fn tell<R: Outlet>(&self, rt: &R, ran: Finished) -> Finished {
         let traced = if ran.is_trace_cut {
             Ok(())
         } else {
@@ -47,14 +47,14 @@ impl Wanted {
         ran.and(traced).and(told)
     }
 
-    fn tell_run<R: Outlet>(&self, rt: &R, ran: &Ran) -> Result<(), Stop> {
+    fn tell_run<R: Outlet>(&self, rt: &R, ran: &Finished) -> Result<(), Stop> {
         if self.outputs.is_empty() && !self.has_maps {
             return Ok(());
         }
         let Ok(findings) = Findings::of_desk(rt.alloc(), &ran.ended.desk) else {
             return Err(Stop::from(CliFault::Memory));
         };
-        self.tell_findings(rt, &findings, &ran.settled)
+        self.tell_findings(rt, &findings, &ran.closed)
     }
 
     // Tells it, of the run that a trace of the plan is of.
@@ -67,21 +67,21 @@ impl Wanted {
         let Ok(findings) = Findings::of_trace(rt.alloc(), plan, run) else {
             return Err(Stop::from(CliFault::Memory));
         };
-        self.tell_findings(rt, &findings, &Settled::of_no_files(rt.alloc()))
+        self.tell_findings(rt, &findings, &Closed::of_no_files(rt.alloc()))
     }
 
     fn tell_findings<R: Outlet>(
         &self,
         rt: &R,
         findings: &Findings<'_>,
-        settled: &Settled,
+        closed: &Closed,
     ) -> Result<(), Stop> {
         let shown = if self.has_maps && findings.found() != 0 {
             show_maps(rt, findings)
         } else {
             Ok(())
         };
-        let written = self.outputs.write(rt, findings, settled);
+        let written = self.outputs.write(rt, findings, closed);
         shown?;
         written
     }

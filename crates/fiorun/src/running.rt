@@ -4,7 +4,7 @@ ghost use Rattle.std.specs.Prelude.{◌≤◌, ◌^◌};
 use crate::outputs::TraceFile;
 use crate::places::Wanted;
 use crate::unfailing::Unfailing;
-use jr_cli::{Ended, execute, execute_serial};
+use jr_cli::{Executed, execute, execute_serial};
 use jr_cli_words::{Choice, CliFault, Wiping, workers_of};
 use jr_engines::{Engine, MemoryEngine, NullEngine, SharedMemory};
 use jr_io_files::{FileEngine, SharedFile};
@@ -12,7 +12,8 @@ use jr_job_direct::Wish;
 use jr_model::EngineKind;
 use jr_plan::Plan;
 use jr_system::{
-    Asked, Extent, Machine, Outlet, Pace, Settled, Stop, Taken, Wiper, asked_by, shown, take_files,
+    Asked, Closed, Machine, Outlet, Pace, PlanBytes, Stop, Taken, Wiper, asked_by, shown,
+    take_files,
 };
 use std::alloc::Global;
 use std::fs::{File, Files};
@@ -24,29 +25,29 @@ use std::sync::{Arc, Wait};
 #[derive(Drop)]
 pub enum Turn {
     Ended(u8),
-    Ran(Ran),
+    Ran(Finished),
     Shared(SharedRun),
 }
 
 // How a run ended that has its report, what the system said of its files, and why the first of its other outputs couldn't be written,
 // where one couldn't.
 #[derive(Drop)]
-pub struct Ran {
-    pub ended: Ended,
-    pub settled: Settled,
+pub struct Finished {
+    pub ended: Executed,
+    pub closed: Closed,
     // Whether a trace was asked for, and couldn't be written to its end.
     pub is_trace_cut: bool,
     unwritten: Option<Stop>,
 }
 
-impl Ran {
+impl Finished {
     // A run over no files, whose report may be cut, with its trace where one was asked for.
     fn new<R: Outlet>(
         alloc: Global,
-        ended: Ended,
+        ended: Executed,
         is_cut: bool,
         trace: Option<TraceFile<'_, R>>,
-    ) -> Ran {
+    ) -> Finished {
         let is_trace_cut = match &trace {
             Some(trace) => trace.has_failed,
             None => false,
@@ -56,32 +57,32 @@ impl Ran {
         } else {
             None
         };
-        Ran {
+        Finished {
             ended,
-            settled: Settled::of_no_files(alloc),
+            closed: Closed::of_no_files(alloc),
             is_trace_cut,
             unwritten,
         }
     }
 
     // The same run over files, of which the system said this.
-    fn over(self, settled: Settled) -> Ran {
-        let Ran {
+    fn over(self, closed: Closed) -> Finished {
+        let Finished {
             ended,
-            settled: _nothing,
+            closed: _nothing,
             is_trace_cut,
             unwritten,
         } = self;
-        Ran {
+        Finished {
             ended,
-            settled,
+            closed,
             is_trace_cut,
             unwritten,
         }
     }
 
     // The same run, of which this became of further outputs.
-    pub fn and(mut self, written: Result<(), Stop>) -> Ran {
+    pub fn and(mut self, written: Result<(), Stop>) -> Finished {
         if let Err(stop) = written
             && self.unwritten.is_none()
         {
@@ -92,7 +93,7 @@ impl Ran {
 
     // Why the first thing that couldn't be stored or written couldn't be, where there is one.
     pub fn missing(&self) -> Option<&Stop> {
-        match &self.settled.unstored {
+        match &self.closed.unstored {
             Some(stop) => Some(stop),
             None => self.unwritten.as_ref(),
         }
@@ -205,18 +206,18 @@ fn run_over_files<R: Outlet + Machine>(
     let kept = wanted.outputs.kept(rt)?;
     let files = take_files(rt, &plan, choice, wishes, kept.as_slice())?;
     let ran = run_over_taken(rt, wanted, asked, &files, plan, workers);
-    settled(rt, &files, ran)
+    close_files(rt, &files, ran)
 }
 
 // How a run over these files ended, with what the system said of them.
-fn settled<R: Eprint + AllocGlobal>(
+fn close_files<R: Eprint + AllocGlobal>(
     rt: &R,
     files: &Taken<'_>,
-    ran: Result<Ran, Stop>,
+    ran: Result<Finished, Stop>,
 ) -> Result<Turn, Stop> {
     let ran = ran?;
-    let settled = files.settled(rt, &ran.ended.faults)?;
-    Ok(Turn::Ran(ran.over(settled)))
+    let closed = files.close(rt, &ran.ended.faults)?;
+    Ok(Turn::Ran(ran.over(closed)))
 }
 
 // The same over these files, which were taken.
@@ -227,7 +228,7 @@ fn run_over_taken<R: Outlet + Machine>(
     files: &Taken<'_>,
     plan: Plan,
     workers: u32,
-) -> Result<Ran, Stop> {
+) -> Result<Finished, Stop> {
     if is_alone(&plan, workers) {
         alone_over_files(rt, wanted, asked, files, plan)
     } else {
@@ -242,7 +243,7 @@ fn alone_over_files<R: Outlet + Machine>(
     asked: &Arc<Asked, Global>,
     files: &Taken<'_>,
     plan: Plan,
-) -> Result<Ran, Stop> {
+) -> Result<Finished, Stop> {
     let mut engine = files.engine(rt, 0)?;
     files.begin(rt, &engine);
     alone_over(rt, wanted, asked, plan, &mut engine)
@@ -256,7 +257,7 @@ fn crew_over_files<R: Outlet + Machine>(
     files: &Taken<'_>,
     plan: Plan,
     workers: u32,
-) -> Result<Ran, Stop> {
+) -> Result<Finished, Stop> {
     let events = wanted.outputs.trace(rt)?;
     let engines = file_engines(rt, files, workers)?;
     Ok(run_files(rt, asked, plan, engines, events)?)
@@ -268,7 +269,7 @@ fn alone_over_memory<R: Outlet + Machine>(
     wanted: &Wanted,
     asked: &Arc<Asked, Global>,
     plan: Plan,
-) -> Result<Ran, Stop> {
+) -> Result<Finished, Stop> {
     match MemoryEngine::new(rt.alloc(), &plan) {
         Ok(engine) => {
             let mut engine = engine;
@@ -295,7 +296,7 @@ fn run_over_nothing<R: Outlet + Machine>(
     asked: &Arc<Asked, Global>,
     plan: Plan,
     workers: u32,
-) -> Result<Ran, Stop> {
+) -> Result<Finished, Stop> {
     if is_alone(&plan, workers) {
         return alone_over(rt, wanted, asked, plan, &mut NullEngine::new());
     }
@@ -310,7 +311,7 @@ fn alone_over<R: Outlet + Machine>(
     asked: &Arc<Asked, Global>,
     plan: Plan,
     engine: &mut dyn Engine,
-) -> Result<Ran, Stop>
+) -> Result<Finished, Stop>
     requires { (state engine.old).calls ≤ 2 ^ 63 }
 {
     let events = wanted.outputs.trace(rt)?;
@@ -356,7 +357,7 @@ fn run_over<R: Outlet + Machine>(
     events: Option<TraceFile<'_, R>>,
     plan: Plan,
     engine: &mut dyn Engine,
-) -> Result<Ran, CliFault>
+) -> Result<Finished, CliFault>
     requires { (state engine.old).calls ≤ 2 ^ 63 }
 {
     let alloc = rt.alloc();
@@ -364,16 +365,16 @@ fn run_over<R: Outlet + Machine>(
     let out = &mut out;
     shown(
         rt,
-        Extent::of(&plan),
+        PlanBytes::of(&plan),
         asked,
-        move |watch, meter| -> Result<Ran, CliFault>
+        move |watch, meter| -> Result<Finished, CliFault>
             requires { (state engine.now).calls ≤ 2 ^ 63 }
         {
             let line = &Wiper { rt, meter };
             let mut out = Unfailing::new(Wiping { line, out });
             let mut events = events;
             let ended = execute_serial(alloc, plan, engine, watch, events.as_mut(), &mut out)?;
-            Ok(Ran::new(alloc, ended, out.has_failed, events))
+            Ok(Finished::new(alloc, ended, out.has_failed, events))
         },
     )
 }
@@ -385,7 +386,7 @@ fn run_files<R: Outlet + Machine>(
     plan: Plan,
     shares: Vec<FileEngine<SharedFile>>,
     events: Option<TraceFile<'_, R>>,
-) -> Result<Ran, CliFault> {
+) -> Result<Finished, CliFault> {
     let mut engines: Vec<Box<dyn Engine + Send>> = Vec::new(rt.alloc());
     for engine in shares {
         add(&mut engines, boxed(rt.alloc(), engine)?)?;
@@ -400,7 +401,7 @@ fn run_nulls<R: Outlet + Machine>(
     plan: Plan,
     workers: u32,
     events: Option<TraceFile<'_, R>>,
-) -> Result<Ran, CliFault> {
+) -> Result<Finished, CliFault> {
     let mut engines: Vec<Box<dyn Engine + Send>> = Vec::new(rt.alloc());
     for _ in 0..workers {
         add(&mut engines, boxed(rt.alloc(), NullEngine::new())?)?;
@@ -429,7 +430,7 @@ pub fn run_memory<R: Outlet + Machine>(
     rt: &R,
     job: SharedRun,
     engines: Vec<Box<dyn Engine + Send>>,
-) -> Result<Ran, Stop> {
+) -> Result<Finished, Stop> {
     let SharedRun {
         plan,
         workers: _,
@@ -454,7 +455,7 @@ fn run_untraced<'a, R: Outlet + Machine>(
     asked: &Arc<Asked, Global>,
     plan: Plan,
     engines: Vec<Box<dyn Engine + Send>>,
-) -> Result<Ran, CliFault> {
+) -> Result<Finished, CliFault> {
     let events: Option<TraceFile<'a, R>> = None;
     run_with(rt, asked, plan, engines, events)
 }
@@ -466,7 +467,7 @@ fn traced<R: Outlet + Machine>(
     wanted: &Wanted,
     plan: Plan,
     engines: Vec<Box<dyn Engine + Send>>,
-) -> Result<Ran, Stop> {
+) -> Result<Finished, Stop> {
     let events = wanted.outputs.trace(rt)?;
     Ok(run_with(rt, asked, plan, engines, events)?)
 }
@@ -478,15 +479,15 @@ fn run_with<R: Outlet + Machine>(
     plan: Plan,
     engines: Vec<Box<dyn Engine + Send>>,
     events: Option<TraceFile<'_, R>>,
-) -> Result<Ran, CliFault> {
+) -> Result<Finished, CliFault> {
     let alloc = rt.alloc();
     let mut out = to_output(rt)?;
     let out = &mut out;
-    shown(rt, Extent::of(&plan), asked, move |watch, meter| {
+    shown(rt, PlanBytes::of(&plan), asked, move |watch, meter| {
         let line = &Wiper { rt, meter };
         let mut out = Unfailing::new(Wiping { line, out });
         let mut events = events;
         let ended = execute(rt, alloc, plan, engines, watch, events.as_mut(), &mut out)?;
-        Ok(Ran::new(alloc, ended, out.has_failed, events))
+        Ok(Finished::new(alloc, ended, out.has_failed, events))
     })
 }

@@ -5,7 +5,7 @@ use Rattle.std.proofs.lemmas.Bool.{and_parts, eqb-true}
 use Rattle.jr_model.specs.declared.events.WriteId.{WriteId}
 use Rattle.jr_model.specs.History.{same_write}
 use Rattle.jr_backlog.specs.Rounds.{Round, is_closed, is_due, with_exhausted, with_passed, with_written}
-use Rattle.jr_backlog.specs.Deferred.{Deferred, is_settled, round_now, settled_round, with_draw, with_waiting}
+use Rattle.jr_backlog.specs.Deferred.{Deferred, is_committed, round_now, committed_round, with_draw, with_waiting}
 
 nothing_left : {X : Type 0} (xs : List X) → (length xs == 0) ≡ true → xs ≡ []
 nothing_left [] h = refl
@@ -17,7 +17,7 @@ now_settled round None true h = cc
 now_settled round (Some write) ended h = cc
 
 -- where nothing is to be put in, the round is as it stands
-pub settled_now : (d : Deferred) → is_settled d ≡ true → round_now d ≡ d.round
+pub settled_now : (d : Deferred) → is_committed d ≡ true → round_now d ≡ d.round
 settled_now d h = now_settled d.round d.waiting d.ended h
 
 -- a write more is the last to check
@@ -31,7 +31,7 @@ ended_or_not true round = refl
 ended_or_not false round = refl
 
 -- a write is issued beside
-pub both_written : (d : Deferred) (plain : Round) (write : WriteId) (ended : Bool) (writes : List WriteId) → is_settled d ≡ true → round_now d ≡ plain → plain.to_check ≡ writes → (round_now (with_draw d (Some write) ended) ≡ (if ended then with_exhausted (with_written plain write) else with_written plain write)) × ((if ended then with_exhausted (with_written plain write) else with_written plain write).to_check ≡ writes ++ write ∷ [])
+pub both_written : (d : Deferred) (plain : Round) (write : WriteId) (ended : Bool) (writes : List WriteId) → is_committed d ≡ true → round_now d ≡ plain → plain.to_check ≡ writes → (round_now (with_draw d (Some write) ended) ≡ (if ended then with_exhausted (with_written plain write) else with_written plain write)) × ((if ended then with_exhausted (with_written plain write) else with_written plain write).to_check ≡ writes ++ write ∷ [])
 both_written d plain write ended writes settled same listed =
     let here : d.round ≡ plain = sym (settled_now d settled) ∙ same in (
       ap (λ (r : Round). if ended then with_exhausted (with_written r write) else with_written r write) here,
@@ -39,7 +39,7 @@ both_written d plain write ended writes settled same listed =
     )
 
 -- a write is passed in both
-pub both_passed : (d : Deferred) (plain : Round) (write : WriteId) (writes : List WriteId) → is_settled d ≡ true → round_now d ≡ plain → plain.to_check ≡ writes → (round_now (settled_round (with_passed d.round write)) ≡ with_passed plain write) × ((with_passed plain write).to_check ≡ filter (λ (other : WriteId). not (same_write write other)) writes)
+pub both_passed : (d : Deferred) (plain : Round) (write : WriteId) (writes : List WriteId) → is_committed d ≡ true → round_now d ≡ plain → plain.to_check ≡ writes → (round_now (committed_round (with_passed d.round write)) ≡ with_passed plain write) × ((with_passed plain write).to_check ≡ filter (λ (other : WriteId). not (same_write write other)) writes)
 both_passed d plain write writes settled same listed = (
   ap (λ (r : Round). with_passed r write) (sym (settled_now d settled) ∙ same),
   ap (λ ws. filter (λ (other : WriteId). not (same_write write other)) ws) listed,

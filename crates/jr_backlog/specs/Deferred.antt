@@ -10,8 +10,8 @@ pub record Deferred : Type 0 where
   pub ended : Bool
 
 -- nothing is to be put in
-abbrev pub is_settled : Deferred → Bool
-is_settled d = is_none d.waiting && not d.ended
+abbrev pub is_committed : Deferred → Bool
+is_committed d = is_none d.waiting && not d.ended
 
 -- the round with the write that waits, if one does
 abbrev pub with_waiting : Option WriteId → Round → Round
@@ -23,8 +23,8 @@ abbrev pub round_now : Deferred → Round
 round_now d = if d.ended then with_exhausted (with_waiting d.waiting d.round) else with_waiting d.waiting d.round
 
 -- all of this round is put in
-abbrev pub settled_round : Round → Deferred
-settled_round round = record { round = round; waiting = None; ended = false }
+abbrev pub committed_round : Round → Deferred
+committed_round round = record { round = round; waiting = None; ended = false }
 
 -- a draw was issued, which is a write or not, and the last one of its pass or not
 abbrev pub with_draw : Deferred → Option WriteId → Bool → Deferred

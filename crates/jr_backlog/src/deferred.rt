@@ -4,7 +4,7 @@ use std::alloc::Global;
 use std::marker::Model;
 
 /// The rounds of a clone's writes. A draw is taken in at once and without memory; it is put into its round by the next
-/// `settle`, which alone can want memory.
+/// `commit`, which alone can want memory.
 #[derive(Debug, Drop)]
 pub struct DeferredRounds {
     rounds: Rounds,
@@ -29,12 +29,12 @@ impl DeferredRounds {
     ghost use Rattle.std.specs.Prelude.{◌≡◌, not, ◌&&◌, length, IfSome, IsTrue, OnOk, OnErr, slice_get};
     ghost use Rattle.jr_backlog.specs.Rounds.{comes_last, is_closed, is_due, is_to_check, IsInOrder, new_round};
     ghost use Rattle.jr_backlog.specs.Rounds.{next_to_check, next_to_check_after, takes_writes, with_passed};
-    ghost use Rattle.jr_backlog.specs.Deferred.{is_settled, round_now, settled_round, with_draw};
+    ghost use Rattle.jr_backlog.specs.Deferred.{is_committed, round_now, committed_round, with_draw};
 
     /// A first round that has no write. A round is due after `limit` writes; if `limit` is 0, only once all draws were
     /// issued.
     pub fn new(alloc: Global, limit: u32) -> DeferredRounds
-        ensures { result ≡ settled_round (new_round limit) }
+        ensures { result ≡ committed_round (new_round limit) }
     {
         DeferredRounds {
             rounds: Rounds::new(alloc, limit),
@@ -44,8 +44,8 @@ impl DeferredRounds {
     }
 
     /// Puts in what was taken in since. The only call that can want memory; a refused one changes nothing.
-    pub fn settle(&mut self) -> Result<(), Memory>
-        ensures ok { OnOk result (self.new ≡ settled_round (round_now self.old)) }
+    pub fn commit(&mut self) -> Result<(), Memory>
+        ensures ok { OnOk result (self.new ≡ committed_round (round_now self.old)) }
         ensures err { OnErr result (self.new ≡ self.old) }
     {
         if let Some(write) = self.waiting {
@@ -61,7 +61,7 @@ impl DeferredRounds {
 
     /// Takes in a draw that was issued: the write, if it is one, and whether it was the last of its pass.
     pub fn issued(&mut self, write: Option<WriteId>, ended: bool)
-        requires settled { IsTrue (is_settled self.old) }
+        requires settled { IsTrue (is_committed self.old) }
         requires room { IfSome write (λ _. IsTrue (takes_writes self.old.round)) }
         requires last { IfSome write (λ write. IsTrue (comes_last self.old.round write)) }
         ensures { self.new ≡ with_draw self.old write ended }
@@ -72,7 +72,7 @@ impl DeferredRounds {
 
     /// The round is due, and not each of its writes was checked or skipped.
     pub fn is_under_way(&self) -> bool
-        requires { IsTrue (is_settled self.now) }
+        requires { IsTrue (is_committed self.now) }
         ensures { result ≡ (is_due self.now.round && not (is_closed self.now.round)) }
     {
         self.rounds.due() && !self.rounds.closed()
@@ -87,7 +87,7 @@ impl DeferredRounds {
 
     /// How many writes of the round are still to check.
     pub fn left(&self) -> usize
-        requires { IsTrue (is_settled self.now) }
+        requires { IsTrue (is_committed self.now) }
         ensures { result ≡ length self.now.round.to_check }
     {
         self.rounds.left()
@@ -95,7 +95,7 @@ impl DeferredRounds {
 
     /// The first write to check, once the round is due. The desk asks `write_at`; only tests call this.
     pub fn next_check(&self) -> Option<WriteId>
-        requires { IsTrue (is_settled self.now) }
+        requires { IsTrue (is_committed self.now) }
         ensures value { result ≡ next_to_check self.now.round }
         ensures in_order { IsInOrder self.now.round.to_check }
     {
@@ -104,7 +104,7 @@ impl DeferredRounds {
 
     /// The first write to check after this one, once the round is due. The desk asks `write_at`; only tests call this.
     pub fn next_after(&self, write: &WriteId) -> Option<WriteId>
-        requires { IsTrue (is_settled self.now) }
+        requires { IsTrue (is_committed self.now) }
         ensures value { result ≡ next_to_check_after self.now.round write.now }
         ensures in_order { IsInOrder self.now.round.to_check }
     {
@@ -113,7 +113,7 @@ impl DeferredRounds {
 
     /// The write to check at this place, counted from 0, whether the round is due or not.
     pub fn write_at(&self, place: usize) -> Option<WriteId>
-        requires { IsTrue (is_settled self.now) }
+        requires { IsTrue (is_committed self.now) }
         ensures { result ≡ slice_get self.now.round.to_check place }
     {
         self.rounds.write_at(place)
@@ -121,9 +121,9 @@ impl DeferredRounds {
 
     /// Takes out a write that was checked or skipped.
     pub fn passed(&mut self, write: WriteId)
-        requires settled { IsTrue (is_settled self.old) }
+        requires settled { IsTrue (is_committed self.old) }
         requires there { IsTrue (is_to_check self.old.round write) }
-        ensures { self.new ≡ settled_round (with_passed self.old.round write) }
+        ensures { self.new ≡ committed_round (with_passed self.old.round write) }
     {
         self.rounds.passed(write);
     }

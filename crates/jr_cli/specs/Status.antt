@@ -3,7 +3,7 @@
 use Rattle.std.specs.Prelude.{ℕ, ◌==◌, nat_lt, Bool, ◌||◌, List, if◌then◌else◌}
 use Rattle.std.specs.List.{list_any}
 use Rattle.jr_model.specs.declared.totals.Totals.{Totals}
-use Rattle.jr_cli.specs.declared.ended.Ended.{Ended}
+use Rattle.jr_cli.specs.declared.ended.Executed.{Executed}
 
 -- a block of the clone came back wrong, or an I/O of it failed
 abbrev pub is_unclean : Totals → Bool
@@ -18,5 +18,5 @@ abbrev pub status_with : ℕ → Bool → Bool → ℕ
 status_with found is_interrupted is_stored =
     if found == 0 then (if is_stored then (if is_interrupted then 130 else 0) else 3) else found
 
-abbrev pub status_of_ended : Ended → Bool → ℕ
+abbrev pub status_of_ended : Executed → Bool → ℕ
 status_of_ended ended is_stored = status_with ended.found ended.is_interrupted is_stored

@@ -6,7 +6,7 @@ use jr_report_faults::Faults;
 
 /// How a run ended that has its report.
 #[derive(Debug, Drop)]
-pub struct Ended {
+pub struct Executed {
     /// 1 if a block came back wrong or an I/O failed, else 0.
     pub found: u8,
     /// It was asked to stop, and did so before it was complete.
@@ -17,7 +17,7 @@ pub struct Ended {
     pub desk: Desk,
 }
 
-impl Ended {
+impl Executed {
     ghost use Rattle.std.specs.Prelude.{◌≡◌};
     ghost use Rattle.jr_cli.specs.Status.{status_of_ended};
 

@@ -19,7 +19,7 @@ use jr_model::{Event, Memory, Totals};
 use jr_plan::Plan;
 use jr_replay_traces::Checked;
 use jr_report_faults::{Faults, faults_among};
-use jr_report_json::Ending;
+use jr_report_json::RunStatus;
 use jr_report_maps::bads_of;
 use jr_stats::bads_in_order;
 use std::alloc::Global;
@@ -127,10 +127,10 @@ impl<'a> Findings<'a> {
     }
 
     /// How the run ended, of whose files the system said this.
-    pub fn ending(&self, storage: &Storage) -> Ending<'static>
+    pub fn ending(&self, storage: &Storage) -> RunStatus<'static>
         ensures { ending_of result ≡ end_of self.now storage.now }
     {
-        Ending {
+        RunStatus {
             version: VERSION,
             status: status_with(self.found(), self.is_interrupted(), storage.is_stored),
             is_interrupted: self.is_interrupted(),

@@ -8,7 +8,7 @@ mod places;
 mod runs;
 mod storage;
 
-pub use ended::Ended;
+pub use ended::Executed;
 pub use findings::{Findings, json_text};
 pub use jr_cli_words::{
     BlockSize, Choice, CliFault, Wipe, Wiping, answer_words, choose, list_size, memory_or,

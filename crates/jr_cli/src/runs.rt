@@ -16,7 +16,7 @@ ghost use Rattle.jr_replay_traces.specs.TraceChecks.{check_of, check_of_part};
 ghost use Rattle.jr_replay_traces.specs.Traces.{trace_of};
 ghost use Rattle.jr_cli.specs.Status.{status_of, is_unclean};
 
-use crate::ended::Ended;
+use crate::ended::Executed;
 use crate::found::faults_found;
 use jr_cli_words::{CliFault, write_out};
 use jr_crew::{RunFault, Watch, run_booked, run_serial};
@@ -42,7 +42,7 @@ pub fn execute_serial<W: Write, V: Write>(
     watch: Watch<'_>,
     events: Option<&mut W>,
     out: &mut V,
-) -> Result<Ended, CliFault>
+) -> Result<Executed, CliFault>
     requires { (state engine.old).calls ≤ 2 ^ 63 }
 
     // The report, the trace and what was found are those of one run of this engine, whole or interrupted.
@@ -89,7 +89,7 @@ pub fn execute<R: Threads + Wait + Clock + Sync, W: Write, V: Write>(
     watch: Watch<'_>,
     events: Option<&mut W>,
     out: &mut V,
-) -> Result<Ended, CliFault>
+) -> Result<Executed, CliFault>
     // The report, the trace and what was found are those of one run of these engines, whole or interrupted.
     ensures ended { IfOk result (λ ended. HasEndedCrewRun plan (map (λ engine. state engine) engines.items) ended.is_interrupted
         (λ history. IsReported plan history (V.contents out.old) (V.contents out.new) ended.found
@@ -130,7 +130,7 @@ fn print_report<V: Write>(
     desk: Desk,
     faults: Faults,
     out: &mut V,
-) -> Result<Ended, CliFault>
+) -> Result<Executed, CliFault>
     ensures reported { IfOk result (λ ended.
         IsReported desk.plan desk.history (V.contents out.old) (V.contents out.new) ended.found) }
     ensures interrupted { IfOk result (λ ended. ended.is_interrupted ≡ not (is_complete desk.plan desk.history)) }
@@ -140,7 +140,7 @@ fn print_report<V: Write>(
 {
     let text = report(alloc, &desk)?;
     write_out(text.as_slice(), out)?;
-    Ok(Ended {
+    Ok(Executed {
         found: status_of(desk.totals()),
         is_interrupted: !desk.is_complete(),
         faults,

@@ -9,7 +9,7 @@ use Rattle.jr_model.specs.Plan.{Plan}
 use Rattle.jr_model.specs.Replies.{EngineState}
 use Rattle.jr_crew_books.specs.declared.books.Done.{Done}
 use Rattle.jr_crew_books.specs.Numbers.{is_numbered, judges_inline}
-use Rattle.jr_crew_books.specs.Settled.{HasSettled}
+use Rattle.jr_crew_books.specs.Finished.{AllFinished}
 use Rattle.jr_desk.specs.DeskState.{DeskState}
 use Rattle.jr_crew.specs.Crews.{IsWorkers}
 use Rattle.jr_crew.specs.Whole.{IsBooked, IsCrewRun, IsEndedCrewRun}
@@ -17,7 +17,7 @@ use Rattle.jr_crew.proofs.Crewing.{AreOwn, got_mapped}
 
 pub crew_run : {E : Type 0} (state : E → EngineState) (engines afters : List E) (books : List (List Done)) (plan : Plan) (history : List Event)
     → is_legal plan history ≡ true
-    → HasSettled history
+    → AllFinished history
     → list_all (is_numbered (length engines) plan.verifiers) history ≡ true
     → (judges_inline plan ≡ true → AreOwn plan history)
     → length afters ≡ length engines

@@ -19,7 +19,7 @@ use Rattle.jr_crew_books.specs.declared.books.Done.{Done}
 use Rattle.jr_crew_books.specs.Books.{dones_of}
 use Rattle.jr_crew_books.specs.Numbers.{judges_inline, is_own_verdict}
 use Rattle.jr_crew.specs.Crews.{IsWorkers, AreCallsFor}
-use Rattle.jr_crew_books.specs.Settled.{HasSettled}
+use Rattle.jr_crew_books.specs.Finished.{AllFinished}
 use Rattle.jr_crew_threads.specs.Judging.{IsSourced}
 use Rattle.jr_crew_threads.specs.Parts.{IsPutter, one_part}
 use Rattle.jr_crew.specs.Runs.{IsCovering}
@@ -85,7 +85,7 @@ put_by plan history worker put others at = record {
 }
 
 -- whoever judges, what the engine was called for has the history's verdicts
-called_part : (plan : Plan) (history : List Event) → is_legal plan history ≡ true → HasSettled history → (puts : List (List Parcel)) → ((i : ℕ) (put : List Parcel) → slice_get puts i ≡ Some put → IsWorkAt plan history i put) → (judges_inline plan ≡ false → (w io : ℕ) (v : GivenVerdict) → Contains history (Verdict w io v) → IsSourced puts io v) → (worker : ℕ) (put : List Parcel) → slice_get puts worker ≡ Some put → (at : IsWorkAt plan history worker put) → AreCallsFor true at.before (dones_of plan true history worker) at.after
+called_part : (plan : Plan) (history : List Event) → is_legal plan history ≡ true → AllFinished history → (puts : List (List Parcel)) → ((i : ℕ) (put : List Parcel) → slice_get puts i ≡ Some put → IsWorkAt plan history i put) → (judges_inline plan ≡ false → (w io : ℕ) (v : GivenVerdict) → Contains history (Verdict w io v) → IsSourced puts io v) → (worker : ℕ) (put : List Parcel) → slice_get puts worker ≡ Some put → (at : IsWorkAt plan history worker put) → AreCallsFor true at.before (dones_of plan true history worker) at.after
 called_part plan history legal settled puts works sourced worker put there at = by (judges_inline plan) refl
   where
     by : (b : Bool) → judges_inline plan ≡ b → AreCallsFor true at.before (dones_of plan true history worker) at.after
@@ -158,7 +158,7 @@ module _ {E J W F : Type 0} (state : E → EngineState) (engine_in : J → E) (e
         work = work_of works i j.0 w.0 book.0 j.1 w.1 book.2;
       }
 
-  pub each_part : (books : List (List Done)) (history : List Event) (engines afters : List E) → IsPlanned plan → is_legal plan history ≡ true → HasSettled history → (judges_inline plan ≡ false → (w io : ℕ) (v : GivenVerdict) → Contains history (Verdict w io v) → IsSourced (map (λ w. (pass_of w).put) worked) io v) → map engine_in jobs ≡ engines → length worked ≡ length jobs → AreTheirs → afters ≡ map engine_of worked → map Ok books ≡ map book_of worked → ((i : ℕ) (book : List Done) → slice_get books i ≡ Some book → book ≡ dones_of plan (judges_inline plan) history i) → (i : ℕ) (before after : E) (book : List Done) → slice_get engines i ≡ Some before → slice_get afters i ≡ Some after → slice_get books i ≡ Some book → IsWorkers plan history i (state before) (state after) book
+  pub each_part : (books : List (List Done)) (history : List Event) (engines afters : List E) → IsPlanned plan → is_legal plan history ≡ true → AllFinished history → (judges_inline plan ≡ false → (w io : ℕ) (v : GivenVerdict) → Contains history (Verdict w io v) → IsSourced (map (λ w. (pass_of w).put) worked) io v) → map engine_in jobs ≡ engines → length worked ≡ length jobs → AreTheirs → afters ≡ map engine_of worked → map Ok books ≡ map book_of worked → ((i : ℕ) (book : List Done) → slice_get books i ≡ Some book → book ≡ dones_of plan (judges_inline plan) history i) → (i : ℕ) (before after : E) (book : List Done) → slice_get engines i ≡ Some before → slice_get afters i ≡ Some after → slice_get books i ≡ Some book → IsWorkers plan history i (state before) (state after) book
   each_part books history engines afters planned legal settled sourced jobs_are size works afters_are books_are same i before after book at_before at_after at_book =
       let j = got_mapped engine_in jobs i before (ap (λ (es : List E). slice_get es i) jobs_are ∙ at_before) in
       let w = got_mapped engine_of worked i after (ap (λ (es : List E). slice_get es i) (sym afters_are) ∙ at_after) in

@@ -36,7 +36,7 @@ use Rattle.jr_desk_tickets.specs.Kept.{tickets_of}
 use Rattle.jr_desk_tickets.proofs.OwnTickets.{got_ticket, own_started}
 use Rattle.jr_crew_books.specs.declared.books.Done.{Done}
 use Rattle.jr_crew_books.specs.Books.{done_by, done_with, dones_of, verdict_by, verdict_in}
-use Rattle.jr_crew_books.specs.Settled.{HasSettled}
+use Rattle.jr_crew_books.specs.Finished.{AllFinished}
 use Rattle.jr_crew_threads.specs.Judging.{IsSourced}
 use Rattle.jr_crew.specs.Crews.{AreCallsFor, IsSaidOf}
 use Rattle.jr_crew.specs.Working.{AreAnswered, AreDone, IsDoneOf, all_handed_on, handed_on}
@@ -262,7 +262,7 @@ waits_none true false judged s h p q = cc
 waits_none false whole judged s h p q = cc
 
 -- where a history has settled, a check that ended whole was judged
-settled_judged : (history : List Event) (io : ℕ) (s : Started) → HasSettled history → slice_get (started history) io ≡ Some s → is_judged_kind s.kind ≡ true → ended_whole (outcome_of history io) ≡ true → is_judged history io ≡ true
+settled_judged : (history : List Event) (io : ℕ) (s : Started) → AllFinished history → slice_get (started history) io ≡ Some s → is_judged_kind s.kind ≡ true → ended_whole (outcome_of history io) ≡ true → is_judged history io ≡ true
 settled_judged history io s settled at kind whole =
     let place : 0 + io ≡ io = omega arith in
     let none : if_awaiting history (io, s) ≡ None =
@@ -418,7 +418,7 @@ module _ (plan : Plan) (history : List Event) (legal : is_legal plan history ≡
       told_here k a at v (sourced event.0 a.ticket.id v event.1)
 
   -- an answer that is to be judged has a verdict
-  has_verdict : HasSettled history → (k : ℕ) (a : AnswerParts) → slice_get answers k ≡ Some a → is_to_judge a ≡ true → is_some (verdict_in history a.ticket.id) ≡ true
+  has_verdict : AllFinished history → (k : ℕ) (a : AnswerParts) → slice_get answers k ≡ Some a → is_to_judge a ≡ true → is_some (verdict_in history a.ticket.id) ≡ true
   has_verdict settled k a at checked =
       let own = booked plan history legal worker answers done k a at in
       let parts = whole_check a.ticket.kind a.outcome checked in
@@ -426,7 +426,7 @@ module _ (plan : Plan) (history : List Event) (legal : is_legal plan history ≡
       (settled_judged history a.ticket.id own.is.one settled own.is.there (ap is_judged_kind own.kind ∙ parts.0) (ap ended_whole own.is.ended ∙ parts.1))
 
   -- what the history says of an answer
-  said_of : HasSettled history → ((w io : ℕ) (v : GivenVerdict) → Contains history (Verdict w io v) → IsSourced puts io v) → (k : ℕ) (a : AnswerParts) → slice_get answers k ≡ Some a → IsSaidOf true a (verdict_in history a.ticket.id)
+  said_of : AllFinished history → ((w io : ℕ) (v : GivenVerdict) → Contains history (Verdict w io v) → IsSourced puts io v) → (k : ℕ) (a : AnswerParts) → slice_get answers k ≡ Some a → IsSaidOf true a (verdict_in history a.ticket.id)
   said_of settled sourced k a at =
       said_by true a (verdict_in history a.ticket.id)
       (one_flag (is_some (verdict_in history a.ticket.id)) (is_to_judge a)
@@ -435,7 +435,7 @@ module _ (plan : Plan) (history : List Event) (legal : is_legal plan history ≡
       (λ v given. (told sourced k a at v given).says)
 
 -- where each verdict is on a check that a worker handed over, the calls of each worker's engine were judged so
-pub calls_judged : (plan : Plan) (history : List Event) → is_legal plan history ≡ true → HasSettled history
+pub calls_judged : (plan : Plan) (history : List Event) → is_legal plan history ≡ true → AllFinished history
     → (puts : List (List Parcel))
     → ((i : ℕ) (put : List Parcel) → slice_get puts i ≡ Some put → IsPutBy plan history i put)
     → ((w io : ℕ) (v : GivenVerdict) → Contains history (Verdict w io v) → IsSourced puts io v)

@@ -10,7 +10,7 @@ use Rattle.jr_desk_tickets.specs.Kept.{tickets_of}
 use Rattle.jr_crew_books.specs.declared.books.Done.{Done}
 use Rattle.jr_crew_books.specs.Books.{dones_of}
 use Rattle.jr_crew_books.specs.Numbers.{judges_inline, is_own_verdict, is_numbered}
-use Rattle.jr_crew_books.specs.Settled.{HasSettled}
+use Rattle.jr_crew_books.specs.Finished.{AllFinished}
 use Rattle.jr_desk.specs.DeskState.{DeskState}
 use Rattle.jr_crew.specs.Crews.{AreCallsFor, IsWorkers}
 use Rattle.jr_crew.specs.Ends.{ends_of, failed_ends_of}
@@ -45,7 +45,7 @@ pub record IsCrewRun (plan : Plan) (history : List Event) (befores afters : List
 -- the same of a run that may have been asked to stop: what was started has come to its end, whether there was more to come or not
 pub record IsEndedRun (plan : Plan) (history : List Event) (before after : EngineState) : Type 0 where
   pub legal : is_legal plan history ≡ true
-  pub settled : HasSettled history
+  pub settled : AllFinished history
   pub alone : list_all (is_numbered 1 0) history ≡ true
   pub unraced : (io : ℕ) → has_raced history io ≡ false
   pub called : AreCallsFor true before (dones_of plan true history 0) after
@@ -56,7 +56,7 @@ pub record IsEndedRun (plan : Plan) (history : List Event) (before after : Engin
 -- and of many workers
 pub record IsEndedCrewRun (plan : Plan) (history : List Event) (befores afters : List EngineState) (books : List (List Done)) : Type 0 where
   pub legal : is_legal plan history ≡ true
-  pub settled : HasSettled history
+  pub settled : AllFinished history
   pub numbered : list_all (is_numbered (length befores) plan.verifiers) history ≡ true
   pub own : judges_inline plan ≡ true → list_all (is_own_verdict (tickets_of plan history)) history ≡ true
   pub engines_count : length afters ≡ length befores

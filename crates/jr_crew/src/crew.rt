@@ -7,7 +7,7 @@ ghost use Rattle.jr_model.specs.declared.events.Verdict.{Verdict as GivenVerdict
 ghost use Rattle.jr_crew_books.specs.Books.{IsVerdictIn, dones_of};
 ghost use Rattle.jr_crew_books.specs.Numbers.{judges_inline, is_own_verdict, is_numbered};
 ghost use Rattle.jr_crew_threads.specs.Faults.{IsRefusal, IsUnmanned};
-ghost use Rattle.jr_crew_books.specs.Settled.{HasSettled};
+ghost use Rattle.jr_crew_books.specs.Finished.{AllFinished};
 ghost use Rattle.jr_crew.specs.Whole.{IsBooked};
 ghost use Rattle.jr_crew_channel.specs.declared.parcel.Parcel.TheVariants.{Stop};
 ghost use Rattle.jr_crew_channel.specs.PassStates.{first_state};
@@ -20,12 +20,12 @@ use crate::held::Shared;
 use crate::verifier::verify;
 use crate::work::{Post, work};
 use jr_crew_books::{
-    Account, Book, are_books, are_numbered, are_own_verdicts, are_said, has_settled,
+    Account, Book, all_finished, are_books, are_numbered, are_own_verdicts, are_said,
 };
 use jr_crew_channel::{Handoff, Pass};
 use jr_crew_threads::{
-    Books, ChannelEnd, Crowd, Ended, Halt, Judged, Judgements, Judges, Naming, RunFault, Seat,
-    Shares, StopFlag, Verifiers, Watch, Worked, Worker, books_of, is_asked, room_for, staff_for,
+    Books, ChannelEnd, Crowd, Halt, Judged, Judgements, Judges, Naming, RunFault, Seat, Shares,
+    StopFlag, Verifiers, Watch, Worked, Worker, WorkerEnd, books_of, is_asked, room_for, staff_for,
 };
 use jr_desk::Desk;
 use jr_engines::Engine;
@@ -108,7 +108,7 @@ fn run_manned<'a, P: Naming + Send + Sync, R: Threads + Wait + Clock + Sync>(
     workers: Vec<Worker<'a, P>>,
     verifiers: Verifiers<'a, P>,
     watch: Watch<'_>,
-) -> Result<(Desk, Vec<Ended<P>>, Judgements<'a, P>), RunFault>
+) -> Result<(Desk, Vec<WorkerEnd<P>>, Judgements<'a, P>), RunFault>
     requires plan { plan ≡ P.plan }
     requires workers { verifiers.workers ≡ length workers.items }
     ensures plan { IfOk result (λ all. all.0.plan ≡ plan) }
@@ -138,7 +138,7 @@ fn gathered<'a, P: Naming>(
     alloc: Global,
     desk: &Desk,
     stop: Option<&StopFlag>,
-    ended: Vec<Ended<P>>,
+    ended: Vec<WorkerEnd<P>>,
     judgements: Judgements<'a, P>,
 ) -> Result<(Vec<Box<dyn Engine + Send>>, Vec<Book>), Halt>
     requires workers { judgements.workers ≡ length ended.items }
@@ -147,7 +147,7 @@ fn gathered<'a, P: Naming>(
     ensures engines { IfOk result (λ both. both.0.items ≡ map (λ one. one.0) ended.items) }
     ensures books { IfOk result (λ both. map Ok both.1.items ≡ map (λ one. one.1.book) ended.items) }
     ensures legal { OnOk result (is_legal desk.now.plan desk.now.history ≡ true) }
-    ensures settled { OnOk result (HasSettled desk.now.history) }
+    ensures settled { OnOk result (AllFinished desk.now.history) }
     ensures complete { stop.entry ≡ None → OnOk result (is_complete desk.now.plan desk.now.history ≡ true) }
     ensures own { judges_inline desk.now.plan ≡ true
         → OnOk result (list_all (is_own_verdict (tickets_of desk.now.plan desk.now.history)) desk.now.history ≡ true) }
@@ -184,7 +184,7 @@ fn man<'a, P: Naming + Send + Sync, R: Threads + Wait + Clock + Sync>(
     inline: bool,
     workers: Vec<Worker<'a, P>>,
     verifiers: Verifiers<'a, P>,
-) -> Result<(Vec<Ended<P>>, Judgements<'a, P>), RunFault>
+) -> Result<(Vec<WorkerEnd<P>>, Judgements<'a, P>), RunFault>
     requires { verifiers.workers ≡ length workers.items }
     ensures failed { IfErr result (IsUnmanned (length verifiers.entry.all.items)) }
     ensures len { IfOk result (λ both. length both.0.items ≡ length workers.entry.items) }
@@ -196,7 +196,7 @@ fn man<'a, P: Naming + Send + Sync, R: Threads + Wait + Clock + Sync>(
     thread::scope(
         thread::scope_env(),
         rt,
-        move |scope| -> Result<(Vec<Ended<P>>, Judgements<P>), RunFault>
+        move |scope| -> Result<(Vec<WorkerEnd<P>>, Judgements<P>), RunFault>
             requires workers { verifiers.workers ≡ length workers.items }
             requires whole { IsLess (verifiers.workers + length verifiers.all.items) first_state (pass_state verifiers.channel.pass) }
             ensures failed { IfErr result (IsUnmanned (length verifiers.entry.all.items)) }
@@ -273,7 +273,7 @@ fn work_all<'a, P: Naming + Send + Sync, R: Threads + Wait + Clock + Sync>(
     inline: bool,
     workers: Vec<Worker<'a, P>>,
     are_judged: bool,
-) -> Result<Vec<Ended<P>>, RunFault>
+) -> Result<Vec<WorkerEnd<P>>, RunFault>
     ensures thread { IsFalse are_judged → result ≡ Err RunFault.Thread }
     ensures memory { IsTrue are_judged → IfErr result (λ fault. fault ≡ RunFault.Memory) }
     ensures len { IfOk result (λ ended. length ended.items ≡ length workers.entry.items) }
@@ -286,7 +286,7 @@ fn work_all<'a, P: Naming + Send + Sync, R: Threads + Wait + Clock + Sync>(
     let ended = thread::map_vec(
         rt,
         workers,
-        &|worker: Worker<P>| -> Ended<P>
+        &|worker: Worker<P>| -> WorkerEnd<P>
             ensures { IfOk result.1.book (λ book. IsWork inline (state worker.entry.0) one_part book
                 (state result.0) (pass_state result.1.part.pass)) }
         { worked_by(rt, shared, alloc, inline, worker) },
@@ -301,7 +301,7 @@ fn worked_by<'a, P: Naming, R: Wait + Clock>(
     alloc: Global,
     inline: bool,
     worker: Worker<'a, P>,
-) -> Ended<P>
+) -> WorkerEnd<P>
     ensures { IfOk result.1.book (λ book. IsWork inline (state worker.entry.0) one_part book
         (state result.0) (pass_state result.1.part.pass)) }
 {
@@ -329,7 +329,7 @@ fn check(
     books: &Books,
 ) -> Result<(), Halt>
     ensures legal { OnOk result (is_legal desk.now.plan desk.now.history ≡ true) }
-    ensures settled { OnOk result (HasSettled desk.now.history) }
+    ensures settled { OnOk result (AllFinished desk.now.history) }
     ensures complete { stop.entry ≡ None → OnOk result (is_complete desk.now.plan desk.now.history ≡ true) }
     ensures own { IsTrue inline
         → OnOk result (list_all (is_own_verdict (tickets_of desk.now.plan desk.now.history)) desk.now.history ≡ true) }
@@ -358,11 +358,11 @@ fn check(
 fn has_ended(desk: &Desk, account: &Account<'_>, stop: Option<&StopFlag>) -> bool
     requires history { account.now.history ≡ desk.now.history }
     requires legal { is_legal account.now.plan account.now.history ≡ true }
-    ensures settled { IsTrue result → HasSettled desk.now.history }
+    ensures settled { IsTrue result → AllFinished desk.now.history }
     ensures complete { stop.entry ≡ None → IsTrue result → is_complete desk.now.plan desk.now.history ≡ true }
 {
     if desk.is_complete() {
         return true;
     }
-    is_asked(stop) && has_settled(account)
+    is_asked(stop) && all_finished(account)
 }

@@ -7,7 +7,7 @@ ghost use Rattle.jr_desk_state.specs.Takes.{HandsOutOwn, is_fitting};
 ghost use Rattle.jr_crew_threads.specs.Halts.{first_cause};
 ghost use Rattle.jr_crew.specs.Working.{CanBeServed, CanStart};
 
-use crate::settled::{Settled, Told};
+use crate::outcomes::{CarriedOut, TakenIn};
 use jr_crew_threads::{
     Crowd, Halt, MOST_BYTES, MOST_IOS, Naming, Shares, Watch, is_asked, note_start, note_verdict,
     push,
@@ -56,7 +56,7 @@ impl<P: Naming> Held<P> {
     }
 
     // Takes in how a worker's ticket ended, and the verdict where the worker judged it.
-    fn take_in<'a>(&mut self, worker: u32, one: &Settled<'a>) -> Result<Told<'a>, DeskFault>
+    fn take_in<'a>(&mut self, worker: u32, one: &CarriedOut<'a>) -> Result<TakenIn<'a>, DeskFault>
         ensures { IfOk result (λ told. told.served.now ≡ one.now.served.now) }
     {
         self.end(one.served)?;
@@ -65,14 +65,14 @@ impl<P: Naming> Held<P> {
     }
 
     // Takes in the verdict, where there is a ruling.
-    fn judge_one<'a>(&mut self, by: u32, one: &Settled<'a>) -> Result<Told<'a>, DeskFault>
+    fn judge_one<'a>(&mut self, by: u32, one: &CarriedOut<'a>) -> Result<TakenIn<'a>, DeskFault>
         ensures { IfOk result (λ told. told.served.now ≡ one.now.served.now) }
     {
         let said = match &one.ruling {
             None => None,
             Some(ruling) => Some(self.judge(by, ruling)?),
         };
-        Ok(Told {
+        Ok(TakenIn {
             served: one.served,
             inline: one.inline,
             said,
@@ -140,14 +140,14 @@ const EAGER_LOOKS: u32 = 10;
 const REST: u64 = 1000;
 
 // What was started: a ticket, or nothing, and how the worker goes on.
-pub enum Started {
+pub enum NextTicket {
     Ticket(Ticket),
-    Nothing(Step),
+    Nothing(GoOn),
 }
 
 // How a worker goes on: with the tickets that it took, not before others have ended something, or not at all.
 #[derive(Clone, Copy)]
-pub enum Step {
+pub enum GoOn {
     Go,
     Wait,
     End,
@@ -250,7 +250,7 @@ impl<'p, P: Naming> Shared<'p, P> {
         rt: &R,
         worker: u32,
         tickets: &mut Vec<Ticket>,
-    ) -> Result<Step, Halt>
+    ) -> Result<GoOn, Halt>
         requires { All CanBeServed tickets.old.items }
         ensures next { OnOk result (All CanBeServed tickets.new.items) }
         ensures memory { IfErr result (λ halt. halt ≡ Halt.Memory) }
@@ -259,7 +259,7 @@ impl<'p, P: Naming> Shared<'p, P> {
         let mut held = self.make_way(rt, held);
         for _ in rt.forever() {
             match self.share(&mut held, worker, tickets)? {
-                Step::Wait => held = self.pause(rt, held),
+                GoOn::Wait => held = self.pause(rt, held),
                 step => return Ok(step),
             }
         }
@@ -332,10 +332,10 @@ impl<'p, P: Naming> Shared<'p, P> {
         &self,
         rt: &R,
         worker: u32,
-        settled: &[Settled<'a>],
-        told: &mut Vec<Told<'a>>,
+        settled: &[CarriedOut<'a>],
+        told: &mut Vec<TakenIn<'a>>,
         tickets: &mut Vec<Ticket>,
-    ) -> Result<Step, Halt>
+    ) -> Result<GoOn, Halt>
         requires { All CanBeServed tickets.old.items }
         ensures told { OnOk result (map (λ one. one.served.now) told.new.items
             ≡ map (λ one. one.served.now) told.old.items ++ map (λ one. one.served.now) settled.now) }
@@ -348,7 +348,7 @@ impl<'p, P: Naming> Shared<'p, P> {
             push(told, said)?;
         }
         if self.is_crowded(&held) {
-            return Ok(Step::Wait);
+            return Ok(GoOn::Wait);
         }
         self.share(&mut held, worker, tickets)
     }
@@ -359,7 +359,7 @@ impl<'p, P: Naming> Shared<'p, P> {
         held: &mut Held<P>,
         worker: u32,
         tickets: &mut Vec<Ticket>,
-    ) -> Result<Step, Halt>
+    ) -> Result<GoOn, Halt>
         requires { All CanBeServed tickets.old.items }
         ensures next { OnOk result (All CanBeServed tickets.new.items) }
         ensures memory { IfErr result (λ halt. halt ≡ Halt.Memory) }
@@ -368,7 +368,7 @@ impl<'p, P: Naming> Shared<'p, P> {
             self.rested.notify_all();
         }
         let step = self.take_share(held, worker, tickets)?;
-        if let Step::End = step {
+        if let GoOn::End = step {
             self.wake_all();
         }
         Ok(step)
@@ -381,7 +381,7 @@ impl<'p, P: Naming> Shared<'p, P> {
         held: &mut Held<P>,
         worker: u32,
         tickets: &mut Vec<Ticket>,
-    ) -> Result<Step, Halt>
+    ) -> Result<GoOn, Halt>
         requires { All CanBeServed tickets.old.items }
         ensures next { OnOk result (All CanBeServed tickets.new.items) }
         ensures memory { IfErr result (λ halt. halt ≡ Halt.Memory) }
@@ -389,20 +389,20 @@ impl<'p, P: Naming> Shared<'p, P> {
         let mut bytes: u64 = 0;
         for taken in 0..MOST_IOS {
             match self.start(held, worker)? {
-                Started::Ticket(ticket) => {
+                NextTicket::Ticket(ticket) => {
                     push(tickets, ticket)?;
                     bytes = bytes.saturating_add(u64::from(ticket.piece.len));
                     let share = self.shares.of(&ticket, held.waiting > 0, held.resting);
                     if taken + 1 >= share || bytes >= MOST_BYTES {
                         self.wake_next(held);
-                        return Ok(Step::Go);
+                        return Ok(GoOn::Go);
                     }
                 }
-                Started::Nothing(step) => return Ok(or_go(taken, step)),
+                NextTicket::Nothing(step) => return Ok(or_go(taken, step)),
             }
         }
         self.wake_next(held);
-        Ok(Step::Go)
+        Ok(GoOn::Go)
     }
 
     // Wakes all workers, for the run has ended.
@@ -425,12 +425,12 @@ impl<'p, P: Naming> Shared<'p, P> {
     }
 
     // Starts one I/O or check, if one may be started.
-    fn start(&self, held: &mut Held<P>, worker: u32) -> Result<Started, Halt>
+    fn start(&self, held: &mut Held<P>, worker: u32) -> Result<NextTicket, Halt>
         ensures can { IfOk result CanStart }
         ensures memory { IfErr result (λ halt. halt ≡ Halt.Memory) }
     {
         if is_asked(self.watch.stop) {
-            return Ok(Started::Nothing(Step::End));
+            return Ok(NextTicket::Nothing(GoOn::End));
         }
         let ticket = match held.take(worker)? {
             Take::Io(ticket) => {
@@ -438,11 +438,11 @@ impl<'p, P: Naming> Shared<'p, P> {
                 ticket
             }
             Take::Probe(ticket) => ticket,
-            Take::Wait => return Ok(Started::Nothing(Step::Wait)),
-            Take::Finished => return Ok(Started::Nothing(Step::End)),
+            Take::Wait => return Ok(NextTicket::Nothing(GoOn::Wait)),
+            Take::Finished => return Ok(NextTicket::Nothing(GoOn::End)),
         };
         held.in_hand = held.in_hand.saturating_add(1);
-        Ok(Started::Ticket(ticket))
+        Ok(NextTicket::Ticket(ticket))
     }
 
     // Takes in the verdicts on checks, one after another.
@@ -450,8 +450,8 @@ impl<'p, P: Naming> Shared<'p, P> {
         &self,
         rt: &R,
         by: u32,
-        settled: &[Settled<'a>],
-        told: &mut Vec<Told<'a>>,
+        settled: &[CarriedOut<'a>],
+        told: &mut Vec<TakenIn<'a>>,
     ) -> Result<(), Halt>
         ensures { OnOk result (map (λ one. one.served.now) told.new.items
             ≡ map (λ one. one.served.now) told.old.items ++ map (λ one. one.served.now) settled.now) }
@@ -474,12 +474,12 @@ impl<'p, P: Naming> Shared<'p, P> {
 }
 
 // How a worker goes on that has taken so many tickets and can't take more.
-fn or_go(taken: u64, step: Step) -> Step {
-    if taken == 0 { step } else { Step::Go }
+fn or_go(taken: u64, step: GoOn) -> GoOn {
+    if taken == 0 { step } else { GoOn::Go }
 }
 
 // Notes the verdict on a check, where there is one.
-fn note_said(watch: &Watch<'_>, told: &Told<'_>) {
+fn note_said(watch: &Watch<'_>, told: &TakenIn<'_>) {
     if let Some(said) = told.said {
         note_verdict(watch.progress, told.served.ticket().piece.len, said);
     }

@@ -3,9 +3,9 @@
 
 mod crew;
 mod held;
+mod outcomes;
 mod ran;
 mod serial;
-mod settled;
 mod verifier;
 mod work;
 

@@ -5,7 +5,7 @@ ghost use Rattle.jr_crew_threads.specs.Judging.{AreChecksOf, IsJudging, IsSaidOf
 ghost use Rattle.jr_crew_threads.specs.Parts.{IsTaker, one_part};
 
 use crate::held::Shared;
-use crate::settled::{note_said, settle_all};
+use crate::outcomes::{note_said, rule_all};
 use jr_crew_books::Said;
 use jr_crew_channel::Parcel;
 use jr_crew_threads::{ChannelEnd, Halt, Judged, Naming, Verifier, push};
@@ -120,7 +120,7 @@ fn judge<P: Naming, R: Wait>(
         return Ok(());
     }
     let mut settled = Vec::new(alloc);
-    settle_all(true, served, &mut settled)?;
+    rule_all(true, served, &mut settled)?;
     let mut told = Vec::with_capacity(alloc, settled.len())?;
     shared.judge(rt, number, &settled, &mut told)?;
     note_said(&told, book)

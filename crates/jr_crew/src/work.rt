@@ -6,8 +6,8 @@ ghost use Rattle.jr_header.specs.Served.{ExpectsOwn};
 ghost use Rattle.jr_crew_channel.specs.declared.parcel.PassState.{PassState};
 ghost use Rattle.jr_crew.specs.Working.{AreAnswered, AreDone, CanBeServed, IsAnswered, IsWork, all_handed_on};
 
-use crate::held::{Shared, Step};
-use crate::settled::{note_all, settle_all};
+use crate::held::{GoOn, Shared};
+use crate::outcomes::{note_all, rule_all};
 use jr_crew_books::Book;
 use jr_crew_threads::{ChannelEnd, Crowd, Halt, Naming, make_room, push};
 use jr_engines::Engine;
@@ -67,12 +67,12 @@ fn work_on<P: Naming, R: Wait + Clock>(
         buffers: Vec::new(post.alloc),
         book: Book::new(post.alloc),
     };
-    let mut step = Step::Wait;
+    let mut step = GoOn::Wait;
     for _ in rt.forever() {
         step = match step {
-            Step::Go => carry_out(rt, post, channel, engine, &mut load)?,
-            Step::Wait => post.shared.next(rt, post.number, &mut load.tickets)?,
-            Step::End => return Ok(load.book),
+            GoOn::Go => carry_out(rt, post, channel, engine, &mut load)?,
+            GoOn::Wait => post.shared.next(rt, post.number, &mut load.tickets)?,
+            GoOn::End => return Ok(load.book),
         };
     }
     unreachable!()
@@ -87,7 +87,7 @@ fn carry_out<P: Naming, R: Wait + Clock>(
     channel: &mut ChannelEnd<'_, P>,
     engine: &mut dyn Engine,
     load: &mut Load,
-) -> Result<Step, Halt>
+) -> Result<GoOn, Halt>
     requires { All CanBeServed load.old.tickets.items }
     ensures worked { OnOk result ((before : EngineState) (first : PassState)
         → IsWork post.now.inline before first load.old.book (state engine.old) (pass_state channel.old.pass)
@@ -104,7 +104,7 @@ fn carry_out<P: Naming, R: Wait + Clock>(
         &mut load.buffers,
     )?;
     load.tickets.clear();
-    let step = settle(rt, post, &served, load)?;
+    let step = exchange(rt, post, &served, load)?;
     part_with(rt, post.inline, channel, served, &mut load.buffers)?;
     Ok(step)
 }
@@ -162,18 +162,18 @@ fn serve<R: Clock>(
 }
 
 // Judges what is judged here, tells the desk, takes what is next, and only then writes into the book: the lock isn't held for it.
-fn settle<P: Naming, R: Wait>(
+fn exchange<P: Naming, R: Wait>(
     rt: &R,
     post: &Post<'_, P>,
     served: &[Served],
     load: &mut Load,
-) -> Result<Step, Halt>
+) -> Result<GoOn, Halt>
     requires { All CanBeServed load.old.tickets.items }
     ensures done { OnOk result (AreDone post.now.inline served.now load.old.book load.new.book) }
     ensures next { OnOk result (All CanBeServed load.new.tickets.items) }
 {
     let mut settled = Vec::new(post.alloc);
-    settle_all(post.inline, served, &mut settled)?;
+    rule_all(post.inline, served, &mut settled)?;
     let mut told = Vec::with_capacity(post.alloc, settled.len())?;
     let step = post
         .shared

@@ -10,8 +10,8 @@ use Rattle.std.proofs.lemmas.List.Elements.{All-head, All-push, All-same, All-ta
 use Rattle.jr_model.specs.declared.contents.Expected.TheVariants.{Nothing}
 use Rattle.jr_model.specs.declared.contents.Method.{Method}
 use Rattle.jr_crew_books.specs.declared.books.Done.{Done}
-use Rattle.jr_crew_books.specs.declared.entries.Entry.{Entry}
-use Rattle.jr_crew_books.specs.declared.entries.Known.{Known}
+use Rattle.jr_crew_books.specs.declared.entries.BookEntry.{BookEntry}
+use Rattle.jr_crew_books.specs.declared.entries.BookValues.{BookValues}
 use Rattle.jr_crew_books.specs.BookEntries.{IsEntryOf, IsGrown, IsKnown, IsLonger, done_as, done_with_last, dones_as, last_of, no_method}
 
 -- what stands in a list stands there with more behind
@@ -45,7 +45,7 @@ last_within known zero some = cc
 last_within known (suc i) some = let below = got_within known i some in omega (arith, below)
 
 -- an entry where more becomes known
-module _ (old new : Known) (grown : IsGrown old new) (entry : Entry) (known : IsKnown old entry) where
+module _ (old new : BookValues) (grown : IsGrown old new) (entry : BookEntry) (known : IsKnown old entry) where
   method_stays : last_of new.methods.items entry.method ≡ last_of old.methods.items entry.method
   method_stays =
       last_stays old.methods.items new.methods.items entry.method grown.methods
@@ -65,11 +65,11 @@ module _ (old new : Known) (grown : IsGrown old new) (entry : Entry) (known : Is
       λ i. done_with_last entry (unwrap_or (method_stays i) no_method) (unwrap_or (expected i) Nothing) (verdict i)
 
 -- and all of them
-module _ (old new : Known) (grown : IsGrown old new) where
-  pub known_more : (entries : List Entry) → All (IsKnown old) entries → All (IsKnown new) entries
+module _ (old new : BookValues) (grown : IsGrown old new) where
+  pub known_more : (entries : List BookEntry) → All (IsKnown old) entries → All (IsKnown new) entries
   known_more entries known = All-weaker (IsKnown old) (IsKnown new) (λ entry is. known_on old new grown entry is) entries known
 
-  pub dones_stay : (entries : List Entry) → All (IsKnown old) entries → dones_as new entries ≡ dones_as old entries
+  pub dones_stay : (entries : List BookEntry) → All (IsKnown old) entries → dones_as new entries ≡ dones_as old entries
   dones_stay [] known = refl
   dones_stay (entry ∷ entries) known =
       let here = stands_on old new grown entry (All-head (IsKnown old) entry entries known) in
@@ -77,7 +77,7 @@ module _ (old new : Known) (grown : IsGrown old new) where
       λ i. here i ∷ rest i
 
   -- one entry more
-  module _ (entries more : List Entry) (entry : Entry) (is : more ≡ entries ++ entry ∷ []) (known : All (IsKnown old) entries) where
+  module _ (entries more : List BookEntry) (entry : BookEntry) (is : more ≡ entries ++ entry ∷ []) (known : All (IsKnown old) entries) where
     pub known_next : (done : Done) → IsEntryOf new done entry → All (IsKnown new) more
     known_next done its =
         All-same (IsKnown new) more (entries ++ entry ∷ []) is

@@ -14,7 +14,7 @@ use Rattle.jr_model.specs.declared.tickets.TicketKind.{TicketKind}
 use Rattle.jr_model.specs.Plan.{Plan}
 use Rattle.jr_desk_tickets.specs.Kept.{tickets_of}
 use Rattle.jr_desk_tickets.proofs.HandingMoves.{ticket_started}
-use Rattle.jr_crew_books.specs.Settled.{HasSettled, is_settled}
+use Rattle.jr_crew_books.specs.Finished.{AllFinished, is_finished}
 
 flown_by : (o : Option Outcome) (io : Started) → is_some o ≡ true → cond (is_none o) (Some io) None ≡ None
 flown_by (Some outcome) io h = refl
@@ -24,7 +24,7 @@ judged_by : (b : Bool) (io : Started) → not b ≡ true → cond b (Some io) No
 judged_by true io h = cc
 judged_by false io h = refl
 
-module _ (history : List Event) (id : ℕ) (io : Started) (settled : is_settled history id io ≡ true) where
+module _ (history : List Event) (id : ℕ) (io : Started) (settled : is_finished history id io ≡ true) where
   abbrev waits : Bool
   waits = is_judged_kind io.kind && ended_whole (outcome_of history id) && not (is_judged history id)
 
@@ -34,7 +34,7 @@ module _ (history : List Event) (id : ℕ) (io : Started) (settled : is_settled 
   judged : if_awaiting history (id, io) ≡ None
   judged = judged_by waits io (and_parts (is_some (outcome_of history id)) (not waits) settled).1
 
-pub all_settled : (history : List Event) → ((id : ℕ) (io : Started) → slice_get (started history) id ≡ Some io → is_settled history id io ≡ true) → HasSettled history
+pub all_settled : (history : List Event) → ((id : ℕ) (io : Started) → slice_get (started history) id ≡ Some io → is_finished history id io ≡ true) → AllFinished history
 all_settled history each = record {
   flown = keeps_none (if_flying history) 0 (started history)
       (λ id io at. let same : id ≡ 0 + id = omega arith in subst (λ (n : ℕ). if_flying history (n, io) ≡ None) same (flown history id io (each id io at)));

@@ -4,7 +4,7 @@ use Rattle.std.specs.List.{cons_option}
 use Rattle.jr_model.specs.declared.events.Event.{Event}
 use Rattle.jr_model.specs.declared.events.Verdict.{Verdict as GivenVerdict}
 use Rattle.jr_crew_books.specs.declared.books.Done.{Done}
-use Rattle.jr_crew_books.specs.declared.accounts.Ending.{Ending}
+use Rattle.jr_crew_books.specs.declared.accounts.BookedEnd.{BookedEnd}
 use Rattle.jr_crew_books.specs.Books.{verdict_in, done_with}
 use Rattle.jr_model.specs.Plan.{Plan}
 use Rattle.jr_desk_tickets.specs.Kept.{tickets_of}
@@ -37,5 +37,5 @@ AreGonePast books places =
     (i : ℕ) (book : List Done) → slice_get books i ≡ Some book → slice_get places i ≡ Some (length book)
 
 -- what was completed where it ended so, if it was handed out
-abbrev pub completed_by : Plan → List Event → Ending → Option Done
+abbrev pub completed_by : Plan → List Event → BookedEnd → Option Done
 completed_by plan history ending = done_with ending.outcome ending.verdict (slice_get (tickets_of plan history) ending.io)

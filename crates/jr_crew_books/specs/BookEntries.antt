@@ -7,8 +7,8 @@ use Rattle.jr_model.specs.declared.contents.Method.{Method}
 use Rattle.jr_model.specs.declared.contents.VerifyKind.TheVariants.{Plain}
 use Rattle.jr_model.specs.declared.events.Verdict.{Verdict}
 use Rattle.jr_crew_books.specs.declared.books.Done.{Done}
-use Rattle.jr_crew_books.specs.declared.entries.Entry.{Entry}
-use Rattle.jr_crew_books.specs.declared.entries.Known.{Known}
+use Rattle.jr_crew_books.specs.declared.entries.BookEntry.{BookEntry}
+use Rattle.jr_crew_books.specs.declared.entries.BookValues.{BookValues}
 
 -- the last of so many; nothing where there are none
 abbrev pub last_of : {X : Type 0} → List X → ℕ → Option X
@@ -16,7 +16,7 @@ last_of known zero = None
 last_of known (suc before) = slice_get known before
 
 -- what an entry stands for, with its method, what its check compares with and its verdict
-abbrev pub done_with_last : Entry → Method → Expected → Option Verdict → Done
+abbrev pub done_with_last : BookEntry → Method → Expected → Option Verdict → Done
 done_with_last entry method expected verdict = record {
   ticket = record {
     id = entry.id;
@@ -37,23 +37,23 @@ abbrev pub no_method : Method
 no_method = record { kind = Plain; pattern = None; interval = 0 }
 
 -- what an entry stands for
-abbrev pub done_as : Known → Entry → Done
+abbrev pub done_as : BookValues → BookEntry → Done
 done_as known entry =
     done_with_last entry (unwrap_or (last_of known.methods.items entry.method) no_method)
     (unwrap_or (last_of known.expected.items entry.expected) Nothing) (last_of known.verdicts.items entry.verdict)
 
 -- what the entries stand for, in their order
-abbrev pub dones_as : Known → List Entry → List Done
+abbrev pub dones_as : BookValues → List BookEntry → List Done
 dones_as known entries = map (done_as known) entries
 
 -- what an entry speaks of is known
-pub record IsKnown (known : Known) (entry : Entry) : Type 0 where
+pub record IsKnown (known : BookValues) (entry : BookEntry) : Type 0 where
   pub method : IsSome (last_of known.methods.items entry.method)
   pub expected : entry.expected ≤ length known.expected.items
   pub verdict : entry.verdict ≤ length known.verdicts.items
 
 -- the entry stands for this
-pub record IsEntryOf (known : Known) (done : Done) (entry : Entry) : Type 0 where
+pub record IsEntryOf (known : BookValues) (done : Done) (entry : BookEntry) : Type 0 where
   pub speaks : IsKnown known entry
   pub same : done_as known entry ≡ done
 
@@ -63,7 +63,7 @@ pub record IsLonger {X : Type 0} (old new : List X) : Type 0 where
   pub is : new ≡ old ++ more
 
 -- more may be known, and all that was known still is
-pub record IsGrown (old new : Known) : Type 0 where
+pub record IsGrown (old new : BookValues) : Type 0 where
   pub methods : IsLonger old.methods.items new.methods.items
   pub expected : IsLonger old.expected.items new.expected.items
   pub verdicts : IsLonger old.verdicts.items new.verdicts.items

@@ -3,4 +3,4 @@ pub mod Accounts
 pub mod BookEntries
 pub mod Books
 pub mod Numbers
-pub mod Settled
+pub mod Finished

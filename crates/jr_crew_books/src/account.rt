@@ -34,7 +34,7 @@ impl<'a> Account<'a> {
     ghost use Rattle.jr_model.specs.History.{started, is_judged_kind};
     ghost use Rattle.jr_model.specs.Legal.{is_legal};
     ghost use Rattle.jr_desk_tickets.specs.Kept.{IsOwn, tickets_of};
-    ghost use Rattle.jr_crew_books.specs.Settled.{is_settled};
+    ghost use Rattle.jr_crew_books.specs.Finished.{is_finished};
 
     /// The account of a run of this plan.
     pub fn new(plan: &'a Plan, history: &'a [Event], tickets: &'a TicketTable) -> Account<'a>
@@ -92,10 +92,10 @@ impl<'a> Account<'a> {
     }
 
     /// Whether the I/O of this number has ended, and has its verdict if it gets one and ended whole.
-    pub fn is_settled(&self, id: IoId) -> bool
+    pub fn is_finished(&self, id: IoId) -> bool
         requires { is_legal self.now.plan self.now.history ≡ true }
         ensures { (io : StartedIo) → slice_get (started self.now.history) id ≡ Some io
-            → result ≡ is_settled self.now.history id io }
+            → result ≡ is_finished self.now.history id io }
     {
         let has_ended = self.tickets.has_ended(id);
         let is_whole = self.tickets.has_ended_whole(id);

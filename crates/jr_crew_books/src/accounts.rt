@@ -16,7 +16,7 @@ use std::alloc::Global;
 
 // How an I/O ended, with the verdict on it where workers judge.
 #[derive(Clone, Copy)]
-pub struct Ending {
+pub struct BookedEnd {
     pub io: IoId,
     pub outcome: Outcome,
     pub verdict: Option<Verdict>,
@@ -147,7 +147,7 @@ fn moves(
     books: &[Book],
     places: &mut [usize],
     at: usize,
-    ending: &Ending,
+    ending: &BookedEnd,
 ) -> bool
     ensures { IsTrue result → (done : Completed) × IsMoved books.now places.old places.new at done
         × (Some done ≡ completed_by account.now.plan account.now.history ending.now) }
@@ -165,7 +165,7 @@ fn moves(
 }
 
 // Whether what it completed stands at that place of the book.
-fn stands_at(account: &Account<'_>, book: &Book, place: usize, ending: &Ending) -> bool
+fn stands_at(account: &Account<'_>, book: &Book, place: usize, ending: &BookedEnd) -> bool
     ensures { IsTrue result → (done : Completed) × (slice_get book.now place ≡ Some done)
         × (Some done ≡ completed_by account.now.plan account.now.history ending.now) }
 {
@@ -176,7 +176,7 @@ fn stands_at(account: &Account<'_>, book: &Book, place: usize, ending: &Ending) 
 }
 
 // Whether this is what it completed.
-fn is_completed(account: &Account<'_>, done: &Done, ending: &Ending) -> bool
+fn is_completed(account: &Account<'_>, done: &Done, ending: &BookedEnd) -> bool
     ensures { IsTrue result → Some done.now ≡ completed_by account.now.plan account.now.history ending.now }
 {
     done.ticket.id == ending.io
@@ -201,7 +201,12 @@ fn are_gone_past(books: &[Book], places: &[usize]) -> bool
 }
 
 // The same as the history has it.
-fn ending_of(table: &[Option<Verdict>], inline: bool, io: IoId, outcome: Outcome) -> Option<Ending>
+fn ending_of(
+    table: &[Option<Verdict>],
+    inline: bool,
+    io: IoId,
+    outcome: Outcome,
+) -> Option<BookedEnd>
     ensures { (history : _) → IsTableOf table.now history
         → IfSome result (λ ending. ending ≡ record {
           io = io;
@@ -210,7 +215,7 @@ fn ending_of(table: &[Option<Verdict>], inline: bool, io: IoId, outcome: Outcome
         }) }
 {
     let verdict = verdict_for(table, inline, io)?;
-    Some(Ending {
+    Some(BookedEnd {
         io,
         outcome,
         verdict,

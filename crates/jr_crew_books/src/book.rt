@@ -1,7 +1,7 @@
 ghost use Rattle.std.specs.Prelude.{◌≡◌, [], ◌∷◌, ◌++◌, OnOk};
 
 use crate::books::Done;
-use crate::entries::{Entry, Known};
+use crate::entries::{BookEntry, BookValues};
 use jr_model::Memory;
 use std::alloc::Global;
 use std::fmt;
@@ -11,8 +11,8 @@ use std::marker::Model;
 /// Contracts see a list of `Done`.
 #[derive(Drop)]
 pub struct Book {
-    entries: Vec<Entry>,
-    known: Known,
+    entries: Vec<BookEntry>,
+    known: BookValues,
 }
 
 impl fmt::Debug for Book {
@@ -43,7 +43,7 @@ impl Book {
     pub fn new(alloc: Global) -> Book
         ensures { result ≡ [] }
     {
-        let known = Known {
+        let known = BookValues {
             methods: Vec::new(alloc),
             expected: Vec::new(alloc),
             verdicts: Vec::new(alloc),

@@ -13,7 +13,7 @@ use jr_model::{
 // What a book keeps of what a worker completed: all of it but its method, what its check compares with and its verdict. Of these
 // it has how many its book knew: its own is the last of so many, and 0 stands for none.
 #[derive(Clone, Copy)]
-pub struct Entry {
+pub struct BookEntry {
     pub seed: u64,
     pub offset: u64,
     pub write: WriteId,
@@ -28,19 +28,19 @@ pub struct Entry {
     pub kind: TicketKind,
 }
 
-const _: () = prove!(size_of::<Entry>() <= 72);
+const _: () = prove!(size_of::<BookEntry>() <= 72);
 
 // What the entries of a book speak of: each that differs from the one before it, once.
 #[derive(Drop)]
-pub struct Known {
+pub struct BookValues {
     pub methods: Vec<Method>,
     pub expected: Vec<Expected>,
     pub verdicts: Vec<Verdict>,
 }
 
-impl Known {
+impl BookValues {
     // The entry of what was completed. What it speaks of is known from now on.
-    pub(crate) fn note(&mut self, done: &Done) -> Result<Entry, Memory>
+    pub(crate) fn note(&mut self, done: &Done) -> Result<BookEntry, Memory>
         ensures grown { IsGrown self.old self.new }
         ensures entry { IfOk result (IsEntryOf self.new done.now) }
     {
@@ -51,7 +51,7 @@ impl Known {
     }
 
     // What was completed, by its entry.
-    pub(crate) fn done_of(&self, entry: &Entry) -> Option<Done>
+    pub(crate) fn done_of(&self, entry: &BookEntry) -> Option<Done>
         requires { IsKnown self.now entry.now }
         ensures { result ≡ Some (done_as self.now entry.now) }
     {
@@ -127,14 +127,14 @@ fn narrow(number: usize) -> Result<u32, Memory>
 }
 
 // The entry of what was completed, where these are its places.
-fn entry_of(done: &Done, method: u32, expected: u32, verdict: u32) -> Entry
+fn entry_of(done: &Done, method: u32, expected: u32, verdict: u32) -> BookEntry
     ensures method { result.method ≡ method }
     ensures expected { result.expected ≡ expected }
     ensures verdict { result.verdict ≡ verdict }
     ensures rest { done_with_last result done.now.ticket.method done.now.ticket.expected done.now.verdict ≡ done.now }
 {
     let ticket = &done.ticket;
-    Entry {
+    BookEntry {
         seed: ticket.seed,
         offset: ticket.piece.offset,
         write: ticket.write,
@@ -151,7 +151,12 @@ fn entry_of(done: &Done, method: u32, expected: u32, verdict: u32) -> Entry
 }
 
 // What was completed, by its entry and by what that speaks of.
-fn done_with(entry: &Entry, method: Method, expected: Expected, verdict: Option<Verdict>) -> Done
+fn done_with(
+    entry: &BookEntry,
+    method: Method,
+    expected: Expected,
+    verdict: Option<Verdict>,
+) -> Done
     ensures { result ≡ done_with_last entry.now method expected verdict }
 {
     let piece = Piece {

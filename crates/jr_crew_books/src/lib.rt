@@ -7,14 +7,14 @@ mod accounts;
 mod book;
 mod books;
 mod entries;
+mod finished;
 mod numbers;
 mod said;
-mod settled;
 
 pub use account::Account;
 pub use accounts::are_books;
 pub use book::Book;
 pub use books::{Done, Said};
+pub use finished::all_finished;
 pub use numbers::{are_numbered, are_own_verdicts};
 pub use said::are_said;
-pub use settled::has_settled;

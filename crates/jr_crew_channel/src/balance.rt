@@ -65,9 +65,9 @@ impl Lesson<Parcel, PassState> for Takes {
 }
 
 // What a pass with every part knows of the parcels that are left.
-pub struct Account;
+pub struct Remainder;
 
-impl Lesson<Parcel, PassState> for Account {
+impl Lesson<Parcel, PassState> for Remainder {
     ghost use Rattle.std.specs.Prelude.{◌++◌};
     ghost use Rattle.std.specs.List.Sorted.{IsPermutation};
 

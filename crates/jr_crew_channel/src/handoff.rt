@@ -1,7 +1,7 @@
 ghost use Rattle.std.specs.Prelude.{◌≡◌};
 ghost use Rattle.crossbeam_channel.specs.Ends.{sends_on, receives_on};
 
-use crate::balance::{Account, Balance, Cut, Puts, Takes};
+use crate::balance::{Balance, Cut, Puts, Remainder, Takes};
 use crate::parcel::{Parcel, PassState};
 use crossbeam_channel::{RuledReceiver, RuledSender, bounded_with};
 use jr_model::Memory;
@@ -149,6 +149,6 @@ impl Handoff {
         ensures all_taken { length (pass_state pass.new).taken ≡ length (pass_state pass.new).put
             → IsPermutation (pass_state pass.new).put (pass_state pass.new).taken }
     {
-        self.sender.learn_as::<Account>(&mut pass.seat);
+        self.sender.learn_as::<Remainder>(&mut pass.seat);
     }
 }

@@ -5,7 +5,7 @@ ghost use Rattle.jr_crew_channel.specs.Passes.{pass_state};
 ghost use Rattle.jr_crew_threads.specs.Judging.{AreSaidOf, IsJudging};
 ghost use Rattle.jr_crew_threads.specs.Parts.{IsMore, IsPutter};
 
-use crate::channels::{ChannelEnd, Part};
+use crate::channels::{ChannelEnd, ChannelPart};
 use crate::halts::Halt;
 use crate::naming::Naming;
 use crate::staff::push;
@@ -18,17 +18,17 @@ use std::thread::Promise;
 #[derive(Drop)]
 pub struct Worked<P: Naming> {
     pub book: Result<Book, Halt>,
-    pub part: Part<P>,
+    pub part: ChannelPart<P>,
 }
 
 /// A worker that has ended: its engine, and the rest.
-pub type Ended<P> = (Box<dyn Engine + Send>, Worked<P>);
+pub type WorkerEnd<P> = (Box<dyn Engine + Send>, Worked<P>);
 
 /// What a verifier brings back: what it said of the checks that it took, and its part of the hand-over.
 #[derive(Drop)]
 pub struct Judged<P: Naming> {
     pub book: Result<Vec<Said>, Halt>,
-    pub part: Part<P>,
+    pub part: ChannelPart<P>,
 }
 
 /// What is known of it once its thread has ended.
@@ -67,7 +67,7 @@ pub struct Books {
 /// The engines and all books, if nobody met a fault. All parts of the hand-over come together: what a verifier took was put.
 pub fn books_of<P: Naming>(
     alloc: Global,
-    ended: Vec<Ended<P>>,
+    ended: Vec<WorkerEnd<P>>,
     judgements: Judgements<'_, P>,
 ) -> Result<Books, Halt>
     requires workers { judgements.workers ≡ length ended.items }
@@ -98,7 +98,7 @@ pub fn books_of<P: Naming>(
 fn worked_books<P: Naming>(
     alloc: Global,
     channel: &mut ChannelEnd<'_, P>,
-    ended: Vec<Ended<P>>,
+    ended: Vec<WorkerEnd<P>>,
 ) -> Result<(Vec<Box<dyn Engine + Send>>, Vec<Book>), Halt>
     requires of { (pass_state channel.old.pass).of ≡ PARTS }
     requires ended { All (λ one. IfOk one.1.book (λ book. IsPutter (pass_state one.1.part.pass))) ended.items }

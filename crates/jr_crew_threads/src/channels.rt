@@ -21,7 +21,7 @@ pub struct ChannelEnd<'a, P: Naming> {
 
 /// What is left of it once its thread has ended: a part of the run's hand-over.
 #[derive(Drop)]
-pub struct Part<P: Naming> {
+pub struct ChannelPart<P: Naming> {
     pub pass: Pass,
     of: PhantomData<P>,
     ghost own: { (handoff : Handoff) → P.handoff ≡ Some handoff → IsPassOf handoff pass },
@@ -60,7 +60,7 @@ impl<'a, P: Naming> ChannelEnd<'a, P> {
     }
 
     /// What its thread leaves when it ends.
-    pub fn into_part(self) -> Part<P>
+    pub fn into_part(self) -> ChannelPart<P>
         ensures { result.pass ≡ self.entry.pass }
     {
         let ChannelEnd {
@@ -68,19 +68,19 @@ impl<'a, P: Naming> ChannelEnd<'a, P> {
             pass,
             of: _,
         } = self;
-        Part {
+        ChannelPart {
             pass,
             of: PhantomData,
         }
     }
 
     /// Takes in the part of a thread that has ended.
-    pub fn join(&mut self, part: Part<P>)
+    pub fn join(&mut self, part: ChannelPart<P>)
         requires { (pass_state self.old.pass).of ≡ (pass_state part.pass).of }
         ensures { let more = pass_state part.pass in
             IsMore more.parts more.put more.taken (pass_state self.old.pass) (pass_state self.new.pass) }
     {
-        let Part { pass, of: _ } = part;
+        let ChannelPart { pass, of: _ } = part;
         self.handoff.join(&mut self.pass, pass);
     }
 

@@ -14,8 +14,8 @@ mod shares;
 mod staff;
 mod watch;
 
-pub use brought::{Books, Ended, Judged, Judgements, Judges, Worked, books_of};
-pub use channels::{ChannelEnd, Part};
+pub use brought::{Books, Judged, Judgements, Judges, Worked, WorkerEnd, books_of};
+pub use channels::{ChannelEnd, ChannelPart};
 pub use crowd::Crowd;
 pub use faults::RunFault;
 pub use halts::Halt;

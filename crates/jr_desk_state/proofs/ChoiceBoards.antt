@@ -20,7 +20,7 @@ use Rattle.jr_model.specs.Rounds.{has_rounds}
 use Rattle.jr_model.specs.Tickets.{piece_fits}
 use Rattle.jr_backlog.specs.Rounds.{Round}
 use Rattle.jr_backlog.specs.CurrentRound.{current_round}
-use Rattle.jr_backlog.specs.Deferred.{is_settled}
+use Rattle.jr_backlog.specs.Deferred.{is_committed}
 use Rattle.jr_writes.specs.declared.logs.Logged.{Logged}
 use Rattle.jr_writes.specs.LoggedWrites.{logged}
 use Rattle.jr_laws_steps.proofs.DrawnLaws.{started_are_drawn-law, started_fit-law}
@@ -92,7 +92,7 @@ module _ (plan : Plan) (board : Board) (is : IsBoard plan board) (c : ℕ) (job 
       pub own_round : HasRound plan history job standing.pass
       own_round = record { planned = is.planned; legal = is.legal; there = own; in_pass = stands.in_pass; rounds = rounds; runs = runs }
 
-      pub round_is : is_settled standing.rounds ≡ true → standing.rounds.round ≡ current_round job history
+      pub round_is : is_committed standing.rounds ≡ true → standing.rounds.round ≡ current_round job history
       round_is settled = sym (settled_is standing.rounds settled) ∙ stands.round rounds runs
 
       module _ (write : WriteId) (left : list_any (same_write write) (current_round job history).to_check ≡ true) where
@@ -167,7 +167,7 @@ Gives plan board standing worker declines write step =
     → list_any (same_write write) (current_round job board.history.items).to_check ≡ true
     → step ≡ take_up_write plan board.history.items worker job write
 
-module _ (plan : Plan) (board : Board) (is : IsBoard plan board) (standing : Standing) (settled : is_settled standing.rounds ≡ true)
+module _ (plan : Plan) (board : Board) (is : IsBoard plan board) (standing : Standing) (settled : is_committed standing.rounds ≡ true)
     (worker : ℕ) (declines : Bool) (place : ℕ) (write : WriteId) (here : slice_get standing.rounds.round.to_check place ≡ Some write)
     (sofar : IsSearched plan board standing worker declines place) where
   abbrev pub round : Round
@@ -211,7 +211,7 @@ module _ (plan : Plan) (board : Board) (is : IsBoard plan board) (standing : Sta
 
 -- nothing is given of the whole round where the search is over
 pub search_over : (plan : Plan) (board : Board) (is : IsBoard plan board) (standing : Standing)
-    (settled : is_settled standing.rounds ≡ true) (worker : ℕ) (declines : Bool) (place : ℕ) → slice_get standing.rounds.round.to_check place ≡ None
+    (settled : is_committed standing.rounds ≡ true) (worker : ℕ) (declines : Bool) (place : ℕ) → slice_get standing.rounds.round.to_check place ≡ None
     → IsSearched plan board standing worker declines place → (c : ℕ) (job : SubJob)
     → clone_of plan c ≡ Some job → slice_get board.standings.items c ≡ Some standing → has_rounds job ≡ true → declines ≡ job.declines
     → is_halted board.history.items job ≡ false

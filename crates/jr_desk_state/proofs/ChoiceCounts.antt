@@ -18,7 +18,7 @@ use Rattle.jr_model.specs.Words.{pass_words}
 use Rattle.jr_model.specs.PlanFacts.{IsPlanned}
 use Rattle.jr_laws_draws.proofs.TheLaw.{pass_law, drawable_of}
 use Rattle.jr_backlog.specs.CurrentRound.{current_round}
-use Rattle.jr_backlog.specs.Deferred.{is_settled}
+use Rattle.jr_backlog.specs.Deferred.{is_committed}
 use Rattle.jr_laws_steps.proofs.DrawnLaws.{all_at}
 use Rattle.jr_laws_steps.proofs.PlaceLemmas.{got_dropped, made_at}
 use Rattle.jr_laws_steps.proofs.StartedLemmas.{same_some}
@@ -118,12 +118,12 @@ module _ (plan : Plan) (board : Board) (is : IsBoard plan board) (c : ℕ) (job 
       free = unblocked (is_halted events job) (has_room events job) (runs_on goes)
           (room_is ∙ lt-ltb (counts.issues + counts.checks) job.depth room)
 
-      round_of : has_rounds job ≡ true → is_settled standing.rounds ≡ true
+      round_of : has_rounds job ≡ true → is_committed standing.rounds ≡ true
           → is_under_way (current_round job events) ≡ is_under_way standing.rounds.round
       round_of rounds settled = sym (ap is_under_way (round_is plan board is c job there standing at rounds (runs_on goes) settled))
 
       -- while its round is under way
-      module _ (rounds : has_rounds job ≡ true) (settled : is_settled standing.rounds ≡ true)
+      module _ (rounds : has_rounds job ≡ true) (settled : is_committed standing.rounds ≡ true)
           (waits : is_under_way standing.rounds.round ≡ true) where
         pub waits_now : is_under_way (current_round job events) ≡ true
         waits_now = round_of rounds settled ∙ waits
@@ -143,7 +143,7 @@ module _ (plan : Plan) (board : Board) (is : IsBoard plan board) (c : ℕ) (job 
             sym (step ∙ step_checks plan events worker job standing.pass free both (quiet_is ∙ eq-eqb counts.issues 0 quiet))
 
       -- and where it isn't, or there are no rounds
-      pub none_waits : has_rounds job ≡ true → is_settled standing.rounds ≡ true → is_under_way standing.rounds.round ≡ false
+      pub none_waits : has_rounds job ≡ true → is_committed standing.rounds ≡ true → is_under_way standing.rounds.round ≡ false
           → (has_rounds job && is_under_way (current_round job events)) ≡ false
       none_waits rounds settled none = not_second (has_rounds job) (is_under_way (current_round job events))
           (round_of rounds settled ∙ none)

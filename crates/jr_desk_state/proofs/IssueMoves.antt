@@ -45,7 +45,7 @@ use Rattle.jr_laws_rounds.proofs.KeptLaws.{kept-law}
 use Rattle.jr_laws_rounds.proofs.KeptSettled.{or_false, ran_before, taken_issued}
 use Rattle.jr_laws_rounds.proofs.StandingPasses.{done_parts, issue_in}
 use Rattle.jr_laws_rounds.proofs.StandingSteps.{starts_in_pass, issue_keeps_pass, next_in_pass, issue_of_pass}
-use Rattle.jr_backlog.specs.Deferred.{Deferred, is_settled, round_now, settled_round, with_draw, with_waiting}
+use Rattle.jr_backlog.specs.Deferred.{Deferred, is_committed, round_now, committed_round, with_draw, with_waiting}
 use Rattle.jr_laws_steps.specs.Nexts.{IsNext, grown}
 use Rattle.jr_desk_state.specs.declared.standings.Issued.{Issued}
 use Rattle.jr_desk_state.specs.declared.standings.Standing.{Standing}
@@ -68,7 +68,7 @@ with_parts round None false none unended = refl
 with_parts round None true none unended = absurd (false≢true unended)
 with_parts round (Some write) ended none unended = absurd (false≢true none)
 
-pub settled_now : (d : Deferred) → is_settled d ≡ true → round_now d ≡ d.round
+pub settled_now : (d : Deferred) → is_committed d ≡ true → round_now d ≡ d.round
 settled_now d settled =
     let parts = and_parts (is_none d.waiting) (not d.ended) settled in
     with_parts d.round d.waiting d.ended parts.0 parts.1
@@ -81,7 +81,7 @@ nothing_at items k x empty at =
 
 pub first_standing : (plan : Plan) (job : SubJob) → IsPlanned plan → clone_of plan job.clone ≡ Some job
     → (standing : Standing) → standing.pass ≡ 0 → standing.draws ≡ draws_of_job job 0 → standing.later ≡ None → standing.issued.items ≡ []
-    → standing.rounds ≡ settled_round (new_round job.backlog)
+    → standing.rounds ≡ committed_round (new_round job.backlog)
     → IsStanding [] job standing
 first_standing plan job planned there standing pass draws later empty rounds =
     record {
@@ -298,7 +298,7 @@ module _ (plan : Plan) (history : List Event) (worker : ℕ) (dir : IssueKind) (
         at_next over (prepared over) ready begun.pass begun.draws begun.later begun.issued
 
     -- its round, where it isn't halted and nothing is to be put in
-    round_is : has_rounds job ≡ true → is_settled standing.rounds ≡ true → standing.rounds.round ≡ current_round job history
+    round_is : has_rounds job ≡ true → is_committed standing.rounds ≡ true → standing.rounds.round ≡ current_round job history
     round_is has settled = sym (settled_now standing.rounds settled) ∙ is.round has runs
 
     has_round : has_rounds job ≡ true → HasRound plan history job standing.pass
@@ -405,7 +405,7 @@ module _ (plan : Plan) (history : List Event) (worker : ℕ) (dir : IssueKind) (
       ∙ ap {B = WriteId} (λ (n : ℕ). record { clone = job.clone; pass = write.pass; number = n }) (sym number)
 
   -- where the clone stands after the issue
-  pub stands_after : (standing at_draw now : Standing) (id : ℕ) → IsStanding history job standing → is_settled standing.rounds ≡ true → IsAt history job write at_draw → id ≡ length (started history)
+  pub stands_after : (standing at_draw now : Standing) (id : ℕ) → IsStanding history job standing → is_committed standing.rounds ≡ true → IsAt history job write at_draw → id ≡ length (started history)
       → now.pass ≡ at_draw.pass → now.draws ≡ drop 1 at_draw.draws → now.later ≡ at_draw.later
       → now.issued.items ≡ at_draw.issued.items ++ record { id = id; is_taken_up = false } ∷ []
       → (has_rounds job ≡ true → now.rounds ≡ with_draw standing.rounds (written dir write) (length now.draws == 0))
@@ -455,7 +455,7 @@ pub issue_fills_by : (plan : Plan) (history : List Event) (worker : ℕ) (dir : 
     → clone_of plan write.clone ≡ Some job
     → has_rounds job ≡ true
     → IsStanding history job standing
-    → is_settled standing.rounds ≡ true
+    → is_committed standing.rounds ≡ true
     → (takes_writes standing.rounds.round ≡ true) × (comes_last standing.rounds.round write ≡ true)
 issue_fills_by plan history worker dir write piece job standing next at has is settled =
     let same : current_round job history ≡ standing.rounds.round = sym (round_is plan history worker dir write piece job next at standing is has settled) in (
@@ -469,7 +469,7 @@ pub issue_fills : (plan : Plan) (history : List Event) (worker : ℕ) (write : W
     → clone_of plan write.clone ≡ Some job
     → has_rounds job ≡ true
     → IsStanding history job standing
-    → is_settled standing.rounds ≡ true
+    → is_committed standing.rounds ≡ true
     → (takes_writes standing.rounds.round ≡ true) × (comes_last standing.rounds.round write ≡ true)
 issue_fills plan history worker write piece = issue_fills_by plan history worker issue.Write write piece
 

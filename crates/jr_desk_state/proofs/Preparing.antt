@@ -9,7 +9,7 @@ use Rattle.jr_model.specs.declared.events.Event.{Event}
 use Rattle.jr_model.specs.Plan.{Plan, SubJob, clone_of}
 use Rattle.jr_laws_steps.proofs.PlaceLemmas.{item_at}
 use Rattle.jr_laws_steps.proofs.StartedLemmas.{got_more, same_some}
-use Rattle.jr_backlog.specs.Deferred.{is_settled}
+use Rattle.jr_backlog.specs.Deferred.{is_committed}
 use Rattle.jr_laws_steps.proofs.Lists.{got_set, got_set_other}
 use Rattle.jr_desk_state.specs.declared.standings.Standing.{Standing}
 use Rattle.jr_desk_state.specs.Boards.{left_of}
@@ -109,7 +109,7 @@ prepared_next plan n job before now old new was at found moves is = record {
 -- all that are prepared are settled
 pub prepared_settled : (plan : Plan) (history : List Event) (standings : List Standing) → AreStanding plan history standings
     → ArePrepared plan standings → (k : ℕ) (standing : Standing) → slice_get standings k ≡ Some standing
-    → is_settled standing.rounds ≡ true
+    → is_committed standing.rounds ≡ true
 prepared_settled plan history standings are prepared k standing got =
     let within : k < length standings = slice_get_within standings k standing got in
     let job = item_at plan.clones k (omega (arith, within, are.count)) in

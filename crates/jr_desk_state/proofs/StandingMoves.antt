@@ -39,7 +39,7 @@ use Rattle.jr_laws_rounds.proofs.KeptSettled.{or_false, ran_before}
 use Rattle.jr_laws_rounds.proofs.StandingFlights.{FliesOf}
 use Rattle.jr_laws_rounds.proofs.StandingPasses.{TakeIn, take_in}
 use Rattle.jr_laws_rounds.proofs.StandingSteps.{other_clone, other_keeps_pass}
-use Rattle.jr_backlog.specs.Deferred.{Deferred, is_settled, round_now, settled_round}
+use Rattle.jr_backlog.specs.Deferred.{Deferred, is_committed, round_now, committed_round}
 use Rattle.jr_laws_steps.specs.Nexts.{IsNext, grown}
 use Rattle.jr_laws_steps.proofs.Lists.{got_set}
 use Rattle.jr_desk_state.specs.declared.standings.Issued.{Issued}
@@ -62,7 +62,7 @@ now_settled round None true h = cc
 now_settled round (Some write) ended h = cc
 
 -- where nothing is to be put in, the round is as it stands
-pub settled_is : (d : Deferred) → is_settled d ≡ true → round_now d ≡ d.round
+pub settled_is : (d : Deferred) → is_committed d ≡ true → round_now d ≡ d.round
 settled_is d h = now_settled d.round d.waiting d.ended h
 
 -- a write of another clone
@@ -245,7 +245,7 @@ module _ (plan : Plan) (h : List Event) (job : SubJob) (s : Standing) (now : IsS
       → w.clone ≡ job.clone
       → w.pass ≡ s.pass
       → is_halted h job ≡ false
-      → is_settled s.rounds ≡ true
+      → is_committed s.rounds ≡ true
       → IsLeft job h w
       → is_to_check s.rounds.round w ≡ true
   left_here w planned legal there own pass runs settled left =
@@ -264,7 +264,7 @@ module _ (plan : Plan) (h : List Event) (job : SubJob) (s : Standing) (now : IsS
   pub skip_left : (worker : ℕ) (write : WriteId)
       → IsNext plan h (Skip worker write)
       → clone_of plan write.clone ≡ Some job
-      → is_settled s.rounds ≡ true
+      → is_committed s.rounds ≡ true
       → is_to_check s.rounds.round write ≡ true
   skip_left worker write next at settled =
       let own = clone_is plan write.clone job next.planned at in
@@ -288,7 +288,7 @@ module _ (plan : Plan) (h : List Event) (job : SubJob) (s : Standing) (now : IsS
       → is_probe io.kind ≡ true
       → clone_of plan io.write.clone ≡ Some job
       → is_halted h job ≡ false
-      → is_settled s.rounds ≡ true
+      → is_committed s.rounds ≡ true
       → is_to_check s.rounds.round io.write ≡ true
   check_left worker id io next at check clone runs settled =
       let own = clone_is plan io.write.clone job next.planned clone in
@@ -400,15 +400,15 @@ module _ (plan : Plan) (h : List Event) (job : SubJob) (s : Standing) (now : IsS
       → IsNext plan h (Skip worker write)
       → clone_of plan write.clone ≡ Some job
       → slice_get s.issued.items write.number ≡ Some old
-      → is_settled s.rounds ≡ true
+      → is_committed s.rounds ≡ true
       → IsStanding (grown h (Skip worker write)) job (record s {
         issued = with_item s.issued write.number (record old { is_taken_up = true });
-        rounds = settled_round (with_passed s.rounds.round write);
+        rounds = committed_round (with_passed s.rounds.round write);
       })
   skip_moves worker write old next at item settled =
       let own = clone_is plan write.clone job next.planned at in
       takes_one plan h (Skip worker write) job next (clone_there plan write.clone job next.planned at) (λ q. refl) s write.number old
-      (settled_round (with_passed s.rounds.round write)) write now
+      (committed_round (with_passed s.rounds.round write)) write now
       (λ name. refl) own (skipped_here worker write next at).0 refl item
       (λ ran.
       ap (λ (round : Round). with_passed round write) (sym (settled_is s.rounds settled))
@@ -421,12 +421,12 @@ module _ (plan : Plan) (h : List Event) (job : SubJob) (s : Standing) (now : IsS
       → slice_get (started h) id ≡ Some io
       → is_probe io.kind ≡ true
       → clone_of plan io.write.clone ≡ Some job
-      → is_settled s.rounds ≡ true
-      → IsStanding (grown h (End worker id Whole)) job (record s { rounds = settled_round (with_passed s.rounds.round io.write) })
+      → is_committed s.rounds ≡ true
+      → IsStanding (grown h (End worker id Whole)) job (record s { rounds = committed_round (with_passed s.rounds.round io.write) })
   check_moves worker id io next at check clone settled =
       let own = clone_is plan io.write.clone job next.planned clone in
       stands_on plan h (End worker id Whole) job next (clone_there plan io.write.clone job next.planned clone) (λ q. refl) s s.issued
-      (settled_round (with_passed s.rounds.round io.write)) now refl
+      (committed_round (with_passed s.rounds.round io.write)) now refl
       (λ k one found. issued_stays h (End worker id Whole) (name_of job s.pass k) one refl (now.issued k one found))
       (λ ran.
       ap (λ (round : Round). with_passed round io.write) (sym (settled_is s.rounds settled))

@@ -11,7 +11,7 @@ use Rattle.jr_model.specs.Plan.{Plan, SubJob, clone_of}
 use Rattle.jr_model.specs.Rounds.{pass_of, issued_count, has_rounds}
 use Rattle.jr_backlog.specs.CurrentRound.{current_round}
 use Rattle.jr_laws_rounds.specs.Standing.{IsInPass}
-use Rattle.jr_backlog.specs.Deferred.{is_settled, round_now}
+use Rattle.jr_backlog.specs.Deferred.{is_committed, round_now}
 use Rattle.jr_desk_state.specs.declared.standings.Issued.{Issued}
 use Rattle.jr_desk_state.specs.declared.standings.Standing.{Standing}
 
@@ -45,7 +45,7 @@ pub record AreStanding (plan : Plan) (history : List Event) (standings : List St
 -- the next draw can be issued without memory: its round is settled, there is room for its number, and where all draws of the
 -- pass were issued those of the next pass are made
 pub record IsPrepared (job : SubJob) (standing : Standing) : Type 0 where
-  pub settled : is_settled standing.rounds ≡ true
+  pub settled : is_committed standing.rounds ≡ true
   pub room : vec_len standing.issued < vec_capacity standing.issued
   pub later : standing.draws ≡ [] → suc standing.pass < job.passes → is_some standing.later ≡ true
 

@@ -8,7 +8,7 @@ ghost use Rattle.jr_model.specs.Plan.{SubJob as Clone, clone_of};
 ghost use Rattle.jr_model.specs.Rounds.{has_rounds, pass_of};
 ghost use Rattle.jr_model.specs.Tickets.{piece_fits};
 ghost use Rattle.jr_backlog.specs.CurrentRound.{current_round};
-ghost use Rattle.jr_backlog.specs.Deferred.{is_settled};
+ghost use Rattle.jr_backlog.specs.Deferred.{is_committed};
 ghost use Rattle.jr_laws_rounds.specs.Standing.{is_under_way, issue_of, next_issue, take_up_write};
 ghost use Rattle.jr_desk_state.specs.Boards.{IsBoard, IsReady};
 ghost use Rattle.jr_desk_state.specs.WriteLogs.{judged_by};
@@ -89,7 +89,7 @@ fn round_step(
 ) -> Option<Chosen>
     requires board { IsBoard plan.now board.now }
     requires ready { IsReady plan.now board.now }
-    requires settled { is_settled standing.now.rounds ≡ true }
+    requires settled { is_committed standing.now.rounds ≡ true }
     ensures step { (clone : ℕ) (job : Clone) → clone_of plan.now clone ≡ Some job
         → slice_get board.now.standings.items clone ≡ Some standing.now
         → has_rounds job ≡ true → declines ≡ job.declines → is_halted board.now.history.items job ≡ false

@@ -8,7 +8,7 @@ ghost use Rattle.jr_model.specs.Legal.{may_happen, is_halted as is_halted_after}
 ghost use Rattle.jr_model.specs.Plan.{Plan as Planned, SubJob as Clone, clone_of};
 ghost use Rattle.jr_header.specs.Served.{ticket_expected};
 ghost use Rattle.jr_backlog.specs.Rounds.{is_to_check};
-ghost use Rattle.jr_backlog.specs.Deferred.{is_settled};
+ghost use Rattle.jr_backlog.specs.Deferred.{is_committed};
 ghost use Rattle.jr_desk_state.specs.Boards.{IsBoard};
 ghost use Rattle.jr_desk_tickets.specs.Kept.{IsOwn};
 ghost use Rattle.jr_laws_steps.specs.Nexts.{IsNext, grown};
@@ -39,7 +39,7 @@ pub fn end(
     plan.facts();
     let clone = ticket.write.clone as usize;
     board.history.reserve(1)?;
-    board.standings[clone].rounds.settle()?;
+    board.standings[clone].rounds.commit()?;
     let raced = board.flying.has_raced(ticket.id);
     log_end(&mut board.log, ticket, outcome, raced, expected)?;
     board.history.push_reserved(Event::End {
@@ -90,7 +90,7 @@ pub fn judge(
 
 // Takes the end of an I/O into where its clone stands: a check that ended whole leaves its round, unless the clone was halted.
 fn check_off(standing: &mut Standing, ticket: &Ticket, outcome: Outcome, is_halted: bool)
-    requires settled { is_settled standing.old.rounds ≡ true }
+    requires settled { is_committed standing.old.rounds ≡ true }
     requires left { is_probe ticket.now.kind ≡ true → outcome ≡ Whole → is_halted ≡ false
         → is_to_check standing.old.rounds.round ticket.now.write ≡ true }
     ensures { (plan : Planned) (history : List Happening) (job : Clone) (worker id : ℕ) (io : Started)

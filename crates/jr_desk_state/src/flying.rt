@@ -17,7 +17,7 @@ use jr_flight::{Ended, Flight, Io};
 use jr_model::{Dir, IoId, Memory, Piece};
 use std::alloc::Global;
 
-// What is in flight. The I/O that began last stands beside the others until the next `settle`, so that to begin it takes
+// What is in flight. The I/O that began last stands beside the others until the next `commit`, so that to begin it takes
 // no memory. What it races with is marked as it begins.
 #[derive(Drop)]
 pub struct Flying {
@@ -37,7 +37,7 @@ impl Flying {
     }
 
     // Puts what began last to the others. A refused call changes nothing.
-    pub fn settle(&mut self) -> Result<(), Memory>
+    pub fn commit(&mut self) -> Result<(), Memory>
         requires { IfSome self.old.begun (CanBegin self.old.flight) }
         ensures kept { OnOk result ((plan : Planned) (history : List Event) → IsFlying plan history self.old → IsFlying plan history self.new) }
         ensures settled { OnOk result (self.new.begun ≡ None) }

@@ -15,7 +15,7 @@ ghost use Rattle.jr_model.specs.Plan.{Plan as Planned, SubJob as Clone, clone_of
 ghost use Rattle.jr_model.specs.Rounds.{has_rounds};
 ghost use Rattle.jr_model.specs.PlanFacts.{IsPlanned};
 ghost use Rattle.jr_backlog.specs.Rounds.{comes_last, is_to_check, takes_writes};
-ghost use Rattle.jr_backlog.specs.Deferred.{is_settled};
+ghost use Rattle.jr_backlog.specs.Deferred.{is_committed};
 ghost use Rattle.jr_laws_steps.specs.Nexts.{IsNext, grown};
 ghost use Rattle.jr_desk_state.specs.Standings.{IsPrepared, IsStanding};
 
@@ -68,7 +68,7 @@ impl Standing {
         ensures prepared { OnOk result (IsPrepared job.now self.new) }
     {
         job.facts();
-        self.rounds.settle()?;
+        self.rounds.commit()?;
         self.issued.reserve(1)?;
         if self.draws.is_over() && self.later.is_none() && self.pass + 1 < job.passes() {
             self.later = Some(DrawsLeft::of_pass(alloc, job, self.pass + 1)?);
@@ -145,7 +145,7 @@ impl Standing {
     // A write is skipped.
     pub fn skip(&mut self, write: WriteId)
         requires there { write.number < length self.old.issued.items }
-        requires settled { is_settled self.old.rounds ≡ true }
+        requires settled { is_committed self.old.rounds ≡ true }
         requires left { is_to_check self.old.rounds.round write ≡ true }
         ensures kept { (plan : Planned) (history : List Event) (job : Clone) (worker : ℕ) → IsNext plan history (Skip worker write)
             → clone_of plan write.clone ≡ Some job → IsStanding history job self.old
@@ -159,7 +159,7 @@ impl Standing {
 
     // The check of a write ended whole, where the clone isn't halted.
     pub fn checked(&mut self, write: WriteId)
-        requires settled { is_settled self.old.rounds ≡ true }
+        requires settled { is_committed self.old.rounds ≡ true }
         requires left { is_to_check self.old.rounds.round write ≡ true }
         ensures { (plan : Planned) (history : List Event) (job : Clone) (worker id : ℕ) (io : Started)
             → IsNext plan history (End worker id Whole)

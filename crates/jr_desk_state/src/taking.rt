@@ -3,7 +3,7 @@ ghost use Rattle.jr_model.specs.declared.events.Event.{Event as Happening};
 ghost use Rattle.jr_model.specs.History.{started};
 ghost use Rattle.jr_model.specs.declared.events.Started.{Started};
 ghost use Rattle.jr_model.specs.Plan.{SubJob as Clone, clone_of};
-ghost use Rattle.jr_backlog.specs.Deferred.{is_settled};
+ghost use Rattle.jr_backlog.specs.Deferred.{is_committed};
 ghost use Rattle.jr_desk_state.specs.Boards.{IsBoard, IsReady, left_of};
 ghost use Rattle.jr_desk_state.specs.Standings.{ArePrepared, AreStanding};
 ghost use Rattle.jr_desk_state.specs.declared.standings.Standing.{Standing as Stood};
@@ -50,7 +50,7 @@ pub fn prepare(alloc: Global, plan: &Plan, board: &mut Board) -> Result<(), Memo
     ensures history { board.new.history.items ≡ board.old.history.items }
     ensures ready { OnOk result (IsReady plan.now board.new) }
 {
-    board.flying.settle()?;
+    board.flying.commit()?;
     board.tickets.reserve()?;
     prepare_standings(alloc, plan, &mut board.standings)?;
     let most = left_in(&board.standings).saturating_add(1);
@@ -110,7 +110,7 @@ fn prepare_standings(
 // How many writes are still to check, where that is a number below the largest.
 fn left_in(standings: &[Standing]) -> usize
     requires settled { (clone : ℕ) (standing : Stood) → slice_get standings.now clone ≡ Some standing
-        → is_settled standing.rounds ≡ true }
+        → is_committed standing.rounds ≡ true }
     ensures { result < 2 ^ 64 - 1 → result ≡ left_of standings.now }
 {
     let mut left = 0usize;

@@ -21,7 +21,7 @@ const STEP: usize = 16;
 
 /// What the launcher did about a file that is to be direct.
 #[derive(Clone, Copy, Debug, PartialEq, Eq)]
-pub enum Made {
+pub enum DirectAnswer {
     /// Its calls go past the system's cache from now on.
     Direct,
     /// Its file system takes no such calls.
@@ -167,14 +167,14 @@ impl Dropper {
     }
 
     /// Has all calls of this open file go past the system's cache.
-    pub fn make_direct(&self, file: &File) -> Made {
+    pub fn make_direct(&self, file: &File) -> DirectAnswer {
         let Ok(request) = format!(in self.alloc; "direct {}\n", file.as_raw_fd()) else {
-            return Made::Nothing;
+            return DirectAnswer::Nothing;
         };
         match self.answer(request.as_bytes()) {
-            Some(DONE) => Made::Direct,
-            Some(REFUSED) => Made::Refused,
-            _ => Made::Nothing,
+            Some(DONE) => DirectAnswer::Direct,
+            Some(REFUSED) => DirectAnswer::Refused,
+            _ => DirectAnswer::Nothing,
         }
     }
 

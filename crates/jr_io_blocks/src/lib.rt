@@ -11,9 +11,9 @@ mod regions;
 mod rooms;
 mod sectors;
 
-pub use droppers::{Cached, Dropper, Hold, Launcher, Made};
+pub use droppers::{Cached, DirectAnswer, Dropper, Hold, Launcher};
 pub use failures::{FailedCall, Failures};
-pub use marks::{FileSync, Marks, Stage};
+pub use marks::{FileSync, SyncMarks, SyncStage};
 pub use moving::{LARGEST_OFFSET, read_whole, write_whole};
 pub use positioned::Positioned;
 pub use rooms::Room;

@@ -12,7 +12,7 @@ use std::sync::atomic::{AtomicU64, Ordering};
 /// Syncs are numbered from 1 in the order that they begin. The mark of a region is the number of the first sync
 /// that began once its last write had ended.
 #[derive(Drop)]
-pub struct Marks {
+pub struct SyncMarks {
     regions: Regions,
     marks: Vec<AtomicU64>,
     // The number of the last sync that has begun.
@@ -28,7 +28,7 @@ pub struct Marks {
 
 /// How far a sync of a file has come.
 #[derive(Clone, Copy, Debug, PartialEq, Eq)]
-pub enum Stage {
+pub enum SyncStage {
     /// It is to begin.
     Begun,
     /// The system has stored what it kept of the file.
@@ -41,60 +41,60 @@ pub enum Stage {
 #[derive(Debug, Drop)]
 pub struct FileSync {
     number: u64,
-    stage: Stage,
+    stage: SyncStage,
 }
 
 impl FileSync {
     fn begun(number: u64) -> FileSync
-        ensures { result.stage ≡ Stage.Begun }
+        ensures { result.stage ≡ SyncStage.Begun }
     {
         FileSync {
             number,
-            stage: Stage::Begun,
+            stage: SyncStage::Begun,
         }
     }
 
     /// The sync once the system has stored what it kept.
     pub fn synced(self) -> FileSync
-        requires { self.stage ≡ Stage.Begun }
-        ensures stage { result.stage ≡ Stage.Synced }
+        requires { self.stage ≡ SyncStage.Begun }
+        ensures stage { result.stage ≡ SyncStage.Synced }
         ensures number { result.number ≡ self.number }
     {
         FileSync {
-            stage: Stage::Synced,
+            stage: SyncStage::Synced,
             ..self
         }
     }
 
     /// The sync once nothing of what it stored is in the system's cache any more, as far as that can be had: so much is left there.
     pub fn ended(self, left: Cached) -> FileSync
-        requires stage { self.stage ≡ Stage.Synced }
+        requires stage { self.stage ≡ SyncStage.Synced }
         requires over { is_over left ≡ true }
-        ensures stage { result.stage ≡ Stage.Ended }
+        ensures stage { result.stage ≡ SyncStage.Ended }
         ensures number { result.number ≡ self.number }
     {
         FileSync {
-            stage: Stage::Ended,
+            stage: SyncStage::Ended,
             ..self
         }
     }
 
     /// In place of a sync, where what was written before it went past the system's cache, in which nothing of the file was seen since.
     pub fn spared(self, left: Cached) -> FileSync
-        requires stage { self.stage ≡ Stage.Begun }
+        requires stage { self.stage ≡ SyncStage.Begun }
         requires nothing { left ≡ Cached.Nothing }
-        ensures stage { result.stage ≡ Stage.Ended }
+        ensures stage { result.stage ≡ SyncStage.Ended }
         ensures number { result.number ≡ self.number }
     {
         self.synced().ended(left)
     }
 }
 
-impl Marks {
+impl SyncMarks {
     /// The marks of a file that is used up to `high`, and was not written.
-    pub fn new(alloc: Global, high: u64) -> Result<Marks, AllocError> {
+    pub fn new(alloc: Global, high: u64) -> Result<SyncMarks, AllocError> {
         let regions = Regions::of(high);
-        Ok(Marks {
+        Ok(SyncMarks {
             regions,
             marks: unmarked(alloc, regions.count)?,
             begun: AtomicU64::new(0),
@@ -135,28 +135,28 @@ impl Marks {
 
     /// A sync of the file that is to begin.
     pub fn begin(&self) -> FileSync
-        ensures { result.stage ≡ Stage.Begun }
+        ensures { result.stage ≡ SyncStage.Begun }
     {
         FileSync::begun(self.begun.fetch_add(1, Ordering::SeqCst).saturating_add(1))
     }
 
     /// The last sync that has stored all that was written before it.
     pub fn last_synced(&self) -> FileSync
-        ensures { result.stage ≡ Stage.Synced }
+        ensures { result.stage ≡ SyncStage.Synced }
     {
         FileSync::begun(self.synced.load(Ordering::SeqCst)).synced()
     }
 
     /// Notes that a sync has stored all that was written before it began.
     pub fn store(&self, sync: &FileSync)
-        requires { sync.now.stage ≡ Stage.Synced }
+        requires { sync.now.stage ≡ SyncStage.Synced }
     {
         raise(&self.synced, sync.number);
     }
 
     /// Notes that a sync has ended: what was written before it began is on the device now, and no longer cached.
     pub fn end(&self, sync: FileSync)
-        requires { sync.stage ≡ Stage.Ended }
+        requires { sync.stage ≡ SyncStage.Ended }
     {
         raise(&self.ended, sync.number);
     }

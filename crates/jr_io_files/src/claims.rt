@@ -5,7 +5,7 @@ use crate::devices::held;
 use crate::directs::Directs;
 use crate::faults::FileFault;
 use crate::file_engine::FileEngine;
-use crate::kept::{Kept, is_kept};
+use crate::kept::{Reserved, is_reserved};
 use crate::lengths::extended;
 use crate::made::Made;
 use crate::making::opened_file;
@@ -61,7 +61,7 @@ pub fn claim_direct<R: Files<File = File>>(
     plan: &Plan,
     claims: Claims,
     directs: Directs<'_>,
-    kept: &[Kept<'_>],
+    kept: &[Reserved<'_>],
 ) -> Result<FileEngine<SharedFile>, Refusal>
     ensures ok { IfOk result (λ engine. IsFresh engine (length plan.now.files)) }
     ensures err { IfErr result (λ refusal. IsOpenFault refusal.fault (length plan.now.files)) }
@@ -83,7 +83,7 @@ fn claimed<R: Files<File = File>>(
     plan: &Plan,
     claims: Claims,
     directs: Directs<'_>,
-    kept: &[Kept<'_>],
+    kept: &[Reserved<'_>],
     made: &mut Vec<Made>,
 ) -> Result<FileEngine<SharedFile>, Refusal>
     ensures ok { IfOk result (λ engine. IsFresh engine (length plan.now.files)) }
@@ -130,15 +130,15 @@ fn unkept<R: Files>(
     alloc: Global,
     plan: &Plan,
     files: &[SharedFile],
-    kept: &[Kept<'_>],
+    kept: &[Reserved<'_>],
 ) -> Result<(), Refusal>
     requires { length files.now ≡ length plan.now.files }
     ensures { IfErr result (λ refusal. IsOpenFault refusal.fault (length plan.now.files)) }
 {
     for (index, file) in files.iter().enumerate() {
-        if is_kept(rt, file, kept) {
+        if is_reserved(rt, file, kept) {
             let name = name_of(alloc, plan, index)?;
-            return Err(refused(index, Why::Kept(name)));
+            return Err(refused(index, Why::Reserved(name)));
         }
     }
     Ok(())

@@ -5,7 +5,7 @@ ghost use Rattle.jr_io_files.specs.Engines.{IsOpenFault};
 use crate::faults::FileFault;
 use crate::opened::{OpenedFile, Sectors};
 use crate::refusals::{Refusal, Why};
-use jr_io_blocks::{Dropper, Made, first_ragged, sector_of};
+use jr_io_blocks::{DirectAnswer, Dropper, first_ragged, sector_of};
 use jr_plan::{Plan, SubJob};
 use std::alloc::Global;
 use std::rt::Files;
@@ -54,9 +54,9 @@ pub(crate) fn as_wanted<R: Files>(
         return Ok(file);
     }
     match asked.make_direct(file.file()) {
-        Made::Nothing => Ok(file),
-        Made::Direct => in_sectors(rt, alloc, plan, index, file),
-        Made::Refused => {
+        DirectAnswer::Nothing => Ok(file),
+        DirectAnswer::Direct => in_sectors(rt, alloc, plan, index, file),
+        DirectAnswer::Refused => {
             let name = String::from_str(alloc, plan.files()[index].name())?;
             Err(refused(index, Why::NotDirect(name)))
         }

@@ -5,7 +5,7 @@ use std::rt::Files;
 
 /// A file that a run has for something else, and that none of its plan's may be.
 #[derive(Clone, Copy, Debug)]
-pub enum Kept<'a> {
+pub enum Reserved<'a> {
     /// One that is there.
     File(Identity),
     /// One that may be there by now, at this path.
@@ -13,11 +13,11 @@ pub enum Kept<'a> {
 }
 
 /// Whether this file is one of these.
-pub(crate) fn is_kept<R: Files>(rt: &R, file: &SharedFile, kept: &[Kept<'_>]) -> bool {
+pub(crate) fn is_reserved<R: Files>(rt: &R, file: &SharedFile, kept: &[Reserved<'_>]) -> bool {
     for one in kept {
         let is_this = match one {
-            Kept::File(identity) => *identity == file.identity(),
-            Kept::At(path) => file.is_at(rt, path),
+            Reserved::File(identity) => *identity == file.identity(),
+            Reserved::At(path) => file.is_at(rt, path),
         };
         if is_this {
             return true;

@@ -21,7 +21,7 @@ pub use directs::Directs;
 pub use faults::FileFault;
 pub use file_engine::FileEngine;
 pub use jr_io_devices::Use;
-pub use kept::Kept;
+pub use kept::Reserved;
 pub use layouts::lay_out;
 pub use refusals::{Act, Refusal, Why};
 pub use shares::{Reads, SharedFile, Unsynced};

@@ -10,7 +10,7 @@ use crate::opened::{FileUses, OpenedFile};
 use crate::refusals::{Act, Refusal, Why};
 use crate::shares::{Reads, SharedFile};
 use crate::uses::{is_checked, is_written};
-use jr_io_blocks::{Failures, Marks};
+use jr_io_blocks::{Failures, SyncMarks};
 use jr_io_devices::{FileNumbers, end_of_links};
 use jr_plan::Plan;
 use std::alloc::Global;
@@ -38,7 +38,7 @@ pub(crate) fn opened_file<R: Files<File = File>>(
     let spec = &plan.files()[index];
     let uses = uses_of(plan, index, reads);
     let has_marks = uses.checked == Some(Reads::Synced);
-    let marks = Marks::new(alloc, if has_marks { spec.high() } else { 0 })?;
+    let marks = SyncMarks::new(alloc, if has_marks { spec.high() } else { 0 })?;
     let failures = Failures::new(alloc)?;
     let name = String::from_str(alloc, spec.name())?;
     let mut act = Act::Open;

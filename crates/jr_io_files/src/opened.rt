@@ -2,7 +2,7 @@ ghost use Rattle.std.specs.Prelude.{◌≡◌, ◌≤◌, IfOk, length};
 
 use crate::layouts::lengthen;
 use crate::shares::Reads;
-use jr_io_blocks::{Cached, Dropper, Failures, FileSync, Marks, Stage, is_whole};
+use jr_io_blocks::{Cached, Dropper, Failures, FileSync, SyncMarks, SyncStage, is_whole};
 use jr_io_devices::FileNumbers;
 use std::fs::{File, OpenFile, OpenOptions, TryLockError};
 use std::io;
@@ -23,7 +23,7 @@ const MOST_DROPS: u32 = 4;
 pub struct OpenedFile {
     file: File,
     numbers: FileNumbers,
-    marks: Marks,
+    marks: SyncMarks,
     is_plain: bool,
     uses: FileUses,
     is_lost: AtomicBool,
@@ -58,7 +58,7 @@ impl OpenedFile {
     /// The file with these marks, no call of which has failed.
     pub fn new(
         file: File,
-        marks: Marks,
+        marks: SyncMarks,
         failures: Failures,
         uses: FileUses,
     ) -> io::Result<OpenedFile> {
@@ -202,7 +202,7 @@ impl OpenedFile {
 
     /// Syncs the file if it was written since it was synced last. A sync that failed before was the failure of the read that
     /// asked for it, and is none here.
-    pub fn settle(&self) -> io::Result<()> {
+    pub fn sync_written(&self) -> io::Result<()> {
         if self.has_cache() && self.keeps().is_ok() && self.marks.is_any_unsynced() {
             self.sync(self.marks.begin())?;
         }
@@ -294,7 +294,7 @@ impl OpenedFile {
 
     // A sync that has stored these bytes as they were last written: the last one if it has, and if no new one is wanted.
     fn synced(&self, offset: u64, len: usize, is_wanted: bool) -> io::Result<FileSync>
-        ensures { IfOk result (λ sync. sync.stage ≡ Stage.Synced) }
+        ensures { IfOk result (λ sync. sync.stage ≡ SyncStage.Synced) }
     {
         if is_wanted || self.marks.is_unsynced(offset, len) {
             self.sync(self.marks.begin())
@@ -330,8 +330,8 @@ impl OpenedFile {
 
     // Has the system write to the device what it keeps of the file.
     fn sync(&self, begun: FileSync) -> io::Result<FileSync>
-        requires { begun.stage ≡ Stage.Begun }
-        ensures { IfOk result (λ sync. sync.stage ≡ Stage.Synced) }
+        requires { begun.stage ≡ SyncStage.Begun }
+        ensures { IfOk result (λ sync. sync.stage ≡ SyncStage.Synced) }
     {
         if let Err(error) = self.sync_data() {
             let _ = self.lost_by.try_set(error);

@@ -27,7 +27,7 @@ pub enum Why {
     Overlap(String, String),
     /// The block device of this name is in use, or a plain file under a loop device.
     /// The run has the file of this name for an output of its own, or one of its streams goes there.
-    Kept(String),
+    Reserved(String),
     /// The block device of this name is in use.
     InUse(String, Use),
     /// Something has claimed the block device of this name, and can't be seen.
@@ -68,7 +68,7 @@ impl fmt::Display for Refusal {
             Why::System(act, name, error) => write!(f, "cannot {act} {name}: {error}"),
             Why::OneFile(first, second) => write!(f, "{first} and {second} are one file"),
             Why::Overlap(first, second) => write!(f, "{first} and {second} have bytes in common"),
-            Why::Kept(name) => write!(
+            Why::Reserved(name) => write!(
                 f,
                 "{name} is also an output of this run, or a stream of the program"
             ),

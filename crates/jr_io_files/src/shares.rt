@@ -212,12 +212,12 @@ impl FileEngine<SharedFile> {
     /// Syncs each file that was written, by any engine that shares it, since it was synced last.
     ///
     /// A fault names the first file of which the system can't store all that was written, if no read has failed for that.
-    pub fn settle(&self) -> Result<(), Unsynced>
+    pub fn sync_written(&self) -> Result<(), Unsynced>
         ensures { IfErr result (λ failed. NamesFile failed.fault (length self.now.files)) }
     {
         let mut settled = Ok(());
         for (index, shared) in self.files().iter().enumerate() {
-            if let Err(error) = shared.file.settle()
+            if let Err(error) = shared.file.sync_written()
                 && settled.is_ok()
             {
                 settled = Err(failed_sync(index, error));

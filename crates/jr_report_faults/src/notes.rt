@@ -22,8 +22,8 @@ impl fmt::Display for FaultNote {
 
     fn fmt<W: fmt::Write>(&self, f: &mut fmt::Formatter<W>) -> fmt::Result {
         let word = kind_word(self.fault.kind);
-        let end = Ended(self.fault.outcome);
-        let place = Place {
+        let end = EndWords(self.fault.outcome);
+        let place = FaultPlace {
             write: self.fault.write,
             piece: self.fault.piece,
             name: self.name.as_str(),
@@ -45,9 +45,9 @@ pub fn kind_word(kind: TicketKind) -> &'static str
 
 // How it ended.
 #[derive(Clone, Copy)]
-struct Ended(Outcome);
+struct EndWords(Outcome);
 
-impl fmt::Display for Ended {
+impl fmt::Display for EndWords {
     ghost use Rattle.std.specs.Prelude.{Some};
     ghost use Rattle.jr_report_faults.specs.Faults.{end_words};
 
@@ -64,13 +64,13 @@ impl fmt::Display for Ended {
 
 // Which I/O it was, and where.
 #[derive(Clone, Copy)]
-struct Place<'a> {
+struct FaultPlace<'a> {
     write: WriteId,
     piece: Piece,
     name: &'a str,
 }
 
-impl<'a> fmt::Display for Place<'a> {
+impl<'a> fmt::Display for FaultPlace<'a> {
     ghost use Rattle.std.specs.Prelude.{Some};
     ghost use Rattle.jr_report_faults.specs.Faults.{place_text};
 

@@ -12,7 +12,7 @@ use Rattle.jr_model.specs.declared.totals.Totals.{Totals}
 use Rattle.jr_model.specs.Plan.{Plan}
 use Rattle.jr_model.specs.Report.{Miscompare}
 use Rattle.jr_report_faults.specs.Faults.{NamedFault}
-use Rattle.jr_report_json.specs.declared.endings.Ending.{Ending}
+use Rattle.jr_report_json.specs.declared.endings.RunStatus.{RunStatus}
 use Rattle.jr_report_json.specs.Json.{RunEnd, clones_json, count_json, faults_json, is_bad_read, miscompare_json, natural}
 
 abbrev pub text_of : Option (Bor (String Global)) → Option (List ℕ)
@@ -66,7 +66,7 @@ abbrev pub member_text : List ℕ → List ℕ → Data → List ℕ
 member_text before name d = before ++ (quoted name ++ 58 ∷ compact_text d)
 
 -- how the run ended
-abbrev pub ending_of : Ending → RunEnd
+abbrev pub ending_of : RunStatus → RunEnd
 ending_of ending = record {
   version = ending.version.now;
   status = ending.status;

@@ -1,6 +1,6 @@
 /// How a run ended.
 #[derive(Clone, Copy, Debug)]
-pub struct Ending<'a> {
+pub struct RunStatus<'a> {
     /// The version of the program that ran.
     pub version: &'a str,
     /// Its exit status.

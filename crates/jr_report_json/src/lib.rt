@@ -5,5 +5,5 @@ mod endings;
 mod rows;
 mod texts;
 
-pub use endings::Ending;
+pub use endings::RunStatus;
 pub use texts::json_text;

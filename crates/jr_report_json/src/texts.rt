@@ -9,7 +9,7 @@ ghost use Rattle.serde_json.specs.Data.{boolean, string};
 ghost use Rattle.serde_json.specs.View.{view};
 ghost use Rattle.serde_json.specs.Written.{compact_text, has_float};
 
-use crate::endings::Ending;
+use crate::endings::RunStatus;
 use crate::rows::{clone_row, fault_row, is_bad_read, miscompare_row};
 use jr_desk_totals::Bad;
 use jr_model::{Memory, Totals, push_number, push_text};
@@ -27,7 +27,7 @@ pub fn json_text(
     bads: &[Bad],
     faults: &Faults,
     reasons: &[Option<String>],
-    ending: &Ending<'_>,
+    ending: &RunStatus<'_>,
 ) -> Result<Vec<u8>, Memory>
     ensures { IfOk result (λ text. text.items ≡ compact_text (report_json (ending_of ending.now) plan.now totals.now
         (map miscompare_of bads.now) (map named faults.now.first.items) (texts_of reasons.now) faults.now.more) ++ codes "\n") }
@@ -56,7 +56,7 @@ fn push_head(
     alloc: Global,
     faults: &[FaultNote],
     reasons: &[Option<String>],
-    ending: &Ending<'_>,
+    ending: &RunStatus<'_>,
 ) -> Result<(), Memory>
     ensures { OnOk result (text.new.items ≡ text.old.items
         ++ head_text (ending_of ending.now) (map named faults.now) (texts_of reasons.now)) }
@@ -106,7 +106,7 @@ fn push_found(
 }
 
 // The members behind them.
-fn push_end(text: &mut Vec<u8>, more: u64, ending: &Ending<'_>) -> Result<(), Memory>
+fn push_end(text: &mut Vec<u8>, more: u64, ending: &RunStatus<'_>) -> Result<(), Memory>
     ensures { OnOk result (text.new.items ≡ text.old.items ++ end_text (ending_of ending.now) more) }
 {
     push_text(text, ",\"more_faults\":")?;

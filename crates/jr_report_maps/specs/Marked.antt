@@ -4,7 +4,7 @@ use Rattle.std.specs.List.{filter_map}
 use Rattle.jr_model.specs.declared.events.Event.{Event}
 use Rattle.jr_model.specs.Plan.{Plan}
 use Rattle.jr_report_maps.specs.declared.files.FileMarks.{FileMarks}
-use Rattle.jr_report_maps.specs.declared.files.Marks.{Marks}
+use Rattle.jr_report_maps.specs.declared.files.ByteMarks.{ByteMarks}
 use Rattle.jr_report_maps.specs.Maps.{marked, Said, said_of}
 use Rattle.jr_report_maps.specs.declared.fates.Fate.{Fate}
 use Rattle.jr_report_maps.specs.declared.fates.Fate.TheVariants.{Untouched}
@@ -19,13 +19,13 @@ on_file file (Some said) = if said.piece.file == file then Some said else None
 abbrev pub said_in : Plan → List Event → ℕ → List Event → List Said
 said_in plan history file events = filter_map (λ event. on_file file (said_of plan history event)) events
 
-abbrev pub saids_of : Marks → List Said
+abbrev pub saids_of : ByteMarks → List Said
 saids_of marks = map said_by marks.items.items
 
 -- so many events of a history are looked up, for so many files
-pub record AreMarksIn (plan : Plan) (history : List Event) (n : ℕ) (events : List Event) (files : List Marks) : Type 0 where
+pub record AreMarksIn (plan : Plan) (history : List Event) (n : ℕ) (events : List Event) (files : List ByteMarks) : Type 0 where
   pub count : length files ≡ n
-  pub each : (file : ℕ) (d : Marks) → file < n → saids_of (slice_index_or files file d) ≡ said_in plan history file events
+  pub each : (file : ℕ) (d : ByteMarks) → file < n → saids_of (slice_index_or files file d) ≡ said_in plan history file events
 
 -- all of them, for the files of the plan
 abbrev pub AreMarksOf : Plan → List Event → FileMarks → Type 0

@@ -9,7 +9,7 @@ ghost use Rattle.jr_report_maps.specs.Marked.{AreMarksOf, fate_by, saids_of};
 ghost use Rattle.jr_report_maps.specs.Spans.{said_by};
 
 use crate::fates::{Fate, worse};
-use crate::files::{FileMarks, Marks};
+use crate::files::{ByteMarks, FileMarks};
 use crate::marks::Mark;
 use crate::spans::{end_block, first_block, has_bytes};
 use jr_model::{LARGEST_END, Memory, SECTOR};
@@ -92,7 +92,7 @@ fn paint_file(fates: &mut [Fate], marks: &FileMarks, file: u32, size: u64)
 }
 
 // Paints these over cells that nothing is said of.
-fn paint_all(fates: &mut [Fate], marks: &Marks, file: u32, size: u64)
+fn paint_all(fates: &mut [Fate], marks: &ByteMarks, file: u32, size: u64)
     requires size { SECTOR ≤ size }
     requires blank { (cell : ℕ) (d : Shown) → cell < length fates.old
         → slice_index_or fates.old cell d ≡ Fate.Untouched }

@@ -9,7 +9,7 @@ ghost use Rattle.jr_report_maps.specs.Told.{IsTold};
 
 use crate::fates::Fate;
 use crate::spans::{Span, bad_bytes, whole};
-use crate::told::Told;
+use crate::told::Lookups;
 use jr_model::{Event, Outcome, Started, TicketKind, Verdict, WriteId};
 use jr_plan::Plan;
 use jr_replay_history::is_fault;
@@ -21,7 +21,7 @@ pub(crate) struct Mark {
     pub fate: Fate,
 }
 
-pub(crate) fn mark_of(told: &Told, plan: &Plan, event: &Event) -> Option<Mark>
+pub(crate) fn mark_of(told: &Lookups, plan: &Plan, event: &Event) -> Option<Mark>
     ensures { (history : List Happened) → IsTold history told.now
         → option_map said_by result ≡ said_of plan.now history event.now }
 {
@@ -37,7 +37,7 @@ pub(crate) fn mark_of(told: &Told, plan: &Plan, event: &Event) -> Option<Mark>
 }
 
 // What the end of an I/O says.
-fn end_mark(told: &Told, outcome: Outcome, io: Option<Started>) -> Option<Mark>
+fn end_mark(told: &Lookups, outcome: Outcome, io: Option<Started>) -> Option<Mark>
     ensures { (history : List Happened) → IsTold history told.now → option_map said_by result ≡ said_by_end history outcome io }
 {
     let io = io?;
@@ -84,7 +84,7 @@ fn fate_of_verdict(verdict: Verdict) -> Fate
 }
 
 // Of an I/O that ended whole.
-fn fate_of_whole(told: &Told, kind: TicketKind, write: &WriteId) -> Fate
+fn fate_of_whole(told: &Lookups, kind: TicketKind, write: &WriteId) -> Fate
     ensures { (history : List Happened) → IsTold history told.now → result ≡ fate_of_whole history kind write.now }
 {
     match kind {
@@ -94,7 +94,7 @@ fn fate_of_whole(told: &Told, kind: TicketKind, write: &WriteId) -> Fate
     }
 }
 
-fn fate_of_write(told: &Told, write: &WriteId) -> Fate
+fn fate_of_write(told: &Lookups, write: &WriteId) -> Fate
     ensures { (history : List Happened) → IsTold history told.now → result ≡ fate_of_write history write.now }
 {
     if is_skipped(told, write) {
@@ -106,13 +106,13 @@ fn fate_of_write(told: &Told, write: &WriteId) -> Fate
     Fate::Unchecked
 }
 
-fn is_skipped(told: &Told, write: &WriteId) -> bool
+fn is_skipped(told: &Lookups, write: &WriteId) -> bool
     ensures { (history : List Happened) → IsTold history told.now → result ≡ list_any (skips write.now) history }
 {
     told.skipped.contains(write)
 }
 
-fn is_judged(told: &Told, write: &WriteId) -> bool
+fn is_judged(told: &Lookups, write: &WriteId) -> bool
     ensures { (history : List Happened) → IsTold history told.now → result ≡ list_any (judges (started history) write.now) history }
 {
     told.judged.contains(write)

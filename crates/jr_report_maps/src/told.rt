@@ -14,7 +14,7 @@ use std::collections::HashSet;
 
 // What is looked up of a history while a map is made.
 #[derive(Drop)]
-pub(crate) struct Told {
+pub(crate) struct Lookups {
     // All I/Os and checks that were started, each at the place of its number.
     pub ios: Vec<Started>,
     // The writes that were skipped.
@@ -23,14 +23,14 @@ pub(crate) struct Told {
     pub judged: HashSet<WriteId>,
 }
 
-impl Told {
-    pub(crate) fn new(alloc: Global, history: &[Event]) -> Result<Told, Memory>
+impl Lookups {
+    pub(crate) fn new(alloc: Global, history: &[Event]) -> Result<Lookups, Memory>
         ensures { IfOk result (IsTold history.now) }
     {
         let ios = started(alloc, history)?;
         let skipped = skipped_in(alloc, history)?;
         let judged = judged_in(alloc, ios.as_slice(), history)?;
-        Ok(Told {
+        Ok(Lookups {
             ios,
             skipped,
             judged,

@@ -13,4 +13,4 @@ mod styles;
 mod tables;
 
 pub use laws::{nothing_comes_raw, nothing_is_hidden};
-pub use pages::{Findings, page};
+pub use pages::{PageFindings, page};

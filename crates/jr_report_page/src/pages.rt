@@ -21,7 +21,7 @@ const LEAST_CELLS: u32 = 64;
 
 /// What came of a run.
 #[derive(Clone, Copy, Debug)]
-pub struct Findings<'a> {
+pub struct PageFindings<'a> {
     /// What was run.
     pub plan: &'a Plan,
     /// All that happened, the oldest first.
@@ -37,7 +37,7 @@ pub struct Findings<'a> {
 }
 
 /// A page that shows a run. Of its text no more is said than its parts' contracts say.
-pub fn page(alloc: Global, found: &Findings<'_>) -> Result<Vec<u8>, Memory> {
+pub fn page(alloc: Global, found: &PageFindings<'_>) -> Result<Vec<u8>, Memory> {
     let mut page = String::new(alloc);
     let bads = by_write(alloc, found.bads)?;
     push_head(&mut page, &Status::of(found.totals, found.is_interrupted))?;
@@ -84,7 +84,7 @@ fn push_head(page: &mut String, status: &Status) -> Result<(), AllocError> {
 fn push_maps(
     alloc: Global,
     page: &mut String,
-    found: &Findings<'_>,
+    found: &PageFindings<'_>,
     bads: &[Bad],
 ) -> Result<(), Memory> {
     push_legend(page)?;
@@ -140,7 +140,11 @@ fn push_file(
     Ok(())
 }
 
-fn push_tables(page: &mut String, found: &Findings<'_>, bads: &[Bad]) -> Result<(), AllocError> {
+fn push_tables(
+    page: &mut String,
+    found: &PageFindings<'_>,
+    bads: &[Bad],
+) -> Result<(), AllocError> {
     push_totals_table(page, found)?;
     if !bads.is_empty() {
         push_bads_table(page, found.plan, bads)?;
@@ -151,7 +155,7 @@ fn push_tables(page: &mut String, found: &Findings<'_>, bads: &[Bad]) -> Result<
     push_plan_table(page, found.plan)
 }
 
-fn push_totals_table(page: &mut String, found: &Findings<'_>) -> Result<(), AllocError> {
+fn push_totals_table(page: &mut String, found: &PageFindings<'_>) -> Result<(), AllocError> {
     page.push_str(
         "<h2>Totals</h2>\n<div class=\"table\"><table class=\"totals\">\n<tr><th>job</th><th>clone</th><th>reads</th>",
     )?;

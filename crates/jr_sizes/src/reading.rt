@@ -13,12 +13,12 @@ use jr_text::number;
 pub const MOST_ENTRIES: usize = 64;
 
 // A size and a percent, which may be left open.
-pub type Entry = (u32, Option<u8>);
+pub type SplitEntry = (u32, Option<u8>);
 
 // The entries of a text, in an array of which only the first ones count.
 #[derive(Clone, Copy)]
 pub struct Entries {
-    pub(crate) entries: [Entry; 64],
+    pub(crate) entries: [SplitEntry; 64],
     pub(crate) count: usize,
 }
 
@@ -44,7 +44,7 @@ fn percent_in(text: &str) -> Result<Option<u8>, SplitFault>
     }
 }
 
-fn entry_with(size: &str, percent: &str) -> Result<Entry, SplitFault>
+fn entry_with(size: &str, percent: &str) -> Result<SplitEntry, SplitFault>
     ensures value { result ≡ entry_with (small_size (number_of size.now)) (percent_in percent.now) }
     ensures most { IfOk result (λ entry. IfSome entry.1 (λ n. n ≤ 100)) }
 {
@@ -53,7 +53,7 @@ fn entry_with(size: &str, percent: &str) -> Result<Entry, SplitFault>
     Ok((size, percent))
 }
 
-fn entry_of(text: &str) -> Result<Entry, SplitFault>
+fn entry_of(text: &str) -> Result<SplitEntry, SplitFault>
     ensures value { result ≡ entry_of text.now }
     ensures most { IfOk result (λ entry. IfSome entry.1 (λ n. n ≤ 100)) }
 {
@@ -88,7 +88,7 @@ pub(crate) fn entries_of(text: &str) -> Result<Entries, SplitFault>
 }
 
 // The percents that are given, all together.
-pub(crate) fn given_total(entries: &[Entry]) -> u32
+pub(crate) fn given_total(entries: &[SplitEntry]) -> u32
     requires count { length entries.now ≤ 64 }
     requires most { All (λ entry. IfSome entry.1 (λ n. n ≤ 100)) entries.now }
     ensures { result ≡ given_total entries.now }
@@ -101,7 +101,7 @@ pub(crate) fn given_total(entries: &[Entry]) -> u32
 }
 
 // How many percents are left open.
-pub(crate) fn blank_count(entries: &[Entry]) -> usize
+pub(crate) fn blank_count(entries: &[SplitEntry]) -> usize
     ensures { result ≡ blank_count entries.now }
 {
     entries.iter().filter(|entry| entry.1.is_none()).count()
@@ -121,7 +121,7 @@ fn share_step(each: u8, extra: u8, percent: Option<u8>) -> (u8, u8)
 }
 
 // The entries with their percents: each blank one gets `each`, and the first `extra` of them one more.
-pub(crate) fn shared(entries: &[Entry], each: u8, extra: u8) -> [(u32, u8); 64]
+pub(crate) fn shared(entries: &[SplitEntry], each: u8, extra: u8) -> [(u32, u8); 64]
     requires count { length entries.now ≤ 64 }
     requires most { each ≤ 100 }
     ensures { result ≡ padded (share each extra entries.now) }

@@ -3,7 +3,7 @@ ghost use Rattle.jr_sizes.specs.Splits.{split_of, shared};
 
 use crate::faults::SplitFault;
 use crate::reading::{
-    Entry, MOST_ENTRIES, blank_count, colon_count, entries_of, given_total, shared,
+    MOST_ENTRIES, SplitEntry, blank_count, colon_count, entries_of, given_total, shared,
 };
 use jr_plan::Split;
 
@@ -35,7 +35,7 @@ fn split_in(text: &str) -> Result<Split, SplitFault>
 }
 
 // The split of some entries, of which some may leave their percent open.
-fn shared_split(entries: &[Entry]) -> Result<Split, SplitFault>
+fn shared_split(entries: &[SplitEntry]) -> Result<Split, SplitFault>
     requires least { 1 ≤ length entries.now }
     requires count { length entries.now ≤ 64 }
     requires most { All (λ entry. IfSome entry.1 (λ n. n ≤ 100)) entries.now }

@@ -8,11 +8,11 @@ use std::marker::Model;
 
 /// How many bytes a plan's jobs read and write, and read back to check them. Some checks may be skipped, as overwritten.
 #[derive(Clone, Copy)]
-pub struct Extent {
+pub struct PlanBytes {
     bytes: u64,
 }
 
-impl Model for Extent {
+impl Model for PlanBytes {
     ghost use Rattle.std.specs.Prelude.{ℕ};
 
     ghost Value = { ℕ };
@@ -22,17 +22,17 @@ impl Model for Extent {
     ghost inverse = { λ n. record { bytes = n } };
 }
 
-impl Extent {
+impl PlanBytes {
     ghost use Rattle.jr_system.specs.Extents.{extent_of};
 
-    pub fn of(plan: &Plan) -> Extent
+    pub fn of(plan: &Plan) -> PlanBytes
         ensures { result ≡ extent_of plan.now.clones }
     {
         let mut bytes = 0;
         for place in 0..plan.clones() {
             bytes += bytes_of(plan.clone_at(place));
         }
-        Extent { bytes }
+        PlanBytes { bytes }
     }
 
     /// How many hundredths of them so many are.

@@ -1,18 +1,20 @@
-// The files of a run: taken before it begins, shared by its engines, and settled at its end.
+// The files of a run: taken before it begins, shared by its engines, and closed at its end.
 ghost use Rattle.std.specs.Prelude.{◌≡◌, ◌⊎◌, length, map, IfOk, IfErr, IfSome, vec_len};
 ghost use Rattle.std.specs.List.{range_with_len};
 ghost use Rattle.std.specs.Option.{option_copied};
 ghost use Rattle.jr_job_direct.specs.Wishes.{wish_of};
 ghost use Rattle.jr_system.specs.Wanted.{wishes_of};
 
+use crate::closed::Closed;
 use crate::remarks::{Remarks, reasons_of};
-use crate::settled::Settled;
 use crate::show::Screen;
 use crate::stops::Stop;
 use jr_cli_words::{Choice, CliFault};
 use jr_escape::Escaped;
 use jr_io_blocks::{Dropper, Launcher};
-use jr_io_files::{Claims, Directs, FileEngine, Kept, Reads, Refusal, SharedFile, claim_direct};
+use jr_io_files::{
+    Claims, Directs, FileEngine, Reads, Refusal, Reserved, SharedFile, claim_direct,
+};
 use jr_job_direct::{Wish, wish_of};
 use jr_model::EngineKind;
 use jr_plan::Plan;
@@ -76,7 +78,7 @@ pub fn take_files<'a, R: Files<File = File> + AllocGlobal + Screen>(
     plan: &Plan,
     choice: &Choice<'a>,
     wishes: &[Wish],
-    kept: &[Kept<'_>],
+    kept: &[Reserved<'_>],
 ) -> Result<Taken<'a>, Stop>
     ensures { IfErr result (λ fault. (fault ≡ CliFault.Open) ⊎ (fault ≡ CliFault.Memory)) }
 {
@@ -108,7 +110,7 @@ fn claimed<R: Files<File = File> + AllocGlobal>(
     plan: &Plan,
     choice: &Choice<'_>,
     wishes: &[Wish],
-    kept: &[Kept<'_>],
+    kept: &[Reserved<'_>],
 ) -> Result<FileEngine<SharedFile>, Refusal> {
     let claims = Claims {
         reads: if choice.cached {
@@ -148,7 +150,7 @@ fn claim_wanted<'x, R: Files<File = File> + AllocGlobal>(
     claims: Claims,
     wanted: &'x [bool],
     asked: Option<&'x Dropper>,
-    kept: &[Kept<'_>],
+    kept: &[Reserved<'_>],
 ) -> Result<FileEngine<SharedFile>, Refusal> {
     let directs = Directs { wanted, asked };
     claim_direct(rt, rt.alloc(), plan, claims, directs, kept)
@@ -207,9 +209,9 @@ impl<'a> Taken<'a> {
     }
 
     /// Tells the faults of a run that has ended, has all that it wrote synced, and answers what the system said of the files.
-    pub fn settled<R: Eprint + AllocGlobal>(&self, rt: &R, faults: &Faults) -> Result<Settled, Stop>
-        ensures reasons { IfOk result (λ settled. vec_len settled.reasons ≡ vec_len faults.now.first) }
-        ensures unstored { IfOk result (λ settled. IfSome settled.unstored (λ stop. stop ≡ CliFault.Write)) }
+    pub fn close<R: Eprint + AllocGlobal>(&self, rt: &R, faults: &Faults) -> Result<Closed, Stop>
+        ensures reasons { IfOk result (λ closed. vec_len closed.reasons ≡ vec_len faults.now.first) }
+        ensures unstored { IfOk result (λ closed. IfSome closed.unstored (λ stop. stop ≡ CliFault.Write)) }
         ensures failed { IfErr result (λ fault. fault ≡ CliFault.Memory) }
     {
         self.remarks.faults(rt, &self.files, faults);
@@ -217,11 +219,11 @@ impl<'a> Taken<'a> {
         let Ok(reasons) = reasons_of(rt.alloc(), &self.files, faults) else {
             return Err(Stop::from(CliFault::Memory));
         };
-        let unstored = match self.files.settle() {
+        let unstored = match self.files.sync_written() {
             Ok(()) => None,
             Err(failed) => Some(self.remarks.unsettled(rt.alloc(), &failed)),
         };
-        Ok(Settled {
+        Ok(Closed {
             reasons,
             cached: self.cached(),
             unstored,

@@ -2,7 +2,7 @@
 ghost use Rattle.std.specs.Prelude.{◌≡◌, ◌⊎◌, None, IfSome};
 
 use crate::asked::Asked;
-use crate::extents::Extent;
+use crate::extents::PlanBytes;
 use crate::machine::Machine;
 use jr_cli_words::Wipe;
 use jr_crew_threads::{Progress, Watch};
@@ -85,7 +85,7 @@ impl Pace {
 /// for. `f` is handed the meter, to end that before the report; else it ends with `f`.
 pub fn shown<R: Machine, T, F: for<'p> FnOnce(Watch<'p>, &'p Meter) -> T>(
     rt: &R,
-    extent: Extent,
+    extent: PlanBytes,
     asked: &Arc<Asked, Global>,
     f: F,
 ) -> T
@@ -154,16 +154,16 @@ impl fmt::Display for Gauge {
 /// What measures a run that goes on, and shows it.
 #[derive(Drop)]
 pub struct Meter {
-    extent: Extent,
+    extent: PlanBytes,
     progress: Progress,
     begun: Option<Instant>,
-    stage: Mutex<Stage>,
+    stage: Mutex<LineState>,
     is_over: AtomicBool,
 }
 
 // What stands on the terminal of a run.
 #[derive(Clone, Copy, PartialEq, Eq)]
-enum Stage {
+enum LineState {
     // Nothing.
     Blank,
     // A line without its end.
@@ -172,18 +172,18 @@ enum Stage {
 
 impl Meter {
     // Of a run of this extent that begins now.
-    fn new<R: Clock>(rt: &R, extent: Extent) -> Meter {
+    fn new<R: Clock>(rt: &R, extent: PlanBytes) -> Meter {
         Meter {
             extent,
             progress: Progress::new(),
             begun: Instant::now(rt).ok(),
-            stage: Mutex::new(Stage::Blank),
+            stage: Mutex::new(LineState::Blank),
             is_over: AtomicBool::new(false),
         }
     }
 
     // The same for two threads, if there is memory for it.
-    fn shared<R: Clock + AllocGlobal>(rt: &R, extent: Extent) -> Option<Arc<Meter, Global>> {
+    fn shared<R: Clock + AllocGlobal>(rt: &R, extent: PlanBytes) -> Option<Arc<Meter, Global>> {
         Arc::new(rt.alloc(), Meter::new(rt, extent)).ok()
     }
 
@@ -200,7 +200,7 @@ impl Meter {
         let mut stage = self.stage.lock(rt);
         if !self.is_over() {
             let _ = eprint!(rt; "{WIPED}{}", Gauge::of(self));
-            *stage = Stage::Drawn;
+            *stage = LineState::Drawn;
         }
     }
 
@@ -210,10 +210,14 @@ impl Meter {
         if self.is_over() {
             return;
         }
-        let front = if *stage == Stage::Drawn { WIPED } else { "" };
+        let front = if *stage == LineState::Drawn {
+            WIPED
+        } else {
+            ""
+        };
         let seconds = self.passed(rt).as_secs();
         let _ = eprintln!(rt; "{front}{}, after {seconds} s", Gauge::of(self));
-        *stage = Stage::Blank;
+        *stage = LineState::Blank;
     }
 
     // Wipes the line that was drawn, once. No more come. A line that is just being written is waited for, but not for long: its reader may
@@ -225,7 +229,7 @@ impl Meter {
         let pause = Parker::new();
         for _ in 0..MOST_PAUSES {
             if let Some(stage) = self.stage.try_lock() {
-                if *stage == Stage::Drawn {
+                if *stage == LineState::Drawn {
                     let _ = eprint!(rt; "{WIPED}");
                 }
                 return;

@@ -2,7 +2,7 @@ ghost use Rattle.std.specs.Prelude.{◌≡◌, [], ◌∷◌, ◌++◌, not, fil
 ghost use Rattle.std.specs.List.{list_all, list_any};
 ghost use Rattle.jr_model.specs.History.{same_write};
 ghost use Rattle.jr_backlog.specs.Rounds.{comes_last, is_before, takes_writes, with_exhausted, with_written};
-ghost use Rattle.jr_backlog.specs.Deferred.{is_settled};
+ghost use Rattle.jr_backlog.specs.Deferred.{is_committed};
 
 use crate::asserts::same;
 use crate::plans::plan_of;
@@ -158,7 +158,7 @@ impl Model for Walked {
 
 impl Walked {
     fn new(alloc: Global, limit: u32) -> Walked
-        ensures { IsTrue (is_settled result) }
+        ensures { IsTrue (is_committed result) }
     {
         Walked {
             deferred: DeferredRounds::new(alloc, limit),
@@ -168,19 +168,19 @@ impl Walked {
     }
 
     // Where memory is refused, nothing has changed, and it is asked for once more.
-    fn settle(&mut self, rt: &impl Abort) -> Result<(), Memory>
-        ensures { OnOk result (IsTrue (is_settled self.new)) }
+    fn commit(&mut self, rt: &impl Abort) -> Result<(), Memory>
+        ensures { OnOk result (IsTrue (is_committed self.new)) }
     {
-        if self.deferred.settle().is_err() {
+        if self.deferred.commit().is_err() {
             same(rt, self.deferred.is_closed(), self.plain.closed());
-            self.deferred.settle()?;
+            self.deferred.commit()?;
         }
         Ok(())
     }
 
     // A write is issued.
     fn write(&mut self, rt: &impl Abort, write: WriteId, ended: bool) -> Result<(), Fail>
-        requires { IsTrue (is_settled self.old) }
+        requires { IsTrue (is_committed self.old) }
     {
         assert!(rt; !self.deferred.is_under_way());
         assert!(rt; is_last(&self.to_check, &write));
@@ -191,7 +191,7 @@ impl Walked {
 
     // A read is issued.
     fn read(&mut self, ended: bool)
-        requires { IsTrue (is_settled self.old) }
+        requires { IsTrue (is_committed self.old) }
     {
         if ended {
             self.plain.exhausted();
@@ -201,8 +201,8 @@ impl Walked {
 
     // A write was checked or skipped.
     fn pass(&mut self, rt: &impl Abort, write: WriteId)
-        requires { IsTrue (is_settled self.old) }
-        ensures { IsTrue (is_settled self.new) }
+        requires { IsTrue (is_committed self.old) }
+        ensures { IsTrue (is_committed self.new) }
     {
         assert!(rt; is_in(&self.to_check, &write));
         self.deferred.passed(write);
@@ -212,7 +212,7 @@ impl Walked {
 
     // Both say so, of a round that is due and of one that isn't.
     fn expect(&self, rt: &impl Abort, left: usize, next: Option<WriteId>)
-        requires { IsTrue (is_settled self.now) }
+        requires { IsTrue (is_committed self.now) }
     {
         same(rt, self.deferred.left(), left);
         same(rt, self.deferred.next_check(), next);
@@ -221,7 +221,7 @@ impl Walked {
     }
 
     fn agree(&self, rt: &impl Abort, write: &WriteId)
-        requires { IsTrue (is_settled self.now) }
+        requires { IsTrue (is_committed self.now) }
     {
         let under_way = self.plain.due() && !self.plain.closed();
         same(rt, self.deferred.is_under_way(), under_way);
@@ -247,25 +247,25 @@ fn writes_and_reads_in_rounds_of_two(rt: HostRuntime) -> Result<(), Fail> {
 
 // A write, a read and a write, which fills the round.
 fn walk_a_round(rt: &impl Abort, walked: &mut Walked) -> Result<(), Fail>
-    requires { IsTrue (is_settled walked.old) }
-    ensures { OnOk result (IsTrue (is_settled walked.new)) }
+    requires { IsTrue (is_committed walked.old) }
+    ensures { OnOk result (IsTrue (is_committed walked.new)) }
 {
     walked.expect(rt, 0, None);
     walked.write(rt, write(0), false)?;
     same(rt, walked.deferred.is_closed(), false);
-    walked.settle(rt)?;
+    walked.commit(rt)?;
     walked.expect(rt, 1, None);
     walked.read(false);
-    walked.settle(rt)?;
+    walked.commit(rt)?;
     walked.expect(rt, 1, None);
     walked.write(rt, write(2), false)?;
-    walked.settle(rt)?;
+    walked.commit(rt)?;
     Ok(())
 }
 
 // The second write is checked before the first.
 fn check_a_round(rt: &impl Abort, walked: &mut Walked)
-    requires { IsTrue (is_settled walked.old) }
+    requires { IsTrue (is_committed walked.old) }
 {
     walked.expect(rt, 2, Some(write(0)));
     same(rt, walked.deferred.next_after(&write(0)), Some(write(2)));
@@ -292,28 +292,28 @@ fn a_round_is_due_at_the_end_of_its_pass(rt: HostRuntime) -> Result<(), Fail> {
 }
 
 fn end_with_a_read(rt: &impl Abort, walked: &mut Walked) -> Result<(), Fail>
-    requires { IsTrue (is_settled walked.old) }
-    ensures { OnOk result (IsTrue (is_settled walked.new)) }
+    requires { IsTrue (is_committed walked.old) }
+    ensures { OnOk result (IsTrue (is_committed walked.new)) }
 {
     walked.read(true);
     same(rt, walked.deferred.is_closed(), true);
-    walked.settle(rt)?;
+    walked.commit(rt)?;
     walked.expect(rt, 0, None);
     same(rt, walked.deferred.is_closed(), true);
     Ok(())
 }
 
 fn end_behind_a_write(rt: &impl Abort, walked: &mut Walked) -> Result<(), Fail>
-    requires { IsTrue (is_settled walked.old) }
-    ensures { OnOk result (IsTrue (is_settled walked.new)) }
+    requires { IsTrue (is_committed walked.old) }
+    ensures { OnOk result (IsTrue (is_committed walked.new)) }
 {
     walked.write(rt, write(10), false)?;
     same(rt, walked.deferred.is_closed(), false);
-    walked.settle(rt)?;
+    walked.commit(rt)?;
     walked.expect(rt, 1, None);
     walked.read(true);
     same(rt, walked.deferred.is_closed(), false);
-    walked.settle(rt)?;
+    walked.commit(rt)?;
     walked.expect(rt, 1, Some(write(10)));
     walked.pass(rt, write(10));
     same(rt, walked.deferred.is_closed(), true);
@@ -321,11 +321,11 @@ fn end_behind_a_write(rt: &impl Abort, walked: &mut Walked) -> Result<(), Fail>
 }
 
 fn end_with_a_write(rt: &impl Abort, walked: &mut Walked) -> Result<(), Fail>
-    requires { IsTrue (is_settled walked.old) }
+    requires { IsTrue (is_committed walked.old) }
 {
     walked.write(rt, write(20), true)?;
     same(rt, walked.deferred.is_closed(), false);
-    walked.settle(rt)?;
+    walked.commit(rt)?;
     walked.expect(rt, 1, Some(write(20)));
     walked.pass(rt, write(20));
     same(rt, walked.deferred.is_closed(), true);

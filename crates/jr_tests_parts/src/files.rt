@@ -68,9 +68,9 @@ fn assert_shared(
 ) -> Result<(), Fail> {
     let mut first = first;
     let mut second = first.share(alloc)?;
-    same(rt, first.settle().is_ok(), true);
+    same(rt, first.sync_written().is_ok(), true);
     assert_fresh(rt, &mut first, &mut second);
-    same(rt, second.settle().is_ok(), true);
+    same(rt, second.sync_written().is_ok(), true);
     Ok(())
 }
 

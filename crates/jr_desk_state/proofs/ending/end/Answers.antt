@@ -19,7 +19,7 @@ use Rattle.jr_desk_totals.proofs.TallyMoves.{can_count, can_end, counts_are}
 use Rattle.jr_desk_state.specs.declared.board.Board.{Board}
 use Rattle.jr_desk_state.specs.Boards.{IsBoard}
 use Rattle.jr_backlog.specs.Rounds.{is_to_check}
-use Rattle.jr_backlog.specs.Deferred.{is_settled, round_now}
+use Rattle.jr_backlog.specs.Deferred.{is_committed, round_now}
 use Rattle.jr_desk_state.specs.declared.standings.Standing.{Standing}
 use Rattle.jr_desk_state.specs.Standings.{IsStanding}
 use Rattle.jr_desk_state.proofs.EndingBoards.{board_stays, own_below, parts_of}
@@ -60,8 +60,8 @@ returns-in_err-reserve-clause-board c =
     let is = c.requires.board in
     board_stays c.args.plan.now c.args.board.now _ is c.reserve.ensures.items is.tickets is.flying refl is.tallies is.standings
 
-pub returns-in_err-settle-clause-board : goal.returns-in_err-settle-clause-board
-returns-in_err-settle-clause-board c =
+pub returns-in_err-commit-clause-board : goal.returns-in_err-commit-clause-board
+returns-in_err-commit-clause-board c =
     let plan = c.args.plan.now in
     let board = c.args.board.now in
     let history = board.history.items in
@@ -70,8 +70,8 @@ returns-in_err-settle-clause-board c =
     let is = c.requires.board in
     let parts = parts_of plan board c.args.ticket.now is c.requires.own in
     board_stays plan board _ is c.reserve.ensures.items is.tickets is.flying refl is.tallies
-    (standings_set plan history clone parts.job board.standings.items (record old { rounds = c.settle.new.self }) parts.planned is.standings
-    (standing_resettled history parts.job old c.settle.new.self (ap round_now c.in_err-settle.ensures.err)
+    (standings_set plan history clone parts.job board.standings.items (record old { rounds = c.commit.new.self }) parts.planned is.standings
+    (standing_resettled history parts.job old c.commit.new.self (ap round_now c.in_err-commit.ensures.err)
     (stands_now plan board clone parts.job old is parts.planned c.index_mut.ensures.value)))
 
 pub log_end-requires-clause-file : goal.log_end-requires-clause-file
@@ -103,8 +103,8 @@ returns-in_err-log_end-clause-board c =
     let is = c.requires.board in
     let parts = parts_of plan board c.args.ticket.now is c.requires.own in
     board_stays plan board _ is c.reserve.ensures.items is.tickets is.flying c.in_err-log_end.ensures.err is.tallies
-    (standings_set plan history clone parts.job board.standings.items (record old { rounds = c.settle.new.self }) parts.planned is.standings
-    (standing_resettled history parts.job old c.settle.new.self (ap round_now c.in_ok-settle.ensures.ok)
+    (standings_set plan history clone parts.job board.standings.items (record old { rounds = c.commit.new.self }) parts.planned is.standings
+    (standing_resettled history parts.job old c.commit.new.self (ap round_now c.in_ok-commit.ensures.ok)
     (stands_now plan board clone parts.job old is parts.planned c.index_mut.ensures.value)))
 
 pub index-requires : goal.index-requires
@@ -130,10 +130,10 @@ check_off-requires-clause-settled c =
     let clone = c.args.ticket.now.write.clone in
     let parts = parts_of c.args.plan.now board c.args.ticket.now c.requires.board c.requires.own in
     let there = clone_stands c.args.plan.now board clone parts.job c.requires.board parts.planned in
-    let new : Standing = record c.index_mut.result.now { rounds = c.settle.new.self } in
+    let new : Standing = record c.index_mut.result.now { rounds = c.commit.new.self } in
     let read = read_after_set board.standings.items clone new c.index_mut-2.result.now there c.index_mut-2.ensures.value in
-    ap (λ (s : Standing). is_settled s.rounds) read
-    ∙ ap is_settled c.in_ok-settle.ensures.ok
+    ap (λ (s : Standing). is_committed s.rounds) read
+    ∙ ap is_committed c.in_ok-commit.ensures.ok
 
 pub check_off-requires-clause-left : goal.check_off-requires-clause-left
 check_off-requires-clause-left c probe whole going =
@@ -145,20 +145,20 @@ check_off-requires-clause-left c probe whole going =
     let old = c.index_mut.result.now in
     let is = c.requires.board in
     let parts = parts_of plan board ticket is c.requires.own in
-    let new : Standing = record old { rounds = c.settle.new.self } in
+    let new : Standing = record old { rounds = c.commit.new.self } in
     let there = clone_stands plan board clone parts.job is parts.planned in
     let read = read_after_set board.standings.items clone new c.index_mut-2.result.now there c.index_mut-2.ensures.value in
     let stands : IsStanding history parts.job new =
-    standing_resettled history parts.job old c.settle.new.self (ap round_now c.in_ok-settle.ensures.ok)
+    standing_resettled history parts.job old c.commit.new.self (ap round_now c.in_ok-commit.ensures.ok)
     (stands_now plan board clone parts.job old is parts.planned c.index_mut.ensures.value) in
     let next = next_of plan board (End ticket.worker ticket.id c.args.outcome) is c.requires.may in
     let halted : c.index.result.now.is_halted ≡ is_halted history parts.job =
     halted_read plan board clone parts.job c.index.result.now is parts.planned c.index.ensures in
     ap (λ (s : Standing). is_to_check s.rounds.round ticket.write) read
-    ∙ ap (is_to_check c.settle.new.self.round) (sym parts.write)
+    ∙ ap (is_to_check c.commit.new.self.round) (sym parts.write)
     ∙ check_left plan history parts.job new stands ticket.worker ticket.id parts.io
     (subst (λ (o : Outcome). IsNext plan history (End ticket.worker ticket.id o)) whole next) parts.at (ap is_probe parts.kind ∙ probe)
-    parts.named (sym halted ∙ going) (ap is_settled c.in_ok-settle.ensures.ok)
+    parts.named (sym halted ∙ going) (ap is_committed c.in_ok-commit.ensures.ok)
 
 pub end-requires : goal.end-requires
 end-requires c = own_below c.args.plan.now c.args.board.now c.args.ticket.now c.requires.board c.requires.own
@@ -197,10 +197,10 @@ returns-clause-board c =
     let parts = parts_of plan board ticket is c.requires.own in
     let event = End ticket.worker ticket.id outcome in
     let next = next_of plan board event is c.requires.may in
-    let new : Standing = record old { rounds = c.settle.new.self } in
+    let new : Standing = record old { rounds = c.commit.new.self } in
     let there = clone_stands plan board clone parts.job is parts.planned in
     let stands : IsStanding history parts.job new =
-    standing_resettled history parts.job old c.settle.new.self (ap round_now c.in_ok-settle.ensures.ok)
+    standing_resettled history parts.job old c.commit.new.self (ap round_now c.in_ok-commit.ensures.ok)
     (stands_now plan board clone parts.job old is parts.planned c.index_mut.ensures.value) in
     let halted : c.index.result.now.is_halted ≡ is_halted history parts.job =
     halted_read plan board clone parts.job c.index.result.now is parts.planned c.index.ensures in

@@ -21,7 +21,7 @@ returns-in_err-prepare_standings-clause-board c =
       headers = c.reserve.ensures.headers ∙ is.tickets.headers;
       states = c.reserve.ensures.states ∙ is.tickets.states;
     })
-    (c.in_ok-settle.ensures.kept c.args.plan.now history is.flying) refl is.tallies (c.prepare_standings.ensures.kept history is.standings)
+    (c.in_ok-commit.ensures.kept c.args.plan.now history is.flying) refl is.tallies (c.prepare_standings.ensures.kept history is.standings)
 
 pub left_in-requires : goal.left_in-requires
 left_in-requires c = record {
@@ -43,7 +43,7 @@ returns-in_err-reserve-2-clause-board c =
       headers = c.reserve.ensures.headers ∙ is.tickets.headers;
       states = c.reserve.ensures.states ∙ is.tickets.states;
     })
-    (c.in_ok-settle.ensures.kept c.args.plan.now history is.flying) refl is.tallies (c.prepare_standings.ensures.kept history is.standings)
+    (c.in_ok-commit.ensures.kept c.args.plan.now history is.flying) refl is.tallies (c.prepare_standings.ensures.kept history is.standings)
 
 pub returns-clause-board : goal.returns-clause-board
 returns-clause-board c =
@@ -56,4 +56,4 @@ returns-clause-board c =
       headers = c.reserve.ensures.headers ∙ is.tickets.headers;
       states = c.reserve.ensures.states ∙ is.tickets.states;
     })
-    (c.in_ok-settle.ensures.kept c.args.plan.now history is.flying) refl is.tallies (c.prepare_standings.ensures.kept history is.standings)
+    (c.in_ok-commit.ensures.kept c.args.plan.now history is.flying) refl is.tallies (c.prepare_standings.ensures.kept history is.standings)

@@ -1,6 +1,6 @@
 use Rattle.std.proofs.Common.{ℕ, refl, ap, ◌∙◌, None}
 use Rattle.jr_backlog.specs.Rounds.{new_round}
-use Rattle.jr_backlog.specs.Deferred.{settled_round}
+use Rattle.jr_backlog.specs.Deferred.{committed_round}
 use Rattle.jr_desk_state.proofs.IssueMoves.{first_standing}
 use Rattle.jr_desk_state.proofs.standings.Standing.new.Goals as goal
 
@@ -8,4 +8,4 @@ pub returns : goal.returns
 returns c =
     λ plan planned there.
     first_standing plan c.args.job.now planned there (record { pass = 0; draws = c.in_ok-of_pass.field-0; later = None; issued = c.new.result; rounds = c.new-2.result })
-    refl c.in_ok-of_pass.ensures refl c.new.ensures.items (c.new-2.ensures ∙ ap (λ (n : ℕ). settled_round (new_round n)) c.backlog.ensures)
+    refl c.in_ok-of_pass.ensures refl c.new.ensures.items (c.new-2.ensures ∙ ap (λ (n : ℕ). committed_round (new_round n)) c.backlog.ensures)

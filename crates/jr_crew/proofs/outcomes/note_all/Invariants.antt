@@ -1,6 +1,6 @@
 use Rattle.std.specs.Prelude.{take, map}
 use Rattle.jr_crew.specs.Working.{AreDone}
-use Rattle.jr_crew.proofs.settled.note_all.Given as goal
+use Rattle.jr_crew.proofs.outcomes.note_all.Given as goal
 
 -- the book has those so far
 abbrev pub invariant-loop-one : goal.invariant-loop-one

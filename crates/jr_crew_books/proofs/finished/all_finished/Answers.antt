@@ -2,7 +2,7 @@ use Rattle.std.proofs.Common.{arith}
 use Rattle.std.proofs.lemmas.Option.{slice_get_within}
 use Rattle.jr_model.specs.History.{started}
 use Rattle.jr_crew_books.proofs.Settling.{all_settled}
-use Rattle.jr_crew_books.proofs.settled.has_settled.Goals as goal
+use Rattle.jr_crew_books.proofs.finished.all_finished.Goals as goal
 
 pub returns : goal.returns
 returns c all =

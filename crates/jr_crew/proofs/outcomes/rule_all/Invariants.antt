@@ -1,5 +1,5 @@
 use Rattle.std.specs.Prelude.{◌≡◌, ◌++◌, take, map}
-use Rattle.jr_crew.proofs.settled.settle_all.Given as goal
+use Rattle.jr_crew.proofs.outcomes.rule_all.Given as goal
 
 -- those so far are settled
 abbrev pub invariant-loop-one : goal.invariant-loop-one

@@ -2,7 +2,7 @@ use Rattle.std.proofs.Common.{Bool, ◌∙◌, ap}
 use Rattle.std.specs.Prelude.{◌&&◌}
 use Rattle.jr_header.specs.Served.{is_to_judge}
 use Rattle.jr_crew.proofs.Worked.{done_next, said_by}
-use Rattle.jr_crew.proofs.settled.note_all.Goals as goal
+use Rattle.jr_crew.proofs.outcomes.note_all.Goals as goal
 
 pub loop-one-preserved : goal.loop-one-preserved
 loop-one-preserved c =

@@ -5,7 +5,7 @@ use Rattle.std.proofs.lemmas.Option.{get_or_from_slice_get, slice_get_within}
 use Rattle.jr_model.specs.Plan.{SubJob}
 use Rattle.jr_system.specs.Extents.{bytes_of, extent_of}
 use Rattle.jr_system.proofs.ExtentLemmas.{visits_within}
-use Rattle.jr_system.proofs.extents.Extent.of.Goals as goal
+use Rattle.jr_system.proofs.extents.PlanBytes.of.Goals as goal
 
 -- one clone more
 one_more : (clones : List SubJob) (i : ℕ) (job : SubJob) → slice_get clones i ≡ Some job → extent_of (take (i + 1) clones) ≡ extent_of (take i clones) + bytes_of job

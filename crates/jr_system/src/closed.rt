@@ -5,7 +5,7 @@ use std::alloc::Global;
 
 /// What the system said of the files of a run that has ended.
 #[derive(Drop)]
-pub struct Settled {
+pub struct Closed {
     /// Why it refused each of the run's first faults, where that is known.
     pub reasons: Vec<Option<String>>,
     /// How many reads of files that are checked its cache may have answered, where the run was over files.
@@ -14,14 +14,14 @@ pub struct Settled {
     pub unstored: Option<Stop>,
 }
 
-impl Settled {
+impl Closed {
     /// Nothing: the run was over no files.
-    pub fn of_no_files(alloc: Global) -> Settled
+    pub fn of_no_files(alloc: Global) -> Closed
         ensures reasons { vec_len result.reasons ≡ 0 }
         ensures cached { result.cached ≡ None }
         ensures unstored { result.unstored ≡ None }
     {
-        Settled {
+        Closed {
             reasons: Vec::new(alloc),
             cached: None,
             unstored: None,

@@ -13,7 +13,7 @@ use jr_model::Verdict;
 
 // A ticket that was carried out, with the ruling on it where it is judged here and is a check that ended whole.
 #[derive(Drop)]
-pub struct Settled<'a> {
+pub struct CarriedOut<'a> {
     pub served: &'a Served,
     pub inline: bool,
     pub ruling: Option<Ruling<'a>>,
@@ -22,7 +22,7 @@ pub struct Settled<'a> {
 
 // The same once the desk has taken it in, with what is said of it where it was judged here.
 #[derive(Drop)]
-pub struct Told<'a> {
+pub struct TakenIn<'a> {
     pub served: &'a Served,
     pub inline: bool,
     pub said: Option<Verdict>,
@@ -30,19 +30,19 @@ pub struct Told<'a> {
     ghost saying: { (verdict : Verdict) → said ≡ Some verdict → is_void verdict ≡ false → verdict ≡ answer_verdict served.now },
 }
 
-impl<'a> Settled<'a> {
+impl<'a> CarriedOut<'a> {
     // Judges it with no lock held, if it is to be judged here.
-    fn of(served: &'a Served, inline: bool) -> Settled<'a>
+    fn of(served: &'a Served, inline: bool) -> CarriedOut<'a>
         ensures { result.served.now ≡ served.now }
     {
         if inline && served.to_judge() {
-            Settled {
+            CarriedOut {
                 served,
                 inline,
                 ruling: Some(rule(served)),
             }
         } else {
-            Settled {
+            CarriedOut {
                 served,
                 inline,
                 ruling: None,
@@ -52,22 +52,22 @@ impl<'a> Settled<'a> {
 }
 
 // Judges those that are to be judged, if that is done here.
-pub(crate) fn settle_all<'a>(
+pub(crate) fn rule_all<'a>(
     inline: bool,
     served: &'a [Served],
-    settled: &mut Vec<Settled<'a>>,
+    settled: &mut Vec<CarriedOut<'a>>,
 ) -> Result<(), Halt>
     ensures { OnOk result (map (λ one. one.served.now) settled.new.items
         ≡ map (λ one. one.served.now) settled.old.items ++ served.now) }
 {
     for one in served {
-        push(settled, Settled::of(one, inline))?;
+        push(settled, CarriedOut::of(one, inline))?;
     }
     Ok(())
 }
 
 // Writes what the desk has taken in into a worker's book.
-pub(crate) fn note_all(inline: bool, told: &[Told<'_>], book: &mut Book) -> Result<(), Halt>
+pub(crate) fn note_all(inline: bool, told: &[TakenIn<'_>], book: &mut Book) -> Result<(), Halt>
     ensures { OnOk result (AreDone inline (map (λ one. one.served.now) told.now) book.old book.new) }
 {
     for one in told {
@@ -94,7 +94,7 @@ fn is_same_flag(a: bool, b: bool) -> bool
 }
 
 // Writes what the desk has taken in into a verifier's book.
-pub(crate) fn note_said(told: &[Told<'_>], book: &mut Vec<Said>) -> Result<(), Halt>
+pub(crate) fn note_said(told: &[TakenIn<'_>], book: &mut Vec<Said>) -> Result<(), Halt>
     ensures { OnOk result ((parcels : List Parcel) → AreChecksOf parcels (map (λ one. one.served.now) told.now)
         → All (IsSaidOfOne parcels) book.old.items → All (IsSaidOfOne parcels) book.new.items) }
 {

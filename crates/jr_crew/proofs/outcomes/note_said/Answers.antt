@@ -3,7 +3,7 @@ use Rattle.std.proofs.lemmas.List.Elements.{All-push, All-same}
 use Rattle.jr_model.specs.declared.tickets.Ticket.{Ticket}
 use Rattle.jr_crew_threads.specs.Judging.{IsSaidOfOne}
 use Rattle.jr_crew_threads.proofs.PartLemmas.{check_at}
-use Rattle.jr_crew.proofs.settled.note_said.Goals as goal
+use Rattle.jr_crew.proofs.outcomes.note_said.Goals as goal
 
 pub loop-one-preserved : goal.loop-one-preserved
 loop-one-preserved c parcels checks old =
