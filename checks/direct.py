@@ -6,6 +6,7 @@ what can't be direct is refused or said. What can't be tried here is skipped wit
 import concurrent.futures
 import contextlib
 import fcntl
+import json
 import os
 import shutil
 import subprocess
@@ -321,8 +322,24 @@ def what_goes_through_the_cache_is_said(program, room):
                 what = f"{note}, {words}"
                 expect((ran.returncode, ran.stderr) == (0, note), f"{what}: status {ran.returncode}: {ran.stdout}{ran.stderr}")
                 expect(got["writes"] < 64, f"{what}: {got}")
-                ran = start(job, *words)
+                told = os.path.join(room, "json")
+                ran = start(job, *words, f"--json={told}")
                 expect((ran.returncode, ran.stderr) == (0, ""), f"{what}, no notes: {ran.stderr}")
+                expect(told_of_direct(told) is False, f"{what}: the JSON says otherwise")
+
+
+def what_goes_past_it_is_told_in_the_json(program, room):
+    with loop_device(os.path.join(room, "image"), 16 * MIB) as device:
+        told = os.path.join(room, "json")
+        for direct, words, wanted in ((1, [], True), (0, [], None), (1, ["--cached"], None)):
+            ran = launched(program, room, device_job(device, "64k", direct=direct), *words, f"--json={told}")
+            went_well(ran, f"direct={direct}, {words}")
+            expect(told_of_direct(told) is wanted, f"direct={direct}, {words}: the JSON says {told_of_direct(told)}")
+
+
+def told_of_direct(path):
+    with open(path, encoding="utf-8") as it:
+        return json.load(it)["direct"]
 
 
 MAYBE_CACHED = "fiorun: note: the system's cache may have answered {} reads of files that are checked\n"
@@ -349,6 +366,7 @@ CASES = [
     a_file_system_without_direct_calls_is_refused,
     a_device_that_is_full_fails_the_write,
     what_goes_through_the_cache_is_said,
+    what_goes_past_it_is_told_in_the_json,
     engines_without_files_take_no_notice,
 ]
 

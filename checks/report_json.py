@@ -20,7 +20,7 @@ from program import FIELDS, SystemCalls, Wrong, expect, find_program, needed_lib
 SECONDS = 60
 LINE = re.compile(r"clone=(\d+) pass=(\d+) number=(\d+) file=(.*) offset=(\d+) length=(\d+) what=(\S+)")
 NUMBERS = ("clone", "pass", "number", "offset", "length")
-MEMBERS = "badreads cached faults fiorun interrupted jobs miscompares more_faults status stored".split()
+MEMBERS = "badreads cached direct faults fiorun interrupted jobs miscompares more_faults status stored".split()
 FAULT = {*NUMBERS, "file", "kind", "outcome", "moved", "reason"}
 # Names of jobs and files that a writer of JSON may trip over: quotes, backslashes, tags, control characters, bytes above 0x7f.
 NAMES = ['<script>"\\', "a\tb", "\x01\x1f\x7f", "\u009b\u2028\u202e", "é ✓ \U0001f600", "</script>", "\\u0041", "'", "a: clone=1"]
@@ -52,6 +52,7 @@ def agrees(report, status, found, interrupted=False, stored=True):
     expect((found["status"], found["interrupted"]) == (status, interrupted), "end", found["status"], found["interrupted"])
     expect(found["stored"] is stored, "stored", found["stored"])
     expect(found["cached"] is None or type(found["cached"]) is int and found["cached"] >= 0, "cached", found["cached"])
+    expect(found["direct"] in (None, True, False), "direct", found["direct"])
     faults = sum(it["faults"] for it in jobs)
     expect(len(found["faults"]) == min(faults, 100) and found["more_faults"] == max(faults - 100, 0), "faults", found["more_faults"])
     expect(all(set(it) == FAULT for it in found["faults"]), "fields of faults", found["faults"][:1])
@@ -91,7 +92,7 @@ def clean(place):
     status, report, found = place.run("[w]\nioengine=memory\nrw=write\nsize=64k\nverify=md5\nnumjobs=3\n", "--workers=4")
     agrees(report, status, found)
     expect(status == 0 and len(found["jobs"]) == 3, "a clean run", status, found["jobs"])
-    expect(found["cached"] is None, "a run over no files", found["cached"])
+    expect(found["cached"] is None and found["direct"] is None, "a run over no files", found["cached"], found["direct"])
     version = subprocess.run([place.program, "--version"], capture_output=True, text=True, check=True).stdout
     expect(f"fiorun {found['fiorun']}\n" == version, "version", found["fiorun"], version)
 

@@ -395,6 +395,7 @@ impl Content {
 fn storage_of(closed: &Closed) -> Storage {
     Storage {
         cached: closed.cached,
+        direct: closed.direct,
         is_stored: closed.unstored.is_none(),
     }
 }

@@ -27,6 +27,7 @@ end_of run storage = record {
   status = status_with (status_of (all_totals run.plan run.history)) (not (is_complete run.plan run.history)) storage.is_stored;
   is_interrupted = not (is_complete run.plan run.history);
   cached = storage.cached;
+  direct = storage.direct;
   is_stored = storage.is_stored;
 }
 

@@ -135,6 +135,7 @@ impl<'a> Findings<'a> {
             status: status_with(self.found(), self.is_interrupted(), storage.is_stored),
             is_interrupted: self.is_interrupted(),
             cached: storage.cached,
+            direct: storage.direct,
             is_stored: storage.is_stored,
         }
     }

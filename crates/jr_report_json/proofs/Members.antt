@@ -9,7 +9,7 @@ use Rattle.jr_model.specs.declared.totals.Totals.{Totals}
 use Rattle.jr_model.specs.Plan.{Plan}
 use Rattle.jr_model.specs.Report.{Miscompare}
 use Rattle.jr_report_faults.specs.Faults.{NamedFault}
-use Rattle.jr_report_json.specs.Json.{RunEnd, clones_json, count_json, faults_json, natural, report_json}
+use Rattle.jr_report_json.specs.Json.{RunEnd, clones_json, count_json, faults_json, flag_json, natural, report_json}
 use Rattle.jr_report_json.specs.Rows.{bads_json, end_text, found_text, head_text, reads_text}
 
 -- the names, as they are written
@@ -21,6 +21,10 @@ badreads_name = refl
 pub cached_name : codes ",\"cached\":" ≡ codes "," ++ (quoted (codes "cached") ++ 58 ∷ [])
 unfolding escape_byte
 cached_name = refl
+
+pub direct_name : codes ",\"direct\":" ≡ codes "," ++ (quoted (codes "direct") ++ 58 ∷ [])
+unfolding escape_byte
+direct_name = refl
 
 pub faults_name : codes ",\"faults\":" ≡ codes "," ++ (quoted (codes "faults") ++ 58 ∷ [])
 unfolding escape_byte
@@ -77,16 +81,16 @@ pub four_more : (t0 t1 t2 t3 t4 a b c d : List ℕ)
 four_more t0 t1 t2 t3 t4 a b c d first second third fourth =
     two_more t0 t3 t4 (a ++ b ++ c) d (three_more t0 t1 t2 t3 a b c first second third) fourth
 
--- ten members with their braces are an object
-all_members : (b m e k q1 q2 q3 q4 q5 q6 q7 q8 q9 q10 v1 v2 v3 v4 v5 v6 v7 v8 v9 v10 : List ℕ)
+-- eleven members with their braces are an object
+all_members : (b m e k q1 q2 q3 q4 q5 q6 q7 q8 q9 q10 q11 v1 v2 v3 v4 v5 v6 v7 v8 v9 v10 v11 : List ℕ)
     → (b ++ (q1 ++ (k ++ v1)))
-    ++ ((m ++ (q2 ++ (k ++ v2))) ++ (m ++ (q3 ++ (k ++ v3))) ++ (m ++ (q4 ++ (k ++ v4))) ++ (m ++ (q5 ++ (k ++ v5))))
-    ++ ((m ++ (q6 ++ (k ++ v6))) ++ (m ++ (q7 ++ (k ++ v7))))
-    ++ ((m ++ (q8 ++ (k ++ v8))) ++ (m ++ (q9 ++ (k ++ v9))) ++ (m ++ (q10 ++ (k ++ v10))) ++ e)
+    ++ (((m ++ (q2 ++ (k ++ v2))) ++ (m ++ (q3 ++ (k ++ v3)))) ++ (m ++ (q4 ++ (k ++ v4))) ++ (m ++ (q5 ++ (k ++ v5))) ++ (m ++ (q6 ++ (k ++ v6))))
+    ++ ((m ++ (q7 ++ (k ++ v7))) ++ (m ++ (q8 ++ (k ++ v8))))
+    ++ ((m ++ (q9 ++ (k ++ v9))) ++ (m ++ (q10 ++ (k ++ v10))) ++ (m ++ (q11 ++ (k ++ v11))) ++ e)
     ≡ b ++ (q1 ++ (k ++ (v1 ++ (m ++ (q2 ++ (k ++ (v2 ++ (m ++ (q3 ++ (k ++ (v3 ++ (m ++ (q4 ++ (k ++ (v4 ++ (m ++ (q5 ++ (k ++ (v5
     ++ (m ++ (q6 ++ (k ++ (v6 ++ (m ++ (q7 ++ (k ++ (v7 ++ (m ++ (q8 ++ (k ++ (v8 ++ (m ++ (q9 ++ (k ++ (v9
-    ++ (m ++ (q10 ++ (k ++ (v10 ++ e)))))))))))))))))))))))))))))))))))))))
-all_members b m e k q1 q2 q3 q4 q5 q6 q7 q8 q9 q10 v1 v2 v3 v4 v5 v6 v7 v8 v9 v10 = simp append_assoc
+    ++ (m ++ (q10 ++ (k ++ (v10 ++ (m ++ (q11 ++ (k ++ (v11 ++ e)))))))))))))))))))))))))))))))))))))))))))
+all_members b m e k q1 q2 q3 q4 q5 q6 q7 q8 q9 q10 q11 v1 v2 v3 v4 v5 v6 v7 v8 v9 v10 v11 = simp append_assoc
 
 pub report_text : (ending : RunEnd) (plan : Plan) (totals : List Totals) (found : List Miscompare) (faults : List NamedFault)
     (reasons : List (Option (List ℕ))) (more : ℕ)
@@ -94,9 +98,9 @@ pub report_text : (ending : RunEnd) (plan : Plan) (totals : List Totals) (found 
     ≡ compact_text (report_json ending plan totals found faults reasons more)
 report_text ending plan totals found faults reasons more =
     all_members (codes "{") (codes ",") (codes "}") (58 ∷ [])
-    (quoted (codes "badreads")) (quoted (codes "cached")) (quoted (codes "faults")) (quoted (codes "fiorun")) (quoted (codes "interrupted"))
+    (quoted (codes "badreads")) (quoted (codes "cached")) (quoted (codes "direct")) (quoted (codes "faults")) (quoted (codes "fiorun")) (quoted (codes "interrupted"))
     (quoted (codes "jobs")) (quoted (codes "miscompares")) (quoted (codes "more_faults")) (quoted (codes "status")) (quoted (codes "stored"))
-    (compact_text (array (items_of (bads_json plan true found)))) (compact_text (count_json ending.cached))
+    (compact_text (array (items_of (bads_json plan true found)))) (compact_text (count_json ending.cached)) (compact_text (flag_json ending.direct))
     (compact_text (array (items_of (faults_json faults reasons))))
     (compact_text (string ending.version)) (compact_text (boolean ending.is_interrupted))
     (compact_text (array (items_of (clones_json plan.clones totals)))) (compact_text (array (items_of (bads_json plan false found))))

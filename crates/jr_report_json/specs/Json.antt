@@ -90,12 +90,14 @@ faults_json (fault ∷ faults) [] = fault_json fault None ∷ faults_json faults
 faults_json (fault ∷ faults) (reason ∷ reasons) = fault_json fault reason ∷ faults_json faults reasons
 
 -- how a run ended: the version of the program, its status, whether it was interrupted, how many reads of files that are checked the
--- system's cache may have answered, where it was over files, and whether all that it wrote is stored
+-- system's cache may have answered, where it was over files, whether all direct I/O that its jobs want was had, where they want any, and
+-- whether all that it wrote is stored
 pub record RunEnd : Type 0 where
   pub version : List ℕ
   pub status : ℕ
   pub is_interrupted : Bool
   pub cached : Option ℕ
+  pub direct : Option Bool
   pub is_stored : Bool
 
 -- a number, where there is one
@@ -103,11 +105,17 @@ abbrev pub count_json : Option ℕ → Data
 count_json None = null
 count_json (Some n) = natural n
 
+-- a flag, where there is one
+abbrev pub flag_json : Option Bool → Data
+flag_json None = null
+flag_json (Some flag) = boolean flag
+
 -- the report that these totals, bad verdicts and faults give, where there are so many faults more
 abbrev pub report_json : RunEnd → Plan → List Totals → List Miscompare → List NamedFault → List (Option (List ℕ)) → ℕ → Data
 report_json ending plan totals found faults reasons more = object
     (member (codes "badreads") (array (items_of (map (miscompare_json plan) (filter (is_bad_read plan) found))))
     (member (codes "cached") (count_json ending.cached)
+    (member (codes "direct") (flag_json ending.direct)
     (member (codes "faults") (array (items_of (faults_json faults reasons)))
     (member (codes "fiorun") (string ending.version)
     (member (codes "interrupted") (boolean ending.is_interrupted)
@@ -115,7 +123,7 @@ report_json ending plan totals found faults reasons more = object
     (member (codes "miscompares") (array (items_of (map (miscompare_json plan) (filter (λ m. not (is_bad_read plan m)) found))))
     (member (codes "more_faults") (natural more)
     (member (codes "status") (natural ending.status)
-    (member (codes "stored") (boolean ending.is_stored) no_members))))))))))
+    (member (codes "stored") (boolean ending.is_stored) no_members)))))))))))
 
 -- the report of a history: the totals and the bad verdicts of its text, and the first of its faults
 abbrev pub json_of : RunEnd → Plan → List Event → List (Option (List ℕ)) → Data

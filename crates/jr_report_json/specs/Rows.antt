@@ -13,7 +13,7 @@ use Rattle.jr_model.specs.Plan.{Plan}
 use Rattle.jr_model.specs.Report.{Miscompare}
 use Rattle.jr_report_faults.specs.Faults.{NamedFault}
 use Rattle.jr_report_json.specs.declared.endings.RunStatus.{RunStatus}
-use Rattle.jr_report_json.specs.Json.{RunEnd, clones_json, count_json, faults_json, is_bad_read, miscompare_json, natural}
+use Rattle.jr_report_json.specs.Json.{RunEnd, clones_json, count_json, faults_json, flag_json, is_bad_read, miscompare_json, natural}
 
 abbrev pub text_of : Option (Bor (String Global)) → Option (List ℕ)
 text_of None = None
@@ -72,15 +72,21 @@ ending_of ending = record {
   status = ending.status;
   is_interrupted = ending.is_interrupted;
   cached = ending.cached;
+  direct = ending.direct;
   is_stored = ending.is_stored;
 }
 
 abbrev pub reads_text : Plan → List Miscompare → List ℕ
 reads_text plan found = member_text (codes "{") (codes "badreads") (array (items_of (bads_json plan true found)))
 
+abbrev pub cache_text : RunEnd → List ℕ
+cache_text ending =
+    member_text (codes ",") (codes "cached") (count_json ending.cached)
+    ++ member_text (codes ",") (codes "direct") (flag_json ending.direct)
+
 abbrev pub head_text : RunEnd → List NamedFault → List (Option (List ℕ)) → List ℕ
 head_text ending faults reasons =
-    member_text (codes ",") (codes "cached") (count_json ending.cached)
+    cache_text ending
     ++ member_text (codes ",") (codes "faults") (array (items_of (faults_json faults reasons)))
     ++ member_text (codes ",") (codes "fiorun") (string ending.version)
     ++ member_text (codes ",") (codes "interrupted") (boolean ending.is_interrupted)

@@ -9,6 +9,8 @@ pub struct RunStatus<'a> {
     pub is_interrupted: bool,
     /// How many reads of files that are checked the system's cache may have answered, where it was over files.
     pub cached: Option<u64>,
+    /// Where a job wants a file's I/O past that cache: whether that was had for each such file.
+    pub direct: Option<bool>,
     /// All that it wrote is stored.
     pub is_stored: bool,
 }

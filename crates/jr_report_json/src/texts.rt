@@ -1,8 +1,8 @@
 // The text of a report, row by row.
 ghost use Rattle.std.specs.Prelude.{◌≡◌, ◌++◌, IfOk, OnOk, codes, false, map, slice_get};
 ghost use Rattle.jr_report_faults.specs.Faults.{named};
-ghost use Rattle.jr_report_json.specs.Json.{clone_json, clones_json, count_json, fault_json, faults_json, miscompare_json, report_json};
-ghost use Rattle.jr_report_json.specs.Rows.{array_text, bads_json, end_text, ending_of, found_text, head_text, is_wanted, item_text, reads_text};
+ghost use Rattle.jr_report_json.specs.Json.{clone_json, clones_json, count_json, fault_json, faults_json, flag_json, miscompare_json, report_json};
+ghost use Rattle.jr_report_json.specs.Rows.{array_text, bads_json, cache_text, end_text, ending_of, found_text, head_text, is_wanted, item_text, reads_text};
 ghost use Rattle.jr_report_json.specs.Rows.{text_of, texts_of, told_by};
 ghost use Rattle.jr_desk_totals.specs.Tallying.{miscompare_of};
 ghost use Rattle.serde_json.specs.Data.{boolean, string};
@@ -61,8 +61,7 @@ fn push_head(
     ensures { OnOk result (text.new.items ≡ text.old.items
         ++ head_text (ending_of ending.now) (map named faults.now) (texts_of reasons.now)) }
 {
-    push_text(text, ",\"cached\":")?;
-    push_count(text, ending.cached)?;
+    push_cache(text, ending)?;
     push_text(text, ",\"faults\":")?;
     push_faults(text, alloc, faults, reasons)?;
     push_text(text, ",\"fiorun\":")?;
@@ -70,6 +69,27 @@ fn push_head(
     push_text(text, ",\"interrupted\":")?;
     push_flag(text, ending.is_interrupted)?;
     Ok(())
+}
+
+// What is known of the system's cache.
+fn push_cache(text: &mut Vec<u8>, ending: &RunStatus<'_>) -> Result<(), Memory>
+    ensures { OnOk result (text.new.items ≡ text.old.items ++ cache_text (ending_of ending.now)) }
+{
+    push_text(text, ",\"cached\":")?;
+    push_count(text, ending.cached)?;
+    push_text(text, ",\"direct\":")?;
+    push_flag_of(text, ending.direct)?;
+    Ok(())
+}
+
+// A flag, where there is one.
+fn push_flag_of(text: &mut Vec<u8>, flag: Option<bool>) -> Result<(), Memory>
+    ensures { OnOk result (text.new.items ≡ text.old.items ++ compact_text (flag_json flag)) }
+{
+    match flag {
+        None => push_text(text, "null"),
+        Some(flag) => push_flag(text, flag),
+    }
 }
 
 fn push_flag(text: &mut Vec<u8>, flag: bool) -> Result<(), Memory>

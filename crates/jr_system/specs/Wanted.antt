@@ -9,6 +9,7 @@ use Rattle.jr_text.specs.JobText.{sections_of}
 use Rattle.jr_text.specs.Records.{SectionText}
 use Rattle.jr_text.specs.declared.faults.TextFault.{TextFault}
 use Rattle.jr_job_direct.specs.declared.wishes.Wish.{Wish}
+use Rattle.jr_job_direct.specs.declared.wishes.Wish.TheVariants as wish
 use Rattle.jr_job_direct.specs.Wishes.{wish_of}
 
 abbrev pub has_files : EngineKind → Bool
@@ -25,3 +26,9 @@ said_by (Ok sections) only plan = map (wish_of sections only plan.clones) (range
 abbrev pub wishes_of : List ℕ → Option (List ℕ) → Bool → Plan → List Wish
 wishes_of text only cached plan =
     if has_files plan.engine && not cached then said_by (sections_of text) only plan else []
+
+-- some job wants the I/O of the file past the cache
+abbrev pub is_wanted : Wish → Bool
+is_wanted wish.Cached = false
+is_wanted wish.Direct = true
+is_wanted wish.Mixed = true

@@ -10,6 +10,8 @@ pub struct Closed {
     pub reasons: Vec<Option<String>>,
     /// How many reads of files that are checked its cache may have answered, where the run was over files.
     pub cached: Option<u64>,
+    /// Where a job wants a file's I/O past that cache: whether that was had for each such file.
+    pub direct: Option<bool>,
     /// Why the run's last sync failed, where it did: not all that the run wrote is stored.
     pub unstored: Option<Stop>,
 }
@@ -19,11 +21,13 @@ impl Closed {
     pub fn of_no_files(alloc: Global) -> Closed
         ensures reasons { vec_len result.reasons ≡ 0 }
         ensures cached { result.cached ≡ None }
+        ensures direct { result.direct ≡ None }
         ensures unstored { result.unstored ≡ None }
     {
         Closed {
             reasons: Vec::new(alloc),
             cached: None,
+            direct: None,
             unstored: None,
         }
     }

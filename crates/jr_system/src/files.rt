@@ -1,9 +1,9 @@
 // The files of a run: taken before it begins, shared by its engines, and closed at its end.
-ghost use Rattle.std.specs.Prelude.{◌≡◌, ◌⊎◌, length, map, IfOk, IfErr, IfSome, vec_len};
-ghost use Rattle.std.specs.List.{range_with_len};
+ghost use Rattle.std.specs.Prelude.{◌≡◌, ◌⊎◌, length, map, IfOk, IfErr, IfSome, is_some, vec_len};
+ghost use Rattle.std.specs.List.{list_any, range_with_len};
 ghost use Rattle.std.specs.Option.{option_copied};
 ghost use Rattle.jr_job_direct.specs.Wishes.{wish_of};
-ghost use Rattle.jr_system.specs.Wanted.{wishes_of};
+ghost use Rattle.jr_system.specs.Wanted.{is_wanted, wishes_of};
 
 use crate::closed::Closed;
 use crate::remarks::{Remarks, reasons_of};
@@ -31,6 +31,7 @@ pub struct Taken<'a> {
     files: FileEngine<SharedFile>,
     launcher: Launcher<'a>,
     is_cached: bool,
+    direct: Option<bool>,
     remarks: Remarks,
 }
 
@@ -96,10 +97,12 @@ pub fn take_files<'a, R: Files<File = File> + AllocGlobal + Screen>(
     if has_notes {
         tell_cached(rt, plan, wishes, &files);
     }
+    let direct = had_direct(wishes, &files);
     Ok(Taken {
         files,
         launcher,
         is_cached: choice.cached,
+        direct,
         remarks: Remarks::new(rt, plan, choice)?,
     })
 }
@@ -154,6 +157,28 @@ fn claim_wanted<'x, R: Files<File = File> + AllocGlobal>(
 ) -> Result<FileEngine<SharedFile>, Refusal> {
     let directs = Directs { wanted, asked };
     claim_direct(rt, rt.alloc(), plan, claims, directs, kept)
+}
+
+// Whether the I/O of each file that a job wants direct goes past the system's cache, where a job wants one so.
+fn had_direct(wishes: &[Wish], files: &FileEngine<SharedFile>) -> Option<bool>
+    ensures { is_some result ≡ list_any is_wanted wishes.now }
+{
+    if !wishes.iter().any(is_wanted) {
+        return None;
+    }
+    for (index, wish) in wishes.iter().enumerate() {
+        if is_wanted(wish) && !files.is_direct(index) {
+            return Some(false);
+        }
+    }
+    Some(true)
+}
+
+// Whether a job says direct=1 of the file.
+fn is_wanted(wish: &Wish) -> bool
+    ensures { result ≡ is_wanted wish.now }
+{
+    *wish != Wish::Cached
 }
 
 // Says of which files the I/O goes through the system's cache, though a job says direct=1.
@@ -226,6 +251,7 @@ impl<'a> Taken<'a> {
         Ok(Closed {
             reasons,
             cached: self.cached(),
+            direct: self.direct,
             unstored,
         })
     }
