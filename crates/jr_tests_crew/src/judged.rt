@@ -13,6 +13,32 @@ use std::test::Fail;
 use std::thread::Threads;
 use std::time::Clock;
 
+// Four reads of 4096 bytes that are checked by a pattern of one byte.
+fn checked_reads(byte: u8) -> Workload {
+    Workload {
+        io_type: IoType::Read,
+        ..checked(4, byte)
+    }
+}
+
+#[test]
+fn checked_reads_have_their_verdicts(rt: HostRuntime) -> Result<(), Fail> {
+    let alloc = rt.alloc();
+    let plan = plan_of(alloc, &checked_reads(0), 1, EngineKind::Null, 0)?;
+    let mut engines: Vec<Box<dyn Engine + Send>> = Vec::new(alloc);
+    engines.push(Box::new(alloc, NullEngine::new())?)?;
+    let ran = run(&rt, alloc, plan, engines, Watch::none())?;
+    let want = Totals {
+        reads: 4,
+        rbytes: 16384,
+        checks: 4,
+        good: 4,
+        ..NOTHING
+    };
+    same(&rt, ran.desk.totals(), [want].as_slice());
+    Ok(())
+}
+
 // What a run of one clone counts, and its first bad verdict.
 fn ran_once<R: Threads + Wait + Clock + Sync>(
     rt: &R,

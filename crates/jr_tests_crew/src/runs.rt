@@ -1,7 +1,7 @@
 use crate::asserts::same;
 use crate::gates::two_gates;
 use crate::plans::plan_of;
-use jr_crew::{Watch, run};
+use jr_crew::{RunFault, Watch, run};
 use jr_desk::Desk;
 use jr_model::{EngineKind, IoType};
 use jr_plan::{Plan, Workload};
@@ -27,10 +27,20 @@ fn two_are_inside_their_engines_at_once(rt: HostRuntime) -> Result<(), Fail> {
     Ok(())
 }
 
+#[test]
+fn a_run_wants_an_engine(rt: HostRuntime) -> Result<(), Fail> {
+    let plan = two_at_once(rt.alloc())?;
+    let none = Vec::new(rt.alloc());
+    let refused = run(&rt, rt.alloc(), plan, none, Watch::none()).err();
+    same(&rt, refused, Some(RunFault::NoEngine));
+    Ok(())
+}
+
 // Neither write failed.
 fn assert_both_wrote(rt: &impl Abort, desk: &Desk) {
     for totals in desk.totals() {
-        same(rt, (totals.writes, totals.faults), (2, 0));
+        let told = (totals.writes, totals.wbytes, totals.faults);
+        same(rt, told, (2, 8192, 0));
     }
     same(rt, desk.totals().len(), 1);
 }

@@ -68,8 +68,9 @@ fn carry_out_next(
     holds(rt, desk.ticket_at(number).is_none(), "no such ticket yet");
     let ticket = next_ticket(desk, number)?;
     holds(rt, !desk.has_ended(number), "it flies");
-    let other = another(&ticket);
-    assert_stranger(rt, desk, &carried_out(alloc, engine, other)?);
+    for other in [another(&ticket), unknown(&ticket)] {
+        assert_stranger(rt, desk, &carried_out(alloc, engine, other)?);
+    }
     assert_taken_in(rt, desk, &carried_out(alloc, engine, ticket)?, number);
     Ok(())
 }
@@ -78,6 +79,13 @@ fn carry_out_next(
 fn another(ticket: &Ticket) -> Ticket {
     let mut other = *ticket;
     other.seed = other.seed.wrapping_add(1);
+    other
+}
+
+// The same ticket under a number that the desk never started.
+fn unknown(ticket: &Ticket) -> Ticket {
+    let mut other = *ticket;
+    other.id = other.id.saturating_add(100);
     other
 }
 

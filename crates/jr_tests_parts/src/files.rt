@@ -165,6 +165,8 @@ fn refused_files_are_named(rt: HostRuntime) -> Result<(), Fail> {
     let plan = in_sectors(alloc, IoType::Write, &files)?;
     assert_named(&rt, alloc, &plan, second.as_str())?;
     fs::remove_dir_all(&rt, folder.as_str())?;
+    let first = lay_out(&rt, &plan).err();
+    same(&rt, first, Some(FileFault::File(0)));
     Ok(())
 }
 

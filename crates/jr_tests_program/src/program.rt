@@ -163,6 +163,68 @@ fn a_trace_is_checked(rt: HostRuntime) -> Result<(), Fail> {
     Ok(())
 }
 
+const FOUR: &str =
+    "[w]\nioengine=memory\nrw=write\nsize=16k\nverify=pattern\nverify_pattern=0xab\n";
+
+const FOUR_EVENTS: &str =
+    "I 0 0 0 0 0\nE 0 0 whole\nI 0 1 0 0 1\nE 0 1 whole\nI 0 2 0 0 2\nE 0 2 whole\nI 0 3 0 0 3\nE 0 3 whole\nP 0 4 0 0 0\nE 0 4 whole\nV 0 4 good\nP 0 5 0 0 1\nE 0 5 whole\nV 0 5 good\nP 0 6 0 0 2\nE 0 6 whole\nV 0 6 good\nP 0 7 0 0 3\nE 0 7 whole\nV 0 7 good\n";
+
+const FOUR_TOTALS: &str =
+    "w: clone=0 reads=0 rbytes=0 writes=4 wbytes=16384 checks=4 good=4 bad=0 skipped=0 void=0 faults=0\n";
+
+// What is wrong with a trace whose lines that are whole are so many, and whose last byte is this.
+fn fault_of_cut(whole: u64, last: char) -> CliFault {
+    if last == '\n' {
+        CliFault::Trace(TraceFault::Unfinished)
+    } else {
+        CliFault::Trace(TraceFault::Line(whole.saturating_add(1)))
+    }
+}
+
+// A trace that is cut after a line isn't complete, and one that is cut within a line has one that is none.
+#[test]
+fn a_trace_is_refused_wherever_it_is_cut(rt: HostRuntime) -> Result<(), Fail> {
+    let mut whole: u64 = 0;
+    let mut begun = String::new(rt.alloc());
+    let mut wanted = CliFault::Trace(TraceFault::Unfinished);
+    for letter in FOUR_EVENTS.chars() {
+        let fault = checked(rt.alloc(), FOUR, begun.as_str()).err();
+        same(&rt, (begun.len(), fault), (begun.len(), Some(wanted)));
+        begun.push(letter)?;
+        if letter == '\n' {
+            whole = whole.saturating_add(1);
+        }
+        wanted = fault_of_cut(whole, letter);
+    }
+    let out = checked(rt.alloc(), FOUR, begun.as_str())?;
+    same(&rt, (whole, out.as_slice()), (20, FOUR_TOTALS.as_bytes()));
+    Ok(())
+}
+
+const BOTH_DECLINE: &str =
+    "[w]\nioengine=memory\nrw=write\nsize=8k\nnumjobs=2\nfilename=f\nverify=pattern\nverify_pattern=1\nserialize_overlap=0\n";
+
+const BOTH_RACED: &str =
+    "w: clone=0 reads=0 rbytes=0 writes=2 wbytes=8192 checks=0 good=0 bad=0 skipped=1 void=1 faults=0
+w: clone=1 reads=0 rbytes=0 writes=2 wbytes=8192 checks=1 good=1 bad=0 skipped=1 void=0 faults=0
+";
+
+// The first writes of two clones race, and a check with the second write of the other clone.
+#[test]
+fn writes_that_raced_are_skipped_in_a_trace(rt: HostRuntime) -> Result<(), Fail> {
+    let begun =
+        "I 0 0 0 0 0\nI 1 1 1 0 0\nE 0 0 whole\nE 1 1 whole\nI 0 2 0 0 1\nE 0 2 whole\nS 0 0 0 0\nP 0 3 0 0 1\nI 1 4 1 0 1\nE 0 3 whole\nV 1 3";
+    let rest = "E 1 4 whole\nS 0 1 0 0\nP 0 5 1 0 1\nE 0 5 whole\nV 0 5 good\n";
+    let events = format!(in rt.alloc(); "{begun} void\n{rest}")?;
+    let out = checked(rt.alloc(), BOTH_DECLINE, events.as_str())?;
+    same(&rt, out.as_slice(), BOTH_RACED.as_bytes());
+    let events = format!(in rt.alloc(); "{begun} good\n{rest}")?;
+    let fault = checked(rt.alloc(), BOTH_DECLINE, events.as_str()).err();
+    let illegal = CliFault::Trace(TraceFault::Illegal(11));
+    same(&rt, fault, Some(illegal));
+    Ok(())
+}
+
 const DECLINED: &str =
     "[global]\nioengine=memory\nfilename=f\nsize=4k\n[r]\nverify=md5\nserialize_overlap=0\n[w]\nrw=write\n";
 

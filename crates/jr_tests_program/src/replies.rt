@@ -106,6 +106,20 @@ fn flipped_bytes_are_told_by_their_place(rt: HostRuntime) -> Result<(), Fail> {
     assert_answered(&rt, MD5, 6, Reply::Flip(40), BAD_DIGEST, 1)
 }
 
+const CHUNKED: &str = "[w]\nioengine=memory\nrw=write\nsize=16k\nverify=md5\nverify_interval=1k\n";
+
+const ONE_BAD: &str =
+    "w: clone=0 reads=0 rbytes=0 writes=4 wbytes=16384 checks=4 good=3 bad=1 skipped=0 void=0 faults=0\nmiscompare: clone=0 pass=0 number=2 file=w.0.0 offset=8192 length=4096 what=";
+
+#[test]
+fn flipped_bytes_of_a_chunk_are_told_by_its_number(rt: HostRuntime) -> Result<(), Fail> {
+    for (place, what) in [(1124, "data:1"), (1044, "header:1"), (1064, "digest:1")] {
+        let want = format!(in rt.alloc(); "{ONE_BAD}{what}\n")?;
+        assert_answered(&rt, CHUNKED, 6, Reply::Flip(place), want.as_str(), 1)?;
+    }
+    Ok(())
+}
+
 const FATAL: &str = "[w]\nioengine=memory\nrw=write\nsize=16k\nverify=md5\nverify_fatal=1\n";
 
 const FATAL_REPORT: &str =
