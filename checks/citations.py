@@ -6,7 +6,8 @@ clause that isn't in the file or the crate beside it, a count of lines that is a
 - A name in backquotes stands somewhere in the repository's sources, scripts or cases.
 - ARCHITECTURE: a function in backquotes with a path in brackets behind it is in that file.
 - HEADLINE: what a table's row says of calls and clauses is in the row's files, and its modules are among the specs, with as many lines.
-- PROMISES: what stands in brackets in a crate's section is a clause, a law, a function or a definition of that crate, or of one below it.
+- A crate's README: there is one, but for the tests. What stands in brackets in it is a clause, a law, a function or a definition of that
+  crate, or of one below it.
 - DEFINITIONS: the modules of a heading are there, and what a line below it begins with is in the specs or types of one of its crates."""
 
 import os
@@ -17,6 +18,7 @@ import sys
 TOP = os.path.dirname(os.path.dirname(os.path.abspath(__file__)))
 # (CHANGELOG speaks of what is gone, too)
 DOCUMENTS = ["README.md", "CONTRIBUTING.md", *(f"docs/{it}" for it in sorted(os.listdir(f"{TOP}/docs")) if it.endswith(".md"))]
+README = re.compile(r"crates/(\w+)/README\.md")
 QUOTED = re.compile(r"`([^`\n]+)`")
 PATH = re.compile(r"(?:[\w.-]+/)+[\w.-]*|[\w-]+\.(?:rt|antt|py|sh|md|c|cases|edit|fio)")
 NAME = re.compile(r"[A-Za-z_][\w-]*(?:::[A-Za-z_]\w*)*")
@@ -170,18 +172,22 @@ def missing_modules(sources, document, modules):
             yield f"{document}: {crate} has no module {name}"
 
 
-def sections(sources, document, text):
-    """In each crate's section of PROMISES: (`clause`, `law`)."""
-    for section in re.split(r"^### ", text, flags=re.M)[1:]:
-        crate = QUOTED.match(section)
-        if not crate or crate[1] not in sources.below:
-            yield f"{document}: there is no crate {section.splitlines()[0]}"
-            continue
-        there = sources.of_crates(sources.with_below(crate[1]))
-        for inside in re.findall(r"\(([^()]*`[^()]*)\)", section.split("\n## ")[0]):
-            for name in QUOTED.findall(inside):
-                if NAME.fullmatch(name) and not has(there, name) and not sources.has_path(name):
-                    yield f"{document}: {crate[1]} has no {name}"
+def clauses(sources, document, text):
+    """In a crate's README: (`clause`, `law`)."""
+    crate = README.fullmatch(document)[1]
+    if crate not in sources.below:
+        yield f"{document}: there is no crate {crate}"
+    there = sources.of_crates(sources.with_below(crate))
+    for inside in re.findall(r"\(([^()]*`[^()]*)\)", text):
+        for name in QUOTED.findall(inside):
+            if NAME.fullmatch(name) and not has(there, name) and not sources.has_path(name):
+                yield f"{document}: {crate} has no {name}"
+
+
+def missing_readmes(sources):
+    for crate in sources.below:
+        if not crate.startswith("jr_tests_") and f"crates/{crate}/README.md" not in sources.texts:
+            yield f"crates/{crate} has no README.md"
 
 
 def headings(sources, document, text):
@@ -201,20 +207,20 @@ DEFINED_BELOW = {"report_of", "all_totals", "machine_run"}
 LOOKS = {
     "docs/ARCHITECTURE.md": (brackets,),
     "docs/HEADLINE.md": (call_rows, module_rows),
-    "docs/PROMISES.md": (sections,),
     "docs/DEFINITIONS.md": (headings,),
 }
 
 
 def main():
-    wrong = []
-    for document in DOCUMENTS:
+    readmes = [it for it in SOURCES.texts if README.fullmatch(it)]
+    wrong = [*missing_readmes(SOURCES)]
+    for document in [*DOCUMENTS, *readmes]:
         text = SOURCES.texts[document]
-        for look in (paths, names, *LOOKS.get(document, ())):
+        for look in (paths, names, *LOOKS.get(document, (clauses,) if document in readmes else ())):
             wrong += look(SOURCES, document, text)
     for it in dict.fromkeys(wrong):
         print(it)
-    print(f"checks/citations.py: {len(DOCUMENTS)} documents, {len(set(wrong))} citations that aren't so")
+    print(f"checks/citations.py: {len(DOCUMENTS) + len(readmes)} documents, {len(set(wrong))} citations that aren't so")
     return 1 if wrong else 0
 
 
