@@ -1,7 +1,7 @@
 #!/usr/bin/env python3
-"""checks/claims.py [PROGRAM] looks at how the program (bin/fiorun where none is given) takes its files: that two names of one file, a file that
+"""checks/claims.py [PROGRAM [STARTS]] looks at how the program (bin/fiorun where none is given) takes its files: that two names of one file, a file that
 another run has, a missing device and, as root, a block device that is in use are refused before anything is written, that what a refused run
-made goes again, and what the note says. What can't be tried here is skipped with a word. The status is 1 where something is wrong."""
+made goes again, and what the note says. Two runs are started together STARTS times (200 where no number is given). What can't be tried here is skipped with a word. The status is 1 where something is wrong."""
 
 import contextlib
 import fcntl
@@ -25,8 +25,10 @@ UNDROPPED = "fiorun: note: the system's cache may have answered checks: started 
 CLEAN = "w: clone=0 reads=0 rbytes=0 writes=256 wbytes=1048576 checks=256 good=256 bad=0 skipped=0 void=0 faults=0\n"
 MISSING = "No such file or directory (os error 2)"
 SECONDS = 120
-# How often two runs are started together over a file that is not there.
-STARTS = 200
+# How often two runs are started together over a file that is not there, where no number is given.
+STARTS = [200]
+# How long a call is held, in microseconds.
+HELD = 3_000_000
 CAUGHT = {"stdout": subprocess.PIPE, "stderr": subprocess.PIPE}
 
 
@@ -209,7 +211,7 @@ def runs_that_only_read_share(program, room):
 def two_starts_leave_the_file_of_the_one_that_ran(program, room):
     """Of two runs over a file that isn't there, started together, the one that is refused doesn't remove what the other has."""
     path = os.path.join(room, "f")
-    for number in range(STARTS):
+    for number in range(STARTS[0]):
         with contextlib.suppress(FileNotFoundError):
             os.unlink(path)
         both = [subprocess.Popen([program], stdin=subprocess.PIPE, cwd=room, text=True, **CAUGHT) for _ in (1, 2)]
@@ -217,6 +219,53 @@ def two_starts_leave_the_file_of_the_one_that_ran(program, room):
         ended = [it.returncode for it in both]
         expect(set(ended) <= {0, 3}, f"start {number}: {ended}: {said}")
         expect(ended == [3, 3] or os.path.exists(path) and os.path.getsize(path) == 16384, f"start {number}: {ended}, and no file: {said}")
+
+
+def held_at_its_lock(program, room, path):
+    """A run that has made its file and is held just before it locks it."""
+    words = ["strace", "-f", "-qq", "-o", os.path.join(room, "calls"), "-e", "trace=flock", "-e", f"inject=flock:delay_enter={HELD}"]
+    it = subprocess.Popen([*words, program, "--notes"], stdin=subprocess.PIPE, cwd=room, text=True, **CAUGHT)
+    it.stdin.write(job_of(size="16k"))
+    it.stdin.close()
+    it.stdin = None
+    while it.poll() is None and not os.path.exists(path):
+        time.sleep(0.01)
+    return it
+
+
+def who_makes_a_file_and_loses_its_lock_leaves_it(program, room):
+    """Another one locks and writes the file between its making and its lock."""
+    as_root("strace")
+    path = os.path.join(room, "f")
+    for _ in range(5):
+        it = held_at_its_lock(program, room, path)
+        expect(os.path.exists(path), f"no file was made: {it.communicate(timeout=SECONDS)}")
+        with open(path, "r+b") as theirs:
+            try:
+                fcntl.flock(theirs, fcntl.LOCK_EX | fcntl.LOCK_NB)
+            except BlockingIOError:
+                it.communicate(timeout=SECONDS)
+                os.unlink(path)
+                continue
+            theirs.write(b"theirs")
+            theirs.flush()
+            said = it.communicate(timeout=SECONDS)
+            expect(it.returncode == 3, f"it wasn't refused: {it.returncode}: {said}")
+            expect(os.path.exists(path) and got(path) == b"theirs", f"the file of another is gone or another: {said}")
+            return
+    raise Skipped("the machine is too slow to come between two calls")
+
+
+def a_link_that_comes_later_isnt_followed(program, room):
+    """What a run lengthens is what it opened, whatever stands at its path by then."""
+    as_root("strace")
+    path, victim = os.path.join(room, "f"), os.path.join(room, "victim")
+    put(victim, b"")
+    it = held_at_its_lock(program, room, path)
+    os.rename(path, path + ".was")
+    os.symlink("victim", path)
+    said = it.communicate(timeout=SECONDS)
+    expect(got(victim) == b"" and os.path.islink(path), f"another file was written, or the link is gone: {it.returncode}: {said}")
 
 
 def what_is_no_plain_file_isnt_made_longer(program, room):
@@ -377,6 +426,8 @@ def a_part_of_another_device_is_refused(program, room):
 CASES = [
     a_device_that_is_too_small_is_refused,
     two_starts_leave_the_file_of_the_one_that_ran,
+    who_makes_a_file_and_loses_its_lock_leaves_it,
+    a_link_that_comes_later_isnt_followed,
     what_is_no_plain_file_isnt_made_longer,
     two_names_of_one_file_are_refused,
     a_second_run_is_refused,
@@ -410,6 +461,7 @@ def tried(case, program):
 
 def main(words):
     program = find_program(words[0] if words else None, "claims")
+    STARTS[0] = int(words[1]) if len(words) > 1 else STARTS[0]
     failed = [case for case in CASES if not tried(case, program)]
     print(f"claims: {len(CASES)} cases, {len(failed)} failed")
     return 1 if failed else 0
