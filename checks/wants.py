@@ -3,8 +3,7 @@
 
 A library that is loaded before the program's own (checks/refuse.c, built by cc into a folder that is removed again) counts a test's
 requests for memory and for threads, and refuses one of them. Then the test passes, or it ends with an error that names the want: a
-wrong answer is an assertion that fails. TESTS has for each call that can want memory a test in which it stands, but for `choose`,
-`lay_out` and the engines over files, which checks/memory tries in runs of the program. Some tests say what was refused (they make the
+wrong answer is an assertion that fails. TESTS has for each call that can want memory a test in which it stands. Some tests say what was refused (they make the
 call again, or name the fault): each of these texts has to come up in some run. Of a test with threads, whose requests differ from run
 to run, all from one request on are refused too. The programs are those that rt ci or rt test leaves in crates/NAME/out (built where
 there is none). The status is 1 where a test ends otherwise.
@@ -48,6 +47,7 @@ TESTS = (
     Test("jr_tests_history", "flight::agrees_with_a_plain_list", "Flight::new, begin"),
     Test("jr_tests_history", "writes::last_of_its_blocks_is_intact", "WriteLog::settle"),
     Test("jr_tests_history", "writes::both_halves_go", "WriteLog::settle"),
+    Test("jr_tests_history", "writes::a_refused_settle_changes_nothing", "WriteLog::settle", ("refused: settle\n",)),
     Test("jr_tests_history", "history::a_run_event_by_event", "Past::new, followed_by; Ledger::new, followed_by"),
     Test("jr_tests_history", "history::a_large_piece_lies_over_each_of_its_parts", "Past::new, followed_by"),
     Test("jr_tests_history", "passes::totals_of_a_run", "totals"),
@@ -59,18 +59,27 @@ TESTS = (
     Test("jr_tests_desk", "refused::a_refused_call_changes_nothing", "Desk::new, take, end, judge; ScriptedEngine", DESK_SAID),
     Test("jr_tests_desk", "plays::two_in_flight_and_a_flipped_read", "play"),
     Test("jr_tests_desk", "plays::two_clones_over_one_file", "play"),
+    Test("jr_tests_desk", "plays::refusals_by_name", "play"),
     Test("jr_tests_parts", "map::goes_on_at_the_least_free_cell", "CellMap::new"),
     Test("jr_tests_parts", "draws::visits_each_cell_of_a_map_once", "Drawer::new"),
+    Test("jr_tests_parts", "draws::cuts_a_draw_at_a_taken_cell", "CellMap::new, Drawer::new"),
+    Test("jr_tests_parts", "files::files_are_read_as_they_were_written", "FileEngine::new, lay_out"),
     Test("jr_tests_parts", "deferred::gives_the_draws_of_a_drawer", "DrawsLeft::of_pass"),
     Test("jr_tests_parts", "deferred::writes_and_reads_in_rounds_of_two", "Rounds::written (by the rounds of a standing clone)"),
     Test("jr_tests_parts", "engines::memory_has_edges", "MemoryEngine::new; SharedMemory::new, share"),
     Test("jr_tests_crew", "drops::a_refused_run_drops_its_engines", "run, which drops its engines", RUN_SAID, True),
+    Test("jr_tests_crew", "runs::four_workers_write_one_file", "run", threads=True),
+    Test("jr_tests_crew", "runs::a_hundred_random_writes_are_good_whoever_judges", "run", threads=True),
+    Test("jr_tests_crew", "runs::gates_that_soon_give_up_are_told", "run", threads=True),
     Test("jr_tests_crew", "handover::who_holds_every_part_can_settle", "Handoff::new, split"),
     Test("jr_tests_program", "sections::reads_sections_with_their_lines", "sections"),
     Test("jr_tests_program", "sections::a_section_is_made_and_taken_apart", "Line::new, Section::new"),
     Test("jr_tests_program", "options::one_file_of_two_clones", "plan"),
     Test("jr_tests_program", "plans::clones_share_a_file", "Draft::add, plan_text"),
     Test("jr_tests_program", "program::a_plan_is_printed", "read_text, print_plan"),
+    Test("jr_tests_program", "program::offsets_and_phases_are_planned", "read_job, print_plan"),
+    Test("jr_tests_program", "words::each_word_goes_to_its_field", "choose"),
+    Test("jr_tests_program", "replies::flipped_bytes_are_told_by_their_place", "run_serial, execute_serial; ScriptedEngine::new"),
     Test("jr_tests_program", "program::a_report_and_a_trace_are_written", "execute_serial, report, totals_text, trace; MemoryEngine::new"),
     Test("jr_tests_program", "program::a_trace_is_checked", "read_trace, check_trace"),
     Test("jr_tests_program", "crew::a_flipped_byte_is_found_by_a_crew", "read_job, execute", threads=True),

@@ -11,13 +11,15 @@ use std::thread;
 // An engine of zeros whose calls wait for one another: each answers once two have begun, or fails after many turns.
 #[derive(Drop)]
 struct Gate {
+    turns: u32,
     inside: Arc<AtomicU64, Global>,
     counts: CallCounts,
 }
 
 impl Gate {
-    fn new(inside: Arc<AtomicU64, Global>) -> Gate {
+    fn new(turns: u32, inside: Arc<AtomicU64, Global>) -> Gate {
         Gate {
+            turns,
             inside,
             counts: CallCounts::new(),
         }
@@ -26,7 +28,7 @@ impl Gate {
     // Whether another came in.
     fn meets(&self) -> bool {
         self.inside.fetch_add(1, Ordering::SeqCst);
-        for _ in 0..20_000_000 {
+        for _ in 0..self.turns {
             if self.inside.load(Ordering::SeqCst) >= 2 {
                 return true;
             }
@@ -76,9 +78,14 @@ impl Engine for Gate {
 
 // Two engines with one gate: a call stays inside until another is inside too.
 pub(crate) fn two_gates(alloc: Global) -> Result<Vec<Box<dyn Engine + Send>>, Fail> {
+    two_gates_of(alloc, 20_000_000)
+}
+
+// The same with gates that give up after so many turns.
+pub(crate) fn two_gates_of(alloc: Global, turns: u32) -> Result<Vec<Box<dyn Engine + Send>>, Fail> {
     let inside = Arc::new(alloc, AtomicU64::new(0))?;
     let mut engines: Vec<Box<dyn Engine + Send>> = Vec::new(alloc);
-    engines.push(Box::new(alloc, Gate::new(Arc::try_clone(&inside)?))?)?;
-    engines.push(Box::new(alloc, Gate::new(inside))?)?;
+    engines.push(Box::new(alloc, Gate::new(turns, Arc::try_clone(&inside)?))?)?;
+    engines.push(Box::new(alloc, Gate::new(turns, inside))?)?;
     Ok(engines)
 }

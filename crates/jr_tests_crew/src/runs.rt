@@ -1,9 +1,10 @@
 use crate::asserts::same;
-use crate::gates::two_gates;
-use crate::plans::plan_of;
+use crate::gates::{two_gates, two_gates_of};
+use crate::plans::{NOTHING, plan_of};
 use jr_crew::{RunFault, Watch, run};
 use jr_desk::Desk;
-use jr_model::{EngineKind, IoType};
+use jr_engines::{Engine, SharedMemory};
+use jr_model::{EngineKind, IoType, Method, Totals, VerifyKind};
 use jr_plan::{Plan, Workload};
 use std::alloc::Global;
 use std::process::Abort;
@@ -33,6 +34,94 @@ fn a_run_wants_an_engine(rt: HostRuntime) -> Result<(), Fail> {
     let none = Vec::new(rt.alloc());
     let refused = run(&rt, rt.alloc(), plan, none, Watch::none()).err();
     same(&rt, refused, Some(RunFault::NoEngine));
+    Ok(())
+}
+
+// Two clones that each write 16 blocks of one file and check them by sha256, four at once; or one that writes so many at random.
+fn digested(io_type: IoType, depth: u32, cells: u32) -> Workload {
+    Workload {
+        depth,
+        method: Method {
+            kind: VerifyKind::Sha256,
+            pattern: None,
+            interval: 0,
+        },
+        ..Workload::plain(io_type, 4096, cells)
+    }
+}
+
+// Each clone wrote 16 blocks, and each of these was checked and good, or is overwritten.
+fn assert_sixteen(rt: &impl Abort, desk: &Desk) {
+    for totals in desk.totals() {
+        let over = totals.checks.saturating_add(totals.skipped);
+        let told = (totals.writes, over, totals.bad, totals.faults);
+        same(rt, told, (16, 16, 0, 0));
+        same(rt, totals.good, totals.checks);
+    }
+    same(rt, desk.totals().len(), 2);
+}
+
+// (`checks/wants.py` refuses its requests for memory and threads.)
+#[test]
+fn four_workers_write_one_file(rt: HostRuntime) -> Result<(), Fail> {
+    let alloc = rt.alloc();
+    let work = digested(IoType::Write, 4, 16);
+    let plan = plan_of(alloc, &work, 2, EngineKind::Memory, 0)?;
+    let first = SharedMemory::new(rt.clone()?, alloc, &plan)?;
+    let mut engines: Vec<Box<dyn Engine + Send>> = Vec::new(alloc);
+    for _ in 1..4 {
+        engines.push(Box::new(alloc, first.share()?)?)?;
+    }
+    engines.push(Box::new(alloc, first)?)?;
+    let ran = run(&rt, alloc, plan, engines, Watch::none())?;
+    assert_sixteen(&rt, &ran.desk);
+    Ok(())
+}
+
+// A hundred blocks were written and checked, each good.
+fn assert_hundred(rt: &impl Abort, desk: &Desk) {
+    let hundred = Totals {
+        writes: 100,
+        wbytes: 409_600,
+        checks: 100,
+        good: 100,
+        ..NOTHING
+    };
+    same(rt, desk.totals(), [hundred].as_slice());
+}
+
+#[test]
+fn a_hundred_random_writes_are_good_whoever_judges(rt: HostRuntime) -> Result<(), Fail> {
+    let alloc = rt.alloc();
+    for verifiers in [2, 0] {
+        let work = digested(IoType::RandWrite, 8, 100);
+        let plan = plan_of(alloc, &work, 1, EngineKind::Memory, verifiers)?;
+        let first = SharedMemory::new(rt.clone()?, alloc, &plan)?;
+        let mut engines: Vec<Box<dyn Engine + Send>> = Vec::new(alloc);
+        for _ in 1..4 {
+            engines.push(Box::new(alloc, first.share()?)?)?;
+        }
+        engines.push(Box::new(alloc, first)?)?;
+        let ran = run(&rt, alloc, plan, engines, Watch::none())?;
+        assert_hundred(&rt, &ran.desk);
+    }
+    Ok(())
+}
+
+// Both wrote, or what failed is told: a gate that nobody else comes to fails its call.
+fn assert_told(rt: &impl Abort, desk: &Desk) {
+    for totals in desk.totals() {
+        let told = totals.writes.saturating_add(totals.faults);
+        assert!(rt; told >= 1 && told <= 2 && (totals.faults > 0 || totals.writes == 2));
+    }
+}
+
+#[test]
+fn gates_that_soon_give_up_are_told(rt: HostRuntime) -> Result<(), Fail> {
+    let plan = two_at_once(rt.alloc())?;
+    let engines = two_gates_of(rt.alloc(), 100_000)?;
+    let ran = run(&rt, rt.alloc(), plan, engines, Watch::none())?;
+    assert_told(&rt, &ran.desk);
     Ok(())
 }
 

@@ -85,6 +85,40 @@ fn last_of_its_blocks_is_intact(rt: HostRuntime) -> Result<(), Fail> {
     Ok(())
 }
 
+fn say_refused(rt: &impl Eprint) {
+    let _ = eprintln!(rt; "refused: settle");
+}
+
+// The log has these writes, by their numbers, and no other of the four.
+fn assert_all(rt: &impl Abort, log: &WriteLog, kept: [bool; 4]) {
+    for number in 0..4 {
+        assert_kept(rt, log, number, kept[number as usize]);
+    }
+}
+
+// `checks/wants.py` refuses each of its requests for memory.
+#[test]
+fn a_refused_settle_changes_nothing(rt: HostRuntime) -> Result<(), Fail> {
+    let mut log = WriteLog::new(rt.alloc());
+    let mut kept = [false; 4];
+    for (number, first, after) in [
+        (0, 16, [true, false, false, false]),
+        (1, 16, [false, true, false, false]),
+        (2, 16, [false, false, true, false]),
+        (3, 0, [false, false, true, true]),
+    ] {
+        let piece = blocks(0, first, 8);
+        if let Err(Memory) = settle(&rt, &mut log, number, piece) {
+            say_refused(&rt);
+            assert_all(&rt, &log, kept);
+            settle(&rt, &mut log, number, piece)?;
+        }
+        kept = after;
+        assert_all(&rt, &log, kept);
+    }
+    Ok(())
+}
+
 #[test]
 fn both_halves_go(rt: HostRuntime) -> Result<(), Fail> {
     let mut log = WriteLog::new(rt.alloc());

@@ -78,6 +78,24 @@ fn a_plan_is_printed(rt: HostRuntime) -> Result<(), Fail> {
     Ok(())
 }
 
+const PHASES: &str =
+    "[a]\nrw=write\nsize=8k\noffset=4k\noffset_increment=8k\nnumjobs=2\n[b]\nrw=write\nsize=4k\nstonewall\n";
+
+const PHASES_PLAN: &str =
+    "a: clone=0 phase=0 file=a.0.0 start=4096 size=8192 cell=4096 cells=2 rw=write iodepth=1 loops=1 verify=none
+a: clone=1 phase=0 file=a.1.0 start=12288 size=8192 cell=4096 cells=2 rw=write iodepth=1 loops=1 verify=none
+b: clone=2 phase=1 file=b.0.0 start=0 size=4096 cell=4096 cells=1 rw=write iodepth=1 loops=1 verify=none
+";
+
+#[test]
+fn offsets_and_phases_are_planned(rt: HostRuntime) -> Result<(), Fail> {
+    let plan = read_job(rt.alloc(), PHASES.as_bytes(), None)?;
+    let mut out = Vec::new(rt.alloc());
+    print_plan(rt.alloc(), &plan, &mut out)?;
+    same(&rt, out.as_slice(), PHASES_PLAN.as_bytes());
+    Ok(())
+}
+
 #[test]
 fn a_plan_that_cannot_be_written_is_a_fault(rt: HostRuntime) -> Result<(), Fail> {
     let plan = read_job(rt.alloc(), TWO.as_bytes(), Some("a"))?;
