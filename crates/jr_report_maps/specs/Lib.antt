@@ -4,4 +4,4 @@ pub mod Maps
 pub mod Marked
 pub mod Spans
 pub mod Sweeps
-pub mod Lookups
+pub mod Told
