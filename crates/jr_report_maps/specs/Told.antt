@@ -6,7 +6,7 @@ use Rattle.jr_model.specs.declared.events.Event.{Event}
 use Rattle.jr_model.specs.declared.events.WriteId.{WriteId}
 use Rattle.jr_replay_history.specs.Marks.{same_name}
 use Rattle.jr_model.specs.History.{started}
-use Rattle.jr_report_maps.specs.declared.told.Told.{Lookups}
+use Rattle.jr_report_maps.specs.declared.told.Lookups.{Lookups}
 use Rattle.jr_report_maps.specs.Maps.{judges, skips}
 
 pub record IsTold (history : List Event) (told : Lookups) : Type 0 where
