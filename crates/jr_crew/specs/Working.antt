@@ -11,8 +11,8 @@ use Rattle.jr_header.specs.Served.{ExpectsOwn, asked_with, is_to_judge}
 use Rattle.jr_crew_threads.specs.Parts.{one_part}
 use Rattle.jr_crew_books.specs.declared.books.Done.{Done}
 use Rattle.jr_crew.specs.Crews.{IsSaidOf}
-use Rattle.jr_crew.specs.declared.held.Started.{Started}
-use Rattle.jr_crew.specs.declared.held.Started.TheVariants as start
+use Rattle.jr_crew.specs.declared.held.NextTicket.{NextTicket}
+use Rattle.jr_crew.specs.declared.held.NextTicket.TheVariants as start
 
 -- what a worker has put into the hand-over once this is settled: one parcel more where a check that ended whole is for others
 abbrev pub handed_on : Bool → AnswerParts → PassState → PassState
@@ -28,7 +28,7 @@ abbrev pub CanBeServed : Ticket → Type 0
 CanBeServed ticket = (ticket_fits ticket ≡ true) × ExpectsOwn ticket
 
 -- what was started can
-abbrev pub CanStart : Started → Type 0
+abbrev pub CanStart : NextTicket → Type 0
 CanStart (start.Ticket ticket) = CanBeServed ticket
 CanStart (start.Nothing step) = ⊤
 
