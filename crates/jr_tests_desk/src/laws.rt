@@ -10,6 +10,7 @@ use jr_laws_log::{
     next_is_free, others_fly_on, unended_is_unlogged,
 };
 use jr_laws_quiet::{checks_stay_last, last_is_latest, quiet_report, write_waits};
+use jr_laws_races::{raced_is_written_over, written_over_has_raced};
 use jr_laws_rounds::{
     choice_by_standing, clone_finished_by_standing, closed_at_end, finished_by_standing,
     kept_is_current, left_are_unsettled, left_in_pass, open_is_latest, taken_up_is_latest,
@@ -86,4 +87,10 @@ fn the_round_laws_can_be_called() {
     clone_finished_by_standing();
     open_is_latest();
     taken_up_is_latest();
+}
+
+#[test]
+fn the_race_laws_can_be_called() {
+    raced_is_written_over();
+    written_over_has_raced();
 }
