@@ -71,7 +71,7 @@ fn main(rt: HostRuntime) -> ExitCode {
 // Says on standard error where a run was interrupted, and the first thing that couldn't be stored or written of it, and gives the exit
 // status.
 fn told<R: Eprint>(rt: &R, ran: &Finished, has_notes: bool) -> u8 {
-    if ran.ended.is_interrupted {
+    if ran.ended.is_interrupted() {
         let _ = eprintln!(rt; "fiorun: interrupted");
     }
     let missing = ran.missing();

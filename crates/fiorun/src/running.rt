@@ -4,7 +4,7 @@ ghost use Rattle.std.specs.Prelude.{◌≤◌, ◌^◌};
 use crate::outputs::TraceFile;
 use crate::places::Wanted;
 use crate::unfailing::Unfailing;
-use jr_cli::{Executed, execute, execute_serial};
+use jr_cli::{RunEnd, execute, execute_serial};
 use jr_cli_words::{Choice, CliFault, Wiping, workers_of};
 use jr_engines::{Engine, MemoryEngine, NullEngine, SharedMemory};
 use jr_io_files::{FileEngine, SharedFile};
@@ -33,7 +33,7 @@ pub enum Turn {
 // where one couldn't.
 #[derive(Drop)]
 pub struct Finished {
-    pub ended: Executed,
+    pub ended: RunEnd,
     pub closed: Closed,
     // Whether a trace was asked for, and couldn't be written to its end.
     pub is_trace_cut: bool,
@@ -44,7 +44,7 @@ impl Finished {
     // A run over no files, whose report may be cut, with its trace where one was asked for.
     fn new<R: Outlet>(
         alloc: Global,
-        ended: Executed,
+        ended: RunEnd,
         is_cut: bool,
         trace: Option<TraceFile<'_, R>>,
     ) -> Finished {
@@ -374,7 +374,7 @@ fn run_over<R: Outlet + Machine>(
             let mut out = Unfailing::new(Wiping { line, out });
             let mut events = events;
             let ended = execute_serial(alloc, plan, engine, watch, events.as_mut(), &mut out)?;
-            Ok(Finished::new(alloc, ended, out.has_failed, events))
+            Ok(Finished::new(alloc, ended.into_end(), out.has_failed, events))
         },
     )
 }
@@ -488,6 +488,6 @@ fn run_with<R: Outlet + Machine>(
         let mut out = Unfailing::new(Wiping { line, out });
         let mut events = events;
         let ended = execute(rt, alloc, plan, engines, watch, events.as_mut(), &mut out)?;
-        Ok(Finished::new(alloc, ended, out.has_failed, events))
+        Ok(Finished::new(alloc, ended.into_end(), out.has_failed, events))
     })
 }

@@ -1,4 +1,4 @@
-ghost use Rattle.std.specs.Prelude.{◌≡◌, ◌<◌, ◌≤◌, ◌^◌, [], true, false, not, map, None, Err, IfOk, IfErr, IsOkAnd, OnOk};
+ghost use Rattle.std.specs.Prelude.{◌≡◌, ◌<◌, ◌≤◌, ◌^◌, [], false, map, None, Err, IfOk, IfErr, IsOkAnd, OnOk};
 ghost use Rattle.std.specs.List.{list_any};
 ghost use Rattle.std.specs.Io.KnownBytes.{Appends};
 ghost use Rattle.jr_model.specs.Legal.{is_complete};
@@ -6,6 +6,7 @@ ghost use Rattle.jr_model.specs.Report.{totals_lines};
 ghost use Rattle.jr_model.specs.Serial.{serial_history};
 ghost use Rattle.jr_laws_quiet.specs.Quiet.{none_declines};
 ghost use Rattle.jr_laws_bytes.specs.Clean.{has_bad};
+ghost use Rattle.jr_crew_threads.specs.Stops.{IsCompleteOrAsked};
 ghost use Rattle.jr_crew.specs.Runs.{IsFresh};
 ghost use Rattle.jr_report_faults.specs.Faults.{AreFaultsOf};
 ghost use Rattle.jr_cli.specs.Checked.{IsCheckFault};
@@ -14,12 +15,12 @@ ghost use Rattle.jr_cli.specs.Executed.{IsQuietlyReported, IsReported, IsRunFaul
 ghost use Rattle.jr_replay_traces.specs.Runs.{IsRunIn};
 ghost use Rattle.jr_replay_traces.specs.TraceChecks.{check_of, check_of_part};
 ghost use Rattle.jr_replay_traces.specs.Traces.{trace_of};
-ghost use Rattle.jr_cli.specs.Status.{status_of, is_unclean};
+ghost use Rattle.jr_cli.specs.Status.{is_interrupted, is_unclean, status_of};
 
 use crate::ended::Executed;
 use crate::found::faults_found;
 use jr_cli_words::{CliFault, write_out};
-use jr_crew::{RunFault, Watch, run_booked, run_serial};
+use jr_crew::{RunFault, StopRequest, Watch, run_booked, run_serial_asked};
 use jr_desk::Desk;
 use jr_engines::Engine;
 use jr_model::Totals;
@@ -35,44 +36,47 @@ use std::time::Clock;
 
 /// Runs a plan with one worker, writes the report and then the trace if one is asked for, and says what was found, the run's
 /// faults among it. If the run is asked to stop, report and trace are of what it did until then.
-pub fn execute_serial<W: Write, V: Write>(
+pub fn execute_serial<'w, W: Write, V: Write>(
     alloc: Global,
     plan: Plan,
     engine: &mut dyn Engine,
-    watch: Watch<'_>,
+    watch: Watch<'w>,
     events: Option<&mut W>,
     out: &mut V,
-) -> Result<Executed, CliFault>
+) -> Result<Executed<'w>, CliFault>
     requires { (state engine.old).calls ≤ 2 ^ 63 }
 
     // The report, the trace and what was found are those of one run of this engine, whole or interrupted.
-    ensures ended { IfOk result (λ ended. HasEndedRun plan (state engine.old) (state engine.new) ended.is_interrupted (λ history.
+    ensures ended { IfOk result (λ ended. HasEndedRun plan (state engine.old) (state engine.new) (is_interrupted ended) (λ history.
         IsReported plan history (V.contents out.old) (V.contents out.new) ended.found
         × IsTraced W.contents events.entry events.exit history × AreFaultsOf plan history ended.faults
         × IsDeskOf plan history ended.desk)) }
 
     // Where it isn't interrupted, that is a whole run; and nothing else can be where nobody can stop it.
-    ensures run { IfOk result (λ ended. ended.is_interrupted ≡ false → HasRun plan (state engine.old) (state engine.new) (λ history.
+    ensures run { IfOk result (λ ended. is_interrupted ended ≡ false → HasRun plan (state engine.old) (state engine.new) (λ history.
         IsReported plan history (V.contents out.old) (V.contents out.new) ended.found
         × IsTraced W.contents events.entry events.exit history × AreFaultsOf plan history ended.faults
         × IsDeskOf plan history ended.desk)) }
-    ensures unasked { watch.entry.stop ≡ None → IfOk result (λ ended. ended.is_interrupted ≡ false) }
+    ensures unasked { watch.entry.stop ≡ None → IfOk result (λ ended. is_interrupted ended ≡ false) }
+
+    // It is complete, or this flag was set.
+    ensures asked { IfOk result (λ ended. IsCompleteOrAsked watch.entry.stop (is_complete plan ended.desk.history) ended.asked) }
 
     // Over a fresh memory it is the history of one worker, and nothing goes wrong: only a checked read can be found bad there.
-    ensures serial { IsFresh plan (state engine.old) → IfOk result (λ ended. ended.is_interrupted ≡ false
+    ensures serial { IsFresh plan (state engine.old) → IfOk result (λ ended. is_interrupted ended ≡ false
         → IsReported plan (serial_history plan) (V.contents out.old) (V.contents out.new) ended.found
         × IsTraced W.contents events.entry events.exit (serial_history plan)) }
     ensures clean { IsFresh plan (state engine.old) → has_bad (serial_history plan) ≡ false
-        → IfOk result (λ ended. ended.is_interrupted ≡ false → ended.found ≡ 0) }
-    ensures quiet { IfOk result (λ ended. ended.is_interrupted ≡ false
+        → IfOk result (λ ended. is_interrupted ended ≡ false → ended.found ≡ 0) }
+    ensures quiet { IfOk result (λ ended. is_interrupted ended ≡ false
         → IsQuietlyReported plan (V.contents out.old) (V.contents out.new) ended.found) }
     ensures failed { IfErr result IsCutShort }
 {
     // Its contract says what holds of every plan.
     plan.facts();
-    let desk = run_serial(alloc, plan, engine, watch)?;
-    let faults = faults_found(alloc, &desk)?;
-    let ended = print_report(alloc, desk, faults, out)?;
+    let ran = run_serial_asked(alloc, plan, engine, watch)?;
+    let faults = faults_found(alloc, &ran.desk)?;
+    let ended = print_report(alloc, ran.desk, ran.asked, faults, out)?;
     if let Some(events) = events {
         print_trace(alloc, &ended.desk, events)?;
     }
@@ -81,32 +85,35 @@ pub fn execute_serial<W: Write, V: Write>(
 
 /// Runs a plan with one worker an engine, all at once, writes the report and then the trace if one is asked for, and says what
 /// was found, as `execute_serial` does.
-pub fn execute<R: Threads + Wait + Clock + Sync, W: Write, V: Write>(
+pub fn execute<'w, R: Threads + Wait + Clock + Sync, W: Write, V: Write>(
     rt: &R,
     alloc: Global,
     plan: Plan,
     engines: Vec<Box<dyn Engine + Send>>,
-    watch: Watch<'_>,
+    watch: Watch<'w>,
     events: Option<&mut W>,
     out: &mut V,
-) -> Result<Executed, CliFault>
+) -> Result<Executed<'w>, CliFault>
     // The report, the trace and what was found are those of one run of these engines, whole or interrupted.
-    ensures ended { IfOk result (λ ended. HasEndedCrewRun plan (map (λ engine. state engine) engines.items) ended.is_interrupted
+    ensures ended { IfOk result (λ ended. HasEndedCrewRun plan (map (λ engine. state engine) engines.items) (is_interrupted ended)
         (λ history. IsReported plan history (V.contents out.old) (V.contents out.new) ended.found
         × IsTraced W.contents events.entry events.exit history × AreFaultsOf plan history ended.faults
         × IsDeskOf plan history ended.desk)) }
 
     // Where it isn't interrupted, that is a whole run; and nothing else can be where nobody can stop it.
-    ensures run { IfOk result (λ ended. ended.is_interrupted ≡ false
+    ensures run { IfOk result (λ ended. is_interrupted ended ≡ false
         → HasCrewRun plan (map (λ engine. state engine) engines.items) (λ history.
         IsReported plan history (V.contents out.old) (V.contents out.new) ended.found
         × IsTraced W.contents events.entry events.exit history × AreFaultsOf plan history ended.faults
         × IsDeskOf plan history ended.desk)) }
-    ensures unasked { watch.entry.stop ≡ None → IfOk result (λ ended. ended.is_interrupted ≡ false) }
+    ensures unasked { watch.entry.stop ≡ None → IfOk result (λ ended. is_interrupted ended ≡ false) }
+
+    // It is complete, or this flag was set.
+    ensures asked { IfOk result (λ ended. IsCompleteOrAsked watch.entry.stop (is_complete plan ended.desk.history) ended.asked) }
 
     // So the report is the same for every schedule, where no clone declines that overlapping I/O waits, the clones have files of
     // their own, and nothing goes wrong.
-    ensures quiet { IfOk result (λ ended. ended.is_interrupted ≡ false
+    ensures quiet { IfOk result (λ ended. is_interrupted ended ≡ false
         → none_declines plan ≡ true → IsQuietlyReported plan (V.contents out.old) (V.contents out.new) ended.found) }
     ensures none { engines.items ≡ [] → result ≡ Err (CliFault.Run RunFault.NoEngine) }
     ensures no_engine { IfErr result (λ fault. fault ≡ CliFault.Run RunFault.NoEngine → engines.items ≡ []) }
@@ -117,23 +124,24 @@ pub fn execute<R: Threads + Wait + Clock + Sync, W: Write, V: Write>(
     plan.facts();
     let ran = run_booked(rt, alloc, plan, engines, watch)?;
     let faults = faults_found(alloc, &ran.desk)?;
-    let told = print_report(alloc, ran.desk, faults, out)?;
+    let told = print_report(alloc, ran.desk, ran.asked, faults, out)?;
     if let Some(events) = events {
         print_trace(alloc, &told.desk, events)?;
     }
     Ok(told)
 }
 
-// Prints the report of the desk's history, and says what was found, with these faults, and whether there was more to come.
-fn print_report<V: Write>(
+// Prints the report of the desk's history, and says what was found, with these faults, and what asked the run to stop.
+fn print_report<'w, V: Write>(
     alloc: Global,
     desk: Desk,
+    asked: Option<StopRequest<'w>>,
     faults: Faults,
     out: &mut V,
-) -> Result<Executed, CliFault>
+) -> Result<Executed<'w>, CliFault>
     ensures reported { IfOk result (λ ended.
         IsReported desk.plan desk.history (V.contents out.old) (V.contents out.new) ended.found) }
-    ensures interrupted { IfOk result (λ ended. ended.is_interrupted ≡ not (is_complete desk.plan desk.history)) }
+    ensures asked { IfOk result (λ ended. ended.asked ≡ asked.entry) }
     ensures faults { IfOk result (λ ended. ended.faults ≡ faults) }
     ensures desk { IfOk result (λ ended. ended.desk ≡ desk) }
     ensures failed { IfErr result IsCutShort }
@@ -142,7 +150,7 @@ fn print_report<V: Write>(
     write_out(text.as_slice(), out)?;
     Ok(Executed {
         found: status_of(desk.totals()),
-        is_interrupted: !desk.is_complete(),
+        asked,
         faults,
         desk,
     })

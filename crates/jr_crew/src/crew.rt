@@ -7,6 +7,7 @@ ghost use Rattle.jr_model.specs.declared.events.Verdict.{Verdict as GivenVerdict
 ghost use Rattle.jr_crew_books.specs.Books.{IsVerdictIn, dones_of};
 ghost use Rattle.jr_crew_books.specs.Numbers.{judges_inline, is_own_verdict, is_numbered};
 ghost use Rattle.jr_crew_threads.specs.Faults.{IsRefusal, IsUnmanned};
+ghost use Rattle.jr_crew_threads.specs.Stops.{IsCompleteOrAsked};
 ghost use Rattle.jr_crew_books.specs.Finished.{AllFinished};
 ghost use Rattle.jr_crew.specs.Whole.{IsBooked};
 ghost use Rattle.jr_crew_channel.specs.declared.parcel.Parcel.TheVariants.{Stop};
@@ -25,7 +26,8 @@ use jr_crew_books::{
 use jr_crew_channel::{Handoff, Pass};
 use jr_crew_threads::{
     Books, ChannelEnd, Crowd, Halt, Judged, Judgements, Judges, Naming, RunFault, Seat, Shares,
-    StopFlag, Verifiers, Watch, Worked, Worker, WorkerEnd, books_of, is_asked, room_for, staff_for,
+    StopFlag, StopRequest, Verifiers, Watch, Worked, Worker, WorkerEnd, asked_at, books_of,
+    room_for, staff_for,
 };
 use jr_desk::Desk;
 use jr_engines::Engine;
@@ -38,25 +40,30 @@ use std::thread;
 use std::thread::{PromisedHandle, Threads};
 use std::time::Clock;
 
-/// What `run_booked` gives: what `run` does, with books that take less memory.
+/// What `run_booked` gives: what `run` does, with books that take less memory, and what asked the run to stop, if it did so before it
+/// was complete.
 #[derive(Drop)]
-pub struct Booked {
+pub struct Booked<'w> {
     pub desk: Desk,
     pub engines: Vec<Box<dyn Engine + Send>>,
     pub books: Vec<Book>,
+    pub asked: Option<StopRequest<'w>>,
 }
 
 /// Runs a plan as `run` does. The books take some 72 bytes for each I/O, and are made into lists of `Done` only on request: this is for
 /// who wants the desk alone, as the program does.
-pub fn run_booked<R: Threads + Wait + Clock + Sync>(
+pub fn run_booked<'w, R: Threads + Wait + Clock + Sync>(
     rt: &R,
     alloc: Global,
     plan: Plan,
     engines: Vec<Box<dyn Engine + Send>>,
-    watch: Watch<'_>,
-) -> Result<Booked, RunFault>
+    watch: Watch<'w>,
+) -> Result<Booked<'w>, RunFault>
     ensures booked { IfOk result (λ ran. IsBooked plan watch.entry.stop ran.desk (map (λ engine. state engine) engines.items)
         (map (λ engine. state engine) ran.engines.items) ran.books.items) }
+
+    // It is complete, or the flag was set.
+    ensures asked { IfOk result (λ ran. IsCompleteOrAsked watch.entry.stop (is_complete plan ran.desk.history) ran.asked) }
     ensures none { engines.items ≡ [] → result ≡ Err RunFault.NoEngine }
     ensures no_engine { IfErr result (λ fault. fault ≡ RunFault.NoEngine → engines.items ≡ []) }
     ensures thread { IfErr result (λ fault. fault ≡ RunFault.Thread → 0 < plan.verifiers) }
@@ -69,21 +76,22 @@ pub fn run_booked<R: Threads + Wait + Clock + Sync>(
 }
 
 // The same, where the plan and the hand-over have their names.
-fn run_as<P: Naming + Send + Sync, R: Threads + Wait + Clock + Sync>(
+fn run_as<'w, P: Naming + Send + Sync, R: Threads + Wait + Clock + Sync>(
     rt: &R,
     alloc: Global,
     plan: Plan,
     engines: Vec<Box<dyn Engine + Send>>,
-    watch: Watch<'_>,
+    watch: Watch<'w>,
     handoff: &Handoff,
     pass: Pass,
-) -> Result<Booked, RunFault>
+) -> Result<Booked<'w>, RunFault>
     requires plan { plan ≡ P.plan }
     requires handoff { P.handoff ≡ Some handoff.now }
     requires pass { IsPassOf handoff.now pass }
     requires first { pass_state pass ≡ first_state }
     ensures booked { IfOk result (λ ran. IsBooked plan watch.entry.stop ran.desk (map (λ engine. state engine) engines.items)
         (map (λ engine. state engine) ran.engines.items) ran.books.items) }
+    ensures asked { IfOk result (λ ran. IsCompleteOrAsked watch.entry.stop (is_complete plan ran.desk.history) ran.asked) }
     ensures failed { IfErr result (IsRefusal plan.verifiers) }
 {
     // Its contract says what holds of every plan.
@@ -91,11 +99,12 @@ fn run_as<P: Naming + Send + Sync, R: Threads + Wait + Clock + Sync>(
     let channel = ChannelEnd::<P>::new(handoff, pass);
     let (workers, verifiers) = staff_for(alloc, engines, plan.verifiers(), channel)?;
     let (desk, ended, judgements) = run_manned::<P, R>(rt, alloc, plan, workers, verifiers, watch)?;
-    let (engines, books) = gathered(alloc, &desk, watch.stop, ended, judgements)?;
+    let (engines, books, asked) = gathered(alloc, &desk, watch.stop, ended, judgements)?;
     Ok(Booked {
         desk,
         engines,
         books,
+        asked,
     })
 }
 
@@ -133,39 +142,46 @@ fn run_manned<'a, P: Naming + Send + Sync, R: Threads + Wait + Clock + Sync>(
     Ok((desk, ended, judgements))
 }
 
-// The engines and the books, where what all threads say is what the desk holds.
-fn gathered<'a, P: Naming>(
+// What a run has beside its desk: its engines, its books, and what asked it to stop.
+type Gathered<'w> = (
+    Vec<Box<dyn Engine + Send>>,
+    Vec<Book>,
+    Option<StopRequest<'w>>,
+);
+
+// The engines, the books and what asked the run to stop, where what all threads say is what the desk holds.
+fn gathered<'a, 'w, P: Naming>(
     alloc: Global,
     desk: &Desk,
-    stop: Option<&StopFlag>,
+    stop: Option<&'w StopFlag>,
     ended: Vec<WorkerEnd<P>>,
     judgements: Judgements<'a, P>,
-) -> Result<(Vec<Box<dyn Engine + Send>>, Vec<Book>), Halt>
+) -> Result<Gathered<'w>, Halt>
     requires workers { judgements.workers ≡ length ended.items }
     requires ended { All (λ one. IfOk one.1.book (λ book. IsPutter (pass_state one.1.part.pass))) ended.items }
     requires judged { All (λ one. IfOk one.book (λ book. IsJudging (pass_state one.part.pass) book.items)) judgements.all.items }
-    ensures engines { IfOk result (λ both. both.0.items ≡ map (λ one. one.0) ended.items) }
-    ensures books { IfOk result (λ both. map Ok both.1.items ≡ map (λ one. one.1.book) ended.items) }
+    ensures engines { IfOk result (λ all. all.0.items ≡ map (λ one. one.0) ended.items) }
+    ensures books { IfOk result (λ all. map Ok all.1.items ≡ map (λ one. one.1.book) ended.items) }
     ensures legal { OnOk result (is_legal desk.now.plan desk.now.history ≡ true) }
     ensures settled { OnOk result (AllFinished desk.now.history) }
-    ensures complete { stop.entry ≡ None → OnOk result (is_complete desk.now.plan desk.now.history ≡ true) }
+    ensures asked { IfOk result (λ all. IsCompleteOrAsked stop.entry (is_complete desk.now.plan desk.now.history) all.2) }
     ensures own { judges_inline desk.now.plan ≡ true
         → OnOk result (list_all (is_own_verdict (tickets_of desk.now.plan desk.now.history)) desk.now.history ≡ true) }
-    ensures each { IfOk result (λ both. (i : ℕ) (book : _) → slice_get both.1.items i ≡ Some book
+    ensures each { IfOk result (λ all. (i : ℕ) (book : _) → slice_get all.1.items i ≡ Some book
         → book ≡ dones_of desk.now.plan (judges_inline desk.now.plan) desk.now.history i) }
-    ensures numbered { IfOk result (λ both. list_all (is_numbered (length both.1.items) desk.now.plan.verifiers) desk.now.history ≡ true) }
+    ensures numbered { IfOk result (λ all. list_all (is_numbered (length all.1.items) desk.now.plan.verifiers) desk.now.history ≡ true) }
     ensures sourced { judges_inline desk.now.plan ≡ false → OnOk result ((w io : ℕ) (v : GivenVerdict)
         → Contains desk.now.history (Event.Verdict w io v) → IsSourced (map (λ one. (pass_state one.1.part.pass).put) ended.items) io v) }
 {
     let inline = judges_inline(desk.plan());
     let books = books_of(alloc, ended, judgements)?;
-    check(alloc, desk, stop, inline, &books)?;
+    let asked = check(alloc, desk, stop, inline, &books)?;
     let Books {
         engines,
         dones,
         said: _,
     } = books;
-    Ok((engines, dones))
+    Ok((engines, dones, asked))
 }
 
 // Whether workers judge their own checks.
@@ -320,17 +336,17 @@ fn worked_by<'a, P: Naming, R: Wait + Clock>(
     (engine, Worked { book, part })
 }
 
-// Compares what all threads say with what the desk holds.
-fn check(
+// Compares what all threads say with what the desk holds, and gives what asked the run to stop.
+fn check<'w>(
     alloc: Global,
     desk: &Desk,
-    stop: Option<&StopFlag>,
+    stop: Option<&'w StopFlag>,
     inline: bool,
     books: &Books,
-) -> Result<(), Halt>
+) -> Result<Option<StopRequest<'w>>, Halt>
     ensures legal { OnOk result (is_legal desk.now.plan desk.now.history ≡ true) }
     ensures settled { OnOk result (AllFinished desk.now.history) }
-    ensures complete { stop.entry ≡ None → OnOk result (is_complete desk.now.plan desk.now.history ≡ true) }
+    ensures asked { IfOk result (IsCompleteOrAsked stop.entry (is_complete desk.now.plan desk.now.history)) }
     ensures own { IsTrue inline
         → OnOk result (list_all (is_own_verdict (tickets_of desk.now.plan desk.now.history)) desk.now.history ≡ true) }
     ensures each { OnOk result ((i : ℕ) (book : _) → slice_get books.now.dones.items i ≡ Some book
@@ -339,7 +355,8 @@ fn check(
     ensures said { IsFalse inline → OnOk result (All (IsVerdictIn books.now.said.items (λ book. book.items)) desk.now.history) }
 {
     let account = Account::new(desk.plan(), desk.history(), desk.tickets());
-    if !has_ended(desk, &account, stop) || (inline && !are_own_verdicts(&account)) {
+    let asked = asked_or_complete(desk, &account, stop)?;
+    if inline && !are_own_verdicts(&account) {
         return Err(Halt::Books);
     }
     if !are_numbered(&account, books.dones.len()) {
@@ -351,18 +368,28 @@ fn check(
     if !inline && !are_said(alloc, desk.history(), books.dones.len(), &books.said)? {
         return Err(Halt::Books);
     }
-    Ok(())
+    Ok(asked)
 }
 
-// Whether the run is complete, or was asked to stop and all that it had started has come to its end.
-fn has_ended(desk: &Desk, account: &Account<'_>, stop: Option<&StopFlag>) -> bool
+// What asked a run to stop that isn't complete. All that it had started must have come to its end.
+fn asked_or_complete<'w>(
+    desk: &Desk,
+    account: &Account<'_>,
+    stop: Option<&'w StopFlag>,
+) -> Result<Option<StopRequest<'w>>, Halt>
     requires history { account.now.history ≡ desk.now.history }
     requires legal { is_legal account.now.plan account.now.history ≡ true }
-    ensures settled { IsTrue result → AllFinished desk.now.history }
-    ensures complete { stop.entry ≡ None → IsTrue result → is_complete desk.now.plan desk.now.history ≡ true }
+    ensures settled { OnOk result (AllFinished desk.now.history) }
+    ensures asked { IfOk result (IsCompleteOrAsked stop.entry (is_complete desk.now.plan desk.now.history)) }
 {
     if desk.is_complete() {
-        return true;
+        return Ok(None);
     }
-    is_asked(stop) && all_finished(account)
+    let Some(request) = asked_at(stop) else {
+        return Err(Halt::Books);
+    };
+    if !all_finished(account) {
+        return Err(Halt::Books);
+    }
+    Ok(Some(request))
 }

@@ -9,7 +9,7 @@ ghost use Rattle.jr_crew.specs.Working.{CanBeServed, CanStart};
 
 use crate::outcomes::{CarriedOut, TakenIn};
 use jr_crew_threads::{
-    Crowd, Halt, MOST_BYTES, MOST_IOS, Naming, Shares, Watch, is_asked, note_start, note_verdict,
+    Crowd, Halt, MOST_BYTES, MOST_IOS, Naming, Shares, Watch, asked_at, note_start, note_verdict,
     push,
 };
 use jr_desk::{Desk, DeskFault, Take};
@@ -429,7 +429,7 @@ impl<'p, P: Naming> Shared<'p, P> {
         ensures can { IfOk result CanStart }
         ensures memory { IfErr result (λ halt. halt ≡ Halt.Memory) }
     {
-        if is_asked(self.watch.stop) {
+        if asked_at(self.watch.stop).is_some() {
             return Ok(NextTicket::Nothing(GoOn::End));
         }
         let ticket = match held.take(worker)? {

@@ -50,6 +50,7 @@ pub fn run<R: Threads + Wait + Clock + Sync>(
         desk,
         engines,
         books,
+        asked: _,
     } = run_booked(rt, alloc, plan, engines, watch)?;
     let books = all_dones(alloc, books)?;
     Ok(Ran {

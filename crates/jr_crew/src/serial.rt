@@ -1,16 +1,17 @@
-ghost use Rattle.std.specs.Prelude.{◌≡◌, ◌-◌, ◌^◌, ◌<◌, ◌≤◌, ◌++◌, ◌∷◌, [], true, false, Some, None, IfOk, IfErr, IfSome, OnOk, OnErr, IsTrue, IsFalse};
+ghost use Rattle.std.specs.Prelude.{◌≡◌, ◌-◌, ◌^◌, ◌<◌, ◌≤◌, ◌++◌, ◌∷◌, [], true, false, Some, None, IfOk, IfErr, IfSome, IsSome, OnOk, OnErr, IsFalse};
 ghost use Rattle.std.specs.Bool.{MatchBool};
 ghost use Rattle.jr_model.specs.History.{outcome_of, is_judged};
 ghost use Rattle.jr_model.specs.Legal.{is_complete};
 ghost use Rattle.jr_model.specs.Races.{has_raced};
 ghost use Rattle.jr_model.specs.Serial.{serial_history};
 ghost use Rattle.jr_desk_tickets.specs.Kept.{IsOwn};
+ghost use Rattle.jr_crew_threads.specs.Stops.{IsCompleteOrAsked, WasAsked};
 ghost use Rattle.jr_crew.specs.Runs.{IsFresh};
 ghost use Rattle.jr_crew.specs.Turns.{IsBetweenTurns, IsOpen, IsNext, IsCarriedOut, IsTurn, IsLastTurn, judged_by};
 ghost use Rattle.jr_crew.specs.Whole.{IsRun, IsEndedRun};
 
 use jr_crew_threads::{
-    Progress, RunFault, StopFlag, Watch, is_asked, make_room, note_start, note_verdict,
+    Progress, RunFault, StopFlag, StopRequest, Watch, asked_at, make_room, note_start, note_verdict,
 };
 use jr_desk::{Desk, Take};
 use jr_engines::Engine;
@@ -19,6 +20,13 @@ use jr_model::{Event, Ticket};
 use jr_plan::Plan;
 use std::alloc::Global;
 use std::mem;
+
+/// What `run_serial_asked` gives: the desk, and what asked the run to stop, if it did so before it was complete.
+#[derive(Drop)]
+pub struct SerialRun<'w> {
+    pub desk: Desk,
+    pub asked: Option<StopRequest<'w>>,
+}
 
 /// Runs a plan with one worker, 0, which waits for nobody and judges its own checks. If it is asked to stop it does so between
 /// two I/Os: the desk says whether the run is complete.
@@ -43,26 +51,58 @@ pub fn run_serial(
         → desk.history ≡ serial_history plan) }
     ensures memory { IfErr result (λ fault. fault ≡ RunFault.Memory) }
 {
+    let SerialRun { desk, asked: _ } = run_serial_asked(alloc, plan, engine, watch)?;
+    Ok(desk)
+}
+
+/// Runs a plan as `run_serial` does. Where the run isn't complete, it shows that it was asked to stop.
+pub fn run_serial_asked<'w>(
+    alloc: Global,
+    plan: Plan,
+    engine: &mut dyn Engine,
+    watch: Watch<'w>,
+) -> Result<SerialRun<'w>, RunFault>
+    requires { (state engine.old).calls ≤ 2 ^ 63 }
+    ensures plan { IfOk result (λ ran. ran.desk.plan ≡ plan) }
+    ensures ended { IfOk result (λ ran. IsEndedRun plan ran.desk.history (state engine.old) (state engine.new)) }
+    ensures run { IfOk result (λ ran. is_complete plan ran.desk.history ≡ true
+        → IsRun plan ran.desk.history (state engine.old) (state engine.new)) }
+    ensures unasked { watch.entry.stop ≡ None → IfOk result (λ ran. is_complete plan ran.desk.history ≡ true) }
+
+    // It is complete, or the flag was set.
+    ensures asked { IfOk result (λ ran. IsCompleteOrAsked watch.entry.stop (is_complete plan ran.desk.history) ran.asked) }
+    ensures going { IfOk result (λ ran. IsFalse ran.desk.is_stopped) }
+    ensures serial { IsFresh plan (state engine.old) → IfOk result (λ ran. is_complete plan ran.desk.history ≡ true
+        → ran.desk.history ≡ serial_history plan) }
+    ensures memory { IfErr result (λ fault. fault ≡ RunFault.Memory) }
+{
     // Its contract says what holds of every plan.
     plan.facts();
     let mut desk = Desk::new(alloc, plan)?;
     let mut buffer = Vec::new(alloc);
     'turns: loop {
-        if is_left(&desk, watch.stop) {
-            return Ok(desk);
+        if let Some(request) = asked_before_end(&desk, watch.stop) {
+            return Ok(SerialRun {
+                desk,
+                asked: Some(request),
+            });
         }
         if !turn(alloc, &mut desk, engine, &mut buffer, watch.progress)? {
-            return Ok(desk);
+            return Ok(SerialRun { desk, asked: None });
         }
     }
 }
 
-// Whether the run is asked to stop before it is complete.
-fn is_left(desk: &Desk, stop: Option<&StopFlag>) -> bool
-    ensures left { IsTrue result → is_complete desk.now.plan desk.now.history ≡ false }
-    ensures unasked { stop.entry ≡ None → result ≡ false }
+// What asks the run to stop before it is complete.
+fn asked_before_end<'w>(desk: &Desk, stop: Option<&'w StopFlag>) -> Option<StopRequest<'w>>
+    ensures left { IsSome result → is_complete desk.now.plan desk.now.history ≡ false }
+    ensures asked { IfSome result (WasAsked stop.entry) }
 {
-    is_asked(stop) && !desk.is_complete()
+    let request = asked_at(stop)?;
+    if desk.is_complete() {
+        return None;
+    }
+    Some(request)
 }
 
 // Starts what is next, if anything is, and carries it out.

@@ -1,3 +1,4 @@
+pub mod Asking
 pub mod Clearing
 pub mod Numbering
 pub mod PartLemmas

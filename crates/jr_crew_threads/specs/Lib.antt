@@ -3,3 +3,4 @@ pub mod Faults
 pub mod Halts
 pub mod Judging
 pub mod Parts
+pub mod Stops

@@ -24,4 +24,4 @@ pub use progress::{Progress, note_start, note_verdict};
 pub use rooms::make_room;
 pub use shares::{MOST_BYTES, MOST_IOS, Shares};
 pub use staff::{Seat, Verifier, Verifiers, Worker, push, room_for, staff_for};
-pub use watch::{StopFlag, Watch, is_asked};
+pub use watch::{StopFlag, StopRequest, Watch, asked_at};

@@ -1,30 +1,55 @@
-ghost use Rattle.std.specs.Prelude.{◌≡◌, None, false};
+ghost use Rattle.std.specs.Prelude.{◌≡◌, None, IfSome};
+ghost use Rattle.jr_crew_threads.specs.Stops.{WasAsked};
 
 use crate::progress::Progress;
-use std::sync::atomic::{AtomicBool, Ordering};
+use std::fmt;
+use std::sync::{OnceLock, OnceToken};
 
 /// Asks a run to stop. Any thread may set it, once or more often; it stays set.
 #[derive(Drop)]
 pub struct StopFlag {
-    is_set: AtomicBool,
+    lock: OnceLock<()>,
+}
+
+/// Shows that a flag was set: only one that was gives it.
+#[derive(Drop)]
+pub struct StopRequest<'a> {
+    token: OnceToken<'a, ()>,
+}
+
+impl fmt::Debug for StopRequest<'_> {
+    fn fmt<W: fmt::Write>(&self, f: &mut fmt::Formatter<W>) -> fmt::Result {
+        f.write_str("StopRequest")
+    }
 }
 
 impl StopFlag {
     /// Nobody has asked yet.
     pub fn new() -> StopFlag {
         StopFlag {
-            is_set: AtomicBool::new(false),
+            lock: OnceLock::new(),
         }
     }
 
     /// Asks the run to stop: what is in flight ends and is judged, and nothing more is started.
     pub fn set(&self) {
-        self.is_set.store(true, Ordering::Relaxed);
+        // (where that fails it is set already, or is being set)
+        let _ = self.lock.try_set(());
+    }
+
+    /// What shows that somebody has asked, if anybody has.
+    pub fn asked(&self) -> Option<StopRequest<'_>>
+        ensures { IfSome result (λ request. request.token.of ≡ self.now.lock.id) }
+    {
+        match self.lock.witness() {
+            Some(token) => Some(StopRequest { token }),
+            None => None,
+        }
     }
 
     /// Whether anybody has asked.
     pub fn is_set(&self) -> bool {
-        self.is_set.load(Ordering::Relaxed)
+        self.asked().is_some()
     }
 }
 
@@ -48,12 +73,12 @@ impl<'a> Watch<'a> {
     }
 }
 
-/// Whether the run was asked to stop.
-pub fn is_asked(stop: Option<&StopFlag>) -> bool
-    ensures { stop.entry ≡ None → result ≡ false }
+/// What shows that a run was asked to stop, if it was.
+pub fn asked_at(stop: Option<&StopFlag>) -> Option<StopRequest<'_>>
+    ensures { IfSome result (WasAsked stop.entry) }
 {
     match stop {
-        Some(flag) => flag.is_set(),
-        None => false,
+        Some(flag) => flag.asked(),
+        None => None,
     }
 }

@@ -1,6 +1,6 @@
 pub mod FlatMaps
 pub mod Found
-pub mod Lines
+pub mod LineLemmas
 pub mod Named
 pub mod Ordered
 pub mod ReportLemmas

@@ -1,6 +1,6 @@
 use crate::asserts::same;
 use crate::plans::{checked, plan_of};
-use jr_crew::{StopFlag, Watch, run, run_serial};
+use jr_crew::{StopFlag, Watch, run, run_booked, run_serial, run_serial_asked};
 use jr_desk::Desk;
 use jr_engines::{Engine, NullEngine};
 use jr_model::EngineKind;
@@ -88,6 +88,46 @@ fn workers_and_verifiers_are_asked_before_they_begin(rt: HostRuntime) -> Result<
         let plan = plan_of(rt.alloc(), &checked(4, 0), 1, EngineKind::Null, verifiers)?;
         let ran = run(&rt, rt.alloc(), plan, two_nulls(rt.alloc())?, watch)?;
         assert_nothing_begun(&rt, &ran.desk);
+    }
+    Ok(())
+}
+
+// A flag that was set twice, or not at all.
+fn flag_of(is_set: bool) -> StopFlag {
+    let stop = StopFlag::new();
+    if is_set {
+        stop.set();
+        stop.set();
+    }
+    stop
+}
+
+#[test]
+fn one_worker_shows_whether_it_was_asked(rt: HostRuntime) -> Result<(), Fail> {
+    for is_set in [false, true] {
+        let stop = flag_of(is_set);
+        let watch = Watch {
+            progress: None,
+            stop: Some(&stop),
+        };
+        let plan = plan_of(rt.alloc(), &checked(4, 0), 1, EngineKind::Null, 0)?;
+        let ran = run_serial_asked(rt.alloc(), plan, &mut NullEngine::new(), watch)?;
+        same(&rt, ran.asked.is_some(), is_set);
+    }
+    Ok(())
+}
+
+#[test]
+fn workers_show_whether_they_were_asked(rt: HostRuntime) -> Result<(), Fail> {
+    for is_set in [false, true] {
+        let stop = flag_of(is_set);
+        let watch = Watch {
+            progress: None,
+            stop: Some(&stop),
+        };
+        let plan = plan_of(rt.alloc(), &checked(4, 0), 1, EngineKind::Null, 1)?;
+        let ran = run_booked(&rt, rt.alloc(), plan, two_nulls(rt.alloc())?, watch)?;
+        same(&rt, ran.asked.is_some(), is_set);
     }
     Ok(())
 }

@@ -1,8 +1,8 @@
 use crate::asserts::same;
 use crate::texts::assert_said;
 use jr_cli::{
-    CliFault, Watch, execute_serial, print_check, print_part, print_plan, read_job, read_text,
-    read_trace,
+    CliFault, RunEnd, StopFlag, Watch, execute_serial, print_check, print_part, print_plan,
+    read_job, read_text, read_trace,
 };
 use jr_engines::MemoryEngine;
 use jr_stats::TraceFault;
@@ -309,4 +309,30 @@ fn what_is_cut_is_no_trace(rt: HostRuntime) {
     let mut out = Vec::new(rt.alloc());
     let cut = written(rt.alloc(), Some(&mut full()), &mut out);
     same(&rt, cut, Err(CliFault::Write));
+}
+
+// How a run that was asked to stop before it began ends, with its status.
+fn stopped(alloc: Global) -> Result<(RunEnd, u8), Fail> {
+    let stop = StopFlag::new();
+    stop.set();
+    let watch = Watch {
+        progress: None,
+        stop: Some(&stop),
+    };
+    let plan = read_job(alloc, CHECKED.as_bytes(), None)?;
+    let mut engine = MemoryEngine::new(alloc, &plan)?;
+    let mut out = Vec::new(alloc);
+    let none = None::<&mut Vec<u8>>;
+    let ended = execute_serial(alloc, plan, &mut engine, watch, none, &mut out)?;
+    let status = ended.status(true);
+    Ok((ended.into_end(), status))
+}
+
+#[test]
+fn a_run_that_was_asked_to_stop_ends_with_130(rt: HostRuntime) -> Result<(), Fail> {
+    let (ended, status) = stopped(rt.alloc())?;
+    same(&rt, status, 130);
+    same(&rt, ended.is_interrupted(), true);
+    same(&rt, (ended.status(true), ended.status(false)), (130, 3));
+    Ok(())
 }

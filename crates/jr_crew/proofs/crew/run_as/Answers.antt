@@ -4,11 +4,13 @@ use Rattle.std.specs.List.{list_all}
 use Rattle.jr_model.specs.declared.events.Event.TheVariants.{Verdict}
 use Rattle.jr_model.specs.declared.events.Verdict.{Verdict as GivenVerdict}
 use Rattle.jr_model.specs.Plan.{Plan}
-use Rattle.jr_model.specs.Legal.{is_legal}
+use Rattle.jr_model.specs.Legal.{is_legal, is_complete}
 use Rattle.jr_crew_books.specs.Numbers.{is_numbered, is_own_verdict, judges_inline}
 use Rattle.jr_crew_books.specs.Books.{dones_of}
 use Rattle.jr_crew_channel.specs.Passes.{pass_state}
 use Rattle.jr_crew_threads.specs.Judging.{IsSourced}
+use Rattle.jr_crew_threads.specs.Stops.{IsCompleteOrAsked}
+use Rattle.jr_crew_threads.proofs.Asking.{complete_unasked}
 use Rattle.jr_crew.proofs.CrewRuns.{booked, crew_run}
 use Rattle.jr_crew.proofs.Crewing.{AreOwn, all_putters, each_part, engines_size, books_size}
 use Rattle.jr_crew.proofs.crew.run_as.Goals as goal
@@ -49,4 +51,10 @@ returns-clause-booked g c =
     c.in_ok-workers.ensures.engines c.in_ok-desk.ensures.len c.in_ok-desk.ensures.each done.engines done.books
     (λ i book at.
     subst (λ (p : Plan). book ≡ dones_of p (judges_inline p) desk.history i) same (done.each i book at))))
-    done.complete
+    (complete_unasked c.args.watch.stop (is_complete desk.plan desk.history) c.in_ok-engines.asked done.asked)
+
+pub returns-clause-asked : goal.returns-clause-asked
+returns-clause-asked g c =
+    let desk = c.in_ok-desk.desk in
+    subst (λ (p : Plan). IsCompleteOrAsked c.args.watch.stop (is_complete p desk.history) c.in_ok-engines.asked) c.in_ok-desk.ensures.plan
+    c.in_ok-engines.ensures.asked

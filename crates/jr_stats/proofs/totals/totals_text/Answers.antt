@@ -1,5 +1,5 @@
 use Rattle.std.proofs.Common.{ℕ, List, ◌++◌, ◌<◌, ◌≤◌, min, length, arith, append-nil, append_assoc, ap, ◌∙◌, sym}
-use Rattle.jr_stats.proofs.Lines.{lines_of_more, lines_of_none}
+use Rattle.jr_stats.proofs.LineLemmas.{lines_of_more, lines_of_none}
 use Rattle.jr_stats.proofs.totals.totals_text.Goals as goal
 
 pub loop-i-preserved : goal.loop-i-preserved

@@ -1,11 +1,13 @@
-use Rattle.std.proofs.Common.{sym, ◌∙◌, ap}
+use Rattle.std.proofs.Common.{◌≡◌, false, refl, sym, ◌∙◌, ap, subst}
+use Rattle.std.specs.Prelude.{Some}
 use Rattle.jr_model.specs.Plan.{Plan}
 use Rattle.jr_model.specs.Legal.{is_complete}
 use Rattle.jr_desk.specs.DeskState.{DeskState}
+use Rattle.jr_crew_threads.proofs.Asking.{complete_unasked}
 use Rattle.jr_crew.proofs.Running.{first_sofar, between, few_calls, goes_on, leaves_less, comes_to_end, ended_run, whole_run, left_incomplete}
 use Rattle.jr_crew.proofs.Serially.{serial_first, serial_turn, serial_last}
 use Rattle.jr_crew.proofs.Serials.{first_called, goes_called, ends_called}
-use Rattle.jr_crew.proofs.serial.run_serial.Goals as goal
+use Rattle.jr_crew.proofs.serial.run_serial_asked.Goals as goal
 
 pub turns-init : goal.turns-init
 turns-init g c =
@@ -64,10 +66,13 @@ pub returns-then-not-branch-clause-run : goal.returns-then-not-branch-clause-run
 returns-then-not-branch-clause-run g c complete =
     whole_run c.args.plan c.turn.new.desk.history _ _ (returns-then-not-branch-clause-ended g c) complete
 
-pub returns-then-not-branch-clause-unasked : goal.returns-then-not-branch-clause-unasked
-returns-then-not-branch-clause-unasked g c unasked =
+pub returns-then-not-branch-clause-asked : goal.returns-then-not-branch-clause-asked
+returns-then-not-branch-clause-asked g c =
     let last = rw c.if-not-branch.true at c.in_ok-turn.ensures.turn in
     ap (λ (p : Plan). is_complete p c.turn.new.desk.history) (sym c.turns.invariant.plan) ∙ last.complete
+
+pub returns-then-not-branch-clause-unasked : goal.returns-then-not-branch-clause-unasked
+returns-then-not-branch-clause-unasked g c unasked = returns-then-not-branch-clause-asked g c
 
 pub returns-then-not-branch-clause-serial : goal.returns-then-not-branch-clause-serial
 returns-then-not-branch-clause-serial g c fresh complete =
@@ -77,19 +82,27 @@ returns-then-not-branch-clause-serial g c fresh complete =
 
 -- asked to stop before it is complete
 
-pub returns-then-is_left-clause-plan : goal.returns-then-is_left-clause-plan
-returns-then-is_left-clause-plan g c = c.turns.invariant.plan
+pub returns-in-Some-clause-plan : goal.returns-in-Some-clause-plan
+returns-in-Some-clause-plan g c = c.turns.invariant.plan
 
-pub returns-then-is_left-clause-going : goal.returns-then-is_left-clause-going
-returns-then-is_left-clause-going g c = c.turns.invariant.going
+pub returns-in-Some-clause-going : goal.returns-in-Some-clause-going
+returns-in-Some-clause-going g c = c.turns.invariant.going
 
-pub returns-then-is_left-clause-ended : goal.returns-then-is_left-clause-ended
-returns-then-is_left-clause-ended g c = ended_run c.args.plan c.turns.desk.history _ _ c.turns.invariant.sofar c.turns.invariant.called
+pub returns-in-Some-clause-ended : goal.returns-in-Some-clause-ended
+returns-in-Some-clause-ended g c = ended_run c.args.plan c.turns.desk.history _ _ c.turns.invariant.sofar c.turns.invariant.called
 
-pub returns-then-is_left-clause-run : goal.returns-then-is_left-clause-run
-returns-then-is_left-clause-run g c complete =
-    left_incomplete c.args.plan c.turns.desk.plan c.turns.desk.history c.turns.invariant.plan (c.is_left.ensures.left c.if-is_left.true) complete
+pub returns-in-Some-clause-run : goal.returns-in-Some-clause-run
+returns-in-Some-clause-run g c complete =
+    left_incomplete c.args.plan c.turns.desk.plan c.turns.desk.history c.turns.invariant.plan (c.in-Some.ensures.left refl) complete
 
-pub returns-then-is_left-clause-serial : goal.returns-then-is_left-clause-serial
-returns-then-is_left-clause-serial g c fresh complete =
-    left_incomplete c.args.plan c.turns.desk.plan c.turns.desk.history c.turns.invariant.plan (c.is_left.ensures.left c.if-is_left.true) complete
+pub returns-in-Some-clause-serial : goal.returns-in-Some-clause-serial
+returns-in-Some-clause-serial g c fresh complete =
+    left_incomplete c.args.plan c.turns.desk.plan c.turns.desk.history c.turns.invariant.plan (c.in-Some.ensures.left refl) complete
+
+pub returns-in-Some-clause-asked : goal.returns-in-Some-clause-asked
+returns-in-Some-clause-asked g c =
+    (subst (λ (p : Plan). is_complete p c.turns.desk.history ≡ false) c.turns.invariant.plan (c.in-Some.ensures.left refl), c.in-Some.ensures.asked)
+
+pub returns-in-Some-clause-unasked : goal.returns-in-Some-clause-unasked
+returns-in-Some-clause-unasked g c unasked =
+    complete_unasked c.args.watch.stop (is_complete c.args.plan c.turns.desk.history) (Some c.in-Some.request) (returns-in-Some-clause-asked g c) unasked

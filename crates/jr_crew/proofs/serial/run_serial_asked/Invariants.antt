@@ -7,7 +7,7 @@ use Rattle.jr_crew.specs.Crews.{AreCallsFor}
 use Rattle.jr_crew.specs.Runs.{IsFresh}
 use Rattle.jr_crew.proofs.Serially.{IsSerialSoFar}
 use Rattle.jr_crew.proofs.Turning.{IsSoFar}
-use Rattle.jr_crew.proofs.serial.run_serial.Given as goal
+use Rattle.jr_crew.proofs.serial.run_serial_asked.Given as goal
 
 -- the desk is that of the plan, the run so far keeps what is to hold between two turns, and the engine's calls are what was completed
 abbrev pub invariant-turns : goal.invariant-turns
