@@ -131,6 +131,13 @@ impl Past {
     {
         self.raced.contains(&io)
     }
+
+    // The numbers of those that raced.
+    pub(crate) fn raced(&self) -> &HashSet<usize>
+        ensures { AreRaced self.now result.now }
+    {
+        &self.raced
+    }
 }
 
 // The history in which nothing happened.
