@@ -33,7 +33,7 @@ pub struct Indexes {
 
 impl Indexes {
     // Before anything happened.
-    pub fn new(alloc: Global, plan: &Plan) -> Result<Indexes, Memory>
+    pub(crate) fn new(alloc: Global, plan: &Plan) -> Result<Indexes, Memory>
         ensures { IfOk result (AreIndexes plan.now []) }
     {
         Ok(Indexes {
@@ -44,7 +44,7 @@ impl Indexes {
     }
 
     // With one event more.
-    pub fn followed_by(
+    pub(crate) fn followed_by(
         self,
         plan: &Plan,
         history: &Ledger,
