@@ -1,9 +1,9 @@
 -- What is kept of a clone's passes, and tests of all clones.
-use Rattle.std.proofs.Common.{◌≡◌, ℕ, suc, ◌+◌, ◌-◌, ◌<◌, ◌≤◌, List, [], ◌∷◌, ◌++◌, length, take, Bool, true, false, cond, ◌&&◌, refl, sym, ◌∙◌, ap, subst, arith, inl, inr}
+use Rattle.std.proofs.Common.{◌≡◌, ℕ, suc, ◌+◌, ◌≤◌, List, [], ◌∷◌, ◌++◌, length, take, Bool, true, false, cond, ◌&&◌, refl, sym, ◌∙◌, ap, subst, arith}
 use Rattle.std.specs.Prelude.{nat_eq, ◌==◌, is_some, Option, Some, None, slice_get}
 use Rattle.std.specs.HashMap.{get}
 use Rattle.std.specs.List.{list_all}
-use Rattle.std.proofs.lemmas.Bool.{and_from, cases_Bool, eqb-true, eq-eqb, both_ways, false_from_ne_true}
+use Rattle.std.proofs.lemmas.Bool.{and_from, eqb-true, eq-eqb, both_ways, false_from_ne_true}
 use Rattle.std.proofs.lemmas.List.{take_all, take_more}
 use Rattle.std.proofs.lemmas.List.Folds.{list_all-append}
 use Rattle.std.proofs.lemmas.List.FromFn.{length-map-range_with_len}
@@ -15,7 +15,9 @@ use Rattle.jr_model.specs.PlanFacts.{IsPlanned}
 use Rattle.jr_model.specs.Rounds.{Pass, pass_of, passes_of, pass_finished, clone_finished}
 use Rattle.jr_laws_quiet.proofs.Issues.{all_at}
 use Rattle.jr_replay.specs.declared.courses.Course.{Course}
+use Rattle.jr_replay.specs.declared.indexes.Indexes.{Indexes}
 use Rattle.jr_replay.specs.Courses.{IsCourse, IsPassOf, numbered}
+use Rattle.jr_replay.specs.Indexes.{AreIndexes}
 use Rattle.jr_replay.proofs.PhaseLaws.{earlier_by_last}
 
 -- ---- the pass that is kept of a clone
@@ -51,10 +53,13 @@ module _ (plan : Plan) (job : SubJob) (there : clone_of plan job.clone ≡ Some 
           by_number false same some = cc
 
   -- with a pass in place of another
-  pub course_with : (number : ℕ) (old new : Course) → new.history ≡ old.history → ((clone : ℕ) → get nat_eq new.passes clone ≡ cond (nat_eq clone job.clone) (Some (pass_of job number)) (get nat_eq old.passes clone)) → IsCourse plan old → IsCourse plan new
-  course_with number old new same now was = record {
+  pub course_with : (number : ℕ) (old new : Course) → new.history ≡ old.history → new.indexes ≡ old.indexes → ((clone : ℕ) → get nat_eq new.passes clone ≡ cond (nat_eq clone job.clone) (Some (pass_of job number)) (get nat_eq old.passes clone)) → IsCourse plan old → IsCourse plan new
+  course_with number old new same indexes now was = record {
     planned = was.planned;
     legal = ap (is_legal plan) same ∙ was.legal;
+    indexed =
+        subst (λ (h : List Event). AreIndexes plan h new.indexes) (sym same)
+        (subst (λ (x : Indexes). AreIndexes plan old.history x) (sym indexes) was.indexed);
     kept = λ clone pass at. by_clone clone pass (nat_eq clone job.clone) refl (sym (now clone) ∙ at);
   }
     where

@@ -132,7 +132,7 @@ module _ (plan : Plan) (planned : IsPlanned plan) (job : SubJob) (there : clone_
       (waits_none pass.number (subst (λ (q : Pass). NoneBelow (writes_of q) (issued_count h q)) whole none))
 
   -- where a draw of a pass was issued, the passes before are finished
-  begun_after : (p : ℕ) → 0 < issued_count h (pass_of job p) → list_all (pass_finished h) (take p (passes_of job)) ≡ true
+  pub begun_after : (p : ℕ) → 0 < issued_count h (pass_of job p) → list_all (pass_finished h) (take p (passes_of job)) ≡ true
   begun_after p some =
       let now = always_in_pass plan planned job there h legal in
       elim (cases_lt now.0 p) [

@@ -1,3 +1,4 @@
 pub mod Courses
+pub mod Indexes
 pub mod Phases
 pub mod Rounds

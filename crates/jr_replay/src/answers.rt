@@ -7,14 +7,16 @@ ghost use Rattle.jr_model.specs.Legal.{kind_says, own_digest_finds, own_finds, o
 ghost use Rattle.jr_model.specs.Legal.{is_void, may_happen, is_over, is_complete};
 ghost use Rattle.jr_model.specs.Plan.{clone_of};
 ghost use Rattle.jr_model.specs.Races.{has_raced};
+ghost use Rattle.jr_replay.specs.Courses.{IsCourse};
 
+use crate::courses::Course;
 use crate::legal::{is_over, step_of};
 use jr_model::{
     Draw, Event, IssueKind, Memory, Method, Outcome, Piece, SECTOR, Started, TicketKind, Verdict,
     VerifyKind, What, WriteId, same_piece, same_write,
 };
 use jr_plan::Plan;
-use jr_replay_history::{Past, ended_whole, is_judged_kind, is_void};
+use jr_replay_history::{Ledger, Past, ended_whole, is_judged_kind, is_void};
 use jr_replay_passes::{Agenda, PlannedClone, PlannedPass};
 use std::alloc::Global;
 
@@ -277,11 +279,22 @@ fn verdict_fits(plan: &Plan, raced: bool, verdict: Verdict, io: Option<Started>)
 }
 
 /// Whether a worker's I/O may end so now.
-pub fn may_end(past: &Past, worker: u32, io: usize, outcome: Outcome) -> bool
+pub fn may_end(past: &Ledger, worker: u32, io: usize, outcome: Outcome) -> bool
     ensures { result
         ≡ (flies past.now io && end_fits worker outcome (slice_get (started past.now) io)) }
 {
     past.flies(io) && end_fits(worker, outcome, past.started_at(io))
+}
+
+// Whether a check or checked read that raced or didn't may have this verdict now.
+fn may_judge_if(raced: bool, plan: &Plan, ledger: &Ledger, io: usize, verdict: Verdict) -> bool
+    ensures { result
+        ≡ (ended_whole (outcome_of ledger.now io) && not (is_judged ledger.now io)
+        && verdict_fits plan.now raced verdict (slice_get (started ledger.now) io)) }
+{
+    ended_whole(ledger.outcome_of(io))
+        && !ledger.is_judged(io)
+        && verdict_fits(plan, raced, verdict, ledger.started_at(io))
 }
 
 /// Whether a check or checked read may have this verdict now.
@@ -290,9 +303,18 @@ pub fn may_judge(plan: &Plan, past: &Past, io: usize, verdict: Verdict) -> bool
         ≡ (ended_whole (outcome_of past.now io) && not (is_judged past.now io)
         && verdict_fits plan.now (has_raced past.now io) verdict (slice_get (started past.now) io)) }
 {
-    ended_whole(past.ledger().outcome_of(io))
-        && !past.ledger().is_judged(io)
-        && verdict_fits(plan, past.has_raced(io), verdict, past.started_at(io))
+    may_judge_if(past.has_raced(io), plan, past.ledger(), io, verdict)
+}
+
+/// The same in a legal run.
+pub fn may_be_judged(plan: &Plan, course: &Course<'_>, io: usize, verdict: Verdict) -> bool
+    requires { IsCourse plan.now course.now }
+    ensures { result
+        ≡ (ended_whole (outcome_of course.now.history io) && not (is_judged course.now.history io)
+        && verdict_fits plan.now (has_raced course.now.history io) verdict (slice_get (started course.now.history) io)) }
+{
+    let raced = course.indexes.raced.contains(&io);
+    may_judge_if(raced, plan, &course.history, io, verdict)
 }
 
 // What may happen with a draw of the plan after a history, if anything.
@@ -339,7 +361,7 @@ fn may_follow(alloc: Global, plan: &Plan, past: &Past, event: &Event) -> Result<
             worker,
             io,
             outcome,
-        } => Ok(may_end(past, *worker, *io as usize, *outcome)),
+        } => Ok(may_end(past.ledger(), *worker, *io as usize, *outcome)),
         Event::Verdict { io, verdict, .. } => Ok(may_judge(plan, past, *io as usize, *verdict)),
     }
 }

@@ -2,21 +2,24 @@ ghost use Rattle.std.specs.Prelude.{◌≡◌, ◌++◌, ◌∷◌, [], nat_eq, 
 ghost use Rattle.std.specs.HashMap.{get};
 ghost use Rattle.jr_model.specs.Legal.{may_happen};
 ghost use Rattle.jr_model.specs.Plan.{Plan as Planned, clone_of};
+ghost use Rattle.jr_model.specs.Report.{all_totals};
 ghost use Rattle.jr_model.specs.Rounds.{pass_of};
 ghost use Rattle.jr_replay.specs.Courses.{IsCourse, numbered};
 
-use jr_model::{Event, Memory};
+use crate::indexes::Indexes;
+use jr_model::{Event, Memory, Totals};
 use jr_plan::{Plan, SubJob};
-use jr_replay_history::Past;
+use jr_replay_history::Ledger;
 use jr_replay_passes::PlannedPass;
 use std::alloc::Global;
 use std::collections::HashMap;
 
-/// A legal run of a plan as far as it has come. Of each clone it keeps the draws of one pass, that which was asked for last: a run
-/// comes back to no earlier one.
+/// A legal run of a plan as far as it has come, with its indexes. Of each clone it keeps the draws of one pass, that which was asked
+/// for last: a run comes back to no earlier one.
 #[derive(Drop)]
 pub struct Course<'a> {
-    pub history: Past,
+    pub history: Ledger,
+    pub indexes: Indexes,
     pub passes: HashMap<u32, PlannedPass<'a>>,
 }
 
@@ -27,9 +30,10 @@ impl<'a> Course<'a> {
         ensures empty { IfOk result (λ course. course.history ≡ []) }
     {
         plan.facts();
-        let history = Past::new(alloc, &[])?;
+        let history = Ledger::new(alloc, Vec::new(alloc))?;
         Ok(Course {
             history,
+            indexes: Indexes::new(alloc, plan)?,
             passes: HashMap::new(alloc),
         })
     }
@@ -41,9 +45,32 @@ impl<'a> Course<'a> {
         ensures course { IfOk result (λ course. IsCourse plan.now course) }
         ensures more { IfOk result (λ course. course.history ≡ self.entry.history ++ event ∷ []) }
     {
-        let Course { history, passes } = self;
+        let Course {
+            history,
+            indexes,
+            passes,
+        } = self;
+        let indexes = indexes.followed_by(plan, &history, &event)?;
         let history = history.followed_by(alloc, event)?;
-        Ok(Course { history, passes })
+        Ok(Course {
+            history,
+            indexes,
+            passes,
+        })
+    }
+
+    /// What happened, and what each clone did in it, in the order of the clones.
+    pub fn into_parts(self) -> (Ledger, Vec<Totals>)
+        ensures history { result.0 ≡ self.entry.history }
+        ensures totals { (plan : Planned) → IsCourse plan self.entry → result.1.items ≡ all_totals plan self.entry.history }
+    {
+        let Course {
+            history,
+            indexes,
+            ..
+        } = self;
+        let Indexes { tallies, .. } = indexes;
+        (history, tallies.totals)
     }
 
     // The pass of this number, where it is the one that is kept of the clone.
@@ -71,6 +98,7 @@ impl<'a> Course<'a> {
     // Keeps the pass of this number of a clone in place of the one that is kept, which is given back first.
     fn replace(&mut self, alloc: Global, job: &'a SubJob, number: u32) -> Result<(), Memory>
         ensures history { self.new.history ≡ self.old.history }
+        ensures indexes { self.new.indexes ≡ self.old.indexes }
         ensures passes { OnOk result ((clone : ℕ) → get nat_eq self.new.passes clone
             ≡ (if nat_eq clone job.now.clone then Some (pass_of job.now number) else get nat_eq self.old.passes clone)) }
     {

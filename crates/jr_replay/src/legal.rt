@@ -1,4 +1,4 @@
-ghost use Rattle.std.specs.Prelude.{◌≡◌, false, nat_le, ◌==◌, not, ◌&&◌, ◌||◌, take};
+ghost use Rattle.std.specs.Prelude.{◌≡◌, false, nat_le, ◌==◌, not, ◌&&◌, ◌||◌, take, if◌then◌else◌};
 ghost use Rattle.std.specs.List.{list_any, list_all};
 ghost use Rattle.jr_model.specs.History.{is_of_clone, awaiting, in_flight};
 ghost use Rattle.jr_model.specs.Legal.{is_halted, is_over, is_at_rest, phase_is_open, has_room, conflicts, waits_for, is_clear};
@@ -100,7 +100,7 @@ fn conflicts(writes: bool, piece: &Piece, io: &Started) -> bool
 }
 
 // Whether a clone is there and declines.
-fn clone_declines(plan: &Plan, clone: u32) -> bool
+pub(crate) fn clone_declines(plan: &Plan, clone: u32) -> bool
     ensures { result ≡ declines_of (clone_of plan.now clone) }
 {
     let clone = clone as usize;
@@ -164,7 +164,7 @@ pub(crate) fn is_next(plan: &Plan, past: &Past, pass: &PlannedPass<'_>, draw: &D
         && is_clear plan.now past.now pass.now.job (is_write_draw draw.now) draw.now.piece) }
 {
     let writes = is_write_draw(draw);
-    draw.number as usize == issued_count(past, pass)
+    draw.number as usize == issued_count(past.ledger(), pass)
         && !is_halted(past, pass.job())
         && has_room(past, pass.job())
         && is_clear(plan, past, pass.job(), writes, &draw.piece)
@@ -183,7 +183,7 @@ pub(crate) fn may_issue(
 {
     is_next(work.plan(), past, pass, draw)
         && is_current(past, clone, pass)
-        && !waits_for_round(past, pass)
+        && !waits_for_round(past.ledger(), pass)
         && phase_is_open(work, past, pass.job())
 }
 
@@ -218,12 +218,14 @@ pub(crate) fn may_take_up(
     is_left(work.plan(), past, pass, draw) && is_open(past, pass, pass.group_index(draw.number))
 }
 
-// The check of a write where it is intact, else its skip.
-pub(crate) fn check_or_skip(past: &Past, worker: u32, pass: &PlannedPass<'_>, draw: &Draw) -> Event
-    ensures { result ≡ check_or_skip past.now worker pass.now draw.now }
+// The check of a write that is intact, the skip of one that isn't.
+pub(crate) fn check_if(intact: bool, worker: u32, pass: &PlannedPass<'_>, draw: &Draw) -> Event
+    ensures { result
+        ≡ (if intact then Event.Probe worker (write_id pass.now draw.now) draw.now.piece
+        else Event.Skip worker (write_id pass.now draw.now)) }
 {
     let write = pass.write_id(draw);
-    if is_intact(past, &write, &draw.piece) {
+    if intact {
         Event::Probe {
             worker,
             write,
@@ -232,6 +234,14 @@ pub(crate) fn check_or_skip(past: &Past, worker: u32, pass: &PlannedPass<'_>, dr
     } else {
         Event::Skip { worker, write }
     }
+}
+
+// The check of a write where it is intact, else its skip.
+fn check_or_skip(past: &Past, worker: u32, pass: &PlannedPass<'_>, draw: &Draw) -> Event
+    ensures { result ≡ check_or_skip past.now worker pass.now draw.now }
+{
+    let intact = is_intact(past, &pass.write_id(draw), &draw.piece);
+    check_if(intact, worker, pass, draw)
 }
 
 // The issue of a draw.

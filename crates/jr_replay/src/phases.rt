@@ -1,26 +1,24 @@
 // What may happen with a draw after a legal history: what the history has shown already isn't looked at again.
-ghost use Rattle.std.specs.Prelude.{◌≡◌, ◌<◌, ◌==◌, nat_eq, nat_lt, nat_le, not, true, false, ◌&&◌, ◌||◌, IfOk, OnOk, Some, slice_get, take};
+ghost use Rattle.std.specs.Prelude.{◌≡◌, suc, ◌<◌, ◌==◌, nat_eq, nat_lt, nat_le, not, true, false, ◌&&◌, ◌||◌, IfOk, OnOk, Some, slice_get, take};
 ghost use Rattle.std.specs.HashMap.{get};
 ghost use Rattle.std.specs.List.{list_any, list_all};
-ghost use Rattle.jr_model.specs.History.{awaiting, is_of_clone};
-ghost use Rattle.jr_model.specs.Legal.{is_legal, is_over, is_at_rest, is_complete, phase_is_open, takes_up, may_take_up, may_issue, step_of};
+ghost use Rattle.jr_model.specs.Legal.{is_legal, is_over, is_at_rest, is_complete, is_halted, has_room, is_clear, phase_is_open, takes_up, may_take_up, may_issue, step_of, check_or_skip};
 ghost use Rattle.jr_model.specs.Legal.{step_of_draw, step_at};
 ghost use Rattle.jr_model.specs.Plan.{clone_of};
 ghost use Rattle.jr_model.specs.Rounds.{pass_of, passes_of, write_id, is_write_draw, issued_count, has_rounds, group_index};
-ghost use Rattle.jr_model.specs.Rounds.{is_full, is_closed, is_open, waits_for_round, nothing_flies_of, pass_finished};
+ghost use Rattle.jr_model.specs.Rounds.{all_issued, is_full, is_closed, is_open, rounds_closed, waits_for_round, pass_finished};
 ghost use Rattle.jr_model.specs.Rounds.{clone_finished, is_current};
 ghost use Rattle.jr_replay.specs.Courses.{IsCourse};
 ghost use Rattle.jr_replay.specs.Phases.{is_its_turn, lets_go_on};
 
+use crate::clones::{has_room, is_clear, is_halted, is_quiet, no_issue_flies, nothing_flies_of};
 use crate::courses::Course;
-use crate::legal::{awaits_verdict, check_or_skip, is_halted, is_left, is_next, issue_of};
-use crate::rounds::{
-    is_full, is_pending, issued_count, no_issue_flies, nothing_flies_of, pass_finished,
-};
+use crate::legal::{check_if, issue_of};
+use crate::rounds::{all_issued, is_full, is_pending, issued_count, rounds_closed};
 use jr_model::{Draw, Event, Memory, WriteId};
 use jr_plan::{Plan, SubJob};
-use jr_replay_history::Past;
-use jr_replay_passes::{PlannedPass, has_rounds};
+use jr_replay_history::{Ledger, is_intact_by};
+use jr_replay_passes::{PlannedPass, has_rounds, is_write_draw};
 use std::alloc::Global;
 
 // Whether both hold.
@@ -31,51 +29,114 @@ fn both(a: bool, b: bool) -> bool
 }
 
 // Whether the group of a write that wasn't taken up is open: as that write isn't settled, it isn't closed.
-fn is_open_for(past: &Past, pass: &PlannedPass<'_>, draw: &Draw) -> bool
+fn is_open_for(plan: &Plan, course: &Course<'_>, pass: &PlannedPass<'_>, draw: &Draw) -> bool
+    requires course { IsCourse plan.now course.now }
+    requires there { clone_of plan.now pass.now.job.clone ≡ Some pass.now.job }
     requires drawn { slice_get pass.now.draws draw.now.number ≡ Some draw.now }
     requires writes { is_write_draw draw.now ≡ true }
-    requires fresh { list_any (takes_up (write_id pass.now draw.now)) past.now ≡ false }
-    ensures { result ≡ is_open past.now pass.now (group_index pass.now draw.now.number) }
+    requires fresh { list_any (takes_up (write_id pass.now draw.now)) course.now.history ≡ false }
+    ensures { result ≡ is_open course.now.history pass.now (group_index pass.now draw.now.number) }
 {
     pass.facts();
-    let full = is_full(past, pass, pass.group_index(draw.number));
-    let quiet = no_issue_flies(past, pass.job().clone_number());
+    let full = is_full(&course.history, pass, pass.group_index(draw.number));
+    let quiet = no_issue_flies(plan, course, pass.job());
     both(full, quiet)
 }
 
-// Whether the write of a draw may be checked, or skipped, now.
-fn may_take_up(plan: &Plan, past: &Past, pass: &PlannedPass<'_>, draw: &Draw) -> bool
-    requires { slice_get pass.now.draws draw.now.number ≡ Some draw.now }
-    ensures { result ≡ may_take_up plan.now past.now pass.now draw.now }
+// Whether the I/O of a draw that is wanted may start, in a clone that isn't halted and has room, with nothing in flight in its way.
+fn may_start(
+    plan: &Plan,
+    course: &Course<'_>,
+    pass: &PlannedPass<'_>,
+    draw: &Draw,
+    writes: bool,
+    wanted: bool,
+) -> bool
+    requires course { IsCourse plan.now course.now }
+    requires there { clone_of plan.now pass.now.job.clone ≡ Some pass.now.job }
+    requires drawn { slice_get pass.now.draws draw.now.number ≡ Some draw.now }
+    ensures { result
+        ≡ (wanted
+        && not (is_halted course.now.history pass.now.job)
+        && has_room course.now.history pass.now.job
+        && is_clear plan.now course.now.history pass.now.job writes draw.now.piece) }
 {
-    is_left(plan, past, pass, draw) && is_open_for(past, pass, draw)
+    wanted
+        && !is_halted(plan, course, pass.job())
+        && has_room(plan, course, pass.job())
+        && is_clear(plan, course, pass, draw, writes)
+}
+
+// Whether a draw is a write that wasn't checked or skipped, of a clone that has rounds.
+fn is_unchecked(ledger: &Ledger, pass: &PlannedPass<'_>, draw: &Draw) -> bool
+    ensures { result
+        ≡ (is_write_draw draw.now
+        && has_rounds pass.now.job
+        && not (list_any (takes_up (write_id pass.now draw.now)) ledger.now)) }
+{
+    is_write_draw(draw) && has_rounds(pass.job()) && !ledger.is_taken_up(&pass.write_id(draw))
+}
+
+// The same of a clone that isn't halted and has room, with nothing in flight in its check's way.
+fn is_left(plan: &Plan, course: &Course<'_>, pass: &PlannedPass<'_>, draw: &Draw) -> bool
+    requires course { IsCourse plan.now course.now }
+    requires there { clone_of plan.now pass.now.job.clone ≡ Some pass.now.job }
+    requires drawn { slice_get pass.now.draws draw.now.number ≡ Some draw.now }
+    ensures { result
+        ≡ (is_write_draw draw.now
+        && has_rounds pass.now.job
+        && not (list_any (takes_up (write_id pass.now draw.now)) course.now.history)
+        && not (is_halted course.now.history pass.now.job)
+        && has_room course.now.history pass.now.job
+        && is_clear plan.now course.now.history pass.now.job false draw.now.piece) }
+{
+    let unchecked = is_unchecked(&course.history, pass, draw);
+    may_start(plan, course, pass, draw, false, unchecked)
+}
+
+// Whether the write of a draw may be checked, or skipped, now.
+fn may_take_up(plan: &Plan, course: &Course<'_>, pass: &PlannedPass<'_>, draw: &Draw) -> bool
+    requires course { IsCourse plan.now course.now }
+    requires there { clone_of plan.now pass.now.job.clone ≡ Some pass.now.job }
+    requires drawn { slice_get pass.now.draws draw.now.number ≡ Some draw.now }
+    ensures { result ≡ may_take_up plan.now course.now.history pass.now draw.now }
+{
+    is_left(plan, course, pass, draw) && is_open_for(plan, course, pass, draw)
 }
 
 // Whether a group waits for its checks, where the writes of its clone are checked at all.
-fn is_waiting(past: &Past, pass: &PlannedPass<'_>, issued: usize, g: usize) -> bool
-    requires { issued ≡ issued_count past.now pass.now }
+fn is_waiting(ledger: &Ledger, pass: &PlannedPass<'_>, issued: usize, g: usize) -> bool
+    requires { issued ≡ issued_count ledger.now pass.now }
     ensures { result ≡ (has_rounds pass.now.job
-        && (is_full past.now pass.now g && not (is_closed past.now pass.now g))) }
+        && (is_full ledger.now pass.now g && not (is_closed ledger.now pass.now g))) }
 {
-    has_rounds(pass.job()) && is_pending(past, pass, issued, g)
+    has_rounds(pass.job()) && is_pending(ledger, pass, issued, g)
 }
 
 // Whether a group of the pass waits for its checks: only that of the write that was issued last can.
-fn waits_for_round(plan: &Plan, past: &Past, pass: &PlannedPass<'_>) -> bool
-    requires legal { is_legal plan.now past.now ≡ true }
+fn waits_for_round(plan: &Plan, ledger: &Ledger, pass: &PlannedPass<'_>) -> bool
+    requires legal { is_legal plan.now ledger.now ≡ true }
     requires there { clone_of plan.now pass.now.job.clone ≡ Some pass.now.job }
-    ensures { result ≡ waits_for_round past.now pass.now }
+    ensures { result ≡ waits_for_round ledger.now pass.now }
 {
     plan.facts();
     pass.facts();
-    let issued = issued_count(past, pass);
+    let issued = issued_count(ledger, pass);
     match pass.last_below(issued) {
         None => false,
-        Some(last) => is_waiting(past, pass, issued, pass.group_index(last.number)),
+        Some(last) => is_waiting(ledger, pass, issued, pass.group_index(last.number)),
     }
 }
 
-// Whether a pass of a clone is finished. One that hasn't begun isn't, and of the others the draws are kept or made once more.
+// Whether all draws of a pass were issued, and its rounds are closed.
+fn is_carried_out(ledger: &Ledger, pass: &PlannedPass<'_>) -> bool
+    ensures { result ≡ (all_issued ledger.now pass.now && rounds_closed ledger.now pass.now) }
+{
+    all_issued(ledger, pass) && rounds_closed(ledger, pass)
+}
+
+// Whether a pass of a clone is finished, where the next one hasn't begun. One that hasn't begun isn't, nor is one while anything of the
+// clone flies, and of the others the draws are kept or made once more.
 fn is_finished(
     alloc: Global,
     plan: &Plan,
@@ -85,26 +146,29 @@ fn is_finished(
 ) -> Result<bool, Memory>
     requires course { IsCourse plan.now course.now }
     requires there { clone_of plan.now job.now.clone ≡ Some job.now }
+    requires last { issued_count course.now.history (pass_of job.now (suc number)) ≡ 0 }
     ensures { IfOk result (λ yes. yes ≡ pass_finished course.now.history (pass_of job.now number)) }
 {
-    let past = &course.history;
-    if has_not_begun(past, job, number) {
+    if has_not_begun(&course.history, job, number) {
+        return Ok(false);
+    }
+    if !nothing_flies_of(plan, course, job) {
         return Ok(false);
     }
     match course.kept(job.clone_number(), number) {
-        Some(pass) => Ok(pass_finished(past, pass)),
+        Some(pass) => Ok(is_carried_out(&course.history, pass)),
         None => {
             let pass = PlannedPass::new(alloc, job, number)?;
-            Ok(pass_finished(past, &pass))
+            Ok(is_carried_out(&course.history, &pass))
         }
     }
 }
 
 // Whether no draw of a clone's pass was issued.
-fn has_not_begun(past: &Past, job: &SubJob, number: u32) -> bool
-    ensures { result ≡ (issued_count past.now (pass_of job.now number) == 0) }
+fn has_not_begun(ledger: &Ledger, job: &SubJob, number: u32) -> bool
+    ensures { result ≡ (issued_count ledger.now (pass_of job.now number) == 0) }
 {
-    past.ledger().issued_count(job.clone_number(), number) == 0
+    ledger.issued_count(job.clone_number(), number) == 0
 }
 
 // Whether the first passes of a clone, so many, are finished: they are where a draw of the next was issued, or the last of them is.
@@ -150,19 +214,10 @@ fn is_over(alloc: Global, plan: &Plan, course: &Course<'_>, job: &SubJob) -> Res
     requires there { clone_of plan.now job.now.clone ≡ Some job.now }
     ensures { IfOk result (λ yes. yes ≡ is_over course.now.history job.now) }
 {
-    if is_halted(&course.history, job) {
+    if is_halted(plan, course, job) {
         return Ok(true);
     }
     clone_finished(alloc, plan, course, job)
-}
-
-// Whether nothing of a clone is in flight, and no verdict is to come.
-fn is_quiet(past: &Past, job: &SubJob) -> bool
-    ensures { result ≡ (nothing_flies_of past.now job.now.clone
-        && not (list_any (is_of_clone job.now.clone) (awaiting past.now))) }
-{
-    let number = job.clone_number();
-    nothing_flies_of(past, number) && !awaits_verdict(past, number)
 }
 
 // Whether a clone is over, with nothing in flight and no verdict to come.
@@ -171,7 +226,7 @@ fn is_at_rest(alloc: Global, plan: &Plan, course: &Course<'_>, job: &SubJob) -> 
     requires there { clone_of plan.now job.now.clone ≡ Some job.now }
     ensures { IfOk result (λ yes. yes ≡ is_at_rest course.now.history job.now) }
 {
-    if !is_quiet(&course.history, job) {
+    if !is_quiet(plan, course, job) {
         return Ok(false);
     }
     is_over(alloc, plan, course, job)
@@ -214,17 +269,20 @@ fn phase_is_open(
 }
 
 // Whether a clone is of this phase or later, or has nothing in flight and no verdict to come.
-fn lets_go_on(past: &Past, phase: u32, other: &SubJob) -> bool
-    ensures { result ≡ lets_go_on past.now phase other.now }
+fn lets_go_on(plan: &Plan, course: &Course<'_>, phase: u32, other: &SubJob) -> bool
+    requires course { IsCourse plan.now course.now }
+    requires there { clone_of plan.now other.now.clone ≡ Some other.now }
+    ensures { result ≡ lets_go_on course.now.history phase other.now }
 {
-    phase <= other.phase() || is_quiet(past, other)
+    phase <= other.phase() || is_quiet(plan, course, other)
 }
 
-fn all_let_go_on(plan: &Plan, past: &Past, phase: u32) -> bool
-    ensures { result ≡ list_all (lets_go_on past.now phase) plan.now.clones }
+fn all_let_go_on(plan: &Plan, course: &Course<'_>, phase: u32) -> bool
+    requires { IsCourse plan.now course.now }
+    ensures { result ≡ list_all (lets_go_on course.now.history phase) plan.now.clones }
 {
     for i in 0..plan.clones() {
-        if !lets_go_on(past, phase, plan.clone_at(i)) {
+        if !lets_go_on(plan, course, phase, plan.clone_at(i)) {
             return false;
         }
     }
@@ -245,29 +303,54 @@ fn is_phase_open(
     if has_not_begun(&course.history, job, 0) {
         return phase_is_open(alloc, plan, course, job);
     }
-    Ok(all_let_go_on(plan, &course.history, job.phase()))
+    Ok(all_let_go_on(plan, course, job.phase()))
 }
 
-// Whether the pass is the first of its clone that isn't finished, where it is known whether those before it are.
-fn is_current(past: &Past, pass: &PlannedPass<'_>, earlier: bool) -> bool
-    requires { pass.now.number < pass.now.job.passes
-        → earlier ≡ list_all (pass_finished past.now) (take pass.now.number (passes_of pass.now.job)) }
-    ensures { result ≡ is_current past.now pass.now }
+// Whether a draw is the next of its pass, of a clone that isn't halted and has room, with nothing in flight in its way.
+fn is_next(plan: &Plan, course: &Course<'_>, pass: &PlannedPass<'_>, draw: &Draw) -> bool
+    requires course { IsCourse plan.now course.now }
+    requires there { clone_of plan.now pass.now.job.clone ≡ Some pass.now.job }
+    requires drawn { slice_get pass.now.draws draw.now.number ≡ Some draw.now }
+    ensures { result
+        ≡ ((draw.now.number == issued_count course.now.history pass.now)
+        && not (is_halted course.now.history pass.now.job)
+        && has_room course.now.history pass.now.job
+        && is_clear plan.now course.now.history pass.now.job (is_write_draw draw.now) draw.now.piece) }
 {
-    pass.number() < pass.job().passes() && !pass_finished(past, pass) && earlier
+    let next = draw.number as usize == issued_count(&course.history, pass);
+    may_start(plan, course, pass, draw, is_write_draw(draw), next)
+}
+
+// Whether the pass of a draw that is its next one is the first of its clone that isn't finished, where it is known whether those
+// before it are: it isn't finished itself.
+fn is_current(course: &Course<'_>, pass: &PlannedPass<'_>, draw: &Draw, earlier: bool) -> bool
+    requires drawn { slice_get pass.now.draws draw.now.number ≡ Some draw.now }
+    requires next { (draw.now.number == issued_count course.now.history pass.now) ≡ true }
+    requires earlier { pass.now.number < pass.now.job.passes
+        → earlier ≡ list_all (pass_finished course.now.history) (take pass.now.number (passes_of pass.now.job)) }
+    ensures { result ≡ is_current course.now.history pass.now }
+{
+    pass.number() < pass.job().passes() && earlier
 }
 
 // Whether a draw of a pass may be issued, but for its phase.
-fn is_its_turn(plan: &Plan, past: &Past, pass: &PlannedPass<'_>, draw: &Draw, earlier: bool) -> bool
-    requires legal { is_legal plan.now past.now ≡ true }
+fn is_its_turn(
+    plan: &Plan,
+    course: &Course<'_>,
+    pass: &PlannedPass<'_>,
+    draw: &Draw,
+    earlier: bool,
+) -> bool
+    requires course { IsCourse plan.now course.now }
     requires there { clone_of plan.now pass.now.job.clone ≡ Some pass.now.job }
+    requires drawn { slice_get pass.now.draws draw.now.number ≡ Some draw.now }
     requires earlier { pass.now.number < pass.now.job.passes
-        → earlier ≡ list_all (pass_finished past.now) (take pass.now.number (passes_of pass.now.job)) }
-    ensures { result ≡ is_its_turn plan.now past.now pass.now draw.now }
+        → earlier ≡ list_all (pass_finished course.now.history) (take pass.now.number (passes_of pass.now.job)) }
+    ensures { result ≡ is_its_turn plan.now course.now.history pass.now draw.now }
 {
-    is_next(plan, past, pass, draw)
-        && is_current(past, pass, earlier)
-        && !waits_for_round(plan, past, pass)
+    is_next(plan, course, pass, draw)
+        && is_current(course, pass, draw, earlier)
+        && !waits_for_round(plan, &course.history, pass)
 }
 
 // Whether a draw of a pass may be issued.
@@ -281,14 +364,31 @@ fn may_issue(
 ) -> Result<bool, Memory>
     requires course { IsCourse plan.now course.now }
     requires there { clone_of plan.now pass.now.job.clone ≡ Some pass.now.job }
+    requires drawn { slice_get pass.now.draws draw.now.number ≡ Some draw.now }
     requires earlier { pass.now.number < pass.now.job.passes
         → earlier ≡ list_all (pass_finished course.now.history) (take pass.now.number (passes_of pass.now.job)) }
     ensures { IfOk result (λ yes. yes ≡ may_issue plan.now course.now.history pass.now draw.now) }
 {
-    if !is_its_turn(plan, &course.history, pass, draw, earlier) {
+    if !is_its_turn(plan, course, pass, draw, earlier) {
         return Ok(false);
     }
     is_phase_open(alloc, plan, course, pass.job())
+}
+
+// The check of a write where it is intact, else its skip.
+fn check_or_skip(
+    plan: &Plan,
+    course: &Course<'_>,
+    worker: u32,
+    pass: &PlannedPass<'_>,
+    draw: &Draw,
+) -> Event
+    requires { IsCourse plan.now course.now }
+    ensures { result ≡ check_or_skip course.now.history worker pass.now draw.now }
+{
+    let raced = &course.indexes.raced;
+    let intact = is_intact_by(&course.history, raced, &pass.write_id(draw), &draw.piece);
+    check_if(intact, worker, pass, draw)
 }
 
 // What may happen with a draw of a pass now, if anything.
@@ -308,8 +408,8 @@ fn legal_step_of(
         → earlier ≡ list_all (pass_finished course.now.history) (take pass.now.number (passes_of pass.now.job)) }
     ensures { IfOk result (λ step. step ≡ step_of plan.now course.now.history worker pass.now draw.now) }
 {
-    if may_take_up(plan, &course.history, pass, draw) {
-        return Ok(Some(check_or_skip(&course.history, worker, pass, draw)));
+    if may_take_up(plan, course, pass, draw) {
+        return Ok(Some(check_or_skip(plan, course, worker, pass, draw)));
     }
     if may_issue(alloc, plan, course, pass, draw, earlier)? {
         return Ok(Some(issue_of(worker, pass, draw)));
@@ -397,27 +497,15 @@ pub fn legal_step_at<'a>(
     legal_step_kept(alloc, plan, course, worker, write, job, earlier)
 }
 
-// Whether each clone is finished or halted.
-fn all_over(alloc: Global, plan: &Plan, course: &Course<'_>) -> Result<bool, Memory>
-    requires course { IsCourse plan.now course.now }
-    ensures { IfOk result (λ yes. yes ≡ list_all (is_over course.now.history) plan.now.clones) }
-{
-    for i in 0..plan.clones() {
-        if !is_over(alloc, plan, course, plan.clone_at(i))? {
-            return Ok(false);
-        }
-    }
-    Ok(true)
-}
-
 /// Whether a legal run is a whole run of its plan.
 pub fn is_whole_run(alloc: Global, plan: &Plan, course: &Course<'_>) -> Result<bool, Memory>
     requires course { IsCourse plan.now course.now }
     ensures { IfOk result (λ yes. yes ≡ is_complete plan.now course.now.history) }
 {
-    let past = &course.history;
-    if !past.in_flight().is_empty() || !past.awaiting().is_empty() {
-        return Ok(false);
+    for i in 0..plan.clones() {
+        if !is_at_rest(alloc, plan, course, plan.clone_at(i))? {
+            return Ok(false);
+        }
     }
-    all_over(alloc, plan, course)
+    Ok(true)
 }

@@ -8,7 +8,7 @@ ghost use Rattle.jr_model.specs.Rounds.{nothing_flies_in, pass_finished};
 ghost use Rattle.jr_replay.specs.Rounds.{is_full_at};
 
 use jr_model::{Draw, WriteId};
-use jr_replay_history::{Past, is_of_clone, is_probe};
+use jr_replay_history::{Ledger, Past, is_of_clone, is_probe};
 use jr_replay_passes::{PlannedPass, has_rounds};
 
 /// How many I/Os and checks a clone has in flight.
@@ -22,18 +22,17 @@ pub(crate) fn flying_count(past: &Past, clone: u32) -> usize
 }
 
 /// How many draws of a pass were issued.
-pub(crate) fn issued_count(past: &Past, pass: &PlannedPass<'_>) -> usize
-    ensures { result ≡ issued_count past.now pass.now }
+pub(crate) fn issued_count(ledger: &Ledger, pass: &PlannedPass<'_>) -> usize
+    ensures { result ≡ issued_count ledger.now pass.now }
 {
-    past.ledger()
-        .issued_count(pass.job().clone_number(), pass.number())
+    ledger.issued_count(pass.job().clone_number(), pass.number())
 }
 
 /// Whether all draws of a pass were issued.
-pub(crate) fn all_issued(past: &Past, pass: &PlannedPass<'_>) -> bool
-    ensures { result ≡ all_issued past.now pass.now }
+pub(crate) fn all_issued(ledger: &Ledger, pass: &PlannedPass<'_>) -> bool
+    ensures { result ≡ all_issued ledger.now pass.now }
 {
-    issued_count(past, pass) == pass.draws().len()
+    issued_count(ledger, pass) == pass.draws().len()
 }
 
 // Whether a group has as many issued writes as it can have, where so many draws of its pass were
@@ -45,43 +44,43 @@ fn is_full_at(issued: usize, pass: &PlannedPass<'_>, g: usize) -> bool
 }
 
 /// Whether a group has as many issued writes as it can have: all, or as many as the backlog.
-pub(crate) fn is_full(past: &Past, pass: &PlannedPass<'_>, g: usize) -> bool
-    ensures { result ≡ is_full past.now pass.now g }
+pub(crate) fn is_full(ledger: &Ledger, pass: &PlannedPass<'_>, g: usize) -> bool
+    ensures { result ≡ is_full ledger.now pass.now g }
 {
-    is_full_at(issued_count(past, pass), pass, g)
+    is_full_at(issued_count(ledger, pass), pass, g)
 }
 
 /// Whether a write was skipped, or its check ended.
-pub(crate) fn is_settled(past: &Past, write: &WriteId) -> bool
-    ensures { result ≡ is_settled past.now write.now }
+pub(crate) fn is_settled(ledger: &Ledger, write: &WriteId) -> bool
+    ensures { result ≡ is_settled ledger.now write.now }
 {
-    past.ledger().is_settled(write)
+    ledger.is_settled(write)
 }
 
 // Whether each write of some draws is settled; the last ones are the least likely to be.
-fn all_settled(past: &Past, pass: &PlannedPass<'_>, draws: &[Draw]) -> bool
+fn all_settled(ledger: &Ledger, pass: &PlannedPass<'_>, draws: &[Draw]) -> bool
     ensures { result
-        ≡ list_all (λ draw. is_settled past.now (write_id pass.now draw)) (reverse draws.now) }
+        ≡ list_all (λ draw. is_settled ledger.now (write_id pass.now draw)) (reverse draws.now) }
 {
     draws
         .iter()
         .rev()
-        .all(|draw| is_settled(past, &pass.write_id(draw)))
+        .all(|draw| is_settled(ledger, &pass.write_id(draw)))
 }
 
 // Whether each write of a group is settled.
-fn group_settled(past: &Past, pass: &PlannedPass<'_>, g: usize) -> bool
+fn group_settled(ledger: &Ledger, pass: &PlannedPass<'_>, g: usize) -> bool
     ensures { result
-        ≡ list_all (λ draw. is_settled past.now (write_id pass.now draw)) (group_of pass.now g) }
+        ≡ list_all (λ draw. is_settled ledger.now (write_id pass.now draw)) (group_of pass.now g) }
 {
-    all_settled(past, pass, pass.group(g))
+    all_settled(ledger, pass, pass.group(g))
 }
 
 /// Whether a group is full and each of its writes is settled.
-pub(crate) fn is_closed(past: &Past, pass: &PlannedPass<'_>, g: usize) -> bool
-    ensures { result ≡ is_closed past.now pass.now g }
+pub(crate) fn is_closed(ledger: &Ledger, pass: &PlannedPass<'_>, g: usize) -> bool
+    ensures { result ≡ is_closed ledger.now pass.now g }
 {
-    is_full(past, pass, g) && group_settled(past, pass, g)
+    is_full(ledger, pass, g) && group_settled(ledger, pass, g)
 }
 
 /// Whether no read or write of the clone is in flight; checks may be.
@@ -98,56 +97,56 @@ pub(crate) fn no_issue_flies(past: &Past, clone: u32) -> bool
 pub(crate) fn is_open(past: &Past, pass: &PlannedPass<'_>, g: usize) -> bool
     ensures { result ≡ is_open past.now pass.now g }
 {
-    is_full(past, pass, g)
-        && !is_closed(past, pass, g)
+    is_full(past.ledger(), pass, g)
+        && !is_closed(past.ledger(), pass, g)
         && no_issue_flies(past, pass.job().clone_number())
 }
 
 // Whether a group is full and not closed, where so many draws of its pass were issued.
-pub(crate) fn is_pending(past: &Past, pass: &PlannedPass<'_>, issued: usize, g: usize) -> bool
-    requires { issued ≡ issued_count past.now pass.now }
-    ensures { result ≡ (is_full past.now pass.now g && not (is_closed past.now pass.now g)) }
+pub(crate) fn is_pending(ledger: &Ledger, pass: &PlannedPass<'_>, issued: usize, g: usize) -> bool
+    requires { issued ≡ issued_count ledger.now pass.now }
+    ensures { result ≡ (is_full ledger.now pass.now g && not (is_closed ledger.now pass.now g)) }
 {
-    is_full_at(issued, pass, g) && !group_settled(past, pass, g)
+    is_full_at(issued, pass, g) && !group_settled(ledger, pass, g)
 }
 
-fn any_pending(past: &Past, pass: &PlannedPass<'_>, issued: usize) -> bool
-    requires { issued ≡ issued_count past.now pass.now }
+fn any_pending(ledger: &Ledger, pass: &PlannedPass<'_>, issued: usize) -> bool
+    requires { issued ≡ issued_count ledger.now pass.now }
     ensures { result
-        ≡ list_any (λ g. is_full past.now pass.now g && not (is_closed past.now pass.now g))
+        ≡ list_any (λ g. is_full ledger.now pass.now g && not (is_closed ledger.now pass.now g))
         (range_with_len 0 (group_count pass.now)) }
 {
-    (0..pass.group_count()).any(|g| is_pending(past, pass, issued, g))
+    (0..pass.group_count()).any(|g| is_pending(ledger, pass, issued, g))
 }
 
 /// Whether some group of the pass is full and not closed.
-pub(crate) fn waits_for_round(past: &Past, pass: &PlannedPass<'_>) -> bool
-    ensures { result ≡ waits_for_round past.now pass.now }
+pub(crate) fn waits_for_round(ledger: &Ledger, pass: &PlannedPass<'_>) -> bool
+    ensures { result ≡ waits_for_round ledger.now pass.now }
 {
-    has_rounds(pass.job()) && any_pending(past, pass, issued_count(past, pass))
+    has_rounds(pass.job()) && any_pending(ledger, pass, issued_count(ledger, pass))
 }
 
 // Whether a group is closed, where so many draws of its pass were issued.
-fn is_closed_at(past: &Past, pass: &PlannedPass<'_>, issued: usize, g: usize) -> bool
-    requires { issued ≡ issued_count past.now pass.now }
-    ensures { result ≡ is_closed past.now pass.now g }
+fn is_closed_at(ledger: &Ledger, pass: &PlannedPass<'_>, issued: usize, g: usize) -> bool
+    requires { issued ≡ issued_count ledger.now pass.now }
+    ensures { result ≡ is_closed ledger.now pass.now g }
 {
-    is_full_at(issued, pass, g) && group_settled(past, pass, g)
+    is_full_at(issued, pass, g) && group_settled(ledger, pass, g)
 }
 
-fn all_closed(past: &Past, pass: &PlannedPass<'_>, issued: usize) -> bool
-    requires { issued ≡ issued_count past.now pass.now }
+fn all_closed(ledger: &Ledger, pass: &PlannedPass<'_>, issued: usize) -> bool
+    requires { issued ≡ issued_count ledger.now pass.now }
     ensures { result
-        ≡ list_all (λ g. is_closed past.now pass.now g) (range_with_len 0 (group_count pass.now)) }
+        ≡ list_all (λ g. is_closed ledger.now pass.now g) (range_with_len 0 (group_count pass.now)) }
 {
-    (0..pass.group_count()).all(|g| is_closed_at(past, pass, issued, g))
+    (0..pass.group_count()).all(|g| is_closed_at(ledger, pass, issued, g))
 }
 
 /// Whether each group of the pass is closed.
-pub(crate) fn rounds_closed(past: &Past, pass: &PlannedPass<'_>) -> bool
-    ensures { result ≡ rounds_closed past.now pass.now }
+pub(crate) fn rounds_closed(ledger: &Ledger, pass: &PlannedPass<'_>) -> bool
+    ensures { result ≡ rounds_closed ledger.now pass.now }
 {
-    !has_rounds(pass.job()) || all_closed(past, pass, issued_count(past, pass))
+    !has_rounds(pass.job()) || all_closed(ledger, pass, issued_count(ledger, pass))
 }
 
 /// Whether nothing of the clone is in flight.
@@ -179,5 +178,7 @@ pub(crate) fn nothing_flies_in(past: &Past, pass: &PlannedPass<'_>) -> bool
 pub(crate) fn pass_finished(past: &Past, pass: &PlannedPass<'_>) -> bool
     ensures { result ≡ pass_finished past.now pass.now }
 {
-    all_issued(past, pass) && nothing_flies_in(past, pass) && rounds_closed(past, pass)
+    all_issued(past.ledger(), pass)
+        && nothing_flies_in(past, pass)
+        && rounds_closed(past.ledger(), pass)
 }

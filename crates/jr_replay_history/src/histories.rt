@@ -115,14 +115,14 @@ impl Past {
     pub fn started_at(&self, io: usize) -> Option<Started>
         ensures { result ≡ slice_get (started self.now) io }
     {
-        self.started().get(io).copied()
+        self.ledger.started_at(io)
     }
 
     /// Whether the I/O or check of this number is in flight.
     pub fn flies(&self, io: usize) -> bool
         ensures { result ≡ flies self.now io }
     {
-        io < self.started().len() && self.ledger.outcome_of(io).is_none()
+        self.ledger.flies(io)
     }
 
     /// Whether a write overlapped the I/O or check of this number while both were in flight.
@@ -130,6 +130,13 @@ impl Past {
         ensures { result ≡ has_raced self.now io }
     {
         self.raced.contains(&io)
+    }
+
+    // The numbers of those that raced.
+    pub(crate) fn raced(&self) -> &HashSet<usize>
+        ensures { AreRaced self.now result.now }
+    {
+        &self.raced
     }
 }
 

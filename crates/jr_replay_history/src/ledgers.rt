@@ -1,6 +1,6 @@
-ghost use Rattle.std.specs.Prelude.{◌≡◌, ◌∷◌, [], ◌++◌, ◌<◌, ◌^◌, ℕ, IfOk, filter, filter_map, length};
+ghost use Rattle.std.specs.Prelude.{◌≡◌, ◌∷◌, [], ◌++◌, ◌<◌, ◌^◌, ℕ, IfOk, filter, filter_map, length, slice_get};
 ghost use Rattle.std.specs.List.{list_any};
-ghost use Rattle.jr_model.specs.History.{started, outcome_of, is_judged};
+ghost use Rattle.jr_model.specs.History.{started, flies, outcome_of, is_judged};
 ghost use Rattle.jr_model.specs.Legal.{is_bad, takes_up};
 ghost use Rattle.jr_model.specs.Rounds.{Pass as PassRecord, is_settled, issued_count};
 ghost use Rattle.jr_model.specs.Totals.{is_fault_of, is_verdict_of};
@@ -88,6 +88,20 @@ impl Ledger {
         ensures { result.now ≡ started self.now }
     {
         self.ios.as_slice()
+    }
+
+    /// The I/O or check of this number.
+    pub fn started_at(&self, io: usize) -> Option<Started>
+        ensures { result ≡ slice_get (started self.now) io }
+    {
+        self.started().get(io).copied()
+    }
+
+    /// Whether the I/O or check of this number is in flight.
+    pub fn flies(&self, io: usize) -> bool
+        ensures { result ≡ flies self.now io }
+    {
+        io < self.started().len() && self.outcome_of(io).is_none()
     }
 
     /// How an I/O ended, if it has.

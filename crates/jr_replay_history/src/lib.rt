@@ -16,7 +16,7 @@ pub use events::{
     is_probe, is_verdict_on, is_void, is_write, outcome_of, started, started_by,
 };
 pub use histories::Past;
-pub use last_writes::{is_intact, last_write};
+pub use last_writes::{is_intact, is_intact_by, last_write, last_write_by};
 pub use ledgers::Ledger;
 pub use marks::WriteEnd;
 pub use parts::{PART, part_of};

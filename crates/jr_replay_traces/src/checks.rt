@@ -10,11 +10,10 @@ ghost use Rattle.jr_replay_traces.specs.TraceChecks.{IsRefusal, check_of, check_
 use crate::faults::TraceFault;
 use crate::fields::read_line;
 use crate::legal::legal_event;
-use jr_model::{Event, Memory, Totals};
+use jr_model::{Event, Totals};
 use jr_plan::Plan;
 use jr_replay::{Course, is_whole_run};
-use jr_replay_history::Past;
-use jr_replay_passes::totals_among;
+use jr_replay_history::Ledger;
 use std::alloc::Global;
 
 /// Checks a trace: what each clone did, if the text is the trace of a whole legal run of the plan; else its
@@ -27,7 +26,8 @@ pub fn check_trace(alloc: Global, plan: &Plan, text: &[u8]) -> Result<Vec<Totals
     if !is_whole_run(alloc, plan, &course)? {
         return Err(TraceFault::Unfinished);
     }
-    Ok(all_totals(alloc, plan, &course.history)?)
+    let (_, totals) = course.into_parts();
+    Ok(totals)
 }
 
 /// The same for a run that may have been stopped: what each clone did, if each line may follow those before it, whether there
@@ -37,14 +37,15 @@ pub fn check_part(alloc: Global, plan: &Plan, text: &[u8]) -> Result<Vec<Totals>
     ensures err { IfErr result (λ fault. IsRefusal fault (check_of_part plan.now text.now)) }
 {
     let course = course_in(alloc, plan, text)?;
-    Ok(all_totals(alloc, plan, &course.history)?)
+    let (_, totals) = course.into_parts();
+    Ok(totals)
 }
 
 /// A trace that was read: the legal history that it says, what each clone did in it, and whether that is all.
 #[derive(Drop)]
 pub struct Checked {
     /// What happened.
-    pub past: Past,
+    pub past: Ledger,
     /// What each clone did, in the order of the clones.
     pub totals: Vec<Totals>,
     /// Nothing was to come.
@@ -57,26 +58,13 @@ pub fn read_run(alloc: Global, plan: &Plan, text: &[u8]) -> Result<Checked, Trac
     ensures err { IfErr result (λ fault. IsRefusal fault (history_in plan.now text.now)) }
 {
     let course = course_in(alloc, plan, text)?;
-    let totals = all_totals(alloc, plan, &course.history)?;
     let is_complete = is_whole_run(alloc, plan, &course)?;
+    let (past, totals) = course.into_parts();
     Ok(Checked {
-        past: course.history,
+        past,
         totals,
         is_complete,
     })
-}
-
-// What each clone did.
-fn all_totals(alloc: Global, plan: &Plan, past: &Past) -> Result<Vec<Totals>, Memory>
-    requires legal { is_legal plan.now past.now ≡ true }
-    requires few { length (started past.now) ≤ 2 ^ 32 }
-    ensures { IfOk result (λ totals. totals.items ≡ all_totals plan.now past.now) }
-{
-    let mut totals = Vec::new(alloc);
-    for i in 0..plan.clones() {
-        totals.push(totals_among(past, plan.clone_at(i).clone_number()))?;
-    }
-    Ok(totals)
 }
 
 // The run that a text says.
@@ -93,7 +81,7 @@ pub(crate) fn course_in<'a>(
     let mut course = Course::new(alloc, plan)?;
     let mut rest = text;
     while !rest.is_empty() {
-        let number = course.history.ledger().len() as u64 + 1;
+        let number = course.history.len() as u64 + 1;
         let Some((line, after)) = next_line(rest) else {
             return Err(TraceFault::Line(number));
         };

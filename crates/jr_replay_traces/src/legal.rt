@@ -7,8 +7,8 @@ ghost use Rattle.jr_replay_traces.specs.TraceSteps.{begun, named, ended, judged,
 use crate::entries::{Ending, Entry, Finding, Name, Start};
 use jr_model::{Event, Memory, Outcome, Verdict, What, WriteId, same_write};
 use jr_plan::Plan;
-use jr_replay::{Course, legal_step_at, may_end, may_judge};
-use jr_replay_history::Past;
+use jr_replay::{Course, legal_step_at, may_be_judged, may_end};
+use jr_replay_history::Ledger;
 use std::alloc::Global;
 
 // The event that a line speaks of, where it may happen after the legal history.
@@ -28,9 +28,7 @@ pub(crate) fn legal_event<'a>(
             legal_start(alloc, plan, course, entry)
         }
         Entry::End { worker, io, ending } => Ok(ended(&course.history, *worker, *io, ending)),
-        Entry::Verdict { by, io, finding } => {
-            Ok(judged(plan, &course.history, *by, *io, finding))
-        }
+        Entry::Verdict { by, io, finding } => { Ok(judged(plan, course, *by, *io, finding)) }
     }
 }
 
@@ -55,7 +53,7 @@ fn legal_start<'a>(
 }
 
 // The worker and the draw of a line that starts what has the next number, or skips a write.
-fn named(past: &Past, entry: &Entry) -> Option<(u32, WriteId)>
+fn named(past: &Ledger, entry: &Entry) -> Option<(u32, WriteId)>
     ensures { result ≡ named past.now entry.now }
 {
     match entry {
@@ -78,7 +76,7 @@ fn event_in(entry: &Entry, worker: u32, write: &WriteId, step: &Option<Event>) -
 }
 
 // The worker and the draw of a start that has the next number.
-fn begun(past: &Past, start: &Start) -> Option<(u32, WriteId)>
+fn begun(past: &Ledger, start: &Start) -> Option<(u32, WriteId)>
     ensures { result ≡ begun past.now start.now }
 {
     let worker = small(start.worker)?;
@@ -92,7 +90,7 @@ fn begun(past: &Past, start: &Start) -> Option<(u32, WriteId)>
 }
 
 // The end of an I/O, where it may end so.
-fn ended(past: &Past, worker: u64, io: u64, ending: &Ending) -> Option<Event>
+fn ended(past: &Ledger, worker: u64, io: u64, ending: &Ending) -> Option<Event>
     ensures { result ≡ ended past.now worker io ending.now }
 {
     let worker = small(worker)?;
@@ -110,13 +108,14 @@ fn ended(past: &Past, worker: u64, io: u64, ending: &Ending) -> Option<Event>
 }
 
 // The verdict on an I/O, where it may have it.
-fn judged(plan: &Plan, past: &Past, by: u64, io: u64, finding: &Finding) -> Option<Event>
-    ensures { result ≡ judged plan.now past.now by io finding.now }
+fn judged(plan: &Plan, course: &Course<'_>, by: u64, io: u64, finding: &Finding) -> Option<Event>
+    requires { IsCourse plan.now course.now }
+    ensures { result ≡ judged plan.now course.now.history by io finding.now }
 {
     let worker = small(by)?;
     let io = small(io)?;
     let verdict = verdict_of(finding)?;
-    if may_judge(plan, past, io as usize, verdict) {
+    if may_be_judged(plan, course, io as usize, verdict) {
         Some(Event::Verdict {
             worker,
             io,

@@ -6,11 +6,11 @@ use Rattle.jr_replay.proofs.phases.is_open_for.Goals as goal
 
 pub returns : goal.returns
 returns c =
-    let h = c.args.past.now in
+    let h = c.args.course.now.history in
     let pass = c.args.pass.now in
     let draw = c.args.draw.now in
     c.both.ensures
     ∙ ap (λ (full : Bool). full && c.no_issue_flies-quiet.result) (c.is_full-full.ensures ∙ ap (is_full h pass) c.group_index.ensures)
     ∙ ap (λ (quiet : Bool). is_full h pass (group_index pass draw.number) && quiet)
-    (c.no_issue_flies-quiet.ensures ∙ ap (no_issue_flies h) (c.clone_number.ensures ∙ ap (λ (job : SubJob). job.clone) c.job.ensures))
+    (c.no_issue_flies-quiet.ensures ∙ ap (λ (job : SubJob). no_issue_flies h job.clone) c.job.ensures)
     ∙ open_is h pass draw c.facts.ensures c.requires.drawn c.requires.writes c.requires.fresh

@@ -12,7 +12,7 @@ pub returns-in_err-event-clause-err : goal.returns-in_err-event-clause-err
 returns-in_err-event-clause-err c =
     let history = c.loop-rest.course.history in
     let place : c.len.result + 1 ≡ length history + 1 =
-    ap (λ (n : _). n + 1) (c.len.ensures.value ∙ ap (λ (h : List Event). length h) c.ledger.ensures) in
+    ap (λ (n : _). n + 1) c.len.ensures.value in
     let fault = err_from_is_err_and c.from_residual-in_err-event.result c.from_residual-in_err-event.ensures.1 in
     let whole = read_refused c.args.plan.now history (c.len.result + 1) c.in-Some.line.now c.loop-rest.rest.now c.in-Some.after.now (history_in c.args.plan.now c.args.text.now) place c.in-Some.ensures.0 c.loop-rest.invariant.0 c.in_err-event.field-0.0 c.in_err-event.ensures.err in
     rw (fault.1, fault.2) whole
@@ -40,7 +40,7 @@ loop-rest-preserved c =
     let plan = c.args.plan.now in
     let history = c.loop-rest.course.history in
     let place : c.len.result + 1 ≡ length history + 1 =
-    ap (λ (n : _). n + 1) (c.len.ensures.value ∙ ap (λ (h : List Event). length h) c.ledger.ensures) in
+    ap (λ (n : _). n + 1) c.len.ensures.value in
     let e = c.in_ok-event.event in
     let longer = c.in_ok-course-2.course.history in
     let read : line_event plan history (c.len.result + 1) c.in-Some.line.now ≡ Ok e = c.in_ok-event.ensures.ok in

@@ -27,16 +27,16 @@ judged_by may false b f given by io worker id said verdict hw hi hv is = cc
 judged_by may true false f given by io worker id said verdict hw hi hv is = cc
 judged_by may true true false given by io worker id said verdict hw hi hv is = cc
 
-pub returns-then-may_judge : goal.returns-then-may_judge
-returns-then-may_judge c =
+pub returns-then-may_be_judged : goal.returns-then-may_be_judged
+returns-then-may_be_judged c =
     let finding = c.args.finding.now in
     let verdict = c.in_ok-verdict.verdict in
-    ap (λ (y : Bool). cond y (Some (Verdict c.in_ok-worker.worker c.in_ok-io.io verdict)) None) (sym c.if-may_judge.true)
-    ∙ judged_by (may_have c.args.plan.now c.args.past.now) (is_small c.args.by) (is_small c.args.io) (finding_fits finding) c.may_judge.result c.args.by c.args.io c.in_ok-worker.worker c.in_ok-io.io (verdict_of finding) verdict c.in_ok-worker.ensures c.in_ok-io.ensures c.in_ok-verdict.ensures c.may_judge.ensures
+    ap (λ (y : Bool). cond y (Some (Verdict c.in_ok-worker.worker c.in_ok-io.io verdict)) None) (sym c.if-may_be_judged.true)
+    ∙ judged_by (may_have c.args.plan.now c.args.course.now.history) (is_small c.args.by) (is_small c.args.io) (finding_fits finding) c.may_be_judged.result c.args.by c.args.io c.in_ok-worker.worker c.in_ok-io.io (verdict_of finding) verdict c.in_ok-worker.ensures c.in_ok-io.ensures c.in_ok-verdict.ensures c.may_be_judged.ensures
 
-pub returns-else-may_judge : goal.returns-else-may_judge
-returns-else-may_judge c =
+pub returns-else-may_be_judged : goal.returns-else-may_be_judged
+returns-else-may_be_judged c =
     let finding = c.args.finding.now in
     let verdict = c.in_ok-verdict.verdict in
-    ap (λ (y : Bool). cond y (Some (Verdict c.in_ok-worker.worker c.in_ok-io.io verdict)) None) (sym c.if-may_judge.false)
-    ∙ judged_by (may_have c.args.plan.now c.args.past.now) (is_small c.args.by) (is_small c.args.io) (finding_fits finding) c.may_judge.result c.args.by c.args.io c.in_ok-worker.worker c.in_ok-io.io (verdict_of finding) verdict c.in_ok-worker.ensures c.in_ok-io.ensures c.in_ok-verdict.ensures c.may_judge.ensures
+    ap (λ (y : Bool). cond y (Some (Verdict c.in_ok-worker.worker c.in_ok-io.io verdict)) None) (sym c.if-may_be_judged.false)
+    ∙ judged_by (may_have c.args.plan.now c.args.course.now.history) (is_small c.args.by) (is_small c.args.io) (finding_fits finding) c.may_be_judged.result c.args.by c.args.io c.in_ok-worker.worker c.in_ok-io.io (verdict_of finding) verdict c.in_ok-worker.ensures c.in_ok-io.ensures c.in_ok-verdict.ensures c.may_be_judged.ensures

@@ -1,9 +1,7 @@
-use Rattle.std.proofs.Common.{◌≡◌, ℕ, List, sym, ap, ◌∙◌, cond}
-use Rattle.std.specs.Prelude.{Result, Ok, Err, OnOk, is_some, nat_eq, Some}
+use Rattle.std.proofs.Common.{ℕ, sym, ap, ◌∙◌}
+use Rattle.std.specs.Prelude.{Result, Ok, Err, OnOk, is_some, nat_eq}
 use Rattle.std.specs.HashMap.{get}
-use Rattle.jr_model.specs.Plan.{Plan, clone_of}
-use Rattle.jr_model.specs.Rounds.{pass_of}
-use Rattle.jr_replay.specs.Courses.{IsCourse, numbered}
+use Rattle.jr_replay.specs.Courses.{numbered}
 use Rattle.jr_replay.proofs.CourseLemmas.{course_with, entered_there, kept_there}
 use Rattle.jr_replay.proofs.courses.Course.enter.Goals as goal
 
@@ -22,7 +20,7 @@ pub returns-clause-course : goal.returns-clause-course
 returns-clause-course c =
     on_ok c.replace.result
     (λ now plan there course.
-    course_with plan c.args.job.now there c.args.number c.args.self.now c.replace.new.self c.replace.ensures.history now course)
+    course_with plan c.args.job.now there c.args.number c.args.self.now c.replace.new.self c.replace.ensures.history c.replace.ensures.indexes now course)
     c.replace.ensures.passes
 
 pub returns-clause-entered : goal.returns-clause-entered

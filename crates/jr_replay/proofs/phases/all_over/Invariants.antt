@@ -1,7 +1,0 @@
-use Rattle.std.proofs.Common.{◌≡◌, true, take}
-use Rattle.std.specs.List.{list_all}
-use Rattle.jr_model.specs.Legal.{is_over}
-use Rattle.jr_replay.proofs.phases.all_over.Given as goal
-
-abbrev pub invariant-loop-i : goal.invariant-loop-i
-invariant-loop-i l = list_all (is_over l.course.history) (take l.i l.plan.clones) ≡ true
