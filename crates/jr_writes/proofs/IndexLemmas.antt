@@ -224,7 +224,7 @@ module _ (kept : Option WriteId) (piece : Piece) (entry_of : WriteId → Option 
     };
   }
 
-  one_stays : (write : WriteId) (entry : Kept) → entry_of write ≡ Some entry → stays kept piece (write, entry) ≡ true
+  pub one_stays : (write : WriteId) (entry : Kept) → entry_of write ≡ Some entry → stays kept piece (write, entry) ≡ true
   one_stays write entry at =
       by (is_kept kept write) (pieces_overlap piece entry.piece) (λ other. none (place_of entry.piece) (spot_of write entry.piece) (index.stands write entry at) other)
     where
@@ -242,7 +242,7 @@ all_stay kept piece writes spot_in ordered index here none =
     (All-found write_order_total writes ordered)
 
 -- an entry with this piece
-found_piece : (o : Option Kept) (piece : Piece) → option_map (λ e. e.piece) o ≡ Some piece → (e : Kept) × (o ≡ Some e) × (e.piece ≡ piece)
+pub found_piece : (o : Option Kept) (piece : Piece) → option_map (λ e. e.piece) o ≡ Some piece → (e : Kept) × (o ≡ Some e) × (e.piece ≡ piece)
 found_piece None piece h = absurd (none-some piece h)
 found_piece (Some e) piece h = (e, refl, same_Some e.piece piece h)
 

@@ -1,6 +1,13 @@
 pub mod EntryLemmas
 pub mod IndexLemmas
 pub mod KeptLemmas
+pub mod ListFacts
 pub mod LogLemmas
+pub mod NameFacts
 pub mod Overlaps
 pub mod PutLemmas
+pub mod SheetFacts
+pub mod SlotFacts
+pub mod StayFacts
+pub mod StepFacts
+pub mod TableFacts

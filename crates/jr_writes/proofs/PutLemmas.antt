@@ -33,7 +33,7 @@ none_both false o h = h
 module _ (entry_of : WriteId → Option Kept) (spot_in : ℕ × ℕ → Option Spot) (write : WriteId) (entry : Kept) (older : Spot)
     (index : IsIndexed None entry_of spot_in) (fresh : entry_of write ≡ None) (at : spot_in (place_of entry.piece) ≡ Some older) (filled : 1 ≤ entry.piece.len) where
   -- the older write isn't the new one
-  older_differs : is_at (write_order write) older.write ≡ false
+  pub older_differs : is_at (write_order write) older.write ≡ false
   older_differs =
       false_from_ne_true (is_at (write_order write) older.write)
       (λ same.

@@ -1,4 +1,9 @@
 pub mod Index
 pub mod KeptEntries
+pub mod KeptList
 pub mod LogSteps
 pub mod LoggedWrites
+pub mod Names
+pub mod Sheets
+pub mod Slots
+pub mod Staying

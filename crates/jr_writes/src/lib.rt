@@ -4,6 +4,9 @@
 
 mod kept;
 mod logs;
+mod names;
+mod packed;
+mod sheets;
 mod spots;
 
 pub use logs::{Logged, WriteLog};

@@ -1,4 +1,5 @@
 use crate::kept::{Kept, place_expected};
+use crate::names::Names;
 use crate::spots::{Spot, put, take_out};
 use jr_model::{Expected, Memory, Piece, WriteId};
 use std::alloc::Global;
@@ -17,7 +18,7 @@ pub struct Logged {
 /// unsettled since.
 #[derive(Drop)]
 pub struct WriteLog {
-    writes: BTreeMap<WriteId, Kept>,
+    names: Names,
     spots: BTreeMap<(u32, u64), Spot>,
     // What checks compare with: each that differs from the one before it, once.
     expected: Vec<Expected>,
@@ -38,17 +39,18 @@ impl Model for WriteLog {
 
     ghost Value = { List (Name × Entry) };
 
-    ghost use Rattle.jr_writes.specs.Index.{IsIndexed, kept_of, place_order, spot_at};
+    ghost use Rattle.jr_writes.specs.Index.{IsIndexed, place_order, spot_at};
     ghost use Rattle.jr_writes.specs.KeptEntries.{ArePlaced, entries_of};
-    ghost use Rattle.jr_model.specs.History.{write_order};
+    ghost use Rattle.jr_writes.specs.KeptList.{all_kept};
+    ghost use Rattle.jr_writes.specs.Names.{name_at};
 
-    ghost view = { λ log. entries_of log.expected.items log.writes.entries };
+    ghost view = { λ log. entries_of log.expected.items (all_kept (name_at log.names.sheets.entries)) };
 
-    // The writes and their places are in order, the pieces of the places are disjoint, and what the
-    // checks of each write compare with is known.
-    ghost invariant = { λ log. IsOrdered write_order log.writes × IsOrdered place_order log.spots
-        × IsIndexed None (kept_of log.writes.entries) (spot_at log.spots.entries)
-        × ArePlaced log.expected.items log.writes.entries };
+    // The places are in order, their pieces are disjoint, and what the checks of each write compare
+    // with is known.
+    ghost invariant = { λ log. IsOrdered place_order log.spots
+        × IsIndexed None (name_at log.names.sheets.entries) (spot_at log.spots.entries)
+        × ArePlaced log.expected.items (all_kept (name_at log.names.sheets.entries)) };
 }
 
 impl WriteLog {
@@ -64,7 +66,7 @@ impl WriteLog {
         ensures { result ≡ [] }
     {
         WriteLog {
-            writes: BTreeMap::new(alloc),
+            names: Names::new(alloc),
             spots: BTreeMap::new(alloc),
             expected: Vec::new(alloc),
         }
@@ -83,8 +85,8 @@ impl WriteLog {
     {
         let place = place_expected(&mut self.expected, expected)?;
         let entry = Kept { piece, place };
-        put(&mut self.writes, &mut self.spots, write, entry)?;
-        take_out(&mut self.writes, &mut self.spots, &piece, Some(write));
+        put(&mut self.names, &mut self.spots, write, entry)?;
+        take_out(&mut self.names, &mut self.spots, &piece, Some(write));
         Ok(())
     }
 
@@ -94,21 +96,21 @@ impl WriteLog {
         ensures entries { self.new ≡ unsettled self.old piece.now }
         ensures look_up { (other : Name) → logged self.new other ≡ if_apart piece.now (logged self.old other) }
     {
-        take_out(&mut self.writes, &mut self.spots, piece, None);
+        take_out(&mut self.names, &mut self.spots, piece, None);
     }
 
     /// Whether the write is in the log. (The desk asks for `expected` alone.)
     pub fn intact(&self, write: &WriteId) -> bool
         ensures { result ≡ is_some (logged self.now write.now) }
     {
-        self.writes.contains_key(write)
+        self.names.get(write).is_some()
     }
 
     /// What the checks of an intact write compare with.
     pub fn expected(&self, write: &WriteId) -> Option<&Expected>
         ensures { option_copied result ≡ option_map (λ entry. entry.expected) (logged self.now write.now) }
     {
-        match self.writes.get(write) {
+        match self.names.get(write) {
             Some(kept) => self.expected.get(kept.place),
             None => None,
         }

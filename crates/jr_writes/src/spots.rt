@@ -1,11 +1,14 @@
-ghost use Rattle.std.specs.Prelude.{◌≡◌, ◌^◌, ◌<◌, ◌≤◌, Some, None, filter, OnOk, OnErr};
-ghost use Rattle.std.specs.BTreeMap.{IsOrdered, insert_entry};
+ghost use Rattle.std.specs.Prelude.{◌≡◌, ◌^◌, ◌<◌, ◌≤◌, Some, None, OnOk, OnErr, if◌then◌else◌};
+ghost use Rattle.std.specs.BTreeMap.{IsOrdered, is_at};
 ghost use Rattle.jr_model.specs.Pieces.{piece_end};
 ghost use Rattle.jr_model.specs.History.{write_order};
 ghost use Rattle.jr_writes.specs.Index.{AreDisjoint, IsIndexed, IsLastBefore, IsLastOther, IsOverlapped, StandsHere, is_kept};
-ghost use Rattle.jr_writes.specs.Index.{kept_of, piece_at, place_order, spot_at, stays};
+ghost use Rattle.jr_writes.specs.Index.{piece_at, place_order, spot_at};
+ghost use Rattle.jr_writes.specs.Names.{name_at};
+ghost use Rattle.jr_writes.specs.Staying.{left_of};
 
 use crate::kept::Kept;
+use crate::names::Names;
 use jr_model::{Memory, Piece, WriteId, overlaps};
 use std::collections::BTreeMap;
 
@@ -16,26 +19,25 @@ pub struct Spot {
     pub len: u32,
 }
 
-// Puts a new write into both maps, in place of one whose piece begins where its piece does. Pieces
+// Puts a new write into both tables, in place of one whose piece begins where its piece does. Pieces
 // that it overlaps stay.
 pub(crate) fn put(
-    writes: &mut BTreeMap<WriteId, Kept>,
+    names: &mut Names,
     spots: &mut BTreeMap<(u32, u64), Spot>,
     write: WriteId,
     entry: Kept,
 ) -> Result<(), Memory>
     requires filled { 1 ≤ entry.piece.len }
-    requires fresh { kept_of writes.old.entries write ≡ None }
-    requires indexed { IsIndexed None (kept_of writes.old.entries) (spot_at spots.old.entries) }
-    ensures entries { OnOk result (filter (stays (Some write) entry.piece) writes.new.entries
-        ≡ insert_entry write_order (filter (stays None entry.piece) writes.old.entries) write entry) }
-    ensures indexed { OnOk result (IsIndexed (Some write) (kept_of writes.new.entries) (spot_at spots.new.entries)) }
+    requires fresh { name_at names.old.sheets.entries write ≡ None }
+    requires indexed { IsIndexed None (name_at names.old.sheets.entries) (spot_at spots.old.entries) }
+    ensures entries { OnOk result ((q : _) → left_of (Some write) entry.piece (name_at names.new.sheets.entries) q
+        ≡ (if is_at (write_order write) q then Some entry else left_of None entry.piece (name_at names.old.sheets.entries) q)) }
+    ensures indexed { OnOk result (IsIndexed (Some write) (name_at names.new.sheets.entries) (spot_at spots.new.entries)) }
     ensures stands { OnOk result (StandsHere (Some write) entry.piece (spot_at spots.new.entries)) }
-    ensures err { OnErr result ((writes.new.entries ≡ writes.old.entries) × (spots.new.entries ≡ spots.old.entries)) }
-    ensures ordered { IsOrdered write_order writes.new }
-    ensures was_ordered { IsOrdered write_order writes.old }
+    ensures names_err { OnErr result ((q : _) → name_at names.new.sheets.entries q ≡ name_at names.old.sheets.entries q) }
+    ensures spots_err { OnErr result (spots.new.entries ≡ spots.old.entries) }
 {
-    writes.insert(write, entry)?;
+    names.insert(write, entry)?;
     let spot = Spot {
         write,
         len: entry.piece.len,
@@ -43,11 +45,11 @@ pub(crate) fn put(
     match spots.insert((entry.piece.file, entry.piece.offset), spot) {
         Ok(None) => Ok(()),
         Ok(Some(older)) => {
-            let _ = writes.remove(&older.write);
+            names.remove(&older.write);
             Ok(())
         }
         Err(_) => {
-            let _ = writes.remove(&write);
+            names.remove(&write);
             Err(Memory)
         }
     }
@@ -55,23 +57,21 @@ pub(crate) fn put(
 
 // Takes out every write, other than the kept one, whose piece shares a byte with this one.
 pub(crate) fn take_out(
-    writes: &mut BTreeMap<WriteId, Kept>,
+    names: &mut Names,
     spots: &mut BTreeMap<(u32, u64), Spot>,
     piece: &Piece,
     kept: Option<WriteId>,
 )
     requires fits { piece_end piece.now < 2 ^ 64 }
-    requires indexed { IsIndexed kept (kept_of writes.old.entries) (spot_at spots.old.entries) }
+    requires indexed { IsIndexed kept (name_at names.old.sheets.entries) (spot_at spots.old.entries) }
     requires stands { StandsHere kept piece.now (spot_at spots.old.entries) }
-    requires ordered { IsOrdered write_order writes.old }
-    ensures entries { writes.new.entries ≡ filter (stays kept piece.now) writes.old.entries }
-    ensures indexed { IsIndexed None (kept_of writes.new.entries) (spot_at spots.new.entries) }
-    ensures ordered { IsOrdered write_order writes.new }
+    ensures entries { (q : _) → name_at names.new.sheets.entries q ≡ left_of kept piece.now (name_at names.old.sheets.entries) q }
+    ensures indexed { IsIndexed None (name_at names.new.sheets.entries) (spot_at spots.new.entries) }
     ensures places_ordered { IsOrdered place_order spots.new }
 {
     while let Some((place, spot)) = overlapped(spots, piece, kept) {
         let _ = spots.remove(&place);
-        let _ = writes.remove(&spot.write);
+        names.remove(&spot.write);
     }
 }
 
