@@ -1,11 +1,11 @@
 -- What is kept of the writes by their names, through a step of one sheet.
-use Rattle.std.proofs.Common.{◌≡◌, ℕ, ◌/◌, ◌%◌, Bool, true, false, ◌&&◌, cond, List, [], Option, Some, None, IsSome, arith, refl, sym, ap, subst, ◌∙◌, inl, inr, eq-eqb}
+use Rattle.std.proofs.Common.{◌≡◌, ℕ, ◌/◌, ◌%◌, Bool, true, false, ◌&&◌, cond, List, [], Option, None, arith, refl, sym, ap, ◌∙◌, inl, inr, eq-eqb}
 use Rattle.std.specs.Prelude.{◌==◌}
 use Rattle.std.specs.BTreeMap.{is_at}
 use Rattle.std.specs.Map.{lookup}
 use Rattle.std.proofs.lemmas.Bool.{cases_eq, ne_eqb}
 use Rattle.jr_model.specs.declared.events.WriteId.{WriteId}
-use Rattle.jr_model.specs.History.{same_write, write_order}
+use Rattle.jr_model.specs.History.{write_order}
 use Rattle.jr_model.proofs.Equality.{is_at-write_order}
 use Rattle.jr_writes.specs.declared.kept.Kept.{Kept}
 use Rattle.jr_writes.specs.declared.sheets.Sheet.{Sheet}

@@ -11,7 +11,7 @@ use Rattle.jr_model.specs.Pieces.{pieces_overlap}
 use Rattle.jr_model.specs.History.{write_order}
 use Rattle.jr_model.proofs.Equality.{is_at-write_order}
 use Rattle.jr_writes.specs.declared.kept.Kept.{Kept}
-use Rattle.jr_writes.specs.declared.spots.Spot.{Spot}
+use Rattle.jr_writes.specs.declared.spot.Spot.{Spot}
 use Rattle.jr_writes.specs.Index.{IsIndexed, StandsHere, kept_of, piece_at, place_of, place_order, spot_of, stays}
 use Rattle.jr_writes.proofs.IndexLemmas.{IsIndexed-inserted, IsIndexed-removed, StandsHere-inserted, filter-inserted, filter-removed, place_itself, write_same}
 use Rattle.jr_writes.proofs.Overlaps.{overlap_from_parts}

@@ -1,5 +1,5 @@
 -- What stands on a sheet, through a step.
-use Rattle.std.proofs.Common.{◌≡◌, ℕ, ◌+◌, ◌*◌, ◌/◌, ◌%◌, ◌^◌, ◌<◌, ◌≤◌, Result, Ok, Err, length, get_or, set, length-set, Bool, true, false, cond, Option, Some, None, arith, refl, sym, ap, subst, ◌∙◌, ◌⊎◌, inl, inr, eq-eqb}
+use Rattle.std.proofs.Common.{◌≡◌, ℕ, ◌+◌, ◌*◌, ◌/◌, ◌%◌, ◌^◌, ◌<◌, ◌≤◌, Result, Ok, Err, length, get_or, set, length-set, Bool, cond, Option, Some, None, arith, refl, sym, ap, subst, ◌∙◌, ◌⊎◌, inl, inr, eq-eqb}
 use Rattle.std.specs.Prelude.{◌==◌, count_ones, IsSome}
 use Rattle.std.specs.Int.{bit_at}
 use Rattle.std.specs.Option.{option_map}
@@ -111,7 +111,7 @@ module _ {V : Type 0} (rows : Packed (Packed V)) where
     pub in_slot_there : (s : ℕ) (w : Option V) (k : ℕ) → cond (k == s) w (packed_at row k) ≡ cond (k == s) w (in_row (packed_at rows r) k)
     in_slot_there s w k = ap (λ (o : Option V). cond (k == s) w o) (sym (in_there k))
 
-    in_slot : (q : ℕ) → q / 64 ≡ r → sheet_at rows q ≡ packed_at row (q % 64)
+    pub in_slot : (q : ℕ) → q / 64 ≡ r → sheet_at rows q ≡ packed_at row (q % 64)
     in_slot q same = at_row row q (ap (packed_at rows) same ∙ there)
 
     -- the last slot of a row is its last place
@@ -214,7 +214,7 @@ filled_one rows row r s v one here k other at = by (cases_eq k r)
         absurd (none-some other (sym (one k ∙ ap (λ (b : Bool). cond b (Some row) None) (ne_eqb k r ne)) ∙ at))
 
 -- a row after an insertion isn't empty
-pub not_empty_after : {V : Type 0} {E : Type 0} (result : Result (Unit {0}) E) (row new : Packed V) (s : ℕ) (v : V) → OnOk result ((k : ℕ) → packed_at new k ≡ cond (k == s) (Some v) (packed_at row k)) → OnErr result ((new.taken ≡ row.taken) × (new.items.items ≡ row.items.items)) → (row.taken ≡ 0 → ⊥) → new.taken ≡ 0 → ⊥
+pub not_empty_after : {V X E : Type 0} (result : Result X E) (row new : Packed V) (s : ℕ) (v : V) → OnOk result ((k : ℕ) → packed_at new k ≡ cond (k == s) (Some v) (packed_at row k)) → OnErr result ((new.taken ≡ row.taken) × (new.items.items ≡ row.items.items)) → (row.taken ≡ 0 → ⊥) → new.taken ≡ 0 → ⊥
 not_empty_after (Ok x) row new s v ok err some =
     not_empty new s v (ok s ∙ ap (λ (b : Bool). cond b (Some v) (packed_at row s)) (eq-eqb s s refl))
 not_empty_after (Err e) row new s v ok err some = λ empty. some (sym err.0 ∙ empty)
@@ -240,7 +240,7 @@ module _ {V : Type 0} (rows : Packed (Packed V)) (r rank : ℕ) (row : Packed V)
   with_row new = record { taken = rows.taken; items = with_item rows.items rank new; fits = rows.fits; counted = counted_set new }
 
 -- no row is empty after an insertion of one that isn't
-pub filled_after : {V : Type 0} {E : Type 0} (result : Result (Unit {0}) E) (rows new : Packed (Packed V)) (r : ℕ) (row : Packed V) → HasNoEmptyRow rows → OnOk result ((k : ℕ) → packed_at new k ≡ cond (k == r) (Some row) (packed_at rows k)) → OnErr result ((new.taken ≡ rows.taken) × (new.items.items ≡ rows.items.items)) → (row.taken ≡ 0 → ⊥) → HasNoEmptyRow new
+pub filled_after : {V X E : Type 0} (result : Result X E) (rows new : Packed (Packed V)) (r : ℕ) (row : Packed V) → HasNoEmptyRow rows → OnOk result ((k : ℕ) → packed_at new k ≡ cond (k == r) (Some row) (packed_at rows k)) → OnErr result ((new.taken ≡ rows.taken) × (new.items.items ≡ rows.items.items)) → (row.taken ≡ 0 → ⊥) → HasNoEmptyRow new
 filled_after (Ok x) rows new r row filled ok err some = filled_step rows new r filled row ok some
 filled_after (Err e) rows new r row filled ok err some = filled_from_fields rows new filled err.0 err.1
 
@@ -255,3 +255,18 @@ sheet_none rows place none q =
       | inl same ↦ ap (sheet_at rows) same ∙ none ∙ sym (ap (λ (b : Bool). cond b None (sheet_at rows q)) (eq-eqb q place same))
       | inr other ↦ sym (ap (λ (b : Bool). cond b None (sheet_at rows q)) (ne_eqb q place other))
     ]
+
+-- rows of which no place has anything are none
+pub nothing_on : {V : Type 0} (rows : Packed (Packed V)) → HasNoEmptyRow rows → ((q : ℕ) → q < 4096 → sheet_at rows q ≡ None) → rows.taken ≡ 0
+nothing_on rows filled none = empty_slots rows (λ r lt. absent r lt (packed_at rows r) refl)
+  where
+    absent : (r : ℕ) → r < 64 → (o : Option (Packed _)) → packed_at rows r ≡ o → packed_at rows r ≡ None
+    absent r lt None there = there
+    absent r lt (Some row) there =
+        absurd
+        (filled r row there
+        (empty_slots row
+        (λ s within.
+        let place : (r * 64 + s) / 64 ≡ r = omega arith in
+        let slot : (r * 64 + s) % 64 ≡ s = omega arith in
+        ap (packed_at row) (sym slot) ∙ sym (in_slot rows r row there (r * 64 + s) place) ∙ none (r * 64 + s) (omega arith))))

@@ -1,6 +1,5 @@
 -- What stays of the kept writes, through a step.
 use Rattle.std.proofs.Common.{◌≡◌, ℕ, ◌≤◌, Bool, true, false, not, ◌||◌, cond, Option, Some, None, arith, refl, sym, ap, ◌∙◌}
-use Rattle.std.proofs.lemmas.Option.{none-some, same_Some}
 use Rattle.std.specs.BTreeMap.{is_at}
 use Rattle.std.specs.Option.{option_map}
 use Rattle.jr_model.specs.declared.blocks.Piece.{Piece}
@@ -9,8 +8,8 @@ use Rattle.jr_model.specs.History.{same_write, write_order}
 use Rattle.jr_model.specs.Pieces.{pieces_overlap}
 use Rattle.jr_model.proofs.Equality.{is_at-write_order}
 use Rattle.jr_writes.specs.declared.kept.Kept.{Kept}
-use Rattle.jr_writes.specs.declared.spots.Spot.{Spot}
-use Rattle.jr_writes.specs.Index.{IsIndexed, NoneOverlaps, StandsHere, is_kept, piece_at, place_of, spot_of, stays}
+use Rattle.jr_writes.specs.declared.spot.Spot.{Spot}
+use Rattle.jr_writes.specs.Index.{IsIndexed, NoneOverlaps, StandsHere, is_kept, piece_at, place_of}
 use Rattle.jr_writes.specs.Staying.{if_stays, left_of}
 use Rattle.jr_writes.proofs.IndexLemmas.{found_piece, one_stays, write_same}
 use Rattle.jr_writes.proofs.Overlaps.{overlap_from_parts}

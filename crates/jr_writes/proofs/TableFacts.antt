@@ -1,5 +1,5 @@
 -- What a table of sheets has, through a step of one sheet.
-use Rattle.std.proofs.Common.{◌≡◌, ℕ, ◌/◌, Bool, true, false, ◌&&◌, cond, Option, Some, None, refl, sym, ap, ◌∙◌}
+use Rattle.std.proofs.Common.{◌≡◌, ℕ, ◌/◌, Bool, true, false, ◌&&◌, cond, Option, None, refl, sym, ap, ◌∙◌}
 use Rattle.std.specs.Prelude.{◌==◌}
 use Rattle.jr_writes.specs.declared.sheets.Sheet.{Sheet}
 use Rattle.jr_writes.specs.Names.{in_sheet}

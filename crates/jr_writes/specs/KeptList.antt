@@ -1,5 +1,5 @@
 -- Internal: what is kept, as a list in the order of the writes.
-use Rattle.std.specs.Prelude.{◌≡◌, ℕ, zero, suc, ◌+◌, ◌/◌, ◌%◌, ◌^◌, ◌<◌, List, [], ◌∷◌, Option, Some, None}
+use Rattle.std.specs.Prelude.{ℕ, zero, suc, ◌+◌, ◌/◌, ◌%◌, ◌^◌, ◌<◌, List, [], ◌∷◌, Option, Some, None}
 use Rattle.jr_model.specs.declared.events.WriteId.{WriteId}
 use Rattle.jr_writes.specs.declared.kept.Kept.{Kept}
 

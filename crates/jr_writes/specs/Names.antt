@@ -1,5 +1,5 @@
 -- Internal: what is kept of the writes, found by their names, on sheets of 4,096 numbers.
-use Rattle.std.specs.Prelude.{◌≡◌, ℕ, ◌/◌, ◌%◌, List, Option, Some, None}
+use Rattle.std.specs.Prelude.{ℕ, ◌/◌, ◌%◌, List, Option, Some, None}
 use Rattle.std.specs.Map.{lookup}
 use Rattle.std.specs.BTreeMap.{is_at}
 use Rattle.jr_model.specs.declared.events.WriteId.{WriteId}

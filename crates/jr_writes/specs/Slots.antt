@@ -1,5 +1,5 @@
 -- Internal: slots, some of which are taken, by a bit for each and what is in those that are, in their order.
-use Rattle.std.specs.Prelude.{◌≡◌, ℕ, ◌<◌, ◌%◌, ◌^◌, ◌==◌, List, Option, Some, None, IsSome, MatchOption, slice_get, count_ones, if◌then◌else◌}
+use Rattle.std.specs.Prelude.{◌≡◌, ℕ, ◌<◌, ◌%◌, ◌^◌, ◌==◌, List, Option, None, IsSome, MatchOption, slice_get, count_ones, if◌then◌else◌}
 use Rattle.std.specs.Int.{bit_at}
 
 -- what is in a slot: as many items stand before it as slots below it are taken

@@ -1,9 +1,9 @@
 use crate::kept::{Kept, place_expected};
 use crate::names::Names;
-use crate::spots::{Spot, put, take_out};
+use crate::places::Places;
+use crate::spots::{put, take_out};
 use jr_model::{Expected, Memory, Piece, WriteId};
 use std::alloc::Global;
-use std::collections::BTreeMap;
 use std::fmt;
 use std::marker::Model;
 
@@ -19,7 +19,7 @@ pub struct Logged {
 #[derive(Drop)]
 pub struct WriteLog {
     names: Names,
-    spots: BTreeMap<(u32, u64), Spot>,
+    places: Places,
     // What checks compare with: each that differs from the one before it, once.
     expected: Vec<Expected>,
 }
@@ -33,23 +33,21 @@ impl fmt::Debug for WriteLog {
 // Clauses see the entries of the log, in the order of the writes.
 impl Model for WriteLog {
     ghost use Rattle.std.specs.Prelude.{List, None};
-    ghost use Rattle.std.specs.BTreeMap.{IsOrdered};
     ghost use Rattle.jr_model.specs.declared.events.WriteId.{WriteId as Name};
     ghost use Rattle.jr_writes.specs.declared.logs.Logged.{Logged as Entry};
 
     ghost Value = { List (Name × Entry) };
 
-    ghost use Rattle.jr_writes.specs.Index.{IsIndexed, place_order, spot_at};
+    ghost use Rattle.jr_writes.specs.Index.{IsIndexed};
     ghost use Rattle.jr_writes.specs.KeptEntries.{ArePlaced, entries_of};
     ghost use Rattle.jr_writes.specs.KeptList.{all_kept};
     ghost use Rattle.jr_writes.specs.Names.{name_at};
+    ghost use Rattle.jr_writes.specs.Places.{spot_at};
 
     ghost view = { λ log. entries_of log.expected.items (all_kept (name_at log.names.sheets.entries)) };
 
-    // The places are in order, their pieces are disjoint, and what the checks of each write compare
-    // with is known.
-    ghost invariant = { λ log. IsOrdered place_order log.spots
-        × IsIndexed None (name_at log.names.sheets.entries) (spot_at log.spots.entries)
+    // The pieces of the places are disjoint, and what the checks of each write compare with is known.
+    ghost invariant = { λ log. IsIndexed None (name_at log.names.sheets.entries) (spot_at log.places.sheets.entries)
         × ArePlaced log.expected.items (all_kept (name_at log.names.sheets.entries)) };
 }
 
@@ -67,7 +65,7 @@ impl WriteLog {
     {
         WriteLog {
             names: Names::new(alloc),
-            spots: BTreeMap::new(alloc),
+            places: Places::new(alloc),
             expected: Vec::new(alloc),
         }
     }
@@ -85,8 +83,8 @@ impl WriteLog {
     {
         let place = place_expected(&mut self.expected, expected)?;
         let entry = Kept { piece, place };
-        put(&mut self.names, &mut self.spots, write, entry)?;
-        take_out(&mut self.names, &mut self.spots, &piece, Some(write));
+        put(&mut self.names, &mut self.places, write, entry)?;
+        take_out(&mut self.names, &mut self.places, &piece, Some(write));
         Ok(())
     }
 
@@ -96,7 +94,7 @@ impl WriteLog {
         ensures entries { self.new ≡ unsettled self.old piece.now }
         ensures look_up { (other : Name) → logged self.new other ≡ if_apart piece.now (logged self.old other) }
     {
-        take_out(&mut self.names, &mut self.spots, piece, None);
+        take_out(&mut self.names, &mut self.places, piece, None);
     }
 
     /// Whether the write is in the log. (The desk asks for `expected` alone.)

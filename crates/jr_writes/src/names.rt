@@ -40,9 +40,8 @@ impl Names {
         }
     }
 
-    // Keeps this of a write of which nothing is kept.
+    // Keeps this of a write.
     pub(crate) fn insert(&mut self, write: WriteId, kept: Kept) -> Result<(), Memory>
-        requires { name_at self.old.sheets.entries write ≡ None }
         ensures ok { OnOk result ((q : _) → name_at self.new.sheets.entries q
             ≡ (if is_at (write_order write) q then Some kept else name_at self.old.sheets.entries q)) }
         ensures err { OnErr result ((q : _) → name_at self.new.sheets.entries q ≡ name_at self.old.sheets.entries q) }
@@ -51,7 +50,7 @@ impl Names {
         let place = write.number % PLACES;
         let alloc = self.alloc;
         if let Some(sheet) = self.sheets.get_mut(&name) {
-            sheet.insert(alloc, place, kept)?;
+            sheet.put(alloc, place, kept)?;
             return Ok(());
         }
         let one = Sheet::of_one(alloc, place, kept)?;

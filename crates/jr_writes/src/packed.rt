@@ -6,6 +6,7 @@ ghost use Rattle.jr_writes.specs.Slots.{IsLastTaken, slot_at};
 
 use jr_model::Memory;
 use std::alloc::Global;
+use std::mem;
 
 // How many slots there are.
 pub(crate) const SLOTS: u32 = 64;
@@ -77,6 +78,25 @@ impl<T> Packed<T> {
         self.items.insert(rank, value)?;
         self.taken |= 1 << slot;
         Ok(())
+    }
+
+    // Puts a value into a slot, and gives what was in it. A slot that is taken wants no memory.
+    pub(crate) fn put(&mut self, slot: u32, value: T) -> Result<Option<T>, Memory>
+    where
+        T: Drop,
+        requires { slot < 64 }
+        ensures old { IfOk result (λ old. old ≡ slot_at self.old.taken self.old.items.items slot) }
+        ensures ok { OnOk result ((k : _) → slot_at self.new.taken self.new.items.items k
+            ≡ (if k == slot then Some value else slot_at self.old.taken self.old.items.items k)) }
+        ensures err { OnErr result ((self.new.taken ≡ self.old.taken) × (self.new.items.items ≡ self.old.items.items)) }
+    {
+        if self.is_taken(slot) {
+            let rank = self.rank(slot);
+            let older = mem::replace(&mut self.items[rank], value);
+            return Ok(Some(older));
+        }
+        self.insert(slot, value)?;
+        Ok(None)
     }
 
     // Takes out what is in a slot.

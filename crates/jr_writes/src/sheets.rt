@@ -42,24 +42,24 @@ impl<V> Sheet<V> {
         }
     }
 
-    // Puts a value at a place that is free.
-    pub(crate) fn insert(&mut self, alloc: Global, place: u32, value: V) -> Result<(), Memory>
+    // Puts a value at a place, and gives what stood there. A place that is taken wants no memory.
+    pub(crate) fn put(&mut self, alloc: Global, place: u32, value: V) -> Result<Option<V>, Memory>
     where
         V: Drop,
-        requires within { place < 4096 }
-        requires free { sheet_at self.old.rows place ≡ None }
+        requires { place < 4096 }
+        ensures old { IfOk result (λ old. old ≡ sheet_at self.old.rows place) }
         ensures ok { OnOk result ((q : ℕ) → sheet_at self.new.rows q ≡ (if q == place then Some value else sheet_at self.old.rows q)) }
         ensures err { OnErr result ((q : ℕ) → sheet_at self.new.rows q ≡ sheet_at self.old.rows q) }
     {
         let row = place / SLOTS;
         if self.rows.is_taken(row) {
             let rank = self.rows.rank(row);
-            self.rows.items[rank].insert(place % SLOTS, value)?;
-            return Ok(());
+            let older = self.rows.items[rank].put(place % SLOTS, value)?;
+            return Ok(older);
         }
         let one = Packed::of_one(alloc, place % SLOTS, value)?;
         self.rows.insert(row, one)?;
-        Ok(())
+        Ok(None)
     }
 
     // Takes out what stands at a place.

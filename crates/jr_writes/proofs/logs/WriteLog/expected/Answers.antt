@@ -17,7 +17,7 @@ returns-in-Some c =
     let got = c.get-in-Some.ensures.lookup in
     let items = c.deref.ensures.value in
     let at = lookup_all old c.args.write.now c.in-Some.ensures.fits ∙ sym c.in-Some.ensures.value in
-    expected-kept log.expected.items (all_kept old) c.args.write.now kept at c.self.invariant.2 c.get-in-Some.result
+    expected-kept log.expected.items (all_kept old) c.args.write.now kept at c.self.invariant.1 c.get-in-Some.result
     (λ within. got.2 (subst (λ known. kept.place < length known) (sym items) within))
     (got.4 (omega arith) Nothing ∙ ap (λ known. expected_at known kept.place) items)
     ∙ ap (λ es. option_map (λ entry. entry.expected) (logged es c.args.write.now)) c.self.view_is

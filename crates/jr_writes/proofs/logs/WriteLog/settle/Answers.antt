@@ -1,16 +1,15 @@
-use Rattle.std.proofs.Common.{arith, rules, ap, sym, subst, ◌∙◌}
+use Rattle.std.proofs.Common.{arith, ap, sym, subst, ◌∙◌}
 use Rattle.std.specs.List.Sorted.{IsStrictlySortedBy}
 use Rattle.std.specs.Map.{keys_of}
 use Rattle.jr_model.specs.History.{write_order}
 use Rattle.jr_writes.specs.declared.kept.Kept.{Kept}
-use Rattle.jr_writes.specs.Index.{IsIndexed, spot_at}
-use Rattle.jr_writes.specs.KeptEntries.{ArePlaced, entries_of}
+use Rattle.jr_writes.specs.KeptEntries.{entries_of}
 use Rattle.jr_writes.specs.KeptList.{IsWrite, all_kept}
 use Rattle.jr_writes.specs.LoggedWrites.{logged, settled}
 use Rattle.jr_writes.specs.Names.{name_at}
 use Rattle.jr_writes.proofs.LogLemmas.{logged-settled}
-use Rattle.jr_writes.proofs.KeptLemmas.{ArePlaced-more, ArePlaced-step, entries_of-more, entries_of-step, kept_of-none, on_error, sorted-entries_of}
-use Rattle.jr_writes.proofs.ListFacts.{IsIndexed-same, lookup_all, same_all_kept, settled_list, sorted_all}
+use Rattle.jr_writes.proofs.KeptLemmas.{ArePlaced-step, entries_of-more, entries_of-step, kept_of-none, on_error, sorted-entries_of}
+use Rattle.jr_writes.proofs.ListFacts.{lookup_all, same_all_kept, settled_list, sorted_all}
 use Rattle.jr_writes.proofs.logs.WriteLog.settle.Goals as goal
 
 pub put-requires-clause-fresh : goal.put-requires-clause-fresh
@@ -31,10 +30,9 @@ invariant_of-self-2 c =
     let entry : Kept = record { piece = c.args.piece; place = c.in_ok-place.place } in
     let free = sym (lookup_all old c.args.write fits)
     ∙ kept_of-none known (all_kept old) c.args.write (ap (λ es. logged es c.args.write) c.self.view_is ∙ c.requires.fresh) in (
-      c.take_out.ensures.places_ordered,
       c.take_out.ensures.indexed,
       ArePlaced-step known more (all_kept old) (all_kept new) c.args.write entry c.args.expected
-          c.in_ok-place.ensures.others c.in_ok-place.ensures.longer c.self.invariant.2
+          c.in_ok-place.ensures.others c.in_ok-place.ensures.longer c.self.invariant.1
           (settled_list old mid new c.args.write entry fits free c.in_ok-put.ensures.entries c.take_out.ensures.entries) c.in_ok-place.ensures.within,
     )
 
@@ -50,7 +48,7 @@ returns-clause-ok c =
     let free = sym (lookup_all old c.args.write fits)
     ∙ kept_of-none known (all_kept old) c.args.write (ap (λ es. logged es c.args.write) c.self.view_is ∙ c.requires.fresh) in
     entries_of-step known more (all_kept old) (all_kept new) c.args.write entry c.args.expected
-    c.in_ok-place.ensures.others c.in_ok-place.ensures.longer c.self.invariant.2
+    c.in_ok-place.ensures.others c.in_ok-place.ensures.longer c.self.invariant.1
     (settled_list old mid new c.args.write entry fits free c.in_ok-put.ensures.entries c.take_out.ensures.entries) c.in_ok-place.ensures.found
     ∙ ap (λ es. settled es c.args.write c.args.piece c.args.expected) c.self.view_is
 
@@ -69,7 +67,7 @@ returns-in_err-place-clause-err c =
     let more = c.place_expected.new.known.items in
     let old = name_at c.self.inside.names.sheets.entries in
     on_error c.from_residual.result _
-    (entries_of-more known more (all_kept old) c.in_err-place.ensures.others c.self.invariant.2
+    (entries_of-more known more (all_kept old) c.in_err-place.ensures.others c.self.invariant.1
     ∙ c.self.view_is)
 
 pub returns-in_err-put-clause-err : goal.returns-in_err-put-clause-err
@@ -79,5 +77,5 @@ returns-in_err-put-clause-err c =
     let old = name_at c.self.inside.names.sheets.entries in
     on_error c.from_residual-in_err-put.result _
     (ap (entries_of more) (same_all_kept old (name_at c.put.new.names.sheets.entries) c.in_err-put.ensures.names_err)
-    ∙ entries_of-more known more (all_kept old) c.in_ok-place.ensures.others c.self.invariant.2
+    ∙ entries_of-more known more (all_kept old) c.in_ok-place.ensures.others c.self.invariant.1
     ∙ c.self.view_is)

@@ -15,10 +15,9 @@ pub invariant_of-self : goal.invariant_of-self
 invariant_of-self c =
     let known = c.self.inside.expected.items in
     let old = name_at c.self.inside.names.sheets.entries in (
-      c.take_out.ensures.places_ordered,
       c.take_out.ensures.indexed,
       subst (ArePlaced known) (sym (unsettled_list old (name_at c.take_out.new.names.sheets.entries) c.args.piece.now c.take_out.ensures.entries))
-          (ArePlaced-unsettled known c.args.piece.now (all_kept old) c.self.invariant.2),
+          (ArePlaced-unsettled known c.args.piece.now (all_kept old) c.self.invariant.1),
     )
 
 pub returns-clause-entries : goal.returns-clause-entries

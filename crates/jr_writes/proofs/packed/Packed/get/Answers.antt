@@ -1,8 +1,6 @@
-use Rattle.std.proofs.Common.{arith, ap, sym, ◌∙◌}
-use Rattle.std.specs.Prelude.{slice_get}
+use Rattle.std.proofs.Common.{arith, sym, ◌∙◌}
 use Rattle.std.proofs.lemmas.Bool.{eqb-true}
-use Rattle.std.proofs.lemmas.Option.{slice_get_read}
-use Rattle.jr_writes.proofs.SlotFacts.{clear_bit, count_ones-low, free_slot, rank_within, read_slot, taken_slot}
+use Rattle.jr_writes.proofs.SlotFacts.{clear_bit, free_slot, rank_within, read_slot}
 use Rattle.jr_writes.proofs.packed.Packed.get.Goals as goal
 
 pub returns-then-not-is_taken : goal.returns-then-not-is_taken

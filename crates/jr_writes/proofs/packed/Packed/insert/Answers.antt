@@ -1,4 +1,4 @@
-use Rattle.std.proofs.Common.{ℕ, arith, ap, sym, ◌∙◌, ◌+◌, length, List}
+use Rattle.std.proofs.Common.{ℕ, arith, ap, sym, ◌∙◌, length}
 use Rattle.std.specs.List.{insert}
 use Rattle.std.proofs.lemmas.List.Edits.{length-insert}
 use Rattle.jr_writes.specs.Slots.{slot_at}

@@ -1,4 +1,4 @@
-use Rattle.std.proofs.Common.{◌≡◌, ℕ, ◌%◌, ◌^◌, ◌/◌, subst, sym}
+use Rattle.std.proofs.Common.{◌≡◌, ℕ, ◌^◌, ◌/◌, subst, sym}
 use Rattle.std.specs.Prelude.{MatchOption}
 use Rattle.std.proofs.Math.Nat.{mod-eq_of_lt}
 use Rattle.jr_writes.proofs.SlotFacts.{last_of}

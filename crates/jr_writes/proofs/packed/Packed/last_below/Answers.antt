@@ -1,4 +1,3 @@
-use Rattle.std.proofs.Common.{arith}
 use Rattle.std.proofs.lemmas.Nat.{one_shl}
 use Rattle.jr_writes.proofs.SlotFacts.{last_of}
 use Rattle.jr_writes.proofs.packed.Packed.last_below.Goals as goal

@@ -1,10 +1,9 @@
-use Rattle.std.proofs.Common.{ℕ, arith, ap, sym, ◌∙◌, cond, None, false, length, Option}
-use Rattle.std.specs.Prelude.{◌==◌, slice_get}
+use Rattle.std.proofs.Common.{arith, ap, sym, ◌∙◌, length}
 use Rattle.std.specs.List.{remove}
-use Rattle.std.proofs.lemmas.Bool.{eqb-true, cases_eq, cases_Bool}
+use Rattle.std.proofs.lemmas.Bool.{eqb-true}
 use Rattle.std.proofs.lemmas.List.Edits.{length-remove}
 use Rattle.jr_writes.specs.Slots.{slot_at}
-use Rattle.jr_writes.proofs.SlotFacts.{clear_bit, count_ones-low, counted_without, free_slot, none_out, rank_within, read_slot, slots_without, taken_slot, without_bit, without_fits}
+use Rattle.jr_writes.proofs.SlotFacts.{clear_bit, counted_without, free_slot, none_out, rank_within, read_slot, slots_without, without_bit, without_fits}
 use Rattle.jr_writes.proofs.packed.Packed.remove.Goals as goal
 
 pub returns-then-not-is_taken-clause-value : goal.returns-then-not-is_taken-clause-value

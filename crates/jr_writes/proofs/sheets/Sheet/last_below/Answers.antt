@@ -1,7 +1,7 @@
 use Rattle.std.proofs.Common.{◌≡◌, ◌+◌, ◌*◌, ◌/◌, ◌%◌, ℕ, None, arith, subst}
 use Rattle.jr_writes.specs.Sheets.{sheet_at}
 use Rattle.jr_writes.specs.Slots.{IsLastTaken}
-use Rattle.jr_writes.proofs.SheetFacts.{last_here, last_of_above, none_above}
+use Rattle.jr_writes.proofs.SheetFacts.{last_of_above, none_above}
 use Rattle.jr_writes.proofs.sheets.Sheet.last_below.Goals as goal
 
 pub returns-in-Some-last_below : goal.returns-in-Some-last_below

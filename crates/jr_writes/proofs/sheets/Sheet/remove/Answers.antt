@@ -1,10 +1,10 @@
-use Rattle.std.proofs.Common.{◌/◌, ◌%◌, arith, ap, sym, refl, ◌∙◌, Some, None}
+use Rattle.std.proofs.Common.{◌/◌, ◌%◌, arith, ap, sym, ◌∙◌, Some, None}
 use Rattle.std.specs.Prelude.{◌==◌}
 use Rattle.std.proofs.lemmas.Bool.{eqb-true}
 use Rattle.std.proofs.lemmas.List.{get_or-set_same}
 use Rattle.jr_writes.specs.Sheets.{packed_at}
 use Rattle.jr_writes.proofs.SlotFacts.{clear_bit, free_slot, rank_within}
-use Rattle.jr_writes.proofs.SheetFacts.{at_row, counted_set, filled_step, filled_less, in_slot_there, none_in_absent, nothing_in, row_there, row_within, rows_set, sheet_none, sheet_step, with_row}
+use Rattle.jr_writes.proofs.SheetFacts.{at_row, filled_step, filled_less, in_slot_there, none_in_absent, nothing_in, row_there, row_within, rows_set, sheet_none, sheet_step, with_row}
 use Rattle.jr_writes.proofs.StepFacts.{gone_after}
 use Rattle.jr_writes.proofs.sheets.Sheet.remove.Goals as goal
 
