@@ -59,7 +59,7 @@ module _ {K X : Type 0} where
             ∙ ap (λ (fs : List (K × X)). e ∷ fs) rest
 
     -- what goes before all
-    insert_below : (es : List (K × X)) → AllByRecursion (λ e. cmp k e.0 ≡ Less) es → insert_entry cmp es k v ≡ (k, v) ∷ es
+    pub insert_below : (es : List (K × X)) → AllByRecursion (λ e. cmp k e.0 ≡ Less) es → insert_entry cmp es k v ≡ (k, v) ∷ es
     insert_below [] all = refl
     insert_below (e ∷ es) all = ap (λ (r : Ordering). match_ordering r ((k, v) ∷ e ∷ es) ((e.0, v) ∷ es) (e ∷ insert_entry cmp es k v)) all.0
 

@@ -20,7 +20,7 @@ use Rattle.jr_model.specs.History.{same_write, write_order}
 use Rattle.jr_model.specs.Pieces.{pieces_overlap}
 use Rattle.jr_model.proofs.Equality.{eq_write, is_at-write_order, write_order_total}
 use Rattle.jr_writes.specs.declared.kept.Kept.{Kept}
-use Rattle.jr_writes.specs.declared.spots.Spot.{Spot}
+use Rattle.jr_writes.specs.declared.spot.Spot.{Spot}
 use Rattle.jr_writes.specs.Index.{IsIndexed, NoneOverlaps, StandsHere, is_kept, kept_of, piece_at, place_of, place_order, spot_of, stays}
 use Rattle.jr_writes.proofs.EntryLemmas.{filter-insert_entry, filter-remove_entry}
 use Rattle.jr_writes.proofs.Overlaps.{overlap_back, same_place}
@@ -62,7 +62,7 @@ module _ (kept : Option WriteId) (entry_of left_of : WriteId → Option Kept) (s
     (without : (q : WriteId) → left_of q ≡ cond (is_at (write_order spot.write) q) None (entry_of q))
     (gone : (q : ℕ × ℕ) → left_in q ≡ cond (is_at (place_order place) q) None (spot_in q)) where
   -- what is left at a place was there, and it is another place
-  was_in : (q : ℕ × ℕ) (t : Spot) → left_in q ≡ Some t → (is_at (place_order place) q ≡ false) × (spot_in q ≡ Some t)
+  pub was_in : (q : ℕ × ℕ) (t : Spot) → left_in q ≡ Some t → (is_at (place_order place) q ≡ false) × (spot_in q ≡ Some t)
   was_in q t h = left_at (is_at (place_order place) q) (spot_in q) t (sym (gone q) ∙ h)
 
   still_stands : (write : WriteId) (entry : Kept) → left_of write ≡ Some entry → left_in (place_of entry.piece) ≡ Some (spot_of write entry.piece)
@@ -224,7 +224,7 @@ module _ (kept : Option WriteId) (piece : Piece) (entry_of : WriteId → Option 
     };
   }
 
-  one_stays : (write : WriteId) (entry : Kept) → entry_of write ≡ Some entry → stays kept piece (write, entry) ≡ true
+  pub one_stays : (write : WriteId) (entry : Kept) → entry_of write ≡ Some entry → stays kept piece (write, entry) ≡ true
   one_stays write entry at =
       by (is_kept kept write) (pieces_overlap piece entry.piece) (λ other. none (place_of entry.piece) (spot_of write entry.piece) (index.stands write entry at) other)
     where
@@ -242,7 +242,7 @@ all_stay kept piece writes spot_in ordered index here none =
     (All-found write_order_total writes ordered)
 
 -- an entry with this piece
-found_piece : (o : Option Kept) (piece : Piece) → option_map (λ e. e.piece) o ≡ Some piece → (e : Kept) × (o ≡ Some e) × (e.piece ≡ piece)
+pub found_piece : (o : Option Kept) (piece : Piece) → option_map (λ e. e.piece) o ≡ Some piece → (e : Kept) × (o ≡ Some e) × (e.piece ≡ piece)
 found_piece None piece h = absurd (none-some piece h)
 found_piece (Some e) piece h = (e, refl, same_Some e.piece piece h)
 

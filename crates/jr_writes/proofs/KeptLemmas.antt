@@ -1,13 +1,14 @@
 -- The entries that are kept, through a step of the log.
-use Rattle.std.proofs.Common.{◌≡◌, Bor, Result, Ok, Err, ◌<◌, ◌≤◌, Bool, true, false, cond, List, [], ◌∷◌, Option, Some, None, arith, refl, sym, ap, subst, ◌∙◌, filter, length, map}
-use Rattle.std.proofs.lemmas.List.Elements.{All-cons, All-contains, All-filter, All-head, All-map, All-nil, All-tail, All-weaker}
+use Rattle.std.proofs.Common.{◌≡◌, ℕ, Bor, Result, Ok, Err, ◌<◌, ◌≤◌, Bool, true, false, cond, List, [], ◌∷◌, Option, Some, None, arith, refl, sym, ap, subst, ◌∙◌, filter, length, map}
+use Rattle.std.proofs.lemmas.List.Elements.{All-cons, All-filter, All-head, All-nil, All-tail, All-weaker}
 use Rattle.std.proofs.lemmas.Map.Made.{keys_of-map_values, lookup-map_values}
+use Rattle.std.proofs.lemmas.Option.{none-some, same_Some}
 use Rattle.std.specs.BTreeMap.{insert_entry, is_at}
 use Rattle.std.specs.declared.cmp.Ordering.{Ordering}
 use Rattle.std.specs.declared.cmp.Ordering.TheVariants.{Less, Equal, Greater}
-use Rattle.std.specs.List.{All, Contains, SameBelow}
+use Rattle.std.specs.List.{All, SameBelow}
 use Rattle.std.specs.List.Sorted.{IsStrictlySortedBy}
-use Rattle.std.specs.Map.{keys_of, values_of}
+use Rattle.std.specs.Map.{keys_of, lookup}
 use Rattle.std.specs.Option.{IsSome, is_some, option_copied, option_map, unwrap_or}
 use Rattle.std.specs.Ordering.{match_ordering}
 use Rattle.std.specs.Result.{OnErr}
@@ -133,18 +134,24 @@ module _ (known more : List Expected) (es new : List (WriteId × Kept)) (write :
       (ArePlaced-unsettled more entry.piece es (ArePlaced-more known more es longer placed))
       within)
 
+-- the place of what is found
+placed-kept : (n : ℕ) (test : WriteId → Bool) (es : List (WriteId × Kept)) (kept : Kept) → All (λ e. e.1.place < n) es → lookup test es ≡ Some kept → kept.place < n
+placed-kept n test [] kept placed here = absurd (none-some kept here)
+placed-kept n test (e ∷ es) kept placed here = by (placed-kept n test es kept (All-tail (λ (f : WriteId × Kept). f.1.place < n) e es placed)) (test e.0) here
+  where
+    by : (lookup test es ≡ Some kept → kept.place < n) → (b : Bool) → cond b (Some e.1) (lookup test es) ≡ Some kept → kept.place < n
+    by rest true found = subst (λ (k : Kept). k.place < n) (same_Some e.1 kept found) (All-head (λ (f : WriteId × Kept). f.1.place < n) e es placed)
+    by rest false found = rest found
+
 -- what is expected of a write that is kept
-pub expected-kept : (known : List Expected) (es : List (WriteId × Kept)) (write : WriteId) (kept : Kept) → kept_of es write ≡ Some kept → Contains (values_of es) kept → ArePlaced known es → (at : Option (Bor Expected)) → (kept.place < length known → IsSome at) → unwrap_or (option_copied at) Nothing ≡ expected_at known kept.place → option_copied at ≡ option_map (λ entry. entry.expected) (logged (entries_of known es) write)
-expected-kept known es write kept here held placed at within found =
+pub expected-kept : (known : List Expected) (es : List (WriteId × Kept)) (write : WriteId) (kept : Kept) → kept_of es write ≡ Some kept → ArePlaced known es → (at : Option (Bor Expected)) → (kept.place < length known → IsSome at) → unwrap_or (option_copied at) Nothing ≡ expected_at known kept.place → option_copied at ≡ option_map (λ entry. entry.expected) (logged (entries_of known es) write)
+expected-kept known es write kept here placed at within found =
     some_default at (within place_within)
     ∙ ap Some found
     ∙ sym (ap (option_map (λ (entry : Logged). entry.expected)) (logged-kept known es write (Some kept) here))
   where
     place_within : kept.place < length known
-    place_within =
-        All-contains (λ (k : Kept). k.place < length known) (values_of es) kept
-        (All-map (λ (k : Kept). k.place < length known) (λ (e : WriteId × Kept). e.1) es placed)
-        held
+    place_within = placed-kept (length known) (is_at (write_order write)) es kept placed here
 
     some_default : (o : Option (Bor Expected)) → IsSome o → option_copied o ≡ Some (unwrap_or (option_copied o) Nothing)
     some_default None h = cc

@@ -1,6 +1,15 @@
 pub mod EntryLemmas
 pub mod IndexLemmas
 pub mod KeptLemmas
+pub mod LastFacts
+pub mod ListFacts
 pub mod LogLemmas
+pub mod NameFacts
 pub mod Overlaps
+pub mod PlaceFacts
 pub mod PutLemmas
+pub mod SheetFacts
+pub mod SlotFacts
+pub mod StayFacts
+pub mod StepFacts
+pub mod TableFacts

@@ -1,15 +1,17 @@
 -- Which pieces share bytes, by their places.
-use Rattle.std.proofs.Common.{◌≡◌, ℕ, IsSome, ◌+◌, ◌<◌, ◌≤◌, Bool, true, false, Option, Some, None, arith, refl, sym, ◌∙◌, ap, subst, ⊎_elim, ◌⊎◌}
+use Rattle.std.proofs.Common.{◌≡◌, ℕ, IsSome, ◌+◌, ◌<◌, ◌≤◌, Bool, true, false, Option, Some, None, arith, refl, sym, ◌∙◌, ap, subst, ◌⊎◌, inl, inr}
 use Rattle.std.proofs.lemmas.Bool.Decides.{nat_tests}
 use Rattle.std.proofs.lemmas.Bool.{cases_eq, cases_lt, false_from_ne_true}
-use Rattle.std.proofs.lemmas.Option.{none-some}
+use Rattle.std.proofs.lemmas.Option.{none-some, same_Some}
 use Rattle.std.specs.declared.cmp.Ordering.TheVariants.{Less}
+use Rattle.std.specs.BTreeMap.{is_at}
 use Rattle.std.specs.Ordering.{is_lt}
 use Rattle.jr_model.specs.declared.blocks.Piece.{Piece}
 use Rattle.jr_model.specs.declared.events.WriteId.{WriteId}
 use Rattle.jr_model.specs.Pieces.{piece_end, pieces_overlap}
-use Rattle.jr_writes.specs.declared.spots.Spot.{Spot}
-use Rattle.jr_writes.specs.Index.{AreDisjoint, IsLastBefore, IsLastOther, NoneOverlaps, StandsHere, is_kept, piece_at, place_of, place_order}
+use Rattle.jr_writes.specs.declared.spot.Spot.{Spot}
+use Rattle.jr_writes.specs.Index.{AreDisjoint, NoneOverlaps, StandsHere, is_kept, piece_at, place_order}
+use Rattle.jr_writes.specs.Last.{IsLastBefore, IsLastOther, IsLastOverlapped, NoneOverlapsFrom, NoneOverlapsIn}
 
 -- what two pieces that share a byte are
 pub overlap_parts : (a b : Piece) → pieces_overlap a b ≡ true → (a.file ≡ b.file) × (a.offset < piece_end b) × (b.offset < piece_end a) × (a.offset < piece_end a) × (b.offset < piece_end b)
@@ -37,6 +39,12 @@ not_before_parts a b h = grind (arith, nat_tests)
 pub before_from_parts : (a b : ℕ × ℕ) → a.0 ≡ b.0 → a.1 < b.1 → place_order a b ≡ Less
 before_from_parts a b file h = grind (arith, nat_tests)
 
+is_at_itself : (a : ℕ × ℕ) → is_at (place_order a) a ≡ true
+is_at_itself a = grind (arith, nat_tests)
+
+pub before_by_file : (a b : ℕ × ℕ) → a.0 < b.0 → place_order a b ≡ Less
+before_by_file a b h = grind (arith, nat_tests)
+
 pub same_place : (a b : ℕ × ℕ) → a.0 ≡ b.0 → a.1 ≡ b.1 → a ≡ b
 same_place a b x y = λ i. (x i, y i)
 
@@ -47,87 +55,139 @@ both : (b : Bool) → b ≡ true → b ≡ false → ⊥
 both b x y = cc
 
 module _ (kept : Option WriteId) (piece : Piece) (spot_in : ℕ × ℕ → Option Spot) where
-  -- where the last other piece shares no byte with this one, no other does
-  pub none_overlaps : AreDisjoint kept spot_in → (place : ℕ × ℕ) (spot : Spot) → IsLastOther kept piece spot_in (Some (place, spot)) → pieces_overlap piece (piece_at place spot) ≡ false → NoneOverlaps kept piece spot_in
-  none_overlaps disjoint p s last apart q t at other = false_from_ne_true (pieces_overlap piece (piece_at q t)) crossed
+  -- a spot of the piece's file at an offset is that at the pair
+  of_file : (place : ℕ × ℕ) (spot : Spot) → pieces_overlap piece (piece_at place spot) ≡ true → spot_in place ≡ Some spot → spot_in (piece.file, place.1) ≡ Some spot
+  of_file place spot shared at = ap (λ (f : ℕ). spot_in (f, place.1)) (overlap_parts piece (piece_at place spot) shared).0 ∙ at
+
+  -- where the last before the end is the kept one, the last before the piece's start is the last other
+  pub last_before_kept : StandsHere kept piece spot_in → (end p : ℕ) (s : Spot) → IsLastBefore spot_in piece.file end (Some (p, s)) → is_kept kept s.write ≡ true → (found : Option (ℕ × Spot)) → IsLastBefore spot_in piece.file piece.offset found → IsLastOther kept piece spot_in end found
+  last_before_kept here end p s last is found before = by found before
     where
-      missed : pieces_overlap piece (piece_at p s) ≡ true → ⊥
-      missed h = both _ h apart
+      start : p ≡ piece.offset
+      start = ap (λ (x : Piece). x.offset) (here (piece.file, p) s last.0 is)
 
-      met : (p.0 ≡ q.0) → pieces_overlap piece (piece_at q t) ≡ true → q.1 ≡ p.1 → ⊥
-      met file shared same =
-          let e : q ≡ p = same_place q p (sym file) same in
-          let spots : t ≡ s = cc in
-          missed (subst (λ (x : (ℕ × ℕ) × Spot). pieces_overlap piece (piece_at x.0 x.1) ≡ true) (λ i. (e i, spots i)) shared)
+      mine : (offset : ℕ) (spot : Spot) → piece.offset ≤ offset → offset < end → spot_in (piece.file, offset) ≡ Some spot → is_kept kept spot.write ≡ true
+      mine offset spot le lt at =
+          let e = start in
+          elim (cases_eq offset p) [
+            | inl same ↦ ap (λ (x : Spot). is_kept kept x.write) (same_Some spot s (sym at ∙ ap (λ (o : ℕ). spot_in (piece.file, o)) same ∙ last.0)) ∙ is
+            | inr other ↦ absurd (none-some spot (sym (last.2 offset (omega arith) lt) ∙ at))
+          ]
 
-      below : (p.0 ≡ q.0) → pieces_overlap piece (piece_at q t) ≡ true → q.1 < p.1 → ⊥
-      below file shared less =
-          let parts = overlap_parts piece (piece_at q t) shared in
-          let size = disjoint.sized p s last.0 in
-          let ends : (p.1 < piece.offset + piece.len) = by_end (before_parts p (piece.file, piece_end piece) last.2) in
-          ⊎_elim
-          (λ (h : p.1 < q.1 + t.len).
-          let e = disjoint.apart p q s t last.0 at last.1 other (overlap_from_parts (piece_at p s) (piece_at q t) file h (omega arith) (omega arith) parts.4) in
-          let e1 : p.1 ≡ q.1 = ap (λ (x : ℕ × ℕ). x.1) e in
-          omega arith)
-          (λ (h : q.1 + t.len ≤ p.1). missed (overlap_from_parts piece (piece_at p s) (parts.0 ∙ sym file) (omega arith) ends parts.3 (omega arith)))
-          (cases_lt p.1 (q.1 + t.len))
-        where
-          by_end : (p.0 < piece.file) ⊎ ((p.0 ≡ piece.file) × (p.1 < piece_end piece)) → p.1 < piece.offset + piece.len
-          by_end h =
-              let parts = overlap_parts piece (piece_at q t) shared in
-              ⊎_elim (λ (x : p.0 < piece.file). omega arith) (λ (x : (p.0 ≡ piece.file) × (p.1 < piece_end piece)). x.1) h
+      by : (o : Option (ℕ × Spot)) → IsLastBefore spot_in piece.file piece.offset o → IsLastOther kept piece spot_in end o
+      by None none = λ offset spot lt at.
+          elim (cases_lt offset piece.offset) [
+            | inl h ↦ absurd (none-some spot (sym (none offset h) ∙ at))
+            | inr h ↦ mine offset spot h lt at
+          ]
+      by (Some f) first =
+          let e = start in
+          let l = last.1 in
+          let b = first.1 in (
+            first.0,
+            omega arith,
+            false_from_ne_true (is_kept kept f.1.write)
+                (λ same.
+                let o : f.0 ≡ piece.offset = ap (λ (x : Piece). x.offset) (here (piece.file, f.0) f.1 first.0 same) in
+                omega arith),
+            λ offset spot more lt at.
+                elim (cases_lt offset piece.offset) [
+                  | inl h ↦ absurd (none-some spot (sym (first.2 offset more h) ∙ at))
+                  | inr h ↦ mine offset spot h lt at
+                ],
+          )
 
-      crossed : pieces_overlap piece (piece_at q t) ≡ true → ⊥
-      crossed shared =
-          let parts = overlap_parts piece (piece_at q t) shared in
-          ⊎_elim
-          (λ (h : q.0 < p.0).
-          ⊎_elim (λ (x : p.0 < piece.file). omega arith) (λ (x : (p.0 ≡ piece.file) × (p.1 < piece_end piece)). omega arith)
-          (before_parts p (piece.file, piece_end piece) last.2))
-          (λ (h : (q.0 ≡ p.0) × (q.1 ≤ p.1)).
-          ⊎_elim (λ (x : q.1 < p.1). below (sym h.0) shared x) (λ (x : p.1 ≤ q.1). met (sym h.0) shared (omega arith)) (cases_lt q.1 p.1))
-          (not_before_parts p q (last.3 q t at other shared))
+  -- where it isn't, it is the last other
+  pub last_before_other : (end p : ℕ) (s : Spot) → IsLastBefore spot_in piece.file end (Some (p, s)) → is_kept kept s.write ≡ false → IsLastOther kept piece spot_in end (Some (p, s))
+  last_before_other end p s last other =
+      (last.0, last.1, other, λ offset spot more lt at. absurd (none-some spot (sym (last.2 offset more lt) ∙ at)))
 
-  -- what an overlapping piece begins before, where the last piece is the kept one
-  before_here : StandsHere kept piece spot_in → (p : ℕ × ℕ) (s : Spot) → IsLastBefore spot_in (piece.file, piece_end piece) (Some (p, s)) → is_kept kept s.write ≡ true → (q : ℕ × ℕ) (t : Spot) → spot_in q ≡ Some t → is_kept kept t.write ≡ false → pieces_overlap piece (piece_at q t) ≡ true → place_order q (place_of piece) ≡ Less
-  before_here here p s last is q t at other shared =
-      let parts = overlap_parts piece (piece_at q t) shared in
-      let e = here p s last.0 is in
-      let file : p.0 ≡ piece.file = ap (λ (x : Piece). x.file) e in
-      let offset : p.1 ≡ piece.offset = ap (λ (x : Piece). x.offset) e in
-      let back = not_before_parts p q (last.2 q (before_from_parts q (piece.file, piece_end piece) (sym parts.0) parts.2) (some_is (spot_in q) t at)) in
-      ⊎_elim
-      (λ (h : q.0 < p.0). absurd (omega arith))
-      (λ (h : (q.0 ≡ p.0) × (q.1 ≤ p.1)).
-      ⊎_elim
-      (λ (x : q.1 ≡ p.1).
-      let same : q ≡ p = same_place q p h.0 x in
-      let spots : t ≡ s = cc in
-      absurd (both (is_kept kept s.write) is (subst (λ (y : Spot). is_kept kept y.write ≡ false) spots other)))
-      (λ (x : q.1 ≡ p.1 → ⊥). before_from_parts q (place_of piece) (sym parts.0) (omega arith))
-      (cases_eq q.1 p.1))
-      back
+  pub last_before_none : (end : ℕ) → IsLastBefore spot_in piece.file end None → IsLastOther kept piece spot_in end None
+  last_before_none end none = λ offset spot lt at. absurd (none-some spot (sym (none offset lt) ∙ at))
 
-  -- where that is the kept one, the last before the piece's start is the last other
-  pub last_before_kept : StandsHere kept piece spot_in → (p : ℕ × ℕ) (s : Spot) → IsLastBefore spot_in (piece.file, piece_end piece) (Some (p, s)) → is_kept kept s.write ≡ true → (found : Option ((ℕ × ℕ) × Spot)) → IsLastBefore spot_in (place_of piece) found → IsLastOther kept piece spot_in found
-  last_before_kept here p s last is None none = λ q t at other.
-      false_from_ne_true (pieces_overlap piece (piece_at q t))
-      (λ shared.
-      let empty = none q (before_here here p s last is q t at other shared) in
-      none-some t (sym empty ∙ at))
-  last_before_kept here p s last is (Some f) found = (
-    found.0,
-    false_from_ne_true (is_kept kept f.1.write)
-        (λ same.
-        let e : f.0.1 ≡ piece.offset = ap (λ (x : Piece). x.offset) (here f.0 f.1 found.0 same) in
-        ⊎_elim
-        (λ (h : f.0.0 < piece.file). let file : f.0.0 ≡ piece.file = ap (λ (x : Piece). x.file) (here f.0 f.1 found.0 same) in omega arith)
-        (λ (h : (f.0.0 ≡ piece.file) × (f.0.1 < piece.offset)). omega arith)
-        (before_parts f.0 (place_of piece) found.1)),
-    before_end (before_parts f.0 (place_of piece) found.1),
-    λ q t at other shared. found.2 q (before_here here p s last is q t at other shared) (some_is (spot_in q) t at),
+  -- the last other one shares a byte with the piece
+  pub overlapped_last : (end p : ℕ) (s : Spot) → IsLastOther kept piece spot_in end (Some (p, s)) → pieces_overlap piece (piece_at (piece.file, p) s) ≡ true → IsLastOverlapped kept piece spot_in end (Some (p, s))
+  overlapped_last end p s last shared = (
+    last.0,
+    last.1,
+    last.2,
+    shared,
+    λ place spot at more lt other.
+        false_from_ne_true (pieces_overlap piece (piece_at place spot))
+        (λ meets. both (is_kept kept spot.write) (last.3 place.1 spot (omega arith) lt (of_file place spot meets at)) other),
   )
+
+  -- there is no other
+  pub none_other : (end : ℕ) → IsLastOther kept piece spot_in end None → NoneOverlapsIn kept piece spot_in 0 end
+  none_other end none place spot at more lt other =
+      false_from_ne_true (pieces_overlap piece (piece_at place spot))
+      (λ meets. both (is_kept kept spot.write) (none place.1 spot lt (of_file place spot meets at)) other)
+
+  -- where the last other one shares no byte with the piece, none before it does
+  pub none_overlaps : AreDisjoint kept spot_in → (end p : ℕ) (s : Spot) → end ≤ piece_end piece → IsLastOther kept piece spot_in end (Some (p, s)) → pieces_overlap piece (piece_at (piece.file, p) s) ≡ false → NoneOverlapsIn kept piece spot_in 0 end
+  none_overlaps disjoint end p s within last apart place spot at more lt other =
+      false_from_ne_true (pieces_overlap piece (piece_at place spot)) crossed
     where
-      before_end : (f.0.0 < piece.file) ⊎ ((f.0.0 ≡ piece.file) × (f.0.1 < piece.offset)) → place_order f.0 (piece.file, piece_end piece) ≡ Less
-      before_end h = grind (arith, nat_tests)
+      -- what begins before it would reach over it
+      below : pieces_overlap piece (piece_at place spot) ≡ true → place.1 < p → ⊥
+      below shared less =
+          let parts = overlap_parts piece (piece_at place spot) shared in
+          let size = disjoint.sized (piece.file, p) s last.0 in
+          let before = last.1 in
+          elim (cases_lt piece.offset (p + s.len)) [
+            | inl h ↦
+                both (pieces_overlap piece (piece_at (piece.file, p) s))
+                (overlap_from_parts piece (piece_at (piece.file, p) s) refl h (omega arith) parts.3 (omega arith)) apart
+            | inr h ↦
+                let e = disjoint.apart (piece.file, p) place s spot last.0 at last.2 other
+                (overlap_from_parts (piece_at (piece.file, p) s) (piece_at place spot) parts.0 (omega arith) (omega arith) (omega arith) parts.4) in
+                let e1 : p ≡ place.1 = ap (λ (x : ℕ × ℕ). x.1) e in
+                omega arith
+          ]
+
+      crossed : pieces_overlap piece (piece_at place spot) ≡ true → ⊥
+      crossed shared =
+          elim (cases_lt place.1 p) [
+            | inl h ↦ below shared h
+            | inr h ↦
+                elim (cases_eq place.1 p) [
+                  | inl same ↦
+                      let one : spot ≡ s = same_Some spot s (sym (of_file place spot shared at) ∙ ap (λ (o : ℕ). spot_in (piece.file, o)) same ∙ last.0) in
+                      let file = (overlap_parts piece (piece_at place spot) shared).0 in
+                      both (pieces_overlap piece (piece_at (piece.file, p) s))
+                      (sym (λ i. pieces_overlap piece (piece_at (sym file i, same i) (one i))) ∙ shared) apart
+                  | inr ne ↦ both (is_kept kept spot.write) (last.3 place.1 spot (omega arith) lt (of_file place spot shared at)) other
+                ]
+          ]
+
+  -- what overlaps neither before the end nor from it on overlaps nowhere
+  pub none_overlaps_at_all : (end : ℕ) → NoneOverlapsIn kept piece spot_in 0 end → NoneOverlapsFrom kept piece spot_in end → NoneOverlaps kept piece spot_in
+  none_overlaps_at_all end before from place spot at other =
+      elim (cases_lt place.1 end) [
+        | inl h ↦ before place spot at (omega arith) h other
+        | inr h ↦ from place spot at h other
+      ]
+
+  -- nothing overlaps from the piece's end on
+  pub none_past_end : NoneOverlapsFrom kept piece spot_in (piece_end piece)
+  none_past_end place spot at le other =
+      false_from_ne_true (pieces_overlap piece (piece_at place spot))
+      (λ shared. let parts = overlap_parts piece (piece_at place spot) shared in omega arith)
+
+-- nor from an overlapped one on, once that is taken out
+pub none_from_gone : (kept : Option WriteId) (piece : Piece) (spot_in left_in : ℕ × ℕ → Option Spot) (end p : ℕ) (s : Spot) → IsLastOverlapped kept piece spot_in end (Some (p, s)) → NoneOverlapsFrom kept piece spot_in end → ((q : ℕ × ℕ) (t : Spot) → left_in q ≡ Some t → (is_at (place_order (piece.file, p)) q ≡ false) × (spot_in q ≡ Some t)) → NoneOverlapsFrom kept piece left_in p
+none_from_gone kept piece spot_in left_in end p s found from was place spot at le other =
+    let old = was place spot at in
+    elim (cases_lt place.1 end) [
+      | inr h ↦ from place spot old.1 h other
+      | inl h ↦
+          elim (cases_eq place.1 p) [
+            | inl same ↦
+                false_from_ne_true (pieces_overlap piece (piece_at place spot))
+                (λ shared.
+                both (is_at (place_order (piece.file, p)) place)
+                ((λ i. is_at (place_order (piece.file, p)) (sym (overlap_parts piece (piece_at place spot) shared).0 i, same i)) ∙ is_at_itself (piece.file, p))
+                old.0)
+            | inr ne ↦ found.4 place spot old.1 (omega arith) h other
+          ]
+    ]

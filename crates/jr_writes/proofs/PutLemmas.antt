@@ -11,7 +11,7 @@ use Rattle.jr_model.specs.Pieces.{pieces_overlap}
 use Rattle.jr_model.specs.History.{write_order}
 use Rattle.jr_model.proofs.Equality.{is_at-write_order}
 use Rattle.jr_writes.specs.declared.kept.Kept.{Kept}
-use Rattle.jr_writes.specs.declared.spots.Spot.{Spot}
+use Rattle.jr_writes.specs.declared.spot.Spot.{Spot}
 use Rattle.jr_writes.specs.Index.{IsIndexed, StandsHere, kept_of, piece_at, place_of, place_order, spot_of, stays}
 use Rattle.jr_writes.proofs.IndexLemmas.{IsIndexed-inserted, IsIndexed-removed, StandsHere-inserted, filter-inserted, filter-removed, place_itself, write_same}
 use Rattle.jr_writes.proofs.Overlaps.{overlap_from_parts}
@@ -33,7 +33,7 @@ none_both false o h = h
 module _ (entry_of : WriteId → Option Kept) (spot_in : ℕ × ℕ → Option Spot) (write : WriteId) (entry : Kept) (older : Spot)
     (index : IsIndexed None entry_of spot_in) (fresh : entry_of write ≡ None) (at : spot_in (place_of entry.piece) ≡ Some older) (filled : 1 ≤ entry.piece.len) where
   -- the older write isn't the new one
-  older_differs : is_at (write_order write) older.write ≡ false
+  pub older_differs : is_at (write_order write) older.write ≡ false
   older_differs =
       false_from_ne_true (is_at (write_order write) older.write)
       (λ same.

@@ -1,4 +1,11 @@
 pub mod Index
 pub mod KeptEntries
+pub mod KeptList
+pub mod Last
 pub mod LogSteps
 pub mod LoggedWrites
+pub mod Names
+pub mod Places
+pub mod Sheets
+pub mod Slots
+pub mod Staying

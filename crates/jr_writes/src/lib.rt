@@ -4,6 +4,11 @@
 
 mod kept;
 mod logs;
+mod names;
+mod packed;
+mod places;
+mod sheets;
+mod spot;
 mod spots;
 
 pub use logs::{Logged, WriteLog};

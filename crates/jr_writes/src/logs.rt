@@ -1,8 +1,9 @@
 use crate::kept::{Kept, place_expected};
-use crate::spots::{Spot, put, take_out};
+use crate::names::Names;
+use crate::places::Places;
+use crate::spots::{put, take_out};
 use jr_model::{Expected, Memory, Piece, WriteId};
 use std::alloc::Global;
-use std::collections::BTreeMap;
 use std::fmt;
 use std::marker::Model;
 
@@ -17,8 +18,8 @@ pub struct Logged {
 /// unsettled since.
 #[derive(Drop)]
 pub struct WriteLog {
-    writes: BTreeMap<WriteId, Kept>,
-    spots: BTreeMap<(u32, u64), Spot>,
+    names: Names,
+    places: Places,
     // What checks compare with: each that differs from the one before it, once.
     expected: Vec<Expected>,
 }
@@ -32,23 +33,22 @@ impl fmt::Debug for WriteLog {
 // Clauses see the entries of the log, in the order of the writes.
 impl Model for WriteLog {
     ghost use Rattle.std.specs.Prelude.{List, None};
-    ghost use Rattle.std.specs.BTreeMap.{IsOrdered};
     ghost use Rattle.jr_model.specs.declared.events.WriteId.{WriteId as Name};
     ghost use Rattle.jr_writes.specs.declared.logs.Logged.{Logged as Entry};
 
     ghost Value = { List (Name × Entry) };
 
-    ghost use Rattle.jr_writes.specs.Index.{IsIndexed, kept_of, place_order, spot_at};
+    ghost use Rattle.jr_writes.specs.Index.{IsIndexed};
     ghost use Rattle.jr_writes.specs.KeptEntries.{ArePlaced, entries_of};
-    ghost use Rattle.jr_model.specs.History.{write_order};
+    ghost use Rattle.jr_writes.specs.KeptList.{all_kept};
+    ghost use Rattle.jr_writes.specs.Names.{name_at};
+    ghost use Rattle.jr_writes.specs.Places.{spot_at};
 
-    ghost view = { λ log. entries_of log.expected.items log.writes.entries };
+    ghost view = { λ log. entries_of log.expected.items (all_kept (name_at log.names.sheets.entries)) };
 
-    // The writes and their places are in order, the pieces of the places are disjoint, and what the
-    // checks of each write compare with is known.
-    ghost invariant = { λ log. IsOrdered write_order log.writes × IsOrdered place_order log.spots
-        × IsIndexed None (kept_of log.writes.entries) (spot_at log.spots.entries)
-        × ArePlaced log.expected.items log.writes.entries };
+    // The pieces of the places are disjoint, and what the checks of each write compare with is known.
+    ghost invariant = { λ log. IsIndexed None (name_at log.names.sheets.entries) (spot_at log.places.sheets.entries)
+        × ArePlaced log.expected.items (all_kept (name_at log.names.sheets.entries)) };
 }
 
 impl WriteLog {
@@ -64,8 +64,8 @@ impl WriteLog {
         ensures { result ≡ [] }
     {
         WriteLog {
-            writes: BTreeMap::new(alloc),
-            spots: BTreeMap::new(alloc),
+            names: Names::new(alloc),
+            places: Places::new(alloc),
             expected: Vec::new(alloc),
         }
     }
@@ -83,8 +83,8 @@ impl WriteLog {
     {
         let place = place_expected(&mut self.expected, expected)?;
         let entry = Kept { piece, place };
-        put(&mut self.writes, &mut self.spots, write, entry)?;
-        take_out(&mut self.writes, &mut self.spots, &piece, Some(write));
+        put(&mut self.names, &mut self.places, write, entry)?;
+        take_out(&mut self.names, &mut self.places, &piece, Some(write));
         Ok(())
     }
 
@@ -94,21 +94,21 @@ impl WriteLog {
         ensures entries { self.new ≡ unsettled self.old piece.now }
         ensures look_up { (other : Name) → logged self.new other ≡ if_apart piece.now (logged self.old other) }
     {
-        take_out(&mut self.writes, &mut self.spots, piece, None);
+        take_out(&mut self.names, &mut self.places, piece, None);
     }
 
     /// Whether the write is in the log. (The desk asks for `expected` alone.)
     pub fn intact(&self, write: &WriteId) -> bool
         ensures { result ≡ is_some (logged self.now write.now) }
     {
-        self.writes.contains_key(write)
+        self.names.get(write).is_some()
     }
 
     /// What the checks of an intact write compare with.
     pub fn expected(&self, write: &WriteId) -> Option<&Expected>
         ensures { option_copied result ≡ option_map (λ entry. entry.expected) (logged self.now write.now) }
     {
-        match self.writes.get(write) {
+        match self.names.get(write) {
             Some(kept) => self.expected.get(kept.place),
             None => None,
         }

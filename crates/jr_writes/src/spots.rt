@@ -1,129 +1,117 @@
-ghost use Rattle.std.specs.Prelude.{◌≡◌, ◌^◌, ◌<◌, ◌≤◌, Some, None, filter, OnOk, OnErr};
-ghost use Rattle.std.specs.BTreeMap.{IsOrdered, insert_entry};
+ghost use Rattle.std.specs.Prelude.{◌≡◌, ◌%◌, ◌^◌, ◌<◌, ◌≤◌, Some, None, OnOk, OnErr, if◌then◌else◌};
+ghost use Rattle.std.specs.BTreeMap.{is_at};
 ghost use Rattle.jr_model.specs.Pieces.{piece_end};
 ghost use Rattle.jr_model.specs.History.{write_order};
-ghost use Rattle.jr_writes.specs.Index.{AreDisjoint, IsIndexed, IsLastBefore, IsLastOther, IsOverlapped, StandsHere, is_kept};
-ghost use Rattle.jr_writes.specs.Index.{kept_of, piece_at, place_order, spot_at, stays};
+ghost use Rattle.jr_writes.specs.Index.{AreDisjoint, IsIndexed, StandsHere, is_kept, piece_at};
+ghost use Rattle.jr_writes.specs.Last.{IsLastOther, IsLastOverlapped};
+ghost use Rattle.jr_writes.specs.Names.{name_at};
+ghost use Rattle.jr_writes.specs.Places.{spot_at};
+ghost use Rattle.jr_writes.specs.Staying.{left_of};
 
 use crate::kept::Kept;
+use crate::names::Names;
+use crate::places::Places;
+use crate::spot::Spot;
 use jr_model::{Memory, Piece, WriteId, overlaps};
-use std::collections::BTreeMap;
 
-// The write whose piece begins at a place, and the piece's length.
-#[derive(Clone, Copy)]
-pub struct Spot {
-    pub write: WriteId,
-    pub len: u32,
-}
-
-// Puts a new write into both maps, in place of one whose piece begins where its piece does. Pieces
+// Puts a new write into both tables, in place of one whose piece begins where its piece does. Pieces
 // that it overlaps stay.
 pub(crate) fn put(
-    writes: &mut BTreeMap<WriteId, Kept>,
-    spots: &mut BTreeMap<(u32, u64), Spot>,
+    names: &mut Names,
+    places: &mut Places,
     write: WriteId,
     entry: Kept,
 ) -> Result<(), Memory>
     requires filled { 1 ≤ entry.piece.len }
-    requires fresh { kept_of writes.old.entries write ≡ None }
-    requires indexed { IsIndexed None (kept_of writes.old.entries) (spot_at spots.old.entries) }
-    ensures entries { OnOk result (filter (stays (Some write) entry.piece) writes.new.entries
-        ≡ insert_entry write_order (filter (stays None entry.piece) writes.old.entries) write entry) }
-    ensures indexed { OnOk result (IsIndexed (Some write) (kept_of writes.new.entries) (spot_at spots.new.entries)) }
-    ensures stands { OnOk result (StandsHere (Some write) entry.piece (spot_at spots.new.entries)) }
-    ensures err { OnErr result ((writes.new.entries ≡ writes.old.entries) × (spots.new.entries ≡ spots.old.entries)) }
-    ensures ordered { IsOrdered write_order writes.new }
-    ensures was_ordered { IsOrdered write_order writes.old }
+    requires begins { entry.piece.offset % 512 ≡ 0 }
+    requires indexed { IsIndexed None (name_at names.old.sheets.entries) (spot_at places.old.sheets.entries) }
+    requires fresh { name_at names.old.sheets.entries write ≡ None }
+    ensures entries { OnOk result ((q : _) → left_of (Some write) entry.piece (name_at names.new.sheets.entries) q
+        ≡ (if is_at (write_order write) q then Some entry else left_of None entry.piece (name_at names.old.sheets.entries) q)) }
+    ensures indexed { OnOk result (IsIndexed (Some write) (name_at names.new.sheets.entries) (spot_at places.new.sheets.entries)) }
+    ensures stands { OnOk result (StandsHere (Some write) entry.piece (spot_at places.new.sheets.entries)) }
+    ensures names_err { OnErr result ((q : _) → name_at names.new.sheets.entries q ≡ name_at names.old.sheets.entries q) }
+    ensures places_err { OnErr result ((q : _) → spot_at places.new.sheets.entries q ≡ spot_at places.old.sheets.entries q) }
 {
-    writes.insert(write, entry)?;
+    names.insert(write, entry)?;
     let spot = Spot {
         write,
         len: entry.piece.len,
     };
-    match spots.insert((entry.piece.file, entry.piece.offset), spot) {
+    match places.insert(entry.piece.file, entry.piece.offset, spot) {
         Ok(None) => Ok(()),
         Ok(Some(older)) => {
-            let _ = writes.remove(&older.write);
+            names.remove(&older.write);
             Ok(())
         }
         Err(_) => {
-            let _ = writes.remove(&write);
+            names.remove(&write);
             Err(Memory)
         }
     }
 }
 
-// Takes out every write, other than the kept one, whose piece shares a byte with this one.
-pub(crate) fn take_out(
-    writes: &mut BTreeMap<WriteId, Kept>,
-    spots: &mut BTreeMap<(u32, u64), Spot>,
-    piece: &Piece,
-    kept: Option<WriteId>,
-)
+// Takes out every write, other than the kept one, whose piece shares a byte with this one: from the
+// last to the first.
+pub(crate) fn take_out(names: &mut Names, places: &mut Places, piece: &Piece, kept: Option<WriteId>)
     requires fits { piece_end piece.now < 2 ^ 64 }
-    requires indexed { IsIndexed kept (kept_of writes.old.entries) (spot_at spots.old.entries) }
-    requires stands { StandsHere kept piece.now (spot_at spots.old.entries) }
-    requires ordered { IsOrdered write_order writes.old }
-    ensures entries { writes.new.entries ≡ filter (stays kept piece.now) writes.old.entries }
-    ensures indexed { IsIndexed None (kept_of writes.new.entries) (spot_at spots.new.entries) }
-    ensures ordered { IsOrdered write_order writes.new }
-    ensures places_ordered { IsOrdered place_order spots.new }
+    requires begins { piece.now.offset % 512 ≡ 0 }
+    requires whole { piece.now.len % 512 ≡ 0 }
+    requires indexed { IsIndexed kept (name_at names.old.sheets.entries) (spot_at places.old.sheets.entries) }
+    requires stands { StandsHere kept piece.now (spot_at places.old.sheets.entries) }
+    ensures entries { (q : _) → name_at names.new.sheets.entries q ≡ left_of kept piece.now (name_at names.old.sheets.entries) q }
+    ensures indexed { IsIndexed None (name_at names.new.sheets.entries) (spot_at places.new.sheets.entries) }
 {
-    while let Some((place, spot)) = overlapped(spots, piece, kept) {
-        let _ = spots.remove(&place);
-        let _ = writes.remove(&spot.write);
+    let mut end = piece.offset + u64::from(piece.len);
+    while let Some((offset, spot)) = overlapped(places, piece, end, kept) {
+        places.remove(piece.file, offset);
+        names.remove(&spot.write);
+        end = offset;
     }
 }
 
-// A place at which a write other than the kept one stands whose piece shares a byte with this one,
-// and what stands there.
+// The last offset before the end at which a write other than the kept one stands whose piece shares a
+// byte with this one, and what stands there.
 fn overlapped(
-    spots: &BTreeMap<(u32, u64), Spot>,
+    places: &Places,
     piece: &Piece,
+    end: u64,
     kept: Option<WriteId>,
-) -> Option<((u32, u64), Spot)>
-    requires fits { piece_end piece.now < 2 ^ 64 }
-    requires disjoint { AreDisjoint kept (spot_at spots.now.entries) }
-    requires stands { StandsHere kept piece.now (spot_at spots.now.entries) }
-    ensures found { IsOverlapped kept piece.now (spot_at spots.now.entries) result }
-    ensures ordered { IsOrdered place_order spots.now }
+) -> Option<(u64, Spot)>
+    requires end { end % 512 ≡ 0 }
+    requires begins { piece.now.offset % 512 ≡ 0 }
+    requires within { end ≤ piece_end piece.now }
+    requires disjoint { AreDisjoint kept (spot_at places.now.sheets.entries) }
+    requires stands { StandsHere kept piece.now (spot_at places.now.sheets.entries) }
+    ensures found { IsLastOverlapped kept piece.now (spot_at places.now.sheets.entries) end result }
 {
-    match last_other(spots, piece, kept) {
-        Some((place, spot)) if overlaps(piece, &piece_at(place, spot)) => Some((place, spot)),
+    match last_other(places, piece, end, kept) {
+        Some((offset, spot)) if overlaps(piece, &piece_at(piece.file, offset, spot)) => Some((
+            offset, spot,
+        )),
         _ => None,
     }
 }
 
-// The last place before the piece's end at which a write other than the kept one stands, and what
-// stands there.
+// The last offset of the piece's file before the end at which a write other than the kept one stands,
+// and what stands there.
 fn last_other(
-    spots: &BTreeMap<(u32, u64), Spot>,
+    places: &Places,
     piece: &Piece,
+    end: u64,
     kept: Option<WriteId>,
-) -> Option<((u32, u64), Spot)>
-    requires fits { piece_end piece.now < 2 ^ 64 }
-    requires stands { StandsHere kept piece.now (spot_at spots.now.entries) }
-    ensures found { IsLastOther kept piece.now (spot_at spots.now.entries) result }
-    ensures ordered { IsOrdered place_order spots.now }
+) -> Option<(u64, Spot)>
+    requires end { end % 512 ≡ 0 }
+    requires begins { piece.now.offset % 512 ≡ 0 }
+    requires stands { StandsHere kept piece.now (spot_at places.now.sheets.entries) }
+    ensures found { IsLastOther kept piece.now (spot_at places.now.sheets.entries) end result }
 {
-    let end = piece.offset + u64::from(piece.len);
-    match last_before(spots, (piece.file, end)) {
-        Some((_, spot)) if is_kept(kept, &spot.write) => last_before(
-            spots,
-            (piece.file, piece.offset),
+    match places.last_before(piece.file, end) {
+        Some((_, spot)) if is_kept(kept, &spot.write) => places.last_before(
+            piece.file,
+            piece.offset,
         ),
         last => last,
-    }
-}
-
-// The last place before the bound at which something stands, and what stands there.
-fn last_before(spots: &BTreeMap<(u32, u64), Spot>, bound: (u32, u64)) -> Option<((u32, u64), Spot)>
-    ensures found { IsLastBefore (spot_at spots.now.entries) bound result }
-    ensures ordered { IsOrdered place_order spots.now }
-{
-    match spots.range(..bound).next_back() {
-        Some((place, spot)) => Some((*place, *spot)),
-        None => None,
     }
 }
 
@@ -138,12 +126,12 @@ fn is_kept(kept: Option<WriteId>, write: &WriteId) -> bool
 }
 
 // The piece of a spot.
-fn piece_at(place: (u32, u64), spot: Spot) -> Piece
-    ensures { result ≡ piece_at place spot }
+fn piece_at(file: u32, offset: u64, spot: Spot) -> Piece
+    ensures { result ≡ piece_at (file, offset) spot }
 {
     Piece {
-        file: place.0,
-        offset: place.1,
+        file,
+        offset,
         len: spot.len,
     }
 }

@@ -1,16 +1,22 @@
-use Rattle.std.proofs.Common.{◌≡◌, filter}
-use Rattle.std.specs.BTreeMap.{IsOrdered, btree_map_len}
-use Rattle.jr_writes.specs.Index.{IsIndexed, StandsHere, kept_of, spot_at, stays}
+use Rattle.std.proofs.Common.{◌≡◌, ◌%◌, ◌≤◌}
+use Rattle.jr_model.specs.declared.events.WriteId.{WriteId}
+use Rattle.jr_model.specs.Pieces.{piece_end}
+use Rattle.jr_writes.specs.Index.{IsIndexed, StandsHere}
+use Rattle.jr_writes.specs.Last.{NoneOverlapsFrom}
+use Rattle.jr_writes.specs.Names.{name_at}
+use Rattle.jr_writes.specs.Places.{spot_at}
+use Rattle.jr_writes.specs.Staying.{left_of}
 use Rattle.jr_writes.proofs.spots.take_out.Given as goal
-use Rattle.jr_model.specs.History.{write_order}
 
-abbrev pub invariant-loop-place : goal.invariant-loop-place
-invariant-loop-place l = record {
-  indexed : IsIndexed l.kept (kept_of l.writes.entries) (spot_at l.spots.entries);
-  stands : StandsHere l.kept l.piece (spot_at l.spots.entries);
-  ordered : IsOrdered write_order l.writes;
-  entries : filter (stays l.kept l.piece) l.writes.entries ≡ filter (stays l.kept l.piece) l.initial.writes.entries;
+abbrev pub invariant-loop-offset : goal.invariant-loop-offset
+invariant-loop-offset l = record {
+  begins : l.end % 512 ≡ 0;
+  within : l.end ≤ piece_end l.piece;
+  past : NoneOverlapsFrom l.kept l.piece (spot_at l.places.sheets.entries) l.end;
+  indexed : IsIndexed l.kept (name_at l.names.sheets.entries) (spot_at l.places.sheets.entries);
+  stands : StandsHere l.kept l.piece (spot_at l.places.sheets.entries);
+  entries : (q : WriteId) → left_of l.kept l.piece (name_at l.names.sheets.entries) q ≡ left_of l.kept l.piece (name_at l.initial.names.sheets.entries) q;
 }
 
-abbrev pub decreases-loop-place : goal.decreases-loop-place
-decreases-loop-place l = btree_map_len l.spots
+abbrev pub decreases-loop-offset : goal.decreases-loop-offset
+decreases-loop-offset l = l.end
