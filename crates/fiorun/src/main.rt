@@ -1,4 +1,4 @@
-// Runs a fio job file, or prints its plan: the words of the command line say which.
+// Runs a fio job file, prints its plan, or checks a trace of it: the words of the command line say which.
 #![tactic(auto)]
 
 ghost use Rattle.std.specs.Prelude.{IfOk};
@@ -178,7 +178,7 @@ fn check_trace<R: Outlet>(
     wanted.tell_trace(rt, plan, &run)
 }
 
-// Prints the totals of a trace, which may be that of a run that was stopped if so many words say so, and gives the run.
+// Prints the totals of a trace, which may be of a run that was stopped where `--interrupted` says so, and gives the run.
 fn print_totals<R: Print + AllocGlobal>(
     rt: &R,
     is_part: bool,

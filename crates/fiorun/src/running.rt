@@ -65,7 +65,7 @@ impl Finished {
         }
     }
 
-    // The same run over files, of which the system said this.
+    // This run with what the system said of its files.
     fn over(self, closed: Closed) -> Finished {
         let Finished {
             ended,
@@ -81,7 +81,7 @@ impl Finished {
         }
     }
 
-    // The same run, of which this became of further outputs.
+    // This run with what became of its further outputs.
     pub fn and(mut self, written: Result<(), Stop>) -> Finished {
         if let Err(stop) = written
             && self.unwritten.is_none()
@@ -168,7 +168,7 @@ fn run_engines<R: Outlet + Machine>(
     run_asked(rt, choice, asked, wishes, wanted, plan)
 }
 
-// The same, where this is asked of the run.
+// Runs the plan over its kind of engine, where this is asked of the run.
 fn run_asked<R: Outlet + Machine>(
     rt: &R,
     choice: &Choice<'_>,
@@ -220,7 +220,7 @@ fn close_files<R: Eprint + AllocGlobal>(
     Ok(Turn::Ran(ran.over(closed)))
 }
 
-// The same over these files, which were taken.
+// Runs the plan over files that were taken.
 fn run_over_taken<R: Outlet + Machine>(
     rt: &R,
     wanted: &Wanted,
@@ -236,7 +236,7 @@ fn run_over_taken<R: Outlet + Machine>(
     }
 }
 
-// The same with one worker, which judges its own checks.
+// Runs the plan over files with one worker, which judges its own checks.
 fn alone_over_files<R: Outlet + Machine>(
     rt: &R,
     wanted: &Wanted,
@@ -249,7 +249,7 @@ fn alone_over_files<R: Outlet + Machine>(
     alone_over(rt, wanted, asked, plan, &mut engine)
 }
 
-// The same with so many workers.
+// Runs the plan over files with several workers.
 fn crew_over_files<R: Outlet + Machine>(
     rt: &R,
     wanted: &Wanted,
@@ -449,7 +449,7 @@ pub fn run_memory<R: Outlet + Machine>(
     }
 }
 
-// The same, of which nothing more is wanted.
+// Runs the job over the shares of a memory, with no trace.
 fn run_untraced<'a, R: Outlet + Machine>(
     rt: &'a R,
     asked: &Arc<Asked, Global>,
@@ -460,7 +460,7 @@ fn run_untraced<'a, R: Outlet + Machine>(
     run_with(rt, asked, plan, engines, events)
 }
 
-// The same, with its trace.
+// Runs the job over the shares of a memory, with its trace where one is wanted.
 fn traced<R: Outlet + Machine>(
     rt: &R,
     asked: &Arc<Asked, Global>,

@@ -19,7 +19,7 @@ pub struct Executed<'w> {
     pub desk: Desk,
 }
 
-/// The same for who keeps it longer than the flag.
+/// How a run ended that has its report, for who keeps that longer than the flag.
 #[derive(Debug, Drop)]
 pub struct RunEnd {
     /// 1 if a block came back wrong or an I/O failed, else 0.

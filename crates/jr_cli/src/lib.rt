@@ -1,4 +1,4 @@
-// The program over plain readers and writers: words and a job text in, a report and a status out.
+// The program over plain readers and writers: a plan in; a report, a trace, what is told beside them, and a status out.
 #![tactic(auto)]
 
 mod ended;

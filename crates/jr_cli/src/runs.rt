@@ -186,7 +186,7 @@ pub fn print_check<V: Write>(
     Ok(run)
 }
 
-/// The same of a run that may have been stopped.
+/// Checks a trace of the plan that may be of a run that was stopped, and prints what each clone did in it.
 pub fn print_part<V: Write>(
     alloc: Global,
     plan: &Plan,
