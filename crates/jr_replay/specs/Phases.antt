@@ -1,18 +1,10 @@
--- Internal: what is asked of a draw, and of the clones of earlier phases where a clone has begun.
-use Rattle.std.specs.Prelude.{ℕ, ◌==◌, nat_le, Bool, not, ◌&&◌, ◌||◌, List}
-use Rattle.std.specs.List.{list_any}
+-- Internal: what is asked of a draw, but for its phase.
+use Rattle.std.specs.Prelude.{◌==◌, Bool, not, ◌&&◌, List}
 use Rattle.jr_model.specs.declared.events.Event.{Event}
 use Rattle.jr_model.specs.declared.workloads.Draw.{Draw}
-use Rattle.jr_model.specs.History.{is_of_clone, awaiting}
 use Rattle.jr_model.specs.Legal.{has_room, is_clear, is_halted}
-use Rattle.jr_model.specs.Plan.{Plan, SubJob}
-use Rattle.jr_model.specs.Rounds.{Pass, is_current, is_write_draw, issued_count, nothing_flies_of, waits_for_round}
-
--- the clone is of this phase or later, or has nothing in flight and no verdict to come
-abbrev pub lets_go_on : List Event → ℕ → SubJob → Bool
-lets_go_on history phase other =
-    nat_le phase other.phase
-    || (nothing_flies_of history other.clone && not (list_any (is_of_clone other.clone) (awaiting history)))
+use Rattle.jr_model.specs.Plan.{Plan}
+use Rattle.jr_model.specs.Rounds.{Pass, is_current, is_write_draw, issued_count, waits_for_round}
 
 -- the draw may be issued where its phase is open
 abbrev pub is_its_turn : Plan → List Event → Pass → Draw → Bool

@@ -9,7 +9,7 @@ ghost use Rattle.jr_model.specs.Rounds.{pass_of, passes_of, write_id, is_write_d
 ghost use Rattle.jr_model.specs.Rounds.{all_issued, is_full, is_closed, is_open, rounds_closed, waits_for_round, pass_finished};
 ghost use Rattle.jr_model.specs.Rounds.{clone_finished, is_current};
 ghost use Rattle.jr_replay.specs.Courses.{IsCourse};
-ghost use Rattle.jr_replay.specs.Phases.{is_its_turn, lets_go_on};
+ghost use Rattle.jr_replay.specs.Phases.{is_its_turn};
 
 use crate::clones::{has_room, is_clear, is_halted, is_quiet, no_issue_flies, nothing_flies_of};
 use crate::courses::Course;
@@ -268,28 +268,7 @@ fn phase_is_open(
     Ok(true)
 }
 
-// Whether a clone is of this phase or later, or has nothing in flight and no verdict to come.
-fn lets_go_on(plan: &Plan, course: &Course<'_>, phase: u32, other: &SubJob) -> bool
-    requires course { IsCourse plan.now course.now }
-    requires there { clone_of plan.now other.now.clone ≡ Some other.now }
-    ensures { result ≡ lets_go_on course.now.history phase other.now }
-{
-    phase <= other.phase() || is_quiet(plan, course, other)
-}
-
-fn all_let_go_on(plan: &Plan, course: &Course<'_>, phase: u32) -> bool
-    requires { IsCourse plan.now course.now }
-    ensures { result ≡ list_all (lets_go_on course.now.history phase) plan.now.clones }
-{
-    for i in 0..plan.clones() {
-        if !lets_go_on(plan, course, phase, plan.clone_at(i)) {
-            return false;
-        }
-    }
-    true
-}
-
-// Whether all clones of earlier phases are at rest: where the clone has begun they are over.
+// Whether all clones of earlier phases are at rest: they are where the clone has begun, and stay so.
 fn is_phase_open(
     alloc: Global,
     plan: &Plan,
@@ -303,7 +282,7 @@ fn is_phase_open(
     if has_not_begun(&course.history, job, 0) {
         return phase_is_open(alloc, plan, course, job);
     }
-    Ok(all_let_go_on(plan, course, job.phase()))
+    Ok(true)
 }
 
 // Whether a draw is the next of its pass, of a clone that isn't halted and has room, with nothing in flight in its way.
