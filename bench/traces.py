@@ -16,7 +16,7 @@ TRIED = [
     ("256 in flight, one clone, 10 passes", 1, 256, 10),
     ("256 in flight, 64 clones, 10 passes", 64, 4, 10),
     ("16,384 in flight, 64 clones, 1 pass", 64, 256, 1),
-    ("16,384 in flight, 64 clones, 10 passes", 64, 256, 10),
+    ("16,384 in flight, 64 clones, 2 passes", 64, 256, 2),
     ("16 in flight, one clone, 10 passes", 1, 16, 10),
     ("16 in flight, one clone, 1,000 passes", 1, 16, 1000),
 ]
@@ -80,7 +80,7 @@ def peak(program, room):
 def main(words):
     given = dict(it[2:].split("=", 1) for it in words if it.startswith("--"))
     programs = [os.path.realpath(it) for it in words if not it.startswith("--")]
-    ios = int(given.get("ios", 64_000))
+    ios = int(given.get("ios", 330_000))
     print("| Trace | output | " + " | ".join(programs) + " |")
     print("|-" * (len(programs) + 2) + "|")
     with tempfile.TemporaryDirectory(prefix="traces-") as room:
