@@ -163,15 +163,28 @@ fn claim_wanted<'x, R: Files<File = File> + AllocGlobal>(
 fn had_direct(wishes: &[Wish], files: &FileEngine<SharedFile>) -> Option<bool>
     ensures { is_some result ≡ list_any is_wanted wishes.now }
 {
-    if !wishes.iter().any(is_wanted) {
-        return None;
+    if any_wanted(wishes) {
+        Some(all_direct(wishes, files))
+    } else {
+        None
     }
+}
+
+// Whether a job wants a file direct.
+fn any_wanted(wishes: &[Wish]) -> bool
+    ensures { result ≡ list_any is_wanted wishes.now }
+{
+    wishes.iter().any(|wish| is_wanted(wish))
+}
+
+// Whether the I/O of each of these files that are wanted direct goes past the system's cache.
+fn all_direct(wishes: &[Wish], files: &FileEngine<SharedFile>) -> bool {
     for (index, wish) in wishes.iter().enumerate() {
         if is_wanted(wish) && !files.is_direct(index) {
-            return Some(false);
+            return false;
         }
     }
-    Some(true)
+    true
 }
 
 // Whether a job says direct=1 of the file.
