@@ -1,4 +1,5 @@
 pub mod CleanRuns
+pub mod CutShort
 pub mod EndedRuns
 pub mod JsonLines
 pub mod QuietRuns

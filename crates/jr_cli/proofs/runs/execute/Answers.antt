@@ -1,9 +1,14 @@
-use Rattle.std.proofs.Common.{refl, sym, subst}
+use Rattle.std.proofs.Common.{◌≡◌, ◌<◌, [], refl, sym, subst}
 use Rattle.jr_model.specs.Legal.{is_complete}
 use Rattle.jr_laws_quiet.proofs.Races.{unraced}
 use Rattle.jr_laws_steps.proofs.CountLaws.{numbered_of}
 use Rattle.jr_desk.specs.DeskState.{DeskState}
 use Rattle.jr_crew_threads.specs.Stops.{IsCompleteOrAsked}
+use Rattle.jr_cli_words.specs.declared.faults.CliFault.{CliFault}
+use Rattle.jr_cli_words.specs.declared.faults.CliFault.TheVariants as fault
+use Rattle.jr_crew_threads.specs.declared.faults.RunFault.TheVariants as run
+use Rattle.jr_cli.specs.Executed.{IsRunFault}
+use Rattle.jr_cli.proofs.CutShort.{ends_a_run, of_handed, wants_no_engine, wants_no_thread}
 use Rattle.jr_cli.proofs.EndedRuns.{asked_on, interrupted_on, complete_on, desk_on, uninterrupted_on, faults_on}
 use Rattle.jr_cli.proofs.QuietRuns.{reported_on, quietly_reported}
 use Rattle.jr_cli.proofs.runs.execute.Goals as goal
@@ -62,3 +67,20 @@ returns-clause-quiet g c whole none =
     quietly_reported c.args.plan ran.desk.history _ _ _ c.facts.ensures
     (unraced c.args.plan (numbered_of c.args.plan c.facts.ensures) none ran.desk.history done.ended.legal) done.ended.legal complete
     (reported_on ran.desk.plan c.args.plan ran.desk.history ran.desk.history _ _ _ done.planned refl told.reported)
+
+pub returns-in_err-print_trace-clause-no_engine : goal.returns-in_err-print_trace-clause-no_engine
+returns-in_err-print_trace-clause-no_engine g c =
+    of_handed (λ (f : CliFault). f ≡ fault.Run run.NoEngine → c.args.engines.items ≡ []) c.from_residual-in_err-print_trace.result
+    c.in_err-print_trace.field-0.0 c.from_residual-in_err-print_trace.ensures.1
+    (λ is. absurd (wants_no_engine c.in_err-print_trace.field-0.0 c.in_err-print_trace.ensures.failed is))
+
+pub returns-in_err-print_trace-clause-thread : goal.returns-in_err-print_trace-clause-thread
+returns-in_err-print_trace-clause-thread g c =
+    of_handed (λ (f : CliFault). f ≡ fault.Run run.Thread → 0 < c.args.plan.verifiers) c.from_residual-in_err-print_trace.result
+    c.in_err-print_trace.field-0.0 c.from_residual-in_err-print_trace.ensures.1
+    (λ is. absurd (wants_no_thread c.in_err-print_trace.field-0.0 c.in_err-print_trace.ensures.failed is))
+
+pub returns-in_err-print_trace-clause-failed : goal.returns-in_err-print_trace-clause-failed
+returns-in_err-print_trace-clause-failed g c =
+    of_handed IsRunFault c.from_residual-in_err-print_trace.result c.in_err-print_trace.field-0.0
+    c.from_residual-in_err-print_trace.ensures.1 (ends_a_run c.in_err-print_trace.field-0.0 c.in_err-print_trace.ensures.failed)
