@@ -3,7 +3,7 @@
 floor, for each I/O as runs grow, and for the check of a trace. Each row's runs are made in turn, TIMES times: what is printed are the
 medians.
 
-fio is installed by the system's package manager where it isn't there, and its columns are empty where that can't be. What it prints on
+Where fio isn't there its columns are empty; with INSTALL=1 it is installed by the system's package manager. What it prints on
 standard error is how far it is. From the environment:
 
     SIZE       how much a job writes, in MiB (256); those of direct and sync have sizes of their own
@@ -75,9 +75,9 @@ BACKLOGS = ((1, 4), (1000, 64), (0, 64))
 
 @functools.cache
 def has_fio():
-    """Installs fio where it isn't there, and says whether it is."""
-    if shutil.which("fio"):
-        return True
+    """Says whether fio is there. Where it isn't, it is installed if INSTALL says so."""
+    if shutil.which("fio") or not os.environ.get("INSTALL"):
+        return shutil.which("fio") is not None
     # (a fresh machine may have no list of packages yet)
     ways = {"apt-get": "apt-get update && apt-get install -y fio", "dnf": "dnf install -y fio", "apk": "apk add fio"}
     for way, words in ways.items():
