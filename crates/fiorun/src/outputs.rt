@@ -403,7 +403,7 @@ fn storage_of(closed: &Closed) -> Storage {
 fn page_text(alloc: Global, findings: &Findings<'_>) -> Result<Vec<u8>, Memory> {
     page(
         alloc,
-        &jr_report_page::Findings {
+        &jr_report_page::PageFindings {
             plan: findings.plan(),
             history: findings.history(),
             totals: findings.totals(),
