@@ -239,7 +239,8 @@ def who_makes_a_file_and_loses_its_lock_leaves_it(program, room):
     path = os.path.join(room, "f")
     for _ in range(5):
         it = held_at_its_lock(program, room, path)
-        expect(os.path.exists(path), f"no file was made: {it.communicate(timeout=SECONDS)}")
+        if not os.path.exists(path):
+            raise Wrong(f"no file was made: {it.communicate(timeout=SECONDS)}")
         with open(path, "r+b") as theirs:
             try:
                 fcntl.flock(theirs, fcntl.LOCK_EX | fcntl.LOCK_NB)
