@@ -244,7 +244,10 @@ def who_makes_a_file_and_loses_its_lock_leaves_it(program, room):
         with open(path, "r+b") as theirs:
             try:
                 fcntl.flock(theirs, fcntl.LOCK_EX | fcntl.LOCK_NB)
+                is_late = it.poll() is not None
             except BlockingIOError:
+                is_late = True
+            if is_late:
                 it.communicate(timeout=SECONDS)
                 os.unlink(path)
                 continue
