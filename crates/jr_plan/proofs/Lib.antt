@@ -2,4 +2,5 @@ pub mod DraftLemmas
 pub mod FileLemmas
 pub mod LimitLemmas
 pub mod ListLemmas
+pub mod SeedLemmas
 pub mod SplitLemmas

@@ -3,6 +3,7 @@ pub mod Drafts
 pub mod FaultTexts
 pub mod Files
 pub mod PlanText
+pub mod Seeds
 pub mod Sizes
 pub mod SplitEntries
 pub mod Workloads

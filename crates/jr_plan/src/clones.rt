@@ -1,10 +1,12 @@
-ghost use Rattle.std.specs.Prelude.{◌≡◌};
+ghost use Rattle.std.specs.Prelude.{◌≡◌, IfOk};
 ghost use Rattle.jr_model.specs.Plan.{checks_reads, issued_as};
 ghost use Rattle.jr_model.specs.PlanFacts.{KeepsLimits};
+ghost use Rattle.jr_plan.specs.Seeds.{moved_seed};
 
 use crate::splits::Split;
 use crate::workloads::Workload;
 use jr_model::{Dir, IoType, IssueKind, Method};
+use std::alloc::{AllocError, Global};
 use std::marker::Model;
 
 /// One planned clone: one of the `numjobs` threads of a job.
@@ -194,5 +196,20 @@ impl SubJob {
         ensures { result ≡ self.now.declines }
     {
         self.workload.declines
+    }
+
+    // The same clone with a seed that is so much further on.
+    pub(crate) fn reseeded(&self, alloc: Global, by: u64) -> Result<SubJob, AllocError>
+        ensures { IfOk result (λ job. job ≡ moved_seed by self.now) }
+    {
+        let mut workload = self.workload;
+        workload.seed = workload.seed.wrapping_add(by);
+        Ok(SubJob {
+            job: String::from_str(alloc, self.job.as_str())?,
+            clone: self.clone,
+            file: self.file,
+            start: self.start,
+            workload,
+        })
     }
 }

@@ -1,7 +1,7 @@
 ghost use Rattle.std.specs.Prelude.{◌≡◌, ◌≤◌, ◌<◌, ◌++◌, ◌∷◌, [], length, vec_len, string_bytes, IfOk, OnErr};
 ghost use Rattle.jr_plan.specs.Files.{file_place, with_file, widened};
 
-use std::alloc::AllocError;
+use std::alloc::{AllocError, Global};
 use std::marker::Model;
 
 /// A file of a run.
@@ -49,6 +49,27 @@ impl FileSpec {
         self.low = self.low.min(low);
         self.high = self.high.max(high);
     }
+
+    fn copied(&self, alloc: Global) -> Result<FileSpec, AllocError>
+        ensures { IfOk result (λ file. file ≡ self.now) }
+    {
+        Ok(FileSpec {
+            name: String::from_str(alloc, self.name.as_str())?,
+            low: self.low,
+            high: self.high,
+        })
+    }
+}
+
+// These files once more.
+pub(crate) fn copied_files(alloc: Global, files: &[FileSpec]) -> Result<Vec<FileSpec>, AllocError>
+    ensures { IfOk result (λ copies. copies.items ≡ files.now) }
+{
+    let mut copies = Vec::new(alloc);
+    for file in files {
+        copies.push(file.copied(alloc)?)?;
+    }
+    Ok(copies)
 }
 
 // The place of the file of this name, or of a new one behind all.

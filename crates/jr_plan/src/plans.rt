@@ -1,11 +1,13 @@
-ghost use Rattle.std.specs.Prelude.{◌≡◌, ◌≤◌, ◌<◌, ◌==◌, length, slice_get, Some};
+ghost use Rattle.std.specs.Prelude.{◌≡◌, ◌≤◌, ◌<◌, ◌==◌, length, map, slice_get, Some, IfOk};
 ghost use Rattle.std.specs.List.{list_any};
 ghost use Rattle.jr_plan.specs.Files.{are_apart};
+ghost use Rattle.jr_plan.specs.Seeds.{moved_seed, reseeded};
 ghost use Rattle.jr_model.specs.PlanFacts.{AreDrafted, IsPlanned, IsPlaced, KeepsLimits};
 
 use crate::clones::SubJob;
-use crate::files::FileSpec;
+use crate::files::{FileSpec, copied_files};
 use jr_model::{EngineKind, MOST_VERIFIERS};
+use std::alloc::{AllocError, Global};
 use std::marker::Model;
 
 /// What a run does: its clones, their files, and how it is carried out.
@@ -102,6 +104,26 @@ impl Plan {
     {
         are_apart(&self.clones)
     }
+
+    /// The same plan with the seed of each clone so much further on, modulo 2^64: the same places are written with other data, and a random
+    /// clone goes another way.
+    pub fn reseeded(&self, alloc: Global, by: u64) -> Result<Plan, AllocError>
+        ensures { IfOk result (λ plan. plan ≡ reseeded self.now by) }
+    {
+        let clones = reseeded_clones(alloc, &self.clones, by)?;
+        let files = copied_files(alloc, &self.files)?;
+        Ok(Plan::of_parts(clones, files, self.engine, self.verifiers))
+    }
+}
+
+fn reseeded_clones(alloc: Global, clones: &[SubJob], by: u64) -> Result<Vec<SubJob>, AllocError>
+    ensures { IfOk result (λ made. made.items ≡ map (moved_seed by) clones.now) }
+{
+    let mut made = Vec::new(alloc);
+    for job in clones {
+        made.push(job.reseeded(alloc, by)?)?;
+    }
+    Ok(made)
 }
 
 fn are_apart(clones: &[SubJob]) -> bool
