@@ -73,6 +73,17 @@ json_rule = option_rule (codes "json")
 abbrev pub page_rule : Rule
 page_rule = option_rule (codes "page")
 
+-- how long the job is run again and again
+abbrev pub for_rule : Rule
+for_rule = option_rule (codes "for")
+
+-- from 1 to 4294967295
+abbrev pub repeat_rule : Rule
+repeat_rule = record (option_rule (codes "repeat")) { parser = Some (parser.Signed (pos 1) (pos 4294967295)) }
+
+abbrev pub keep_going_rule : Rule
+keep_going_rule = flag_rule (codes "keep-going")
+
 -- a program that tells its version
 abbrev pub with_version : App → App
 with_version app = on_top (λ shape. record shape { has_version = true }) app
@@ -92,8 +103,12 @@ abbrev pub with_report_rules : App → App
 with_report_rules app = with_rule (with_rule (with_rule (with_rule (with_rule (
     with_rule app bad_blocks_rule) bad_blocks_size_rule) map_rule) progress_rule) json_rule) page_rule
 
+-- with the arguments for rounds of the job
+abbrev pub with_round_rules : App → App
+with_round_rules app = with_rule (with_rule (with_rule app for_rule) repeat_rule) keep_going_rule
+
 unfoldable pub command_line : App
-command_line = with_report_rules (with_run_rules (with_job_rules (with_version (new_app (codes "fiorun")))))
+command_line = with_round_rules (with_report_rules (with_run_rules (with_job_rules (with_version (new_app (codes "fiorun"))))))
 
 -- the number that a text of digits writes
 abbrev pub number_in : Text → ℕ
@@ -119,3 +134,6 @@ pub record IsChoiceOf (choice : Choice) (rows : List Row) : Type 0 where
   pub progress : choice.progress ≡ option_map number_in (one_of (codes "progress") rows)
   pub json : option_copied choice.json ≡ first_of (codes "json") rows
   pub page : option_copied choice.page ≡ first_of (codes "page") rows
+  pub run_for : option_copied choice.run_for ≡ first_of (codes "for") rows
+  pub repeat : choice.repeat ≡ option_map number_in (one_of (codes "repeat") rows)
+  pub keep_going : choice.keep_going ≡ unwrap_or (option_map (bytes_eq (codes "true")) (one_of (codes "keep-going") rows)) false

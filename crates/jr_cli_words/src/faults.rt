@@ -20,6 +20,10 @@ pub enum CliFault {
     SeveralFiles,
     /// The size of its blocks isn't one that they may have.
     BlockSize,
+    /// How long the job is to be run isn't a duration, or more than ten years.
+    Duration,
+    /// A page is wanted of rounds that go on after a bad one: a page shows one run.
+    SeveralRounds,
     /// Standard input or the job file can't be read.
     Read,
     /// The files of the plan can't be made, made long enough or opened.
@@ -47,6 +51,7 @@ impl CliFault {
             | CliFault::Trace(TraceFault::Memory) => 3,
             CliFault::Words | CliFault::Text(_) | CliFault::Job(_) => 2,
             CliFault::Trace(_) | CliFault::SeveralFiles | CliFault::BlockSize => 2,
+            CliFault::Duration | CliFault::SeveralRounds => 2,
             CliFault::Read | CliFault::ReadTrace | CliFault::Open | CliFault::Run(_) => 3,
             CliFault::Write | CliFault::Memory => 3,
         }
@@ -66,6 +71,8 @@ impl fmt::Display for CliFault {
             CliFault::Job(fault) => write!(f, "{fault}"),
             CliFault::SeveralFiles => write!(f, "bad blocks of several files"),
             CliFault::BlockSize => write!(f, "command line: bad block size"),
+            CliFault::Duration => write!(f, "command line: bad duration"),
+            CliFault::SeveralRounds => write!(f, "page of several rounds"),
             CliFault::Read => write!(f, "cannot read the job file"),
             CliFault::Open => write!(f, "cannot open the files"),
             CliFault::Run(fault) => write!(f, "{fault}"),

@@ -7,6 +7,7 @@ ghost use Rattle.jr_cli_words.specs.CommandLine.{
   with_job_rules,
   with_run_rules,
   with_report_rules,
+  with_round_rules,
   job_rule,
   section_rule,
   parse_only_rule,
@@ -25,6 +26,9 @@ ghost use Rattle.jr_cli_words.specs.CommandLine.{
   progress_rule,
   json_rule,
   page_rule,
+  for_rule,
+  repeat_rule,
+  keep_going_rule,
   IsChoiceOf,
 };
 
@@ -77,6 +81,12 @@ pub struct Choice<'a> {
     pub json: Option<&'a str>,
     /// The file that the report goes to as a page for a browser.
     pub page: Option<&'a str>,
+    /// How long to run the job again and again, as `90s`, `30m`, `24h` or `7d`.
+    pub run_for: Option<&'a str>,
+    /// How many times to run the job, at most.
+    pub repeat: Option<u32>,
+    /// Run the job again also after a round in which something was bad or failed.
+    pub keep_going: bool,
 }
 
 /// Reads the words of the command line, of which the first is the program's name. Help and the version are
@@ -85,6 +95,7 @@ pub fn choose<'a, S: AsStr>(alloc: Global, words: &'a [S]) -> Result<Choice<'a>,
     ensures fields { IfOk result (λ choice. IsChoiceOf choice (matches_of command_line (map S.text words.entry.now))) }
     ensures workers { IfOk result (λ choice. IfSome choice.workers (λ n. (1 ≤ n) × (n ≤ 16))) }
     ensures progress { IfOk result (λ choice. IfSome choice.progress (λ n. (1 ≤ n) × (n ≤ 86400))) }
+    ensures repeat { IfOk result (λ choice. IfSome choice.repeat (λ n. (1 ≤ n) × (n ≤ 4294967295))) }
     // Refused exactly where clap's rules for these arguments refuse the words, and by their kind.
     ensures refused { FailsBy (fault_of command_line (map S.text words.entry.now)) result }
 {
@@ -101,6 +112,8 @@ fn choice_in<'a>(matches: &ArgMatches<'a>) -> Choice<'a>
         → IfSome result.workers (λ n. (1 ≤ n) × (n ≤ 16)) }
     ensures progress { (command : Command) → app_of command ≡ command_line → IsParsedFrom command matches.now
         → IfSome result.progress (λ n. (1 ≤ n) × (n ≤ 86400)) }
+    ensures repeat { (command : Command) → app_of command ≡ command_line → IsParsedFrom command matches.now
+        → IfSome result.repeat (λ n. (1 ≤ n) × (n ≤ 4294967295)) }
 {
     Choice {
         job: matches.get_str("job"),
@@ -121,6 +134,9 @@ fn choice_in<'a>(matches: &ArgMatches<'a>) -> Choice<'a>
         progress: matches.get_one::<u32>("progress"),
         json: matches.get_str("json"),
         page: matches.get_str("page"),
+        run_for: matches.get_str("for"),
+        repeat: matches.get_one::<u32>("repeat"),
+        keep_going: matches.get_flag("keep-going"),
     }
 }
 
@@ -167,7 +183,8 @@ fn command<'a>(alloc: Global) -> Result<Command<'a>, AllocError>
         .about("Runs a fio job file and checks what was written.");
     let command = with_job_args(alloc, command)?;
     let command = with_run_args(alloc, command)?;
-    with_report_args(alloc, command)
+    let command = with_report_args(alloc, command)?;
+    with_round_args(alloc, command)
 }
 
 // The arguments for the job and its trace.
@@ -204,6 +221,15 @@ fn with_report_args<'a>(alloc: Global, command: Command<'a>) -> Result<Command<'
     let command = added(command, progress_arg(alloc));
     let command = added(command, json_arg(alloc));
     added(command, page_arg(alloc))
+}
+
+// The arguments for rounds of the job.
+fn with_round_args<'a>(alloc: Global, command: Command<'a>) -> Result<Command<'a>, AllocError>
+    ensures { IfOk result (λ made. app_of made ≡ with_round_rules (app_of command.entry)) }
+{
+    let command = added(Ok(command), for_arg(alloc));
+    let command = added(command, repeat_arg(alloc));
+    added(command, keep_going_arg(alloc))
 }
 
 // One more argument, where none before it failed. A `?` behind each argument would be a way out for each, and slow to prove.
@@ -414,4 +440,38 @@ fn page_arg<'a>(alloc: Global) -> Arg<'a>
         .value_name("FILE")
         .action(ArgAction::Set)
         .help("Where to write the report as a page for a browser")
+}
+
+fn for_arg<'a>(alloc: Global) -> Arg<'a>
+    ensures rule { rule_of result ≡ for_rule }
+    ensures local { result.global ≡ false }
+{
+    Arg::new(alloc, "for")
+        .long("for")
+        .value_name("DURATION")
+        .action(ArgAction::Set)
+        .help("Run the job again and again for so long, as 90s, 30m, 24h or 7d")
+}
+
+fn repeat_arg<'a>(alloc: Global) -> Arg<'a>
+    ensures rule { rule_of result ≡ repeat_rule }
+    ensures local { result.global ≡ false }
+{
+    Arg::new(alloc, "repeat")
+        .long("repeat")
+        .value_name("N")
+        .action(ArgAction::Set)
+        .value_parser(value_parser!(u32).range(1..=4294967295))
+        .help("Run the job N times, each time with other data")
+}
+
+fn keep_going_arg<'a>(alloc: Global) -> Arg<'a>
+    ensures rule { rule_of result ≡ keep_going_rule }
+    ensures local { result.global ≡ false }
+{
+    Arg::new(alloc, "keep-going")
+        .long("keep-going")
+        .action(ArgAction::SetTrue)
+        .value_parser(value_parser!(bool))
+        .help("Go on also after a round in which something was bad or failed")
 }

@@ -1,44 +1,51 @@
 // What a run is asked for from outside, by a pipe whose other end the launcher holds, or another supervisor: to stop, and to say how far
 // it is.
-ghost use Rattle.std.specs.Prelude.{◌≡◌, ◌⊎◌, ◌↔◌, None, IfOk, IfErr, IsSome, IsTrue, is_some};
+ghost use Rattle.std.specs.Prelude.{◌≡◌, ◌⊎◌, ◌↔◌, ◌||◌, None, IfOk, IfErr, IsSome, IsTrue, is_some};
 ghost use Rattle.std.specs.Arc.{arc_value};
-ghost use Rattle.jr_system.specs.Askable.{can_be_asked, pace_of};
+ghost use Rattle.jr_crew_threads.specs.declared.faults.RunFault.TheVariants.{Thread as NoThread};
+ghost use Rattle.jr_system.specs.Askable.{can_be_asked, can_be_stopped, pace_of};
 
+use crate::machine::Machine;
 use crate::show::Pace;
 use crate::stops::Stop;
 use jr_cli_words::CliFault;
-use jr_crew_threads::StopFlag;
-use std::alloc::Global;
+use jr_crew_threads::{RunFault, StopFlag};
+use std::alloc::{AllocError, Global};
 use std::fs::{File, Files};
 use std::io::{ErrorKind, Read};
-use std::sync::atomic::{AtomicU64, Ordering};
+use std::sync::atomic::{AtomicBool, AtomicU64, Ordering};
 use std::sync::{Arc, Wait};
 use std::thread;
 use std::thread::{Parker, Threads};
-use std::time::Duration;
+use std::time::{Clock, Duration, Instant};
 
 // The byte that asks for a line of how far the run is.
 const LINE: u8 = b'p';
 
-/// What is asked of a run: by its words, when to say how far it is; and by the pipe.
+/// What is asked of a run: by its words, when to say how far it is, and how long it may take; and by the pipe.
 #[derive(Drop)]
 pub struct Asked {
     pace: Pace,
     has_pipe: bool,
+    has_limit: bool,
     stop: StopFlag,
+    is_time_over: AtomicBool,
     lines: AtomicU64,
     sleeper: Parker,
 }
 
 impl Asked {
-    fn new(pace: Pace, has_pipe: bool) -> Asked
+    fn new(pace: Pace, has_pipe: bool, has_limit: bool) -> Asked
         ensures pace { pace_of result ≡ pace }
         ensures pipe { can_be_asked result ≡ has_pipe }
+        ensures limit { can_be_stopped result ≡ has_pipe || has_limit }
     {
         Asked {
             pace,
             has_pipe,
+            has_limit,
             stop: StopFlag::new(),
+            is_time_over: AtomicBool::new(false),
             lines: AtomicU64::new(0),
             sleeper: Parker::new(),
         }
@@ -58,11 +65,16 @@ impl Asked {
         self.has_pipe
     }
 
-    /// What asks the run to stop, where anybody can.
+    /// Whether its time is over, where it has a limit. Then it was asked to stop.
+    pub fn is_time_over(&self) -> bool {
+        self.is_time_over.load(Ordering::SeqCst)
+    }
+
+    /// What asks the run to stop, where anybody can, or the end of its time does.
     pub fn stop(&self) -> Option<&StopFlag>
-        ensures { IsSome result ↔ IsTrue (can_be_asked self.now) }
+        ensures { IsSome result ↔ IsTrue (can_be_stopped self.now) }
     {
-        if self.has_pipe {
+        if self.has_pipe || self.has_limit {
             Some(&self.stop)
         } else {
             None
@@ -98,17 +110,20 @@ impl Asked {
 }
 
 /// What is asked of a run that says so by itself how far it is, and asks at the pipe of this number. Where none is named, nobody asks there.
+/// A run with a limit of its time can be stopped too: `stop_after` begins to count it.
 pub fn asked_by<R: Files<File = File> + AllocGlobal + Threads>(
     rt: &R,
     pace: Pace,
     pipe: Option<&str>,
+    has_limit: bool,
 ) -> Result<Arc<Asked, Global>, Stop>
     ensures pace { IfOk result (λ asked. pace_of (arc_value asked) ≡ pace) }
     ensures pipe { IfOk result (λ asked. can_be_asked (arc_value asked) ≡ is_some pipe.entry) }
+    ensures limit { IfOk result (λ asked. can_be_stopped (arc_value asked) ≡ is_some pipe.entry || has_limit) }
     ensures unasked { pipe.entry ≡ None → IfErr result (λ fault. fault ≡ CliFault.Memory) }
     ensures failed { IfErr result (λ fault. (fault ≡ CliFault.Open) ⊎ (fault ≡ CliFault.Memory)) }
 {
-    let Ok(asked) = Arc::new(rt.alloc(), Asked::new(pace, pipe.is_some())) else {
+    let Ok(asked) = Arc::new(rt.alloc(), Asked::new(pace, pipe.is_some(), has_limit)) else {
         return Err(Stop::from(CliFault::Memory));
     };
     let Some(number) = pipe else {
@@ -145,5 +160,43 @@ fn listen(pipe: File, asked: &Asked) {
             Err(error) if error.kind() == ErrorKind::Interrupted => {}
             Err(_) => return,
         }
+    }
+}
+
+/// Has the run asked to stop once this time has passed from now on.
+pub fn stop_after<R: Machine>(
+    rt: &R,
+    asked: &Arc<Asked, Global>,
+    limit: Duration,
+) -> Result<(), CliFault>
+    ensures failed { IfErr result (λ fault. (fault ≡ CliFault.Memory) ⊎ (fault ≡ CliFault.Run NoThread)) }
+{
+    let begun = Instant::now(rt).ok();
+    let own: Result<R, AllocError> = rt.clone();
+    let (Ok(theirs), Ok(own)) = (Arc::try_clone(asked), own) else {
+        return Err(CliFault::Memory);
+    };
+    // (it is never joined: the program's end cuts it off)
+    match thread::spawn(rt, move || end_after(&own, begun, limit, &theirs)) {
+        Ok(_waits) => Ok(()),
+        Err(_) => Err(CliFault::Run(RunFault::Thread)),
+    }
+}
+
+// Asks the run to stop once this time has passed since it began; at once where the clock can't be read.
+fn end_after<R: Clock + Wait>(rt: &R, begun: Option<Instant>, limit: Duration, asked: &Asked) {
+    let sleeper = Parker::new();
+    for _ in rt.forever() {
+        let passed = match begun {
+            Some(begun) => begun.elapsed(rt).unwrap_or(limit),
+            None => limit,
+        };
+        let left = limit.saturating_sub(passed);
+        if left.is_zero() {
+            asked.is_time_over.store(true, Ordering::SeqCst);
+            asked.stop.set();
+            return;
+        }
+        sleeper.park_timeout(rt, left);
     }
 }

@@ -11,7 +11,7 @@ mod remarks;
 mod show;
 mod stops;
 
-pub use asked::{Asked, asked_by};
+pub use asked::{Asked, asked_by, stop_after};
 pub use closed::Closed;
 pub use extents::PlanBytes;
 pub use files::{Taken, take_files, wishes};

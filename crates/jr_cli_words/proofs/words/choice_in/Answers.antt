@@ -6,7 +6,7 @@ use Rattle.std.specs.declared.num.ParseIntError.{ParseIntError}
 use Rattle.clap.specs.Words.{Text, found_of, one_of, one_text, first_of, first_value, matches_of}
 use Rattle.clap.proofs.WalkLemmas.{first_value-rows, one_text-rows}
 use Rattle.jr_cli_words.specs.CommandLine.{command_line, number_in}
-use Rattle.jr_cli_words.proofs.CommandLineFacts.{allow_mounted_write_parser, cached_parser, interrupted_parser, map_parser, notes_parser, parse_only_parser, progress_parser, workers_parser, number_read, flag_read, rows_are}
+use Rattle.jr_cli_words.proofs.CommandLineFacts.{allow_mounted_write_parser, cached_parser, interrupted_parser, map_parser, notes_parser, parse_only_parser, progress_parser, repeat_parser, keep_going_parser, workers_parser, number_read, flag_read, rows_are}
 use Rattle.jr_cli_words.proofs.words.choice_in.Goals as goal
 
 -- how the number of a text is read
@@ -27,6 +27,8 @@ returns-clause-fields c command words is parsed has =
     let notes = flag_read command m is parsed (codes "notes") notes_parser refl refl refl c.get_flag-4.result c.get_flag-4.ensures.none c.get_flag-4.ensures.value c.get_flag-4.ensures.other in
     let interrupted = flag_read command m is parsed (codes "interrupted") interrupted_parser refl refl refl c.get_flag-5.result c.get_flag-5.ensures.none c.get_flag-5.ensures.value c.get_flag-5.ensures.other in
     let map_shown = flag_read command m is parsed (codes "map") map_parser refl refl refl c.get_flag-6.result c.get_flag-6.ensures.none c.get_flag-6.ensures.value c.get_flag-6.ensures.other in
+    let rounds = number_read command m is parsed (codes "repeat") 4294967295 repeat_parser refl refl refl (omega arith) Reads c.get_one-3.result (λ u x h. h.0) c.get_one-3.ensures.none c.get_one-3.ensures.value in
+    let goes_on = flag_read command m is parsed (codes "keep-going") keep_going_parser refl refl refl c.get_flag-7.result c.get_flag-7.ensures.none c.get_flag-7.ensures.value c.get_flag-7.ensures.other in
     record {
       job = c.get_str.ensures ∙ first (codes "job");
       section = c.get_str-2.ensures ∙ first (codes "section");
@@ -46,6 +48,9 @@ returns-clause-fields c command words is parsed has =
       progress = seconds.0 ∙ ap (option_map number_in) (one (codes "progress"));
       json = c.get_str-9.ensures ∙ first (codes "json");
       page = c.get_str-10.ensures ∙ first (codes "page");
+      run_for = c.get_str-11.ensures ∙ first (codes "for");
+      repeat = rounds.0 ∙ ap (option_map number_in) (one (codes "repeat"));
+      keep_going = goes_on ∙ ap (λ (o : Option Text). unwrap_or (option_map (bytes_eq (codes "true")) o) false) (one (codes "keep-going"));
     }
 
 pub returns-clause-workers : goal.returns-clause-workers
@@ -55,3 +60,7 @@ returns-clause-workers c command is parsed =
 pub returns-clause-progress : goal.returns-clause-progress
 returns-clause-progress c command is parsed =
     (number_read command c.args.matches.now is parsed (codes "progress") 86400 progress_parser refl refl refl (omega arith) Reads c.get_one-2.result (λ u x h. h.0) c.get_one-2.ensures.none c.get_one-2.ensures.value).1
+
+pub returns-clause-repeat : goal.returns-clause-repeat
+returns-clause-repeat c command is parsed =
+    (number_read command c.args.matches.now is parsed (codes "repeat") 4294967295 repeat_parser refl refl refl (omega arith) Reads c.get_one-3.result (λ u x h. h.0) c.get_one-3.ensures.none c.get_one-3.ensures.value).1

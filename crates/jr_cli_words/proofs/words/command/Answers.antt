@@ -1,7 +1,7 @@
 use Rattle.std.proofs.Common.{◌∙◌, ap}
 use Rattle.std.proofs.lemmas.Result.{IfOk-weaker}
 use Rattle.clap.specs.Simple.{app_of_fields}
-use Rattle.jr_cli_words.specs.CommandLine.{command_line, with_version, with_job_rules, with_run_rules, with_report_rules}
+use Rattle.jr_cli_words.specs.CommandLine.{command_line, with_version, with_job_rules, with_run_rules, with_report_rules, with_round_rules}
 use Rattle.jr_cli_words.proofs.words.command.Goals as goal
 
 pub returns : goal.returns
@@ -11,4 +11,5 @@ returns c =
     let named = ap app_of_fields c.about-command.ensures ∙ versioned in
     let with_job = c.in_ok-command.ensures ∙ ap with_job_rules named in
     let with_run = c.in_ok-command-2.ensures ∙ ap with_run_rules with_job in
-    IfOk-weaker c.with_report_args.result _ _ (λ r made. made ∙ ap with_report_rules with_run) c.with_report_args.ensures
+    let with_report = c.in_ok-command-3.ensures ∙ ap with_report_rules with_run in
+    IfOk-weaker c.with_round_args.result _ _ (λ r made. made ∙ ap with_round_rules with_report) c.with_round_args.ensures
