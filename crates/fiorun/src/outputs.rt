@@ -4,12 +4,15 @@ use crate::roads::{Road, Sink};
 use crate::unfailing::Unfailing;
 use jr_cli::{Findings, Storage, json_text, list_text};
 use jr_cli_words::{BlockSize, Choice, CliFault, list_size};
+use jr_desk::Desk;
 use jr_io_devices::FileNumbers;
 use jr_io_files::Reserved;
 use jr_model::{EngineKind, Memory};
 use jr_plan::Plan;
+use jr_report_maps::blocks_text;
 use jr_report_outputs::{Spot, Target, Unfit, Way, met_by};
 use jr_report_page::page;
+use jr_stats::trace;
 use jr_system::{Closed, Outlet, Stop};
 use std::alloc::Global;
 use std::fs;
@@ -245,6 +248,82 @@ impl Outputs {
         }
     }
 
+    // Whether the JSON is asked for.
+    pub fn has_json(&self) -> bool {
+        self.all
+            .iter()
+            .any(|output| matches!(&output.content, Content::Json))
+    }
+
+    // The size of the blocks of the list, where that is asked for.
+    pub fn list_size(&self) -> Option<&BlockSize> {
+        for output in self.all.iter() {
+            if let Content::BadBlocks(size) = &output.content {
+                return Some(size);
+            }
+        }
+        None
+    }
+
+    // Writes a line of the JSON of several rounds, which has its name from the first line on.
+    pub fn add_json<R: Outlet>(&self, rt: &R, line: &[u8], is_first: bool) -> Result<(), Stop> {
+        for output in self.all.iter() {
+            if matches!(&output.content, Content::Json) {
+                self.write_text(rt, output, line)?;
+                if is_first {
+                    self.finish(rt, output)?;
+                }
+            }
+        }
+        Ok(())
+    }
+
+    // Writes the others of several rounds: the trace and the page of the last one, and the list of the blocks that were bad in any.
+    pub fn write_last<R: Outlet>(
+        &self,
+        rt: &R,
+        desk: &Desk,
+        findings: &Findings<'_>,
+        blocks: &[u64],
+    ) -> Result<(), Stop> {
+        let mut result = Ok(());
+        for output in self.all.iter() {
+            let text = match &output.content {
+                Content::Trace => trace(rt.alloc(), desk),
+                Content::BadBlocks(_) => blocks_text(rt.alloc(), blocks),
+                Content::Page => page_text(rt.alloc(), findings),
+                Content::Json => continue,
+            };
+            result = result.and(self.write_made(rt, output, text));
+        }
+        result
+    }
+
+    // Writes a text that was made for it, and has it take its name.
+    fn write_made<R: Outlet>(
+        &self,
+        rt: &R,
+        output: &Output,
+        text: Result<Vec<u8>, Memory>,
+    ) -> Result<(), Stop> {
+        let Ok(text) = text else {
+            return Err(Stop::from(CliFault::Memory));
+        };
+        self.write_text(rt, output, text.as_slice())?;
+        self.finish(rt, output)
+    }
+
+    fn write_text<R: Outlet>(&self, rt: &R, output: &Output, text: &[u8]) -> Result<(), Stop> {
+        let mut sink = match output.road.sink(rt) {
+            Ok(sink) => sink,
+            Err(error) => return Err(output.unmade(rt, error)),
+        };
+        match sink.write_all(text) {
+            Ok(()) => Ok(()),
+            Err(error) => Err(output.unmade(rt, error)),
+        }
+    }
+
     // Writes the others, of a run that has its report. What can't be written keeps no other from it, and the first that can't is answered.
     pub fn write<R: Outlet>(
         &self,
@@ -270,17 +349,11 @@ impl Outputs {
         if matches!(&output.content, Content::Trace) {
             return Ok(());
         }
-        let Ok(text) = output.content.text(rt.alloc(), findings, closed) else {
-            return Err(Stop::from(CliFault::Memory));
-        };
-        let mut sink = match output.road.sink(rt) {
-            Ok(sink) => sink,
-            Err(error) => return Err(output.unmade(rt, error)),
-        };
-        match sink.write_all(text.as_slice()) {
-            Ok(()) => self.finish(rt, output),
-            Err(error) => Err(output.unmade(rt, error)),
-        }
+        self.write_made(
+            rt,
+            output,
+            output.content.text(rt.alloc(), findings, closed),
+        )
     }
 
     // Has an output that was written take its name, unless a file of a job has it by now.

@@ -3,7 +3,7 @@ ghost use Rattle.jr_replay_traces.specs.Runs.{IsLegalRun};
 
 use crate::outputs::Outputs;
 use crate::running::Finished;
-use jr_cli::Findings;
+use jr_cli::{Findings, RunEnd};
 use jr_cli_words::{Choice, CliFault};
 use jr_escape::Escaped;
 use jr_model::LARGEST_END;
@@ -68,6 +68,21 @@ impl Wanted {
             return Err(Stop::from(CliFault::Memory));
         };
         self.tell_findings(rt, &findings, &Closed::of_no_files(rt.alloc()))
+    }
+
+    // Tells it at the end of several rounds, of the last of them, with the blocks that were bad in any.
+    pub fn tell_last<R: Outlet>(&self, rt: &R, last: &RunEnd, blocks: &[u64]) -> Result<(), Stop> {
+        let Ok(findings) = Findings::of_desk(rt.alloc(), &last.desk) else {
+            return Err(Stop::from(CliFault::Memory));
+        };
+        let shown = if self.has_maps && findings.found() != 0 {
+            show_maps(rt, &findings)
+        } else {
+            Ok(())
+        };
+        let written = self.outputs.write_last(rt, &last.desk, &findings, blocks);
+        shown?;
+        written
     }
 
     fn tell_findings<R: Outlet>(

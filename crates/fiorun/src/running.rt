@@ -15,19 +15,11 @@ use jr_system::{
     Asked, Closed, Machine, Outlet, Pace, PlanBytes, Stop, Taken, Wiper, asked_by, shown,
     take_files,
 };
-use std::alloc::Global;
+use std::alloc::{AllocError, Global};
 use std::fs::{File, Files};
 use std::io;
-use std::io::{BufWriter, Printer};
+use std::io::{BufWriter, Printer, Write};
 use std::sync::{Arc, Wait};
-
-// How far the program gets by itself: to its end with this status, to the end of a run, or to a run whose workers share a memory.
-#[derive(Drop)]
-pub enum Turn {
-    Ended(u8),
-    Ran(Finished),
-    Shared(SharedRun),
-}
 
 // How a run ended that has its report, what the system said of its files, and why the first of its other outputs couldn't be written,
 // where one couldn't.
@@ -91,6 +83,17 @@ impl Finished {
         self
     }
 
+    // How it ended, and what the system said of its files.
+    pub fn into_parts(self) -> (RunEnd, Closed) {
+        let Finished {
+            ended,
+            closed,
+            is_trace_cut: _,
+            unwritten: _nothing,
+        } = self;
+        (ended, closed)
+    }
+
     // Why the first thing that couldn't be stored or written couldn't be, where there is one.
     pub fn missing(&self) -> Option<&Stop> {
         match &self.closed.unstored {
@@ -100,22 +103,42 @@ impl Finished {
     }
 }
 
-// A run whose workers share a memory: the plan, how many they are, what is asked of it, and what is told behind its report.
+// What carries out the I/O of a run, or of all its rounds: files that were taken, a memory for each run, or nothing.
 #[derive(Drop)]
-pub struct SharedRun {
-    pub plan: Plan,
-    pub workers: u32,
-    asked: Arc<Asked, Global>,
-    wanted: Option<Wanted>,
+pub enum Ground<'a> {
+    Files(Taken<'a>),
+    Memory,
+    Nothing,
 }
 
-impl SharedRun {
-    // Why the program ends where the run can't begin. Its outputs are as if it had not been asked for.
-    pub fn given_up<R: Outlet>(&self, rt: &R, fault: CliFault) -> Stop {
-        if let Some(wanted) = &self.wanted {
-            wanted.outputs.clear(rt);
+impl<'a> Ground<'a> {
+    // That of the plan's kind of engine.
+    pub fn of<R: Outlet + Machine>(
+        rt: &R,
+        choice: &Choice<'a>,
+        wishes: &[Wish],
+        wanted: &Wanted,
+        plan: &Plan,
+    ) -> Result<Ground<'a>, Stop> {
+        match plan.engine() {
+            EngineKind::File => {
+                let kept = wanted.outputs.kept(rt)?;
+                Ok(Ground::Files(take_files(rt, plan, choice, wishes, kept.as_slice())?))
+            }
+            EngineKind::Memory => Ok(Ground::Memory),
+            EngineKind::Null => Ok(Ground::Nothing),
         }
-        Stop::from(fault)
+    }
+
+    // A run over it that has ended, with what the system said of its files.
+    pub fn close<R: Outlet + Machine>(&self, rt: &R, ran: Finished) -> Result<Finished, Stop> {
+        match self {
+            Ground::Files(files) => {
+                let closed = files.close(rt, &ran.ended.faults)?;
+                Ok(ran.over(closed))
+            }
+            Ground::Memory | Ground::Nothing => Ok(ran),
+        }
     }
 }
 
@@ -127,16 +150,16 @@ pub fn to_output<P: Print + AllocGlobal>(rt: &P) -> Result<BufWriter<Printer<'_,
     }
 }
 
-// Runs the plan, but for one over a memory that several workers share, and tells where it found what.
+// Runs the plan, writes its report to standard output, and tells where it found what.
 pub fn run_plan<R: Outlet + Machine>(
     rt: &R,
     choice: &Choice<'_>,
     wishes: &[Wish],
     plan: Plan,
-) -> Result<Turn, Stop> {
+) -> Result<Finished, Stop> {
     let wanted = Wanted::of(rt, choice, &plan)?;
-    match run_engines(rt, choice, wishes, &wanted, plan) {
-        Ok(turn) => told(rt, wanted, turn),
+    match run_wanted(rt, choice, wishes, &wanted, plan) {
+        Ok(ran) => Ok(wanted.tell(rt, ran)),
         Err(stop) => {
             wanted.outputs.clear(rt);
             Err(stop)
@@ -144,181 +167,73 @@ pub fn run_plan<R: Outlet + Machine>(
     }
 }
 
-// What is wanted is told of a run that has ended, and kept with one that is still to come.
-fn told<R: Outlet>(rt: &R, wanted: Wanted, turn: Turn) -> Result<Turn, Stop> {
-    match turn {
-        Turn::Ended(status) => Ok(Turn::Ended(status)),
-        Turn::Ran(ran) => Ok(Turn::Ran(wanted.tell(rt, ran))),
-        Turn::Shared(mut job) => {
-            job.wanted = Some(wanted);
-            Ok(Turn::Shared(job))
-        }
-    }
-}
-
-// Runs the plan over its kind of engine.
-fn run_engines<R: Outlet + Machine>(
+// Runs the plan once, with its trace where one is wanted.
+fn run_wanted<R: Outlet + Machine>(
     rt: &R,
     choice: &Choice<'_>,
     wishes: &[Wish],
     wanted: &Wanted,
     plan: Plan,
-) -> Result<Turn, Stop> {
-    let asked = asked_by(rt, Pace::of(rt, choice.progress), choice.stop_fd)?;
-    run_asked(rt, choice, asked, wishes, wanted, plan)
-}
-
-// Runs the plan over its kind of engine, where this is asked of the run.
-fn run_asked<R: Outlet + Machine>(
-    rt: &R,
-    choice: &Choice<'_>,
-    asked: Arc<Asked, Global>,
-    wishes: &[Wish],
-    wanted: &Wanted,
-    plan: Plan,
-) -> Result<Turn, Stop> {
+) -> Result<Finished, Stop> {
+    let asked = asked_by(rt, Pace::of(rt, choice.progress), choice.stop_fd, false)?;
+    let ground = Ground::of(rt, choice, wishes, wanted, &plan)?;
     let workers = workers_of(&plan, choice.workers);
-    match plan.engine() {
-        EngineKind::File => run_over_files(rt, choice, &asked, wishes, wanted, plan, workers),
-        EngineKind::Memory if is_alone(&plan, workers) => {
-            Ok(Turn::Ran(alone_over_memory(rt, wanted, &asked, plan)?))
+    let events = wanted.outputs.trace(rt)?;
+    let mut out = to_output(rt)?;
+    let ran = run_once(rt, &ground, &asked, plan, workers, events, &mut out)?;
+    ground.close(rt, ran)
+}
+
+// One run of the plan: its report goes to `out`, and then its trace where one is asked for.
+pub fn run_once<R: Outlet + Machine, V: Write>(
+    rt: &R,
+    ground: &Ground<'_>,
+    asked: &Arc<Asked, Global>,
+    plan: Plan,
+    workers: u32,
+    events: Option<TraceFile<'_, R>>,
+    out: &mut V,
+) -> Result<Finished, Stop> {
+    if workers == 1 && plan.verifiers() == 0 {
+        return run_alone(rt, ground, asked, plan, events, out);
+    }
+    match ground {
+        Ground::Files(files) => {
+            let engines = file_engines(rt, files, workers)?;
+            Ok(run_files(rt, asked, plan, engines, events, out)?)
         }
-        EngineKind::Memory => Ok(shared_run(asked, plan, workers)),
-        EngineKind::Null => { Ok(Turn::Ran(run_over_nothing(rt, wanted, &asked, plan, workers)?)) }
+        Ground::Memory => Ok(run_shares(rt, asked, plan, workers, events, out)?),
+        Ground::Nothing => Ok(run_nulls(rt, asked, plan, workers, events, out)?),
     }
 }
 
-// Whether one worker runs the plan by itself, and judges its own checks.
-fn is_alone(plan: &Plan, workers: u32) -> bool {
-    workers == 1 && plan.verifiers() == 0
-}
-
-// Runs the plan over the system's files.
-fn run_over_files<R: Outlet + Machine>(
+// Runs the plan with one worker, which judges its own checks.
+fn run_alone<R: Outlet + Machine, V: Write>(
     rt: &R,
-    choice: &Choice<'_>,
+    ground: &Ground<'_>,
     asked: &Arc<Asked, Global>,
-    wishes: &[Wish],
-    wanted: &Wanted,
     plan: Plan,
-    workers: u32,
-) -> Result<Turn, Stop> {
-    let kept = wanted.outputs.kept(rt)?;
-    let files = take_files(rt, &plan, choice, wishes, kept.as_slice())?;
-    let ran = run_over_taken(rt, wanted, asked, &files, plan, workers);
-    close_files(rt, &files, ran)
-}
-
-// How a run over these files ended, with what the system said of them.
-fn close_files<R: Eprint + AllocGlobal>(
-    rt: &R,
-    files: &Taken<'_>,
-    ran: Result<Finished, Stop>,
-) -> Result<Turn, Stop> {
-    let ran = ran?;
-    let closed = files.close(rt, &ran.ended.faults)?;
-    Ok(Turn::Ran(ran.over(closed)))
-}
-
-// Runs the plan over files that were taken.
-fn run_over_taken<R: Outlet + Machine>(
-    rt: &R,
-    wanted: &Wanted,
-    asked: &Arc<Asked, Global>,
-    files: &Taken<'_>,
-    plan: Plan,
-    workers: u32,
+    events: Option<TraceFile<'_, R>>,
+    out: &mut V,
 ) -> Result<Finished, Stop> {
-    if is_alone(&plan, workers) {
-        alone_over_files(rt, wanted, asked, files, plan)
-    } else {
-        crew_over_files(rt, wanted, asked, files, plan, workers)
-    }
-}
-
-// Runs the plan over files with one worker, which judges its own checks.
-fn alone_over_files<R: Outlet + Machine>(
-    rt: &R,
-    wanted: &Wanted,
-    asked: &Arc<Asked, Global>,
-    files: &Taken<'_>,
-    plan: Plan,
-) -> Result<Finished, Stop> {
-    let mut engine = files.engine(rt, 0)?;
-    files.begin(rt, &engine);
-    alone_over(rt, wanted, asked, plan, &mut engine)
-}
-
-// Runs the plan over files with several workers.
-fn crew_over_files<R: Outlet + Machine>(
-    rt: &R,
-    wanted: &Wanted,
-    asked: &Arc<Asked, Global>,
-    files: &Taken<'_>,
-    plan: Plan,
-    workers: u32,
-) -> Result<Finished, Stop> {
-    let events = wanted.outputs.trace(rt)?;
-    let engines = file_engines(rt, files, workers)?;
-    Ok(run_files(rt, asked, plan, engines, events)?)
-}
-
-// Runs the plan with one worker over a memory.
-fn alone_over_memory<R: Outlet + Machine>(
-    rt: &R,
-    wanted: &Wanted,
-    asked: &Arc<Asked, Global>,
-    plan: Plan,
-) -> Result<Finished, Stop> {
-    match MemoryEngine::new(rt.alloc(), &plan) {
-        Ok(engine) => {
-            let mut engine = engine;
-            alone_over(rt, wanted, asked, plan, &mut engine)
+    match ground {
+        Ground::Files(files) => {
+            let mut engine = files.engine(rt, 0)?;
+            files.begin(rt, &engine);
+            Ok(run_over(rt, asked, plan, &mut engine, events, out)?)
         }
-        Err(_) => Err(Stop::from(CliFault::Memory)),
+        Ground::Memory => match MemoryEngine::new(rt.alloc(), &plan) {
+            Ok(engine) => {
+                let mut engine = engine;
+                Ok(run_over(rt, asked, plan, &mut engine, events, out)?)
+            }
+            Err(_) => Err(Stop::from(CliFault::Memory)),
+        },
+        Ground::Nothing => { Ok(run_over(rt, asked, plan, &mut NullEngine::new(), events, out)?) }
     }
 }
 
-// A run with so many workers over a memory that they share is still to come.
-fn shared_run(asked: Arc<Asked, Global>, plan: Plan, workers: u32) -> Turn {
-    Turn::Shared(SharedRun {
-        plan,
-        workers,
-        asked,
-        wanted: None,
-    })
-}
-
-// Runs the plan over nothing.
-fn run_over_nothing<R: Outlet + Machine>(
-    rt: &R,
-    wanted: &Wanted,
-    asked: &Arc<Asked, Global>,
-    plan: Plan,
-    workers: u32,
-) -> Result<Finished, Stop> {
-    if is_alone(&plan, workers) {
-        return alone_over(rt, wanted, asked, plan, &mut NullEngine::new());
-    }
-    let events = wanted.outputs.trace(rt)?;
-    Ok(run_nulls(rt, asked, plan, workers, events)?)
-}
-
-// Runs the plan over this engine with one worker, which judges its own checks.
-fn alone_over<R: Outlet + Machine>(
-    rt: &R,
-    wanted: &Wanted,
-    asked: &Arc<Asked, Global>,
-    plan: Plan,
-    engine: &mut dyn Engine,
-) -> Result<Finished, Stop>
-    requires { (state engine.old).calls ≤ 2 ^ 63 }
-{
-    let events = wanted.outputs.trace(rt)?;
-    Ok(run_over(rt, asked, events, plan, engine)?)
-}
-
-// The engines of so many workers over the files, which the first of them drops from the system's cache.
+// The engines of the workers over the files, which the first of them drops from the system's cache.
 fn file_engines<R: Files<File = File> + AllocGlobal + Eprint>(
     rt: &R,
     files: &Taken<'_>,
@@ -335,14 +250,14 @@ fn file_engines<R: Files<File = File> + AllocGlobal + Eprint>(
     Ok(engines)
 }
 
-pub fn boxed<X: Drop>(alloc: Global, one: X) -> Result<Box<X>, CliFault> {
+fn boxed<X: Drop>(alloc: Global, one: X) -> Result<Box<X>, CliFault> {
     match Box::new(alloc, one) {
         Ok(made) => Ok(made),
         Err(_) => Err(CliFault::Memory),
     }
 }
 
-// Puts it behind the last one.
+// Puts it after the last one.
 pub fn add<X: Drop>(all: &mut Vec<X>, one: X) -> Result<(), CliFault> {
     match all.push(one) {
         Ok(()) => Ok(()),
@@ -350,19 +265,18 @@ pub fn add<X: Drop>(all: &mut Vec<X>, one: X) -> Result<(), CliFault> {
     }
 }
 
-// Runs the plan over this engine with one worker, and writes the report and then the trace where one is asked for.
-fn run_over<R: Outlet + Machine>(
+// Runs the plan over this engine with one worker.
+fn run_over<R: Outlet + Machine, V: Write>(
     rt: &R,
     asked: &Arc<Asked, Global>,
-    events: Option<TraceFile<'_, R>>,
     plan: Plan,
     engine: &mut dyn Engine,
+    events: Option<TraceFile<'_, R>>,
+    out: &mut V,
 ) -> Result<Finished, CliFault>
     requires { (state engine.old).calls ≤ 2 ^ 63 }
 {
     let alloc = rt.alloc();
-    let mut out = to_output(rt)?;
-    let out = &mut out;
     shown(
         rt,
         PlanBytes::of(&plan),
@@ -380,37 +294,59 @@ fn run_over<R: Outlet + Machine>(
 }
 
 // Runs the plan over the system's files, with a worker for each of these engines.
-fn run_files<R: Outlet + Machine>(
+fn run_files<R: Outlet + Machine, V: Write>(
     rt: &R,
     asked: &Arc<Asked, Global>,
     plan: Plan,
     shares: Vec<FileEngine<SharedFile>>,
     events: Option<TraceFile<'_, R>>,
+    out: &mut V,
 ) -> Result<Finished, CliFault> {
     let mut engines: Vec<Box<dyn Engine + Send>> = Vec::new(rt.alloc());
     for engine in shares {
         add(&mut engines, boxed(rt.alloc(), engine)?)?;
     }
-    run_with(rt, asked, plan, engines, events)
+    run_with(rt, asked, plan, engines, events, out)
 }
 
-// Runs the plan over nothing, with so many workers.
-fn run_nulls<R: Outlet + Machine>(
+// Runs the plan over nothing, with this many workers.
+fn run_nulls<R: Outlet + Machine, V: Write>(
     rt: &R,
     asked: &Arc<Asked, Global>,
     plan: Plan,
     workers: u32,
     events: Option<TraceFile<'_, R>>,
+    out: &mut V,
 ) -> Result<Finished, CliFault> {
     let mut engines: Vec<Box<dyn Engine + Send>> = Vec::new(rt.alloc());
     for _ in 0..workers {
         add(&mut engines, boxed(rt.alloc(), NullEngine::new())?)?;
     }
-    run_with(rt, asked, plan, engines, events)
+    run_with(rt, asked, plan, engines, events, out)
 }
 
-// So many shares of one memory for the plan's files.
-pub fn shares<R: Wait + Clone + Drop>(
+// Runs the plan over a memory that this many workers share.
+fn run_shares<R: Outlet + Machine, V: Write>(
+    rt: &R,
+    asked: &Arc<Asked, Global>,
+    plan: Plan,
+    workers: u32,
+    events: Option<TraceFile<'_, R>>,
+    out: &mut V,
+) -> Result<Finished, CliFault> {
+    let own: Result<R, AllocError> = rt.clone();
+    let Ok(own) = own else {
+        return Err(CliFault::Memory);
+    };
+    let mut engines: Vec<Box<dyn Engine + Send>> = Vec::new(rt.alloc());
+    for share in shares(own, rt.alloc(), &plan, workers)? {
+        add(&mut engines, boxed(rt.alloc(), share)?)?;
+    }
+    run_with(rt, asked, plan, engines, events, out)
+}
+
+// The shares of one memory for the plan's files, one for each worker.
+fn shares<R: Wait + Clone + Drop>(
     rt: R,
     alloc: Global,
     plan: &Plan,
@@ -425,64 +361,16 @@ pub fn shares<R: Wait + Clone + Drop>(
     Ok(shares)
 }
 
-// Runs the job over the shares of a memory, writes its report to standard output, and tells where it found what.
-pub fn run_memory<R: Outlet + Machine>(
-    rt: &R,
-    job: SharedRun,
-    engines: Vec<Box<dyn Engine + Send>>,
-) -> Result<Finished, Stop> {
-    let SharedRun {
-        plan,
-        workers: _,
-        asked,
-        wanted,
-    } = job;
-    let Some(wanted) = wanted else {
-        return Ok(run_untraced(rt, &asked, plan, engines)?);
-    };
-    match traced(rt, &asked, &wanted, plan, engines) {
-        Ok(ran) => Ok(wanted.tell(rt, ran)),
-        Err(stop) => {
-            wanted.outputs.clear(rt);
-            Err(stop)
-        }
-    }
-}
-
-// Runs the job over the shares of a memory, with no trace.
-fn run_untraced<'a, R: Outlet + Machine>(
-    rt: &'a R,
-    asked: &Arc<Asked, Global>,
-    plan: Plan,
-    engines: Vec<Box<dyn Engine + Send>>,
-) -> Result<Finished, CliFault> {
-    let events: Option<TraceFile<'a, R>> = None;
-    run_with(rt, asked, plan, engines, events)
-}
-
-// Runs the job over the shares of a memory, with its trace where one is wanted.
-fn traced<R: Outlet + Machine>(
-    rt: &R,
-    asked: &Arc<Asked, Global>,
-    wanted: &Wanted,
-    plan: Plan,
-    engines: Vec<Box<dyn Engine + Send>>,
-) -> Result<Finished, Stop> {
-    let events = wanted.outputs.trace(rt)?;
-    Ok(run_with(rt, asked, plan, engines, events)?)
-}
-
-// Runs the plan with a worker for each engine, and writes the report and then the trace where one is asked for.
-fn run_with<R: Outlet + Machine>(
+// Runs the plan with a worker for each engine.
+fn run_with<R: Outlet + Machine, V: Write>(
     rt: &R,
     asked: &Arc<Asked, Global>,
     plan: Plan,
     engines: Vec<Box<dyn Engine + Send>>,
     events: Option<TraceFile<'_, R>>,
+    out: &mut V,
 ) -> Result<Finished, CliFault> {
     let alloc = rt.alloc();
-    let mut out = to_output(rt)?;
-    let out = &mut out;
     shown(rt, PlanBytes::of(&plan), asked, move |watch, meter| {
         let line = &Wiper { rt, meter };
         let mut out = Unfailing::new(Wiping { line, out });

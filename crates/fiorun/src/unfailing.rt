@@ -32,3 +32,17 @@ impl<W: Write> Write for Unfailing<W> {
         Ok(())
     }
 }
+
+// Takes all that is written, and keeps nothing.
+#[derive(Clone, Copy)]
+pub struct Nowhere;
+
+impl Write for Nowhere {
+    fn write(&mut self, text: &[u8]) -> io::Result<usize> {
+        Ok(text.len())
+    }
+
+    fn flush(&mut self) -> io::Result<()> {
+        Ok(())
+    }
+}

@@ -12,5 +12,5 @@ pub use jr_replay_traces::{
 };
 pub use lines::{each_has_one_line, lines_are_in_order, lines_are_sorted};
 pub use reports::{bads_in_order, report};
-pub use totals::totals_text;
+pub use totals::{push_totals_line, totals_text};
 pub use traces::trace;
