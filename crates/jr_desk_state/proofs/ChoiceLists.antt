@@ -1,5 +1,5 @@
 -- The first that a search over a list gives.
-use Rattle.std.proofs.Common.{◌≡◌, ℕ, zero, suc, ◌<◌, List, [], ◌∷◌, length, drop, get_or, true, false, refl, ◌∙◌}
+use Rattle.std.proofs.Common.{◌≡◌, ℕ, zero, suc, ◌<◌, List, [], ◌∷◌, length, drop, get_or, true, false, refl, ◌∙◌, arith}
 use Rattle.std.proofs.Common.{ap, subst}
 use Rattle.std.specs.Prelude.{Option, Some, None, slice_get, is_some}
 use Rattle.std.specs.Option.{option_or}
@@ -49,3 +49,12 @@ none_past f (y ∷ ys) (suc k) past = none_past f ys k past
 pub given_nowhere : {X Y : Type 0} (f : X → Option Y) (xs : List X) (k : ℕ) → slice_get xs k ≡ None
     → first_given f xs ≡ first_given f (drop k xs) → first_given f xs ≡ None
 given_nowhere f xs k past so_far = so_far ∙ none_past f xs k past
+
+-- where the first n items give nothing, it is the first of those from n on
+pub given_past : {X Y : Type 0} (f : X → Option Y) (xs : List X) (n : ℕ)
+    → ((k : ℕ) (x : X) → k < n → slice_get xs k ≡ Some x → f x ≡ None) → first_given f xs ≡ first_given f (drop n xs)
+given_past f xs zero none = refl
+given_past f [] (suc n) none = refl
+given_past {X = X} {Y = Y} f (x ∷ xs) (suc n) none =
+    ap (λ (o : Option Y). option_or o (first_given f xs)) (none 0 x (omega arith) refl)
+    ∙ given_past f xs n (λ k y below at. none (suc k) y (omega (arith, below)) at)

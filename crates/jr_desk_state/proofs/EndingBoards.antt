@@ -13,7 +13,9 @@ use Rattle.jr_desk_tickets.proofs.HandingMoves.{handed_length}
 use Rattle.jr_desk_state.specs.declared.board.Board.{Board}
 use Rattle.jr_desk_state.specs.Boards.{IsBoard}
 use Rattle.jr_desk_state.specs.Flyings.{IsFlying}
+use Rattle.jr_desk_state.specs.Rests.{AreRested}
 use Rattle.jr_desk_state.specs.Standings.{AreStanding}
+use Rattle.jr_desk_state.specs.declared.resting.Rested.{Rested}
 use Rattle.jr_desk_state.specs.declared.written.CheckedLog.{CheckedLog}
 use Rattle.jr_desk_state.specs.WriteLogs.{IsLog}
 use Rattle.jr_desk_state.proofs.EndingParts.{OwnParts, own_parts}
@@ -27,8 +29,9 @@ pub board_stays : (plan : Plan) (before after : Board)
     → after.log ≡ before.log
     → IsTallied plan before.history.items after.tallies
     → AreStanding plan before.history.items after.standings.items
+    → after.rested ≡ before.rested
     → IsBoard plan after
-board_stays plan before after is history handed flying log tallies standings =
+board_stays plan before after is history handed flying log tallies standings rested =
     let same = sym history in
     record {
       planned = is.planned;
@@ -39,6 +42,8 @@ board_stays plan before after is history handed flying log tallies standings =
           (subst (λ (h : List Event). IsLog plan h before.log) same is.log);
       tallies = subst (λ (h : List Event). IsTallied plan h after.tallies) same tallies;
       standings = subst (λ (h : List Event). AreStanding plan h after.standings.items) same standings;
+      rested = subst (λ (r : Rested). AreRested plan after.history.items r) (sym rested)
+          (subst (λ (h : List Event). AreRested plan h before.rested) same is.rested);
     }
 
 -- the parts of a ticket of the board's own
@@ -62,8 +67,9 @@ pub board_begins : (plan : Plan) (board : Board) → board.history.items ≡ []
     → IsLog plan [] board.log
     → IsTallied plan [] board.tallies
     → AreStanding plan [] board.standings.items
+    → AreRested plan [] board.rested
     → IsBoard plan board
-board_begins plan board none planned handed flying log tallies standings =
+board_begins plan board none planned handed flying log tallies standings rested =
     let same = sym none in
     record {
       planned = planned;
@@ -73,4 +79,5 @@ board_begins plan board none planned handed flying log tallies standings =
       log = subst (λ (h : List Event). IsLog plan h board.log) same log;
       tallies = subst (λ (h : List Event). IsTallied plan h board.tallies) same tallies;
       standings = subst (λ (h : List Event). AreStanding plan h board.standings.items) same standings;
+      rested = subst (λ (h : List Event). AreRested plan h board.rested) same rested;
     }

@@ -13,6 +13,7 @@ pub mod KeptEntries
 pub mod Leading
 pub mod LogMoves
 pub mod Preparing
+pub mod RestKept
 pub mod RestMoves
 pub mod Serving
 pub mod StandingDues

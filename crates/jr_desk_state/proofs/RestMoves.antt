@@ -367,3 +367,95 @@ opens_all plan history n phase all sofar clone job at =
     let within : clone < length plan.clones = slice_get_within plan.clones clone job at in
     let low : job.phase ≤ 4294967295 = sofar.small clone job (omega (arith, within, all)) at in
     ap (list_all (λ (other : SubJob). nat_le job.phase other.phase || is_at_rest history other)) (sym whole) ∙ sofar.lets job.phase low
+
+-- the clones that are passed by
+
+pub rests_up_to : (plan : Plan) (history : List Event) (n : ℕ)
+    → ((c : ℕ) (job : SubJob) → clone_of plan c ≡ Some job → c < n → is_at_rest history job ≡ true)
+    → ((job : SubJob) → clone_of plan n ≡ Some job → is_at_rest history job ≡ true)
+    → (c : ℕ) (job : SubJob) → clone_of plan c ≡ Some job → c < n + 1 → is_at_rest history job ≡ true
+rests_up_to plan history n before here c job there below =
+    elim (cases_eq c n) [
+      | inl same ↦ here job (ap (clone_of plan) (sym same) ∙ there)
+      | inr apart ↦
+          elim (cases_lt c n) [
+            | inl earlier ↦ before c job there earlier
+            | inr high ↦ absurd (apart (omega (arith, below, high)))
+          ]
+    ]
+
+-- none of the first n clones is of an earlier phase than this, unless it is at rest, and a clone is of this phase or an earlier one
+pub record IsEarliest (plan : Plan) (history : List Event) (n clone phase : ℕ) : Type 0 where
+  pub own : (job : SubJob) → clone_of plan clone ≡ Some job → job.phase ≤ phase
+  pub others : (c : ℕ) (job : SubJob) → clone_of plan c ≡ Some job → c < n → job.phase < phase → is_at_rest history job ≡ true
+
+pub earliest_none : (plan : Plan) (history : List Event) (phase : ℕ) → IsEarliest plan history 0 (length plan.clones) phase
+earliest_none plan history phase = record {
+  own = λ job there. absurd (omega (arith, slice_get_within plan.clones (length plan.clones) job there));
+  others = λ c job there below before. absurd (omega (arith, below));
+}
+
+-- one clone further, which is at rest or of no earlier phase
+pub earliest_same : (plan : Plan) (history : List Event) (n clone phase : ℕ) (one : SubJob) → IsEarliest plan history n clone phase
+    → clone_of plan n ≡ Some one
+    → (one.phase < phase → is_at_rest history one ≡ true)
+    → IsEarliest plan history (n + 1) clone phase
+earliest_same plan history n clone phase one was here rests = record {
+  own = was.own;
+  others = λ c job there below before.
+      elim (cases_eq c n) [
+        | inl same ↦
+            let equal : one ≡ job = same_Some one job (sym here ∙ ap (clone_of plan) (sym same) ∙ there) in
+            subst (λ (j : SubJob). j.phase < phase → is_at_rest history j ≡ true) equal rests before
+        | inr apart ↦ was.others c job there (below_last c n below apart) before
+      ];
+}
+  where
+    below_last : (c n : ℕ) → c < n + 1 → (c ≡ n → ⊥) → c < n
+    below_last c n below apart = omega (arith, below, apart)
+
+-- or which is the one
+pub earliest_here : (plan : Plan) (history : List Event) (n clone phase : ℕ) (one : SubJob) → IsEarliest plan history n clone phase
+    → clone_of plan n ≡ Some one
+    → one.phase < phase
+    → IsEarliest plan history (n + 1) n one.phase
+earliest_here plan history n clone phase one was here before_it = record {
+  own = λ job there. let same = ap (λ (j : SubJob). j.phase) (same_Some one job (sym here ∙ there)) in omega (arith, same);
+  others = λ c job there below before.
+      elim (cases_eq c n) [
+        | inl same ↦
+            let equal = ap (λ (j : SubJob). j.phase) (same_Some one job (sym here ∙ ap (clone_of plan) (sym same) ∙ there)) in
+            absurd (omega (arith, equal, before))
+        | inr apart ↦ was.others c job there (below_last c n below apart) (omega (arith, before, before_it))
+      ];
+}
+  where
+    below_last : (c n : ℕ) → c < n + 1 → (c ≡ n → ⊥) → c < n
+    below_last c n below apart = omega (arith, below, apart)
+
+-- the phase of a clone that isn't at rest is open, and no later one, where all of earlier phases are
+pub opens_by : (plan : Plan) (history : List Event) (e : ℕ) (first : SubJob) → clone_of plan e ≡ Some first
+    → is_at_rest history first ≡ false
+    → ((c : ℕ) (job : SubJob) → clone_of plan c ≡ Some job → job.phase < first.phase → is_at_rest history job ≡ true)
+    → (job : SubJob)
+    → phase_is_open plan history job ≡ nat_le job.phase first.phase
+opens_by plan history e first there stirs rests job =
+    same_test (phase_is_open plan history job) (nat_le job.phase first.phase) low all
+  where
+    low : phase_is_open plan history job ≡ true → nat_le job.phase first.phase ≡ true
+    low opened =
+        elim (or_cases (nat_le job.phase first.phase) (is_at_rest history first)
+        (all_at (λ (other : SubJob). nat_le job.phase other.phase || is_at_rest history other) plan.clones e first opened there)) [
+          | inl below ↦ below
+          | inr rest ↦ absurd (both_ways (is_at_rest history first) stirs rest)
+        ]
+
+    all : nat_le job.phase first.phase ≡ true → phase_is_open plan history job ≡ true
+    all below =
+        all_from (λ (other : SubJob). nat_le job.phase other.phase || is_at_rest history other) plan.clones
+        (λ c other at.
+        elim (cases_lt other.phase first.phase) [
+          | inl earlier ↦ or_right (nat_le job.phase other.phase) (is_at_rest history other) (rests c other at earlier)
+          | inr later ↦ or_left (nat_le job.phase other.phase) (is_at_rest history other)
+              (le-leb job.phase other.phase (omega (arith, leb-true job.phase first.phase below, later)))
+        ])

@@ -10,11 +10,14 @@ use Rattle.jr_laws_steps.specs.Nexts.{IsNext, grown}
 use Rattle.jr_desk_totals.specs.Tallying.{IsTallied}
 use Rattle.jr_desk_tickets.specs.Handing.{IsHanded}
 use Rattle.jr_desk_state.specs.declared.board.Board.{Board}
+use Rattle.jr_desk_state.specs.declared.resting.Rested.{Rested}
 use Rattle.jr_desk_state.specs.declared.standings.Standing.{Standing}
 use Rattle.jr_desk_state.specs.Boards.{IsBoard}
 use Rattle.jr_desk_state.specs.Flyings.{IsFlying}
+use Rattle.jr_desk_state.specs.Rests.{AreRested}
 use Rattle.jr_desk_state.specs.Standings.{AreStanding, IsStanding}
 use Rattle.jr_desk_state.specs.WriteLogs.{IsLog}
+use Rattle.jr_desk_state.proofs.RestKept.{rested_grows}
 
 -- each clone of the plan has its standing
 pub clone_stands : (plan : Plan) (board : Board) (c : ℕ) (job : SubJob) → IsBoard plan board → clone_of plan c ≡ Some job
@@ -50,8 +53,9 @@ pub board_grows : (plan : Plan) (before after : Board) (event : Event)
     → IsLog plan (grown before.history.items event) after.log
     → IsTallied plan (grown before.history.items event) after.tallies
     → AreStanding plan (grown before.history.items event) after.standings.items
+    → after.rested ≡ before.rested
     → IsBoard plan after
-board_grows plan before after event is may history handed flying log tallies standings =
+board_grows plan before after event is may history handed flying log tallies standings rested =
     let same = sym history in
     record {
       planned = is.planned;
@@ -62,4 +66,8 @@ board_grows plan before after event is may history handed flying log tallies sta
       log = subst (λ (h : List Event). IsLog plan h after.log) same log;
       tallies = subst (λ (h : List Event). IsTallied plan h after.tallies) same tallies;
       standings = subst (λ (h : List Event). AreStanding plan h after.standings.items) same standings;
+      rested =
+          subst (λ (h : List Event). AreRested plan h after.rested) same
+          (subst (λ (r : Rested). AreRested plan (grown before.history.items event) r) (sym rested)
+          (rested_grows plan before.history.items event before.rested (next_of plan before event is may) is.rested));
     }

@@ -8,6 +8,7 @@ use Rattle.jr_desk_tickets.specs.Handing.{IsHanded}
 use Rattle.jr_desk_state.specs.declared.board.Board.{Board}
 use Rattle.jr_desk_state.specs.declared.standings.Standing.{Standing}
 use Rattle.jr_desk_state.specs.Flyings.{IsFlying}
+use Rattle.jr_desk_state.specs.Rests.{AreRested}
 use Rattle.jr_desk_state.specs.Standings.{ArePrepared, AreStanding}
 use Rattle.jr_desk_state.specs.WriteLogs.{IsLog}
 
@@ -20,6 +21,7 @@ pub record IsBoard (plan : Plan) (board : Board) : Type 0 where
   pub log : IsLog plan board.history.items board.log
   pub tallies : IsTallied plan board.history.items board.tallies
   pub standings : AreStanding plan board.history.items board.standings.items
+  pub rested : AreRested plan board.history.items board.rested
 
 -- the writes that are still to check, of all clones: no more of them can be skipped
 abbrev pub left_of : List Standing → ℕ

@@ -1,5 +1,6 @@
 pub mod Boards
 pub mod Flyings
+pub mod Rests
 pub mod Standings
 pub mod Takes
 pub mod WriteLogs

@@ -1,4 +1,5 @@
 use crate::flying::Flying;
+use crate::resting::Rested;
 use crate::standings::Standing;
 use crate::written::CheckedLog;
 use jr_desk_tickets::TicketTable;
@@ -15,4 +16,5 @@ pub struct Board {
     pub log: CheckedLog,
     pub tallies: Tallies,
     pub standings: Vec<Standing>,
+    pub rested: Rested,
 }

@@ -35,7 +35,8 @@ pub(crate) fn choose(plan: &Plan, board: &Board, worker: u32) -> Option<Chosen>
     ensures judged { IfSome result (λ chosen. judged_by board.now.log.writes chosen.event ≡ Some chosen.expected) }
 {
     let phase = open_phase(plan, board);
-    for clone in 0..plan.clones() {
+    // Those before are at rest, and do nothing more.
+    for clone in board.rested.leading..plan.clones() {
         let step = step_of_clone(plan, board, phase, clone, worker);
         if step.is_some() {
             return step;

@@ -1,8 +1,9 @@
-ghost use Rattle.std.specs.Prelude.{◌≡◌, ℕ, false, nat_le, slice_get, Some};
+ghost use Rattle.std.specs.Prelude.{◌≡◌, ◌<◌, ℕ, true, false, nat_le, slice_get, Some};
 ghost use Rattle.jr_model.specs.Legal.{is_at_rest, is_complete, is_halted, phase_is_open};
 ghost use Rattle.jr_model.specs.Plan.{SubJob as Clone, clone_of};
 ghost use Rattle.jr_model.specs.Rounds.{pass_finished, pass_of};
 ghost use Rattle.jr_desk_state.specs.Boards.{IsBoard};
+ghost use Rattle.jr_desk_state.specs.Rests.{AreRested};
 ghost use Rattle.jr_desk_state.specs.declared.standings.Standing.{Standing as Stood};
 
 use crate::board::Board;
@@ -57,9 +58,78 @@ pub(crate) fn is_at_rest(plan: &Plan, board: &Board, clone: usize) -> bool
     pass_is_finished(plan, board, clone)
 }
 
+/// Which clones needn't be looked at again: one that is at rest stays so.
+#[derive(Clone, Copy)]
+pub struct Rested {
+    /// The clones before this one are at rest.
+    pub leading: usize,
+    /// And so are those of earlier phases than this one's, where there is such a clone.
+    pub earliest: usize,
+}
+
+// Looks at all clones again, where the one of the earliest phase has come to rest: that is once a clone at most.
+pub(crate) fn pass_rested(plan: &Plan, board: &mut Board)
+    requires { IsBoard plan.now board.old }
+    ensures board { IsBoard plan.now board.new }
+    ensures history { board.new.history.items ≡ board.old.history.items }
+{
+    let earliest = board.rested.earliest;
+    if earliest >= plan.clones() || is_at_rest(plan, board, earliest) {
+        board.rested = Rested {
+            leading: first_busy(plan, board),
+            earliest: earliest_busy(plan, board),
+        };
+    }
+}
+
+// The first clone that isn't at rest, or how many there are.
+fn first_busy(plan: &Plan, board: &Board) -> usize
+    requires { IsBoard plan.now board.now }
+    ensures { (clone : ℕ) (job : Clone) → clone_of plan.now clone ≡ Some job → clone < result
+        → is_at_rest board.now.history.items job ≡ true }
+{
+    for clone in 0..plan.clones() {
+        if !is_at_rest(plan, board, clone) {
+            return clone;
+        }
+    }
+    plan.clones()
+}
+
+// The first clone of the earliest phase of which one isn't at rest, or how many clones there are.
+fn earliest_busy(plan: &Plan, board: &Board) -> usize
+    requires { IsBoard plan.now board.now }
+    ensures { (clone : ℕ) (job first : Clone) → clone_of plan.now clone ≡ Some job → clone_of plan.now result ≡ Some first
+        → job.phase < first.phase → is_at_rest board.now.history.items job ≡ true }
+{
+    let mut earliest = plan.clones();
+    let mut phase = u32::MAX;
+    for clone in 0..plan.clones() {
+        let own = plan.clone_at(clone).phase();
+        if own < phase && !is_at_rest(plan, board, clone) {
+            earliest = clone;
+            phase = own;
+        }
+    }
+    earliest
+}
+
 // The first phase of which a clone isn't at rest: draws of later phases may not be issued. No phase is later where all
 // clones are at rest.
 pub(crate) fn open_phase(plan: &Plan, board: &Board) -> u32
+    requires { IsBoard plan.now board.now }
+    ensures { (clone : ℕ) (job : Clone) → clone_of plan.now clone ≡ Some job
+        → phase_is_open plan.now board.now.history.items job ≡ nat_le job.phase result }
+{
+    let earliest = board.rested.earliest;
+    if earliest < plan.clones() && !is_at_rest(plan, board, earliest) {
+        return plan.clone_at(earliest).phase();
+    }
+    phase_of_all(plan, board)
+}
+
+// The same, found by a look at all clones.
+fn phase_of_all(plan: &Plan, board: &Board) -> u32
     requires { IsBoard plan.now board.now }
     ensures { (clone : ℕ) (job : Clone) → clone_of plan.now clone ≡ Some job
         → phase_is_open plan.now board.now.history.items job ≡ nat_le job.phase result }

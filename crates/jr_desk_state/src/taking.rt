@@ -13,7 +13,7 @@ ghost use Rattle.jr_desk_state.specs.Takes.{IsChosen, answer_with, ticket_for};
 use crate::board::Board;
 use crate::choosing::choose;
 use crate::flying::Flying;
-use crate::resting::is_complete;
+use crate::resting::{Rested, is_complete, pass_rested};
 use crate::standings::Standing;
 use crate::starting::{issue, probe, skip};
 use crate::takes::{Take, answer_with};
@@ -40,6 +40,10 @@ pub fn new_board(alloc: Global, plan: &Plan) -> Result<Board, Memory>
         log: CheckedLog::new(alloc, plan)?,
         tallies: Tallies::new(alloc, plan)?,
         standings,
+        rested: Rested {
+            leading: 0,
+            earliest: plan.clones(),
+        },
     })
 }
 
@@ -50,6 +54,7 @@ pub fn prepare(alloc: Global, plan: &Plan, board: &mut Board) -> Result<(), Memo
     ensures history { board.new.history.items ≡ board.old.history.items }
     ensures ready { OnOk result (IsReady plan.now board.new) }
 {
+    pass_rested(plan, board);
     board.flying.commit()?;
     board.tickets.reserve()?;
     prepare_standings(alloc, plan, &mut board.standings)?;

@@ -4,8 +4,18 @@ use Rattle.jr_model.specs.Choice.{choice_of_clone}
 use Rattle.jr_laws_steps.proofs.PlaceLemmas.{item_at}
 use Rattle.jr_desk_state.specs.declared.choosing.Chosen.{Chosen}
 use Rattle.jr_desk_state.proofs.ChoiceBoards.{some_mapped}
-use Rattle.jr_desk_state.proofs.ChoiceLists.{given_here, given_behind}
+use Rattle.jr_desk_state.proofs.ChoiceLists.{given_here, given_behind, given_past}
+use Rattle.jr_desk_state.proofs.RestKept.{none_at_rest}
 use Rattle.jr_desk_state.proofs.choosing.choose.Goals as goal
+
+pub loop-clone-init : goal.loop-clone-init
+loop-clone-init c =
+    let plan = c.args.plan.now in
+    let board = c.args.board.now in
+    let is = c.requires.board in
+    given_past (choice_of_clone plan board.history.items c.args.worker) plan.clones board.rested.leading
+    (λ clone job before there.
+    none_at_rest plan is.planned clone job there board.history.items is.legal c.args.worker (is.rested.leading clone job there before))
 
 pub returns-then-is_some-clause-step : goal.returns-then-is_some-clause-step
 returns-then-is_some-clause-step c =

@@ -58,7 +58,7 @@ index_mut-requires c =
 pub returns-in_err-reserve-clause-board : goal.returns-in_err-reserve-clause-board
 returns-in_err-reserve-clause-board c =
     let is = c.requires.board in
-    board_stays c.args.plan.now c.args.board.now _ is c.reserve.ensures.items is.tickets is.flying refl is.tallies is.standings
+    board_stays c.args.plan.now c.args.board.now _ is c.reserve.ensures.items is.tickets is.flying refl is.tallies is.standings refl
 
 pub returns-in_err-commit-clause-board : goal.returns-in_err-commit-clause-board
 returns-in_err-commit-clause-board c =
@@ -72,7 +72,7 @@ returns-in_err-commit-clause-board c =
     board_stays plan board _ is c.reserve.ensures.items is.tickets is.flying refl is.tallies
     (standings_set plan history clone parts.job board.standings.items (record old { rounds = c.commit.new.self }) parts.planned is.standings
     (standing_resettled history parts.job old c.commit.new.self (ap round_now c.in_err-commit.ensures.err)
-    (stands_now plan board clone parts.job old is parts.planned c.index_mut.ensures.value)))
+    (stands_now plan board clone parts.job old is parts.planned c.index_mut.ensures.value))) refl
 
 pub log_end-requires-clause-file : goal.log_end-requires-clause-file
 log_end-requires-clause-file c =
@@ -105,7 +105,7 @@ returns-in_err-log_end-clause-board c =
     board_stays plan board _ is c.reserve.ensures.items is.tickets is.flying c.in_err-log_end.ensures.err is.tallies
     (standings_set plan history clone parts.job board.standings.items (record old { rounds = c.commit.new.self }) parts.planned is.standings
     (standing_resettled history parts.job old c.commit.new.self (ap round_now c.in_ok-commit.ensures.ok)
-    (stands_now plan board clone parts.job old is parts.planned c.index_mut.ensures.value)))
+    (stands_now plan board clone parts.job old is parts.planned c.index_mut.ensures.value))) refl
 
 pub index-requires : goal.index-requires
 index-requires c =
@@ -217,4 +217,4 @@ returns-clause-board c =
     (standings_ended plan history ticket.worker outcome ticket (set board.standings.items clone new) c.check_off.new.standing parts next
     (standings_set plan history clone parts.job board.standings.items new parts.planned is.standings stands)
     (c.check_off.ensures plan history parts.job ticket.worker ticket.id parts.io next parts.at parts.kind parts.write
-    parts.named halted found))
+    parts.named halted found)) refl

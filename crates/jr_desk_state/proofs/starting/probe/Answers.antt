@@ -134,7 +134,7 @@ returns-clause-board c =
     (stands_now plan board write.clone job standing is planned c.index_mut.ensures.value))
     (λ k other one there apart stands.
     stays_other_probe plan history other one stands worker write piece next (clone_there plan k other is.planned there)
-    (λ (same : write.clone ≡ other.clone). apart (same ∙ sym (clone_is plan k other is.planned there)))))
+    (λ (same : write.clone ≡ other.clone). apart (same ∙ sym (clone_is plan k other is.planned there))))) refl
 
 pub start-requires-clause-fits : goal.start-requires-clause-fits
 start-requires-clause-fits c =

@@ -83,7 +83,7 @@ returns-clause-board c =
     (stands_now plan board write.clone job c.index_mut.result.now is planned c.index_mut.ensures.value))
     (λ k other standing there apart stands.
     stays_other_skip plan history other standing stands worker write next (clone_there plan k other is.planned there)
-    (λ (same : write.clone ≡ other.clone). apart (same ∙ sym (clone_is plan k other is.planned there)))))
+    (λ (same : write.clone ≡ other.clone). apart (same ∙ sym (clone_is plan k other is.planned there))))) refl
 
 pub returns-clause-fewer : goal.returns-clause-fewer
 returns-clause-fewer c =

@@ -1,5 +1,6 @@
 -- Each part is that of the empty history.
 use Rattle.std.proofs.Common.{[], ◌∙◌, ap, arith}
+use Rattle.std.proofs.lemmas.Option.{slice_get_within}
 use Rattle.jr_model.specs.Plan.{clone_of}
 use Rattle.jr_desk_state.proofs.EndingBoards.{board_begins}
 use Rattle.jr_desk_state.proofs.Preparing.{stand_more, stand_none}
@@ -25,4 +26,9 @@ returns-clause-board c =
       count =
           omega (arith, c.loop-clone.invariant.count, c.clones-clone-end.ensures.value, c.loop-clone-test.false);
       each = c.loop-clone.invariant.each;
+    })
+    (record {
+      leading = λ clone job there before. absurd (omega (arith, before));
+      earlier = λ clone job first there at before.
+          absurd (omega (arith, slice_get_within plan.clones _ first at, c.clones.ensures.value));
     })

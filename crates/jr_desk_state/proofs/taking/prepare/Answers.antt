@@ -8,52 +8,55 @@ use Rattle.jr_desk_state.proofs.taking.prepare.Goals as goal
 
 pub prepare_standings-requires-clause-within : goal.prepare_standings-requires-clause-within
 prepare_standings-requires-clause-within c clone job standing there got =
-    (c.requires.standings.each clone job standing there got).in_pass.within
+    (c.pass_rested.ensures.board.standings.each clone job standing there got).in_pass.within
 
 pub returns-in_err-prepare_standings-clause-board : goal.returns-in_err-prepare_standings-clause-board
 returns-in_err-prepare_standings-clause-board c =
-    let board = c.args.board.now in
+    let board = c.pass_rested.new.board in
     let history = board.history.items in
-    let is = c.requires in
+    let is = c.pass_rested.ensures.board in
     board_stays c.args.plan.now board _ is refl
     (record {
       launches = c.reserve.ensures.launches ∙ is.tickets.launches;
       headers = c.reserve.ensures.headers ∙ is.tickets.headers;
       states = c.reserve.ensures.states ∙ is.tickets.states;
     })
-    (c.in_ok-commit.ensures.kept c.args.plan.now history is.flying) refl is.tallies (c.prepare_standings.ensures.kept history is.standings)
+    (c.in_ok-commit.ensures.kept c.args.plan.now history is.flying) refl is.tallies
+    (c.prepare_standings.ensures.kept history is.standings) refl
 
 pub left_in-requires : goal.left_in-requires
 left_in-requires c = record {
   settled = λ (k : ℕ) (standing : Standing) (got : slice_get c.deref.result.now k ≡ Some standing).
-      prepared_settled c.args.plan.now c.args.board.now.history.items c.prepare_standings.new.standings.items
-      (c.prepare_standings.ensures.kept c.args.board.now.history.items c.requires.standings)
+      prepared_settled c.args.plan.now c.pass_rested.new.board.history.items c.prepare_standings.new.standings.items
+      (c.prepare_standings.ensures.kept c.pass_rested.new.board.history.items c.pass_rested.ensures.board.standings)
       c.in_ok-prepare_standings.ensures.prepared k standing
       (ap (λ (standings : List Standing). slice_get standings k) (sym c.deref.ensures.value) ∙ got);
 }
 
 pub returns-in_err-reserve-2-clause-board : goal.returns-in_err-reserve-2-clause-board
 returns-in_err-reserve-2-clause-board c =
-    let board = c.args.board.now in
+    let board = c.pass_rested.new.board in
     let history = board.history.items in
-    let is = c.requires in
+    let is = c.pass_rested.ensures.board in
     board_stays c.args.plan.now board _ is c.reserve-2.ensures.items
     (record {
       launches = c.reserve.ensures.launches ∙ is.tickets.launches;
       headers = c.reserve.ensures.headers ∙ is.tickets.headers;
       states = c.reserve.ensures.states ∙ is.tickets.states;
     })
-    (c.in_ok-commit.ensures.kept c.args.plan.now history is.flying) refl is.tallies (c.prepare_standings.ensures.kept history is.standings)
+    (c.in_ok-commit.ensures.kept c.args.plan.now history is.flying) refl is.tallies
+    (c.prepare_standings.ensures.kept history is.standings) refl
 
 pub returns-clause-board : goal.returns-clause-board
 returns-clause-board c =
-    let board = c.args.board.now in
+    let board = c.pass_rested.new.board in
     let history = board.history.items in
-    let is = c.requires in
+    let is = c.pass_rested.ensures.board in
     board_stays c.args.plan.now board _ is c.reserve-2.ensures.items
     (record {
       launches = c.reserve.ensures.launches ∙ is.tickets.launches;
       headers = c.reserve.ensures.headers ∙ is.tickets.headers;
       states = c.reserve.ensures.states ∙ is.tickets.states;
     })
-    (c.in_ok-commit.ensures.kept c.args.plan.now history is.flying) refl is.tallies (c.prepare_standings.ensures.kept history is.standings)
+    (c.in_ok-commit.ensures.kept c.args.plan.now history is.flying) refl is.tallies
+    (c.prepare_standings.ensures.kept history is.standings) refl
