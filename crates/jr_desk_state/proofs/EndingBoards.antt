@@ -14,7 +14,7 @@ use Rattle.jr_desk_state.specs.declared.board.Board.{Board}
 use Rattle.jr_desk_state.specs.Boards.{IsBoard}
 use Rattle.jr_desk_state.specs.Flyings.{IsFlying}
 use Rattle.jr_desk_state.specs.Rests.{AreRested}
-use Rattle.jr_desk_state.specs.Standings.{AreStanding}
+use Rattle.jr_desk_state.specs.Standings.{AreOthersPrepared, AreStanding}
 use Rattle.jr_desk_state.specs.declared.resting.Rested.{Rested}
 use Rattle.jr_desk_state.specs.declared.written.CheckedLog.{CheckedLog}
 use Rattle.jr_desk_state.specs.WriteLogs.{IsLog}
@@ -30,8 +30,9 @@ pub board_stays : (plan : Plan) (before after : Board)
     → IsTallied plan before.history.items after.tallies
     → AreStanding plan before.history.items after.standings.items
     → after.rested ≡ before.rested
+    → AreOthersPrepared plan after.last_issued after.standings.items
     → IsBoard plan after
-board_stays plan before after is history handed flying log tallies standings rested =
+board_stays plan before after is history handed flying log tallies standings rested others =
     let same = sym history in
     record {
       planned = is.planned;
@@ -44,6 +45,7 @@ board_stays plan before after is history handed flying log tallies standings res
       standings = subst (λ (h : List Event). AreStanding plan h after.standings.items) same standings;
       rested = subst (λ (r : Rested). AreRested plan after.history.items r) (sym rested)
           (subst (λ (h : List Event). AreRested plan h before.rested) same is.rested);
+      others = others;
     }
 
 -- the parts of a ticket of the board's own
@@ -68,8 +70,9 @@ pub board_begins : (plan : Plan) (board : Board) → board.history.items ≡ []
     → IsTallied plan [] board.tallies
     → AreStanding plan [] board.standings.items
     → AreRested plan [] board.rested
+    → AreOthersPrepared plan board.last_issued board.standings.items
     → IsBoard plan board
-board_begins plan board none planned handed flying log tallies standings rested =
+board_begins plan board none planned handed flying log tallies standings rested others =
     let same = sym none in
     record {
       planned = planned;
@@ -80,4 +83,5 @@ board_begins plan board none planned handed flying log tallies standings rested 
       tallies = subst (λ (h : List Event). IsTallied plan h board.tallies) same tallies;
       standings = subst (λ (h : List Event). AreStanding plan h board.standings.items) same standings;
       rested = subst (λ (h : List Event). AreRested plan h board.rested) same rested;
+      others = others;
     }

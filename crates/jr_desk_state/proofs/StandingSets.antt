@@ -1,13 +1,13 @@
 -- The standings of all clones where that of one clone is changed.
-use Rattle.std.proofs.Common.{◌≡◌, ℕ, ◌<◌, List, length, get_or, ◌∙◌}
+use Rattle.std.proofs.Common.{◌≡◌, ℕ, zero, suc, ◌<◌, List, [], ◌∷◌, length, get_or, true, refl, ◌∙◌, ap, arith}
 use Rattle.std.proofs.Math.ListN.{set}
-use Rattle.std.specs.Prelude.{Some}
+use Rattle.std.specs.Prelude.{Some, slice_get}
 use Rattle.std.proofs.lemmas.List.{get_or-set_same}
 use Rattle.jr_model.specs.declared.events.Event.{Event}
 use Rattle.jr_model.specs.Plan.{Plan, SubJob, clone_of}
-use Rattle.jr_backlog.specs.Deferred.{Deferred, round_now}
+use Rattle.jr_backlog.specs.Deferred.{Deferred, is_committed, round_now}
 use Rattle.jr_desk_state.specs.declared.standings.Standing.{Standing}
-use Rattle.jr_desk_state.specs.Standings.{IsStanding, AreStanding}
+use Rattle.jr_desk_state.specs.Standings.{IsPrepared, IsStanding, AreStanding}
 use Rattle.jr_desk_state.proofs.StartingStandings.{standing_moves}
 
 -- what is read where an item was changed is that item
@@ -39,3 +39,19 @@ standing_resettled history job standing rounds same is = record {
   issued = is.issued;
   round = λ has going. same ∙ is.round has going;
 }
+
+-- and what it is prepared for stays, where nothing is to be put in
+pub prepared_settled_now : (job : SubJob) (standing : Standing) (rounds : Deferred) → is_committed rounds ≡ true → IsPrepared job standing
+    → IsPrepared job (record standing { rounds = rounds })
+prepared_settled_now job standing rounds settled is = record { settled = settled; room = is.room; later = is.later }
+
+pub prepared_same : (job : SubJob) (standing : Standing) (rounds : Deferred) → rounds ≡ standing.rounds → IsPrepared job standing
+    → IsPrepared job (record standing { rounds = rounds })
+prepared_same job standing rounds same is =
+    prepared_settled_now job standing rounds (ap is_committed same ∙ is.settled) is
+
+-- what is put in a clone's place is there
+pub got_set_here : {X : Type 0} (xs : List X) (c : ℕ) (s : X) → c < length xs → slice_get (set xs c s) c ≡ Some s
+got_set_here [] c s below = absurd (omega (arith, below))
+got_set_here (x ∷ xs) zero s below = refl
+got_set_here (x ∷ xs) (suc c) s below = got_set_here xs c s (omega (arith, below))

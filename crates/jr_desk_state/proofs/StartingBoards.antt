@@ -15,7 +15,7 @@ use Rattle.jr_desk_state.specs.declared.standings.Standing.{Standing}
 use Rattle.jr_desk_state.specs.Boards.{IsBoard}
 use Rattle.jr_desk_state.specs.Flyings.{IsFlying}
 use Rattle.jr_desk_state.specs.Rests.{AreRested}
-use Rattle.jr_desk_state.specs.Standings.{AreStanding, IsStanding}
+use Rattle.jr_desk_state.specs.Standings.{AreOthersPrepared, AreStanding, IsStanding}
 use Rattle.jr_desk_state.specs.WriteLogs.{IsLog}
 use Rattle.jr_desk_state.proofs.RestKept.{rested_grows}
 
@@ -54,8 +54,9 @@ pub board_grows : (plan : Plan) (before after : Board) (event : Event)
     → IsTallied plan (grown before.history.items event) after.tallies
     → AreStanding plan (grown before.history.items event) after.standings.items
     → after.rested ≡ before.rested
+    → AreOthersPrepared plan after.last_issued after.standings.items
     → IsBoard plan after
-board_grows plan before after event is may history handed flying log tallies standings rested =
+board_grows plan before after event is may history handed flying log tallies standings rested others =
     let same = sym history in
     record {
       planned = is.planned;
@@ -70,4 +71,5 @@ board_grows plan before after event is may history handed flying log tallies sta
           subst (λ (h : List Event). AreRested plan h after.rested) same
           (subst (λ (r : Rested). AreRested plan (grown before.history.items event) r) (sym rested)
           (rested_grows plan before.history.items event before.rested (next_of plan before event is may) is.rested));
+      others = others;
     }

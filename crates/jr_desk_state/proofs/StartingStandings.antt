@@ -14,7 +14,7 @@ use Rattle.jr_laws_steps.proofs.StartedLemmas.{same_some}
 use Rattle.jr_laws_steps.proofs.Lists.{got_set}
 use Rattle.jr_desk_state.specs.declared.standings.Standing.{Standing}
 use Rattle.jr_desk_state.specs.Boards.{left_of}
-use Rattle.jr_desk_state.specs.Standings.{ArePrepared, AreStanding, IsPrepared, IsStanding}
+use Rattle.jr_desk_state.specs.Standings.{AreOthersPrepared, ArePrepared, AreStanding, IsPrepared, IsStanding}
 
 -- what holds of each clone's standing holds of each where one is put in its place
 each_set : (plan : Plan) (P Q : SubJob → Standing → Type 0) (standings : List Standing) (c : ℕ) (job : SubJob) (new : Standing)
@@ -56,6 +56,49 @@ pub prepared_moves : (plan : Plan) (standings : List Standing) (c : ℕ) (job : 
 prepared_moves plan standings c job new are planned here =
     each_set plan IsPrepared IsPrepared standings c job new are planned here
     (λ k other standing there apart is. is)
+
+-- all but one are prepared where all are, and where that one changes
+pub others_prepared : (plan : Plan) (one : ℕ) (standings : List Standing) → ArePrepared plan standings
+    → AreOthersPrepared plan one standings
+others_prepared plan one standings are c job standing apart there at = are c job standing there at
+
+pub others_kept : (plan : Plan) (one : ℕ) (standings : List Standing) (new : Standing) → AreOthersPrepared plan one standings
+    → AreOthersPrepared plan one (set standings one new)
+others_kept plan one standings new are c job standing apart there at =
+    elim (got_set standings one c standing new at) [
+      | inl same ↦ absurd (apart same.0)
+      | inr far ↦ are c job standing apart there far.1
+    ]
+
+-- all are, once that one is too
+pub others_all : (plan : Plan) (one : ℕ) (standings : List Standing) (new : Standing) (job : SubJob) → AreOthersPrepared plan one standings
+    → clone_of plan one ≡ Some job
+    → IsPrepared job new
+    → ArePrepared plan (set standings one new)
+others_all plan one standings new job are planned is c other standing there at =
+    elim (got_set standings one c standing new at) [
+      | inl same ↦
+          let jobs : job ≡ other = same_some job other (sym planned ∙ ap (clone_of plan) (sym same.0) ∙ there) in
+          subst (λ (s : Standing). IsPrepared other s) (sym same.1) (subst (λ (j : SubJob). IsPrepared j new) jobs is)
+      | inr far ↦ are c other standing (λ (e : c ≡ one). far.0 (sym e)) there far.1
+    ]
+
+-- and where a clone stays prepared if it was
+pub others_moved : (plan : Plan) (one c : ℕ) (standings : List Standing) (old new : Standing) (job : SubJob)
+    → AreOthersPrepared plan one standings
+    → clone_of plan c ≡ Some job
+    → slice_get standings c ≡ Some old
+    → (IsPrepared job old → IsPrepared job new)
+    → AreOthersPrepared plan one (set standings c new)
+others_moved plan one c standings old new job are planned here stays k other standing apart there at =
+    elim (got_set standings c k standing new at) [
+      | inl same ↦
+          let jobs : job ≡ other = same_some job other (sym planned ∙ ap (clone_of plan) (sym same.0) ∙ there) in
+          subst (λ (s : Standing). IsPrepared other s) (sym same.1)
+          (subst (λ (j : SubJob). IsPrepared j new) jobs
+          (stays (are c job old (λ (is : c ≡ one). apart (same.0 ∙ is)) planned here)))
+      | inr far ↦ are k other standing apart there far.1
+    ]
 
 -- where one clone has fewer writes to check, all of them have
 pub left_falls : (standings : List Standing) (c : ℕ) (old new : Standing)

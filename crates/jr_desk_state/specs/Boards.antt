@@ -9,7 +9,7 @@ use Rattle.jr_desk_state.specs.declared.board.Board.{Board}
 use Rattle.jr_desk_state.specs.declared.standings.Standing.{Standing}
 use Rattle.jr_desk_state.specs.Flyings.{IsFlying}
 use Rattle.jr_desk_state.specs.Rests.{AreRested}
-use Rattle.jr_desk_state.specs.Standings.{ArePrepared, AreStanding}
+use Rattle.jr_desk_state.specs.Standings.{AreOthersPrepared, ArePrepared, AreStanding}
 use Rattle.jr_desk_state.specs.WriteLogs.{IsLog}
 
 -- the history is legal, and each index is that of the history
@@ -22,6 +22,7 @@ pub record IsBoard (plan : Plan) (board : Board) : Type 0 where
   pub tallies : IsTallied plan board.history.items board.tallies
   pub standings : AreStanding plan board.history.items board.standings.items
   pub rested : AreRested plan board.history.items board.rested
+  pub others : AreOthersPrepared plan board.last_issued board.standings.items
 
 -- the writes that are still to check, of all clones: no more of them can be skipped
 abbrev pub left_of : List Standing → ℕ

@@ -49,7 +49,13 @@ pub record IsPrepared (job : SubJob) (standing : Standing) : Type 0 where
   pub room : vec_len standing.issued < vec_capacity standing.issued
   pub later : standing.draws ≡ [] → suc standing.pass < job.passes → is_some standing.later ≡ true
 
--- so are all clones
+-- so are all clones but this one
+abbrev pub AreOthersPrepared : Plan → ℕ → List Standing → Type 0
+AreOthersPrepared plan one standings =
+    (c : ℕ) (job : SubJob) (standing : Standing) → (c ≡ one → ⊥) → clone_of plan c ≡ Some job → slice_get standings c ≡ Some standing
+    → IsPrepared job standing
+
+-- and all clones
 abbrev pub ArePrepared : Plan → List Standing → Type 0
 ArePrepared plan standings =
     (c : ℕ) (job : SubJob) (standing : Standing) → clone_of plan c ≡ Some job → slice_get standings c ≡ Some standing

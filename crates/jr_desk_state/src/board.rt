@@ -17,4 +17,6 @@ pub struct Board {
     pub tallies: Tallies,
     pub standings: Vec<Standing>,
     pub rested: Rested,
+    /// The clone that issued a draw last. All others are prepared for their next one.
+    pub last_issued: usize,
 }

@@ -12,7 +12,7 @@ ghost use Rattle.jr_backlog.specs.Deferred.{is_committed};
 ghost use Rattle.jr_desk_state.specs.Boards.{IsBoard};
 ghost use Rattle.jr_desk_tickets.specs.Kept.{IsOwn};
 ghost use Rattle.jr_laws_steps.specs.Nexts.{IsNext, grown};
-ghost use Rattle.jr_desk_state.specs.Standings.{IsStanding};
+ghost use Rattle.jr_desk_state.specs.Standings.{IsPrepared, IsStanding};
 
 use crate::board::Board;
 use crate::standings::Standing;
@@ -93,11 +93,12 @@ fn check_off(standing: &mut Standing, ticket: &Ticket, outcome: Outcome, is_halt
     requires settled { is_committed standing.old.rounds ≡ true }
     requires left { is_probe ticket.now.kind ≡ true → outcome ≡ Whole → is_halted ≡ false
         → is_to_check standing.old.rounds.round ticket.now.write ≡ true }
-    ensures { (plan : Planned) (history : List Happening) (job : Clone) (worker id : ℕ) (io : Started)
+    ensures kept { (plan : Planned) (history : List Happening) (job : Clone) (worker id : ℕ) (io : Started)
         → IsNext plan history (End worker id outcome) → slice_get (started history) id ≡ Some io
         → io.kind ≡ ticket.now.kind → io.write ≡ ticket.now.write → clone_of plan io.write.clone ≡ Some job
         → is_halted ≡ is_halted_after history job → IsStanding history job standing.old
         → IsStanding (grown history (End worker id outcome)) job standing.new }
+    ensures prepared { (job : Clone) → IsPrepared job standing.old → IsPrepared job standing.new }
 {
     if ticket.kind == TicketKind::Probe && outcome == Outcome::Whole && !is_halted {
         standing.checked(ticket.write);

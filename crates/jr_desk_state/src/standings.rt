@@ -135,9 +135,10 @@ impl Standing {
     // A draw of this number in its pass is being checked.
     pub fn take_up(&mut self, number: u32)
         requires { number < length self.old.issued.items }
-        ensures { (plan : Planned) (history : List Event) (job : Clone) (worker : ℕ) (write : Name) (piece : Place)
+        ensures kept { (plan : Planned) (history : List Event) (job : Clone) (worker : ℕ) (write : Name) (piece : Place)
             → IsNext plan history (Probe worker write piece) → clone_of plan write.clone ≡ Some job → write.number ≡ number
             → IsStanding history job self.old → IsStanding (grown history (Probe worker write piece)) job self.new }
+        ensures prepared { (job : Clone) → IsPrepared job self.old → IsPrepared job self.new }
     {
         self.issued[number as usize].is_taken_up = true;
     }
@@ -161,11 +162,12 @@ impl Standing {
     pub fn checked(&mut self, write: WriteId)
         requires settled { is_committed self.old.rounds ≡ true }
         requires left { is_to_check self.old.rounds.round write ≡ true }
-        ensures { (plan : Planned) (history : List Event) (job : Clone) (worker id : ℕ) (io : Started)
+        ensures kept { (plan : Planned) (history : List Event) (job : Clone) (worker id : ℕ) (io : Started)
             → IsNext plan history (End worker id Whole)
             → slice_get (started history) id ≡ Some io → is_probe io.kind ≡ true → io.write ≡ write
             → clone_of plan write.clone ≡ Some job → is_halted history job ≡ false → IsStanding history job self.old
             → IsStanding (grown history (End worker id Whole)) job self.new }
+        ensures prepared { (job : Clone) → IsPrepared job self.old → IsPrepared job self.new }
     {
         self.rounds.passed(write);
     }

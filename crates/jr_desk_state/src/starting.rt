@@ -82,6 +82,7 @@ pub(crate) fn issue(
         declines: job.declines(),
     });
     board.tallies.issued(clone);
+    board.last_issued = clone;
     ticket
 }
 

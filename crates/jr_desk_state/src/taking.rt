@@ -5,7 +5,7 @@ ghost use Rattle.jr_model.specs.declared.events.Started.{Started};
 ghost use Rattle.jr_model.specs.Plan.{SubJob as Clone, clone_of};
 ghost use Rattle.jr_backlog.specs.Deferred.{is_committed};
 ghost use Rattle.jr_desk_state.specs.Boards.{IsBoard, IsReady, left_of};
-ghost use Rattle.jr_desk_state.specs.Standings.{ArePrepared, AreStanding};
+ghost use Rattle.jr_desk_state.specs.Standings.{AreOthersPrepared, ArePrepared, AreStanding};
 ghost use Rattle.jr_desk_state.specs.declared.standings.Standing.{Standing as Stood};
 ghost use Rattle.jr_model.specs.Legal.{is_complete};
 ghost use Rattle.jr_desk_state.specs.Takes.{IsChosen, answer_with, ticket_for};
@@ -31,7 +31,10 @@ pub fn new_board(alloc: Global, plan: &Plan) -> Result<Board, Memory>
 {
     let mut standings = Vec::new(alloc);
     for clone in 0..plan.clones() {
-        standings.push(Standing::new(alloc, plan.clone_at(clone))?)?;
+        let job = plan.clone_at(clone);
+        let mut standing = Standing::new(alloc, job)?;
+        standing.prepare(alloc, job)?;
+        standings.push(standing)?;
     }
     Ok(Board {
         history: Vec::new(alloc),
@@ -44,6 +47,7 @@ pub fn new_board(alloc: Global, plan: &Plan) -> Result<Board, Memory>
             leading: 0,
             earliest: plan.clones(),
         },
+        last_issued: 0,
     })
 }
 
@@ -57,7 +61,7 @@ pub fn prepare(alloc: Global, plan: &Plan, board: &mut Board) -> Result<(), Memo
     pass_rested(plan, board);
     board.flying.commit()?;
     board.tickets.reserve()?;
-    prepare_standings(alloc, plan, &mut board.standings)?;
+    prepare_last(alloc, plan, board.last_issued, &mut board.standings)?;
     let most = left_in(&board.standings).saturating_add(1);
     board.history.reserve(most)?;
     Ok(())
@@ -93,22 +97,27 @@ pub fn start_next(plan: &Plan, board: &mut Board, worker: u32) -> Option<Ticket>
     }
 }
 
-// Prepares each clone for its next draw. Where the clones stand is the same, whether it is refused or not.
-fn prepare_standings(
+// Prepares the clone that issued a draw last for its next one, as the others are already. Where the clones stand is the same,
+// whether it is refused or not.
+fn prepare_last(
     alloc: Global,
     plan: &Plan,
+    last: usize,
     standings: &mut Vec<Standing>,
 ) -> Result<(), Memory>
     requires count { length standings.old.items ≡ length plan.now.clones }
     requires within { (clone : ℕ) (job : Clone) (standing : Stood) → clone_of plan.now clone ≡ Some job
         → slice_get standings.old.items clone ≡ Some standing → standing.pass < job.passes }
+    requires others { AreOthersPrepared plan.now last standings.old.items }
     ensures kept { (history : List Happening) → AreStanding plan.now history standings.old.items
         → AreStanding plan.now history standings.new.items }
+    ensures others { AreOthersPrepared plan.now last standings.new.items }
     ensures prepared { OnOk result (ArePrepared plan.now standings.new.items) }
 {
-    for clone in 0..plan.clones() {
-        standings[clone].prepare(alloc, plan.clone_at(clone))?;
+    if last >= plan.clones() {
+        return Ok(());
     }
+    standings[last].prepare(alloc, plan.clone_at(last))?;
     Ok(())
 }
 

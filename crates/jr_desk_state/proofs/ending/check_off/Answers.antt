@@ -18,18 +18,18 @@ whole_is Whole h = refl
 whole_is Failed h = cc
 whole_is (Short n) h = cc
 
-pub returns-then-not-is_halted : goal.returns-then-not-is_halted
-returns-then-not-is_halted c plan history job worker id io next at kind write planned halted was =
+pub returns-then-not-is_halted-clause-kept : goal.returns-then-not-is_halted-clause-kept
+returns-then-not-is_halted-clause-kept c plan history job worker id io next at kind write planned halted was =
     let whole : ended_whole (Some c.args.outcome) ≡ true = search rules in
     let probe : is_probe c.args.ticket.now.kind ≡ true = search rules in
     let is : c.args.outcome ≡ Whole = whole_is c.args.outcome whole in
     subst (λ (o : Outcome). IsStanding (grown history (End worker id o)) job c.checked.new.self) (sym is)
-    (c.checked.ensures plan history job worker id io (subst (λ (o : Outcome). IsNext plan history (End worker id o)) is next) at
+    (c.checked.ensures.kept plan history job worker id io (subst (λ (o : Outcome). IsNext plan history (End worker id o)) is next) at
     (ap is_probe kind ∙ probe) write (sym (ap (λ (w : WriteId). clone_of plan w.clone) write) ∙ planned)
     (sym halted ∙ c.if-not-is_halted.true) was)
 
-pub returns-else-eq : goal.returns-else-eq
-returns-else-eq c plan history job worker id io next at kind write planned halted was =
+pub returns-else-eq-clause-kept : goal.returns-else-eq-clause-kept
+returns-else-eq-clause-kept c plan history job worker id io next at kind write planned halted was =
     let there = clone_there plan io.write.clone job next.planned planned in
     elim c.else-eq.branch [
       | else-eq-via-then-eq+then-eq-2+else-not-is_halted w ↦

@@ -21,13 +21,14 @@ use Rattle.jr_desk_state.specs.Boards.{IsBoard}
 use Rattle.jr_backlog.specs.Rounds.{is_to_check}
 use Rattle.jr_backlog.specs.Deferred.{is_committed, round_now}
 use Rattle.jr_desk_state.specs.declared.standings.Standing.{Standing}
-use Rattle.jr_desk_state.specs.Standings.{IsStanding}
+use Rattle.jr_desk_state.specs.Standings.{IsPrepared, IsStanding}
 use Rattle.jr_desk_state.proofs.EndingBoards.{board_stays, own_below, parts_of}
 use Rattle.jr_desk_state.proofs.LogMoves.{file_there, log_fresh, own_fits}
 use Rattle.jr_desk_state.proofs.StandingMoves.{check_left}
-use Rattle.jr_desk_state.proofs.StandingSets.{read_after_set, standing_resettled, standings_set}
+use Rattle.jr_desk_state.proofs.StandingSets.{got_set_here, prepared_same, prepared_settled_now, read_after_set, standing_resettled, standings_set}
 use Rattle.jr_desk_state.proofs.StandingStays.{standings_ended}
-use Rattle.jr_desk_state.proofs.StartingBoards.{board_grows, clone_stands, next_of, stands_now}
+use Rattle.jr_desk_state.proofs.StartingBoards.{board_grows, clone_stands, next_of, stands_at, stands_now}
+use Rattle.jr_desk_state.proofs.StartingStandings.{others_moved}
 use Rattle.jr_desk_state.proofs.ending.end.Goals as goal
 
 -- what is read at a clone's place tells whether it is halted
@@ -58,7 +59,7 @@ index_mut-requires c =
 pub returns-in_err-reserve-clause-board : goal.returns-in_err-reserve-clause-board
 returns-in_err-reserve-clause-board c =
     let is = c.requires.board in
-    board_stays c.args.plan.now c.args.board.now _ is c.reserve.ensures.items is.tickets is.flying refl is.tallies is.standings refl
+    board_stays c.args.plan.now c.args.board.now _ is c.reserve.ensures.items is.tickets is.flying refl is.tallies is.standings refl is.others
 
 pub returns-in_err-commit-clause-board : goal.returns-in_err-commit-clause-board
 returns-in_err-commit-clause-board c =
@@ -73,6 +74,9 @@ returns-in_err-commit-clause-board c =
     (standings_set plan history clone parts.job board.standings.items (record old { rounds = c.commit.new.self }) parts.planned is.standings
     (standing_resettled history parts.job old c.commit.new.self (ap round_now c.in_err-commit.ensures.err)
     (stands_now plan board clone parts.job old is parts.planned c.index_mut.ensures.value))) refl
+    (others_moved plan board.last_issued clone board.standings.items old (record old { rounds = c.commit.new.self }) parts.job is.others
+    parts.planned (stands_at plan board clone parts.job old is parts.planned c.index_mut.ensures.value)
+    (prepared_same parts.job old c.commit.new.self c.in_err-commit.ensures.err))
 
 pub log_end-requires-clause-file : goal.log_end-requires-clause-file
 log_end-requires-clause-file c =
@@ -106,6 +110,9 @@ returns-in_err-log_end-clause-board c =
     (standings_set plan history clone parts.job board.standings.items (record old { rounds = c.commit.new.self }) parts.planned is.standings
     (standing_resettled history parts.job old c.commit.new.self (ap round_now c.in_ok-commit.ensures.ok)
     (stands_now plan board clone parts.job old is parts.planned c.index_mut.ensures.value))) refl
+    (others_moved plan board.last_issued clone board.standings.items old (record old { rounds = c.commit.new.self }) parts.job is.others
+    parts.planned (stands_at plan board clone parts.job old is parts.planned c.index_mut.ensures.value)
+    (prepared_settled_now parts.job old c.commit.new.self (ap is_committed c.in_ok-commit.ensures.ok)))
 
 pub index-requires : goal.index-requires
 index-requires c =
@@ -216,5 +223,13 @@ returns-clause-board c =
     (ap (λ (p : Piece). p.len) parts.piece) next is.tallies)
     (standings_ended plan history ticket.worker outcome ticket (set board.standings.items clone new) c.check_off.new.standing parts next
     (standings_set plan history clone parts.job board.standings.items new parts.planned is.standings stands)
-    (c.check_off.ensures plan history parts.job ticket.worker ticket.id parts.io next parts.at parts.kind parts.write
+    (c.check_off.ensures.kept plan history parts.job ticket.worker ticket.id parts.io next parts.at parts.kind parts.write
     parts.named halted found)) refl
+    (others_moved plan board.last_issued clone (set board.standings.items clone new) new c.check_off.new.standing parts.job
+    (others_moved plan board.last_issued clone board.standings.items old new parts.job is.others parts.planned
+    (stands_at plan board clone parts.job old is parts.planned c.index_mut.ensures.value)
+    (prepared_settled_now parts.job old c.commit.new.self (ap is_committed c.in_ok-commit.ensures.ok)))
+    parts.planned (got_set_here board.standings.items clone new there)
+    (λ was. c.check_off.ensures.prepared parts.job
+    (subst (IsPrepared parts.job)
+    (sym (read_after_set board.standings.items clone new c.index_mut-2.result.now there c.index_mut-2.ensures.value)) was)))

@@ -17,7 +17,7 @@ use Rattle.jr_desk_state.proofs.ending.judge.Goals as goal
 pub returns-in_err-reserve-clause-board : goal.returns-in_err-reserve-clause-board
 returns-in_err-reserve-clause-board c =
     let is = c.requires.board in
-    board_stays c.args.plan.now c.args.board.now _ is c.reserve.ensures.items is.tickets is.flying refl is.tallies is.standings refl
+    board_stays c.args.plan.now c.args.board.now _ is c.reserve.ensures.items is.tickets is.flying refl is.tallies is.standings refl is.others
 
 pub returns-in_err-reserve-2-clause-board : goal.returns-in_err-reserve-2-clause-board
 returns-in_err-reserve-2-clause-board c =
@@ -26,7 +26,7 @@ returns-in_err-reserve-2-clause-board c =
     let is = c.requires.board in
     board_stays plan board _ is c.reserve.ensures.items is.tickets is.flying refl
     (tallied_same plan board.history.items board.tallies c.reserve-2.new.self is.tallies c.reserve-2.ensures.counts
-    c.reserve-2.ensures.totals c.reserve-2.ensures.bads) is.standings refl
+    c.reserve-2.ensures.totals c.reserve-2.ensures.bads) is.standings refl is.others
 
 pub clone_at-requires : goal.clone_at-requires
 clone_at-requires c =
@@ -81,4 +81,4 @@ returns-clause-board c =
     (c.judged.ensures plan history by ticket.id parts.io parts.job parts.at parts.write parts.piece parts.planned fatal next
     (tallied_same plan history board.tallies c.reserve-2.new.self is.tallies c.reserve-2.ensures.counts c.reserve-2.ensures.totals
     c.reserve-2.ensures.bads))
-    (standings_judged plan history by ticket.id verdict board.standings.items next is.standings) refl
+    (standings_judged plan history by ticket.id verdict board.standings.items next is.standings) refl is.others

@@ -13,4 +13,5 @@ returns-then-earliest-clones-clause-board c =
       tallies = is.tallies;
       standings = is.standings;
       rested = record { leading = c.first_busy.ensures; earlier = c.earliest_busy.ensures };
+      others = is.others;
     }

@@ -21,7 +21,7 @@ use Rattle.jr_desk_state.proofs.FlyingMoves.{start_fits}
 use Rattle.jr_desk_state.proofs.LogMoves.{log_probe}
 use Rattle.jr_desk_state.proofs.StandingMoves.{clone_is, clone_there, taken_up_here, stays_other_probe}
 use Rattle.jr_desk_state.proofs.StartingBoards.{board_grows, clone_stands, next_of, stands_at, stands_now}
-use Rattle.jr_desk_state.proofs.StartingStandings.{standing_moves}
+use Rattle.jr_desk_state.proofs.StartingStandings.{others_moved, standing_moves}
 use Rattle.jr_desk_state.proofs.StartingTickets.{declines_planned, issue_io, method_planned, probe_expects, ticket_made}
 use Rattle.jr_desk_state.proofs.starting.probe.Goals as goal
 
@@ -130,11 +130,13 @@ returns-clause-board c =
     (log_probe plan history worker write piece next board.log is.log)
     (c.probed.ensures plan history worker write piece refl next is.tallies)
     (standing_moves plan history (grown history e) board.standings.items write.clone job c.take_up.new.self is.standings planned
-    (c.take_up.ensures plan history job worker write piece next planned refl
+    (c.take_up.ensures.kept plan history job worker write piece next planned refl
     (stands_now plan board write.clone job standing is planned c.index_mut.ensures.value))
     (λ k other one there apart stands.
     stays_other_probe plan history other one stands worker write piece next (clone_there plan k other is.planned there)
     (λ (same : write.clone ≡ other.clone). apart (same ∙ sym (clone_is plan k other is.planned there))))) refl
+    (others_moved plan board.last_issued write.clone board.standings.items standing c.take_up.new.self job is.others planned
+    (stands_at plan board write.clone job standing is planned c.index_mut.ensures.value) (c.take_up.ensures.prepared job))
 
 pub start-requires-clause-fits : goal.start-requires-clause-fits
 start-requires-clause-fits c =

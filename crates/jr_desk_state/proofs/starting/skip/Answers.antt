@@ -8,7 +8,7 @@ use Rattle.jr_desk_state.proofs.FlyingMoves.{flying_skip}
 use Rattle.jr_desk_state.proofs.LogMoves.{log_skip}
 use Rattle.jr_desk_state.proofs.StandingMoves.{clone_is, clone_there, skip_left, skipped_here, stays_other_skip}
 use Rattle.jr_desk_state.proofs.StartingBoards.{board_grows, clone_stands, next_of, stands_at, stands_now}
-use Rattle.jr_desk_state.proofs.StartingStandings.{left_falls, prepared_moves, standing_moves}
+use Rattle.jr_desk_state.proofs.StartingStandings.{others_prepared, left_falls, prepared_moves, standing_moves}
 use Rattle.jr_desk_state.proofs.starting.skip.Goals as goal
 
 pub skipped-requires : goal.skipped-requires
@@ -61,6 +61,29 @@ skip-requires-clause-left c =
     (stands_now plan board write.clone step.job standing is step.named.planned c.index_mut.ensures.value)
     worker write (next_of plan board (Skip worker write) is c.requires.may) step.named.planned (skip-requires-clause-settled c)
 
+pub returns-clause-ready : goal.returns-clause-ready
+returns-clause-ready c =
+    let plan = c.args.plan.now in
+    let board = c.args.board.now in
+    let write = c.args.write in
+    let ready = c.requires.ready in
+    let old = c.index_mut.result.now in
+    let step = may_skip_of plan board.history.items c.args.worker write c.requires.may in
+    let job = step.job in
+    let planned = step.named.planned in
+    let at = stands_at plan board write.clone job old c.requires.board planned c.index_mut.ensures.value in
+    let fewer = left_falls board.standings.items write.clone old c.skip.new.self at c.skip.ensures.fewer in
+    record {
+      history = omega (arith, ready.history, c.push_reserved.ensures.len, c.push_reserved.ensures.capacity, fewer);
+      launches = ready.launches;
+      headers = ready.headers;
+      states = ready.states;
+      flying = ready.flying;
+      standings =
+          prepared_moves plan board.standings.items write.clone job c.skip.new.self ready.standings planned
+          (c.skip.ensures.prepared job (ready.standings write.clone job old planned at));
+    }
+
 pub returns-clause-board : goal.returns-clause-board
 returns-clause-board c =
     let plan = c.args.plan.now in
@@ -84,6 +107,7 @@ returns-clause-board c =
     (λ k other standing there apart stands.
     stays_other_skip plan history other standing stands worker write next (clone_there plan k other is.planned there)
     (λ (same : write.clone ≡ other.clone). apart (same ∙ sym (clone_is plan k other is.planned there))))) refl
+    (others_prepared plan board.last_issued _ (returns-clause-ready c).standings)
 
 pub returns-clause-fewer : goal.returns-clause-fewer
 returns-clause-fewer c =
@@ -94,26 +118,3 @@ returns-clause-fewer c =
     left_falls board.standings.items write.clone c.index_mut.result.now c.skip.new.self
     (stands_at plan board write.clone step.job c.index_mut.result.now c.requires.board step.named.planned c.index_mut.ensures.value)
     c.skip.ensures.fewer
-
-pub returns-clause-ready : goal.returns-clause-ready
-returns-clause-ready c =
-    let plan = c.args.plan.now in
-    let board = c.args.board.now in
-    let write = c.args.write in
-    let ready = c.requires.ready in
-    let old = c.index_mut.result.now in
-    let step = may_skip_of plan board.history.items c.args.worker write c.requires.may in
-    let job = step.job in
-    let planned = step.named.planned in
-    let at = stands_at plan board write.clone job old c.requires.board planned c.index_mut.ensures.value in
-    let fewer = left_falls board.standings.items write.clone old c.skip.new.self at c.skip.ensures.fewer in
-    record {
-      history = omega (arith, ready.history, c.push_reserved.ensures.len, c.push_reserved.ensures.capacity, fewer);
-      launches = ready.launches;
-      headers = ready.headers;
-      states = ready.states;
-      flying = ready.flying;
-      standings =
-          prepared_moves plan board.standings.items write.clone job c.skip.new.self ready.standings planned
-          (c.skip.ensures.prepared job (ready.standings write.clone job old planned at));
-    }

@@ -6,12 +6,12 @@ use Rattle.jr_desk_state.proofs.EndingBoards.{board_stays}
 use Rattle.jr_desk_state.proofs.Preparing.{prepared_settled}
 use Rattle.jr_desk_state.proofs.taking.prepare.Goals as goal
 
-pub prepare_standings-requires-clause-within : goal.prepare_standings-requires-clause-within
-prepare_standings-requires-clause-within c clone job standing there got =
+pub prepare_last-requires-clause-within : goal.prepare_last-requires-clause-within
+prepare_last-requires-clause-within c clone job standing there got =
     (c.pass_rested.ensures.board.standings.each clone job standing there got).in_pass.within
 
-pub returns-in_err-prepare_standings-clause-board : goal.returns-in_err-prepare_standings-clause-board
-returns-in_err-prepare_standings-clause-board c =
+pub returns-in_err-prepare_last-clause-board : goal.returns-in_err-prepare_last-clause-board
+returns-in_err-prepare_last-clause-board c =
     let board = c.pass_rested.new.board in
     let history = board.history.items in
     let is = c.pass_rested.ensures.board in
@@ -22,14 +22,14 @@ returns-in_err-prepare_standings-clause-board c =
       states = c.reserve.ensures.states ∙ is.tickets.states;
     })
     (c.in_ok-commit.ensures.kept c.args.plan.now history is.flying) refl is.tallies
-    (c.prepare_standings.ensures.kept history is.standings) refl
+    (c.prepare_last.ensures.kept history is.standings) refl c.prepare_last.ensures.others
 
 pub left_in-requires : goal.left_in-requires
 left_in-requires c = record {
   settled = λ (k : ℕ) (standing : Standing) (got : slice_get c.deref.result.now k ≡ Some standing).
-      prepared_settled c.args.plan.now c.pass_rested.new.board.history.items c.prepare_standings.new.standings.items
-      (c.prepare_standings.ensures.kept c.pass_rested.new.board.history.items c.pass_rested.ensures.board.standings)
-      c.in_ok-prepare_standings.ensures.prepared k standing
+      prepared_settled c.args.plan.now c.pass_rested.new.board.history.items c.prepare_last.new.standings.items
+      (c.prepare_last.ensures.kept c.pass_rested.new.board.history.items c.pass_rested.ensures.board.standings)
+      c.in_ok-prepare_last.ensures.prepared k standing
       (ap (λ (standings : List Standing). slice_get standings k) (sym c.deref.ensures.value) ∙ got);
 }
 
@@ -45,7 +45,7 @@ returns-in_err-reserve-2-clause-board c =
       states = c.reserve.ensures.states ∙ is.tickets.states;
     })
     (c.in_ok-commit.ensures.kept c.args.plan.now history is.flying) refl is.tallies
-    (c.prepare_standings.ensures.kept history is.standings) refl
+    (c.prepare_last.ensures.kept history is.standings) refl c.prepare_last.ensures.others
 
 pub returns-clause-board : goal.returns-clause-board
 returns-clause-board c =
@@ -59,4 +59,4 @@ returns-clause-board c =
       states = c.reserve.ensures.states ∙ is.tickets.states;
     })
     (c.in_ok-commit.ensures.kept c.args.plan.now history is.flying) refl is.tallies
-    (c.prepare_standings.ensures.kept history is.standings) refl
+    (c.prepare_last.ensures.kept history is.standings) refl c.prepare_last.ensures.others

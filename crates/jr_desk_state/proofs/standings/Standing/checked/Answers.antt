@@ -11,8 +11,8 @@ use Rattle.jr_desk_state.proofs.StandingMoves.{check_moves}
 use Rattle.jr_desk_state.proofs.standings.Standing.checked.Goals as goal
 
 -- src/standings.rt:147:5
-pub returns : goal.returns
-returns c plan history job worker id io next at check same clone runs now =
+pub returns-clause-kept : goal.returns-clause-kept
+returns-clause-kept c plan history job worker id io next at check same clone runs now =
     let s = c.args.self.now in
     subst (λ (rounds : Deferred). IsStanding (grown history (End worker id Whole)) job (record s { rounds = rounds }))
     (ap (λ (w : WriteId). committed_round (with_passed s.rounds.round w)) same ∙ sym c.passed.ensures)

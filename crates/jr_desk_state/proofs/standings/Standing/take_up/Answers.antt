@@ -4,8 +4,8 @@ use Rattle.jr_desk_state.proofs.StandingMoves.{probe_moves}
 use Rattle.jr_desk_state.proofs.standings.Standing.take_up.Goals as goal
 
 -- src/standings.rt:124:5
-pub returns : goal.returns
-returns c plan history job worker write piece next at number now =
+pub returns-clause-kept : goal.returns-clause-kept
+returns-clause-kept c plan history job worker write piece next at number now =
     let s = c.args.self.now in
     probe_moves plan history job s now worker c.args.number write piece c.index_mut.result.now next at number
     (slice_get_read s.issued.items (length s.issued.items) c.args.number c.index_mut.result.now refl c.requires c.index_mut.ensures.value)
