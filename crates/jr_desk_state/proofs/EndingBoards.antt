@@ -11,7 +11,7 @@ use Rattle.jr_desk_tickets.specs.Handing.{IsHanded}
 use Rattle.jr_desk_tickets.specs.Kept.{IsOwn}
 use Rattle.jr_desk_tickets.proofs.HandingMoves.{handed_length}
 use Rattle.jr_desk_state.specs.declared.board.Board.{Board}
-use Rattle.jr_desk_state.specs.Boards.{IsBoard}
+use Rattle.jr_desk_state.specs.Boards.{IsBoard, left_of}
 use Rattle.jr_desk_state.specs.Flyings.{IsFlying}
 use Rattle.jr_desk_state.specs.Rests.{AreRested}
 use Rattle.jr_desk_state.specs.Standings.{AreOthersPrepared, AreStanding}
@@ -31,8 +31,10 @@ pub board_stays : (plan : Plan) (before after : Board)
     → AreStanding plan before.history.items after.standings.items
     → after.rested ≡ before.rested
     → AreOthersPrepared plan after.last_issued after.standings.items
+    → left_of after.standings.items ≡ left_of before.standings.items
+    → after.left ≡ before.left
     → IsBoard plan after
-board_stays plan before after is history handed flying log tallies standings rested others =
+board_stays plan before after is history handed flying log tallies standings rested others left same_left =
     let same = sym history in
     record {
       planned = is.planned;
@@ -46,6 +48,8 @@ board_stays plan before after is history handed flying log tallies standings res
       rested = subst (λ (r : Rested). AreRested plan after.history.items r) (sym rested)
           (subst (λ (h : List Event). AreRested plan h before.rested) same is.rested);
       others = others;
+      left = omega (arith, left, same_left, is.left);
+      few = omega (arith, same_left, ap length history, is.few);
     }
 
 -- the parts of a ticket of the board's own
@@ -71,8 +75,10 @@ pub board_begins : (plan : Plan) (board : Board) → board.history.items ≡ []
     → AreStanding plan [] board.standings.items
     → AreRested plan [] board.rested
     → AreOthersPrepared plan board.last_issued board.standings.items
+    → left_of board.standings.items ≡ 0
+    → board.left ≡ 0
     → IsBoard plan board
-board_begins plan board none planned handed flying log tallies standings rested others =
+board_begins plan board none planned handed flying log tallies standings rested others left same_left =
     let same = sym none in
     record {
       planned = planned;
@@ -84,4 +90,6 @@ board_begins plan board none planned handed flying log tallies standings rested 
       standings = subst (λ (h : List Event). AreStanding plan h board.standings.items) same standings;
       rested = subst (λ (h : List Event). AreRested plan h board.rested) same rested;
       others = others;
+      left = omega (arith, left, same_left);
+      few = omega (arith, same_left);
     }

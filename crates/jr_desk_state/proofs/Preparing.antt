@@ -1,16 +1,13 @@
--- The standings of a board's clones, made one after another, and prepared one after another.
-use Rattle.std.proofs.Common.{◌≡◌, ℕ, ◌+◌, ◌<◌, List, [], ◌∷◌, ◌++◌, length, take, get_or, true, sym, ◌∙◌, ap, subst, arith, inl, inr, length-append}
+-- The standings of a board's clones, made one after another.
+use Rattle.std.proofs.Common.{◌≡◌, ℕ, ◌+◌, List, [], ◌∷◌, ◌++◌, length, sym, ◌∙◌, ap, subst, arith, inl, inr, length-append}
 use Rattle.std.specs.Prelude.{Some, slice_get}
-use Rattle.std.proofs.lemmas.List.Sums.{sum_by_more}
-use Rattle.std.proofs.lemmas.Option.{slice_get_within}
+use Rattle.std.proofs.lemmas.List.Sums.{sum_by_push}
 use Rattle.jr_model.specs.declared.events.Event.{Event}
 use Rattle.jr_model.specs.Plan.{Plan, SubJob, clone_of}
-use Rattle.jr_laws_steps.proofs.PlaceLemmas.{item_at}
 use Rattle.jr_laws_steps.proofs.StartedLemmas.{got_more, same_some}
-use Rattle.jr_backlog.specs.Deferred.{is_committed}
 use Rattle.jr_desk_state.specs.declared.standings.Standing.{Standing}
 use Rattle.jr_desk_state.specs.Boards.{left_of}
-use Rattle.jr_desk_state.specs.Standings.{ArePrepared, AreStanding, IsPrepared, IsStanding}
+use Rattle.jr_desk_state.specs.Standings.{ArePrepared, IsPrepared, IsStanding, left_in}
 
 -- so many clones have their standings, and are prepared
 pub record StandTo (plan : Plan) (history : List Event) (n : ℕ) (standings : List Standing) : Type 0 where
@@ -18,6 +15,7 @@ pub record StandTo (plan : Plan) (history : List Event) (n : ℕ) (standings : L
   pub each : (k : ℕ) (job : SubJob) (standing : Standing) → clone_of plan k ≡ Some job → slice_get standings k ≡ Some standing
       → IsStanding history job standing
   pub prepared : ArePrepared plan standings
+  pub left : left_of standings ≡ 0
 
 none_there : {X : Type 0} (xs : List X) (k : ℕ) (x : X) → xs ≡ [] → slice_get xs k ≡ Some x → ⊥
 none_there [] k x none got = cc
@@ -28,8 +26,10 @@ stand_none plan history standings none = record {
   count = ap length none;
   each = λ (k : ℕ) (job : SubJob) (standing : Standing) (there : clone_of plan k ≡ Some job) (got : slice_get standings k ≡ Some standing).
       absurd (none_there standings k standing none got);
-  prepared = λ (k : ℕ) (job : SubJob) (standing : Standing) (there : clone_of plan k ≡ Some job) (got : slice_get standings k ≡ Some standing).
+  prepared = λ (k : ℕ) (job : SubJob) (standing : Standing) (there : clone_of plan k ≡ Some job)
+      (got : slice_get standings k ≡ Some standing).
       absurd (none_there standings k standing none got);
+  left = ap left_of none;
 }
 
 pub stand_more : (plan : Plan) (history : List Event) (n : ℕ) (job : SubJob) (before after : List Standing) (new : Standing)
@@ -38,11 +38,13 @@ pub stand_more : (plan : Plan) (history : List Event) (n : ℕ) (job : SubJob) (
     → clone_of plan n ≡ Some job
     → IsStanding history job new
     → IsPrepared job new
+    → left_in new ≡ 0
     → StandTo plan history (n + 1) after
-stand_more plan history n job before after new was pushed at is ready = record {
+stand_more plan history n job before after new was pushed at is ready empty = record {
   count = omega (arith, ap length pushed, length-append before (new ∷ []), was.count);
   each = each_more (IsStanding history) was.each is;
   prepared = each_more IsPrepared was.prepared ready;
+  left = omega (arith, ap left_of pushed, sum_by_push left_in before new, was.left, empty);
 }
   where
     each_more : (P : SubJob → Standing → Type 0)
@@ -60,20 +62,3 @@ stand_more plan history n job before after new was pushed at is ready = record {
               let same : job ≡ other = same_some job other (sym at ∙ ap (clone_of plan) (sym was.count ∙ sym last.0) ∙ there) in
               subst (λ (s : Standing). P other s) (sym last.1) (subst (λ (j : SubJob). P j new) same here)
         ]
-
--- all that are prepared are settled
-pub prepared_settled : (plan : Plan) (history : List Event) (standings : List Standing) → AreStanding plan history standings
-    → ArePrepared plan standings → (k : ℕ) (standing : Standing) → slice_get standings k ≡ Some standing
-    → is_committed standing.rounds ≡ true
-prepared_settled plan history standings are prepared k standing got =
-    let within : k < length standings = slice_get_within standings k standing got in
-    let job = item_at plan.clones k (omega (arith, within, are.count)) in
-    (prepared k job.0 standing job.1 got).settled
-
--- the writes that are still to check of one clone more
-pub left_more : (standings : List Standing) (i : ℕ) (standing : Standing) → i < length standings → standing ≡ get_or standings i standing
-    → left_of (take (i + 1) standings) ≡ left_of (take i standings) + length standing.rounds.round.to_check
-left_more standings i standing below read =
-    let to_check : Standing → ℕ = λ (s : Standing). length s.rounds.round.to_check in
-    sum_by_more to_check standings i standing below
-    ∙ ap (λ (s : Standing). left_of (take i standings) + to_check s) (sym read)

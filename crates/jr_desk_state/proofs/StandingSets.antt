@@ -1,14 +1,16 @@
 -- The standings of all clones where that of one clone is changed.
-use Rattle.std.proofs.Common.{◌≡◌, ℕ, zero, suc, ◌<◌, List, [], ◌∷◌, length, get_or, true, refl, ◌∙◌, ap, arith}
+use Rattle.std.proofs.Common.{◌≡◌, ℕ, zero, suc, ◌+◌, ◌<◌, ◌≤◌, List, [], ◌∷◌, length, get_or, true, refl, ◌∙◌, ap, arith}
 use Rattle.std.proofs.Math.ListN.{set}
 use Rattle.std.specs.Prelude.{Some, slice_get}
 use Rattle.std.proofs.lemmas.List.{get_or-set_same}
+use Rattle.std.proofs.lemmas.Option.{slice_get_within}
 use Rattle.jr_model.specs.declared.events.Event.{Event}
 use Rattle.jr_model.specs.Plan.{Plan, SubJob, clone_of}
 use Rattle.jr_backlog.specs.Deferred.{Deferred, is_committed, round_now}
 use Rattle.jr_desk_state.specs.declared.standings.Standing.{Standing}
-use Rattle.jr_desk_state.specs.Standings.{IsPrepared, IsStanding, AreStanding}
-use Rattle.jr_desk_state.proofs.StartingStandings.{standing_moves}
+use Rattle.jr_desk_state.specs.Boards.{left_of}
+use Rattle.jr_desk_state.specs.Standings.{IsPrepared, IsStanding, AreStanding, left_in}
+use Rattle.jr_desk_state.proofs.StartingStandings.{left_same, left_set, standing_moves}
 
 -- what is read where an item was changed is that item
 pub read_after_set : {X : Type 0} (xs : List X) (c : ℕ) (s x : X) → c < length xs → x ≡ get_or (set xs c s) c x → x ≡ s
@@ -55,3 +57,19 @@ pub got_set_here : {X : Type 0} (xs : List X) (c : ℕ) (s : X) → c < length x
 got_set_here [] c s below = absurd (omega (arith, below))
 got_set_here (x ∷ xs) zero s below = refl
 got_set_here (x ∷ xs) (suc c) s below = got_set_here xs c s (omega (arith, below))
+
+-- the writes that are left where a clone's standing is replaced twice: first by one with as many, and then by one with fewer
+pub left_passed : (standings : List Standing) (c : ℕ) (old now read after : Standing) (passed : ℕ)
+    → slice_get standings c ≡ Some old
+    → left_in now ≡ left_in old
+    → read ≡ now
+    → left_in after + passed ≤ left_in read
+    → left_of (set (set standings c now) c after) + passed ≤ left_of standings
+left_passed standings c old now read after passed at same is few =
+    omega (
+      arith,
+      left_same standings c old now at same,
+      left_set (set standings c now) c now after (got_set_here standings c now (slice_get_within standings c old at)),
+      ap left_in is,
+      few,
+    )

@@ -1,5 +1,5 @@
 -- What is kept of a run goes on being that of its history, where an event is put to it.
-use Rattle.std.proofs.Common.{◌≡◌, ◌<◌, ℕ, List, length, get_or, true, refl, sym, subst, arith}
+use Rattle.std.proofs.Common.{◌≡◌, ◌<◌, ◌≤◌, ℕ, suc, List, [], ◌∷◌, length, get_or, true, refl, sym, ap, subst, arith, length-append}
 use Rattle.std.specs.Prelude.{Some, slice_get}
 use Rattle.std.proofs.lemmas.Option.{slice_get_read, slice_get_within}
 use Rattle.jr_model.specs.declared.events.Event.{Event}
@@ -12,7 +12,7 @@ use Rattle.jr_desk_tickets.specs.Handing.{IsHanded}
 use Rattle.jr_desk_state.specs.declared.board.Board.{Board}
 use Rattle.jr_desk_state.specs.declared.resting.Rested.{Rested}
 use Rattle.jr_desk_state.specs.declared.standings.Standing.{Standing}
-use Rattle.jr_desk_state.specs.Boards.{IsBoard}
+use Rattle.jr_desk_state.specs.Boards.{IsBoard, left_of}
 use Rattle.jr_desk_state.specs.Flyings.{IsFlying}
 use Rattle.jr_desk_state.specs.Rests.{AreRested}
 use Rattle.jr_desk_state.specs.Standings.{AreOthersPrepared, AreStanding, IsStanding}
@@ -55,8 +55,10 @@ pub board_grows : (plan : Plan) (before after : Board) (event : Event)
     → AreStanding plan (grown before.history.items event) after.standings.items
     → after.rested ≡ before.rested
     → AreOthersPrepared plan after.last_issued after.standings.items
+    → left_of after.standings.items ≤ after.left
+    → after.left ≤ suc (length before.history.items)
     → IsBoard plan after
-board_grows plan before after event is may history handed flying log tallies standings rested others =
+board_grows plan before after event is may history handed flying log tallies standings rested others left few =
     let same = sym history in
     record {
       planned = is.planned;
@@ -72,4 +74,6 @@ board_grows plan before after event is may history handed flying log tallies sta
           (subst (λ (r : Rested). AreRested plan (grown before.history.items event) r) (sym rested)
           (rested_grows plan before.history.items event before.rested (next_of plan before event is may) is.rested));
       others = others;
+      left = left;
+      few = omega (arith, few, ap length history, length-append before.history.items (event ∷ []));
     }

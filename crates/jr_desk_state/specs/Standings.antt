@@ -1,7 +1,10 @@
 -- Internal: where a clone stands: the pass that it is in, the draws to come, those that it issued, and its round.
-use Rattle.std.specs.Prelude.{◌≡◌, ℕ, suc, true, false, List, drop, length, slice_get, Some, IfSome, is_some, [], ◌<◌, vec_len, vec_capacity}
+use Rattle.std.specs.Prelude.{◌≡◌, ◌<◌, ℕ, suc, true, false, if◌then◌else◌, List, [], drop, length, slice_get, Some, IfSome, is_some}
+use Rattle.std.specs.Prelude.{vec_len, vec_capacity}
 use Rattle.std.specs.List.{list_any}
 use Rattle.jr_model.specs.declared.events.Event.{Event}
+use Rattle.jr_model.specs.declared.events.IssueKind.{IssueKind}
+use Rattle.jr_model.specs.declared.events.IssueKind.TheVariants as issue
 use Rattle.jr_model.specs.declared.events.Started.{Started}
 use Rattle.jr_model.specs.declared.events.WriteId.{WriteId}
 use Rattle.jr_model.specs.Draws.{draws_of_job}
@@ -41,6 +44,16 @@ pub record AreStanding (plan : Plan) (history : List Event) (standings : List St
   pub count : length standings ≡ length plan.clones
   pub each : (c : ℕ) (job : SubJob) (standing : Standing) → clone_of plan c ≡ Some job → slice_get standings c ≡ Some standing
       → IsStanding history job standing
+
+-- the clone's writes that are still to check, once all is put in
+abbrev pub left_in : Standing → ℕ
+left_in standing = length (round_now standing.rounds).to_check
+
+-- how many the issue of such a draw adds
+abbrev pub added_by : SubJob → IssueKind → ℕ
+added_by job issue.Write = if has_rounds job then 1 else 0
+added_by job issue.Read = 0
+added_by job issue.ReadCheck = 0
 
 -- the next draw can be issued without memory: its round is settled, there is room for its number, and where all draws of the
 -- pass were issued those of the next pass are made

@@ -19,4 +19,6 @@ pub struct Board {
     pub rested: Rested,
     /// The clone that issued a draw last. All others are prepared for their next one.
     pub last_issued: usize,
+    /// No fewer than the writes that are still to check.
+    pub left: usize,
 }

@@ -1,4 +1,4 @@
-ghost use Rattle.std.specs.Prelude.{◌≡◌, ◌++◌, ◌∷◌, [], ℕ, true, false, List, slice_get, Some, OnOk, OnErr};
+ghost use Rattle.std.specs.Prelude.{◌≡◌, ◌+◌, ◌≤◌, ◌++◌, ◌∷◌, [], ℕ, true, false, List, slice_get, Some, OnOk, OnErr};
 ghost use Rattle.jr_model.specs.declared.events.Event.{Event as Happening};
 ghost use Rattle.jr_model.specs.declared.events.Event.TheVariants.{End, Verdict as Judged};
 ghost use Rattle.jr_model.specs.declared.events.Outcome.TheVariants.{Whole};
@@ -12,7 +12,7 @@ ghost use Rattle.jr_backlog.specs.Deferred.{is_committed};
 ghost use Rattle.jr_desk_state.specs.Boards.{IsBoard};
 ghost use Rattle.jr_desk_tickets.specs.Kept.{IsOwn};
 ghost use Rattle.jr_laws_steps.specs.Nexts.{IsNext, grown};
-ghost use Rattle.jr_desk_state.specs.Standings.{IsPrepared, IsStanding};
+ghost use Rattle.jr_desk_state.specs.Standings.{IsPrepared, IsStanding, left_in};
 
 use crate::board::Board;
 use crate::standings::Standing;
@@ -48,7 +48,8 @@ pub fn end(
         outcome,
     });
     let is_halted = board.tallies.counts[clone].is_halted;
-    check_off(&mut board.standings[clone], ticket, outcome, is_halted);
+    let passed = check_off(&mut board.standings[clone], ticket, outcome, is_halted);
+    board.left -= passed;
     board.tickets.end(ticket.id, outcome, raced);
     board.flying.end(ticket.id);
     board
@@ -88,8 +89,9 @@ pub fn judge(
     Ok(())
 }
 
-// Takes the end of an I/O into where its clone stands: a check that ended whole leaves its round, unless the clone was halted.
-fn check_off(standing: &mut Standing, ticket: &Ticket, outcome: Outcome, is_halted: bool)
+// Takes the end of an I/O into where its clone stands: a check that ended whole leaves its round, unless the clone was halted. Says
+// how many did.
+fn check_off(standing: &mut Standing, ticket: &Ticket, outcome: Outcome, is_halted: bool) -> usize
     requires settled { is_committed standing.old.rounds ≡ true }
     requires left { is_probe ticket.now.kind ≡ true → outcome ≡ Whole → is_halted ≡ false
         → is_to_check standing.old.rounds.round ticket.now.write ≡ true }
@@ -99,8 +101,12 @@ fn check_off(standing: &mut Standing, ticket: &Ticket, outcome: Outcome, is_halt
         → is_halted ≡ is_halted_after history job → IsStanding history job standing.old
         → IsStanding (grown history (End worker id outcome)) job standing.new }
     ensures prepared { (job : Clone) → IsPrepared job standing.old → IsPrepared job standing.new }
+    ensures left { left_in standing.new + result ≤ left_in standing.old }
 {
     if ticket.kind == TicketKind::Probe && outcome == Outcome::Whole && !is_halted {
         standing.checked(ticket.write);
+        1
+    } else {
+        0
     }
 }

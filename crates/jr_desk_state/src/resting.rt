@@ -67,13 +67,18 @@ pub struct Rested {
     pub earliest: usize,
 }
 
-// Looks at all clones again, where the one of the earliest phase has come to rest: that is once a clone at most.
+// Looks at all clones again, where the one of the earliest phase has come to rest, once another has gone on. That is once a clone at
+// most.
 pub(crate) fn pass_rested(plan: &Plan, board: &mut Board)
     requires { IsBoard plan.now board.old }
     ensures board { IsBoard plan.now board.new }
     ensures history { board.new.history.items ≡ board.old.history.items }
 {
-    let earliest = board.rested.earliest;
+    let Rested { leading, earliest } = board.rested;
+    // It is most often this one that goes on.
+    if leading == board.last_issued && earliest == board.last_issued {
+        return;
+    }
     if earliest >= plan.clones() || is_at_rest(plan, board, earliest) {
         board.rested = Rested {
             leading: first_busy(plan, board),

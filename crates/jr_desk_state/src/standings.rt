@@ -1,4 +1,4 @@
-ghost use Rattle.std.specs.Prelude.{◌≡◌, ◌<◌, ℕ, suc, true, false, List, [], length, slice_get, Some, None, IfOk, OnOk};
+ghost use Rattle.std.specs.Prelude.{◌≡◌, ◌+◌, ◌<◌, ◌≤◌, ℕ, suc, true, false, List, [], length, slice_get, Some, None, IfOk, OnOk};
 ghost use Rattle.std.specs.Prelude.{unwrap_or, vec_capacity};
 ghost use Rattle.jr_model.specs.declared.events.IssueKind.TheVariants as issue;
 ghost use Rattle.jr_model.specs.declared.blocks.Piece.{Piece as Place};
@@ -17,7 +17,7 @@ ghost use Rattle.jr_model.specs.PlanFacts.{IsPlanned};
 ghost use Rattle.jr_backlog.specs.Rounds.{comes_last, is_to_check, takes_writes};
 ghost use Rattle.jr_backlog.specs.Deferred.{is_committed};
 ghost use Rattle.jr_laws_steps.specs.Nexts.{IsNext, grown};
-ghost use Rattle.jr_desk_state.specs.Standings.{IsPrepared, IsStanding};
+ghost use Rattle.jr_desk_state.specs.Standings.{added_by, IsPrepared, IsStanding, left_in};
 
 use jr_backlog::DeferredRounds;
 use jr_draw::DrawsLeft;
@@ -49,8 +49,9 @@ pub struct Standing {
 impl Standing {
     // Before its first draw.
     pub fn new(alloc: Global, job: &SubJob) -> Result<Standing, Memory>
-        ensures { IfOk result (λ standing. (plan : Planned) → IsPlanned plan → clone_of plan job.now.clone ≡ Some job.now
+        ensures stands { IfOk result (λ standing. (plan : Planned) → IsPlanned plan → clone_of plan job.now.clone ≡ Some job.now
             → IsStanding [] job.now standing) }
+        ensures left { IfOk result (λ standing. left_in standing ≡ 0) }
     {
         Ok(Standing {
             pass: 0,
@@ -66,6 +67,7 @@ impl Standing {
         requires { self.old.pass < job.now.passes }
         ensures kept { (history : List Event) → IsStanding history job.now self.old → IsStanding history job.now self.new }
         ensures prepared { OnOk result (IsPrepared job.now self.new) }
+        ensures left { left_in self.new ≡ left_in self.old }
     {
         job.facts();
         self.rounds.commit()?;
@@ -90,6 +92,7 @@ impl Standing {
             → IsNext plan history (Issue worker kind write piece)
             → clone_of plan write.clone ≡ Some job.now → id ≡ length (started history) → IsStanding history job.now self.old
             → IsStanding (grown history (Issue worker kind write piece)) job.now self.new }
+        ensures left { left_in self.new ≤ left_in self.old + added_by job.now kind }
     {
         job.facts();
         if self.draws.is_over() {
@@ -139,6 +142,7 @@ impl Standing {
             → IsNext plan history (Probe worker write piece) → clone_of plan write.clone ≡ Some job → write.number ≡ number
             → IsStanding history job self.old → IsStanding (grown history (Probe worker write piece)) job self.new }
         ensures prepared { (job : Clone) → IsPrepared job self.old → IsPrepared job self.new }
+        ensures left { left_in self.new ≡ left_in self.old }
     {
         self.issued[number as usize].is_taken_up = true;
     }
@@ -152,7 +156,7 @@ impl Standing {
             → clone_of plan write.clone ≡ Some job → IsStanding history job self.old
             → IsStanding (grown history (Skip worker write)) job self.new }
         ensures prepared { (job : Clone) → IsPrepared job self.old → IsPrepared job self.new }
-        ensures fewer { length self.new.rounds.round.to_check < length self.old.rounds.round.to_check }
+        ensures fewer { left_in self.new < left_in self.old }
     {
         self.issued[write.number as usize].is_taken_up = true;
         self.rounds.passed(write);
@@ -168,8 +172,19 @@ impl Standing {
             → clone_of plan write.clone ≡ Some job → is_halted history job ≡ false → IsStanding history job self.old
             → IsStanding (grown history (End worker id Whole)) job self.new }
         ensures prepared { (job : Clone) → IsPrepared job self.old → IsPrepared job self.new }
+        ensures fewer { left_in self.new < left_in self.old }
     {
         self.rounds.passed(write);
+    }
+}
+
+// How many writes to check the issue of such a draw adds.
+pub(crate) fn added_by(job: &SubJob, kind: IssueKind) -> usize
+    ensures { result ≡ added_by job.now kind }
+{
+    match kind {
+        IssueKind::Write => usize::from(has_rounds(job)),
+        IssueKind::Read | IssueKind::ReadCheck => 0,
     }
 }
 

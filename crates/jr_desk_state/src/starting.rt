@@ -13,6 +13,7 @@ ghost use Rattle.jr_desk_tickets.specs.Tickets.{ticket_of};
 ghost use Rattle.jr_desk_state.specs.declared.standings.Standing.{Standing as Stood};
 
 use crate::board::Board;
+use crate::standings::added_by;
 use jr_flight::Io;
 use jr_model::{Dir, Event, Expected, IssueKind, Piece, Ticket, TicketKind, WriteId};
 use jr_plan::Plan;
@@ -32,6 +33,7 @@ pub(crate) fn skip(plan: &Plan, board: &mut Board, worker: u32, write: WriteId)
     board.history.push_reserved(Event::Skip { worker, write });
     board.tallies.skipped(clone);
     board.standings[clone].skip(write);
+    board.left -= 1;
 }
 
 // Issues a clone's next draw, and gives its ticket.
@@ -83,6 +85,7 @@ pub(crate) fn issue(
     });
     board.tallies.issued(clone);
     board.last_issued = clone;
+    board.left += added_by(job, kind);
     ticket
 }
 

@@ -1,9 +1,8 @@
-ghost use Rattle.std.specs.Prelude.{◌≡◌, ◌<◌, ◌-◌, ◌^◌, ℕ, true, List, [], length, slice_get, IfOk, OnOk, Option, Some};
+ghost use Rattle.std.specs.Prelude.{◌≡◌, ◌<◌, ℕ, List, [], length, slice_get, IfOk, OnOk, Option, Some};
 ghost use Rattle.jr_model.specs.declared.events.Event.{Event as Happening};
 ghost use Rattle.jr_model.specs.History.{started};
 ghost use Rattle.jr_model.specs.declared.events.Started.{Started};
 ghost use Rattle.jr_model.specs.Plan.{SubJob as Clone, clone_of};
-ghost use Rattle.jr_backlog.specs.Deferred.{is_committed};
 ghost use Rattle.jr_desk_state.specs.Boards.{IsBoard, IsReady, left_of};
 ghost use Rattle.jr_desk_state.specs.Standings.{AreOthersPrepared, ArePrepared, AreStanding};
 ghost use Rattle.jr_desk_state.specs.declared.standings.Standing.{Standing as Stood};
@@ -48,6 +47,7 @@ pub fn new_board(alloc: Global, plan: &Plan) -> Result<Board, Memory>
             earliest: plan.clones(),
         },
         last_issued: 0,
+        left: 0,
     })
 }
 
@@ -62,7 +62,7 @@ pub fn prepare(alloc: Global, plan: &Plan, board: &mut Board) -> Result<(), Memo
     board.flying.commit()?;
     board.tickets.reserve()?;
     prepare_last(alloc, plan, board.last_issued, &mut board.standings)?;
-    let most = left_in(&board.standings).saturating_add(1);
+    let most = board.left.saturating_add(1);
     board.history.reserve(most)?;
     Ok(())
 }
@@ -113,25 +113,13 @@ fn prepare_last(
         → AreStanding plan.now history standings.new.items }
     ensures others { AreOthersPrepared plan.now last standings.new.items }
     ensures prepared { OnOk result (ArePrepared plan.now standings.new.items) }
+    ensures left { left_of standings.new.items ≡ left_of standings.old.items }
 {
     if last >= plan.clones() {
         return Ok(());
     }
     standings[last].prepare(alloc, plan.clone_at(last))?;
     Ok(())
-}
-
-// How many writes are still to check, where that is a number below the largest.
-fn left_in(standings: &[Standing]) -> usize
-    requires settled { (clone : ℕ) (standing : Stood) → slice_get standings.now clone ≡ Some standing
-        → is_committed standing.rounds ≡ true }
-    ensures { result < 2 ^ 64 - 1 → result ≡ left_of standings.now }
-{
-    let mut left = 0usize;
-    for standing in standings {
-        left = left.saturating_add(standing.rounds.left());
-    }
-    left
 }
 
 /// The answer to a take that handed out this ticket, if it did.

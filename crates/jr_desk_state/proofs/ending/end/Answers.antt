@@ -19,16 +19,17 @@ use Rattle.jr_desk_totals.proofs.TallyMoves.{can_count, can_end, counts_are}
 use Rattle.jr_desk_state.specs.declared.board.Board.{Board}
 use Rattle.jr_desk_state.specs.Boards.{IsBoard}
 use Rattle.jr_backlog.specs.Rounds.{is_to_check}
-use Rattle.jr_backlog.specs.Deferred.{is_committed, round_now}
+use Rattle.jr_backlog.specs.Deferred.{Deferred, is_committed, round_now}
 use Rattle.jr_desk_state.specs.declared.standings.Standing.{Standing}
 use Rattle.jr_desk_state.specs.Standings.{IsPrepared, IsStanding}
 use Rattle.jr_desk_state.proofs.EndingBoards.{board_stays, own_below, parts_of}
 use Rattle.jr_desk_state.proofs.LogMoves.{file_there, log_fresh, own_fits}
 use Rattle.jr_desk_state.proofs.StandingMoves.{check_left}
-use Rattle.jr_desk_state.proofs.StandingSets.{got_set_here, prepared_same, prepared_settled_now, read_after_set, standing_resettled, standings_set}
+use Rattle.jr_desk_state.proofs.StandingSets.{got_set_here, left_passed, prepared_same, prepared_settled_now, read_after_set}
+use Rattle.jr_desk_state.proofs.StandingSets.{standing_resettled, standings_set}
 use Rattle.jr_desk_state.proofs.StandingStays.{standings_ended}
 use Rattle.jr_desk_state.proofs.StartingBoards.{board_grows, clone_stands, next_of, stands_at, stands_now}
-use Rattle.jr_desk_state.proofs.StartingStandings.{others_moved}
+use Rattle.jr_desk_state.proofs.StartingStandings.{left_same, others_moved}
 use Rattle.jr_desk_state.proofs.ending.end.Goals as goal
 
 -- what is read at a clone's place tells whether it is halted
@@ -59,7 +60,8 @@ index_mut-requires c =
 pub returns-in_err-reserve-clause-board : goal.returns-in_err-reserve-clause-board
 returns-in_err-reserve-clause-board c =
     let is = c.requires.board in
-    board_stays c.args.plan.now c.args.board.now _ is c.reserve.ensures.items is.tickets is.flying refl is.tallies is.standings refl is.others
+    board_stays c.args.plan.now c.args.board.now _ is c.reserve.ensures.items is.tickets is.flying refl
+    is.tallies is.standings refl is.others refl refl
 
 pub returns-in_err-commit-clause-board : goal.returns-in_err-commit-clause-board
 returns-in_err-commit-clause-board c =
@@ -77,6 +79,10 @@ returns-in_err-commit-clause-board c =
     (others_moved plan board.last_issued clone board.standings.items old (record old { rounds = c.commit.new.self }) parts.job is.others
     parts.planned (stands_at plan board clone parts.job old is parts.planned c.index_mut.ensures.value)
     (prepared_same parts.job old c.commit.new.self c.in_err-commit.ensures.err))
+    (left_same board.standings.items clone old (record old { rounds = c.commit.new.self })
+    (stands_at plan board clone parts.job old is parts.planned c.index_mut.ensures.value)
+    (ap (λ (d : Deferred). length (round_now d).to_check) c.in_err-commit.ensures.err))
+    refl
 
 pub log_end-requires-clause-file : goal.log_end-requires-clause-file
 log_end-requires-clause-file c =
@@ -113,6 +119,10 @@ returns-in_err-log_end-clause-board c =
     (others_moved plan board.last_issued clone board.standings.items old (record old { rounds = c.commit.new.self }) parts.job is.others
     parts.planned (stands_at plan board clone parts.job old is parts.planned c.index_mut.ensures.value)
     (prepared_settled_now parts.job old c.commit.new.self (ap is_committed c.in_ok-commit.ensures.ok)))
+    (left_same board.standings.items clone old (record old { rounds = c.commit.new.self })
+    (stands_at plan board clone parts.job old is parts.planned c.index_mut.ensures.value)
+    (ap (λ (d : Deferred). length (round_now d).to_check) c.in_ok-commit.ensures.ok))
+    refl
 
 pub index-requires : goal.index-requires
 index-requires c =
@@ -131,8 +141,8 @@ index_mut-requires-2 c =
     let there = clone_stands c.args.plan.now board c.args.ticket.now.write.clone parts.job c.requires.board parts.planned in
     omega (arith, there, board.standings.ok.0)
 
-pub check_off-requires-clause-settled : goal.check_off-requires-clause-settled
-check_off-requires-clause-settled c =
+pub check_off-passed-requires-clause-settled : goal.check_off-passed-requires-clause-settled
+check_off-passed-requires-clause-settled c =
     let board = c.args.board.now in
     let clone = c.args.ticket.now.write.clone in
     let parts = parts_of c.args.plan.now board c.args.ticket.now c.requires.board c.requires.own in
@@ -142,8 +152,8 @@ check_off-requires-clause-settled c =
     ap (λ (s : Standing). is_committed s.rounds) read
     ∙ ap is_committed c.in_ok-commit.ensures.ok
 
-pub check_off-requires-clause-left : goal.check_off-requires-clause-left
-check_off-requires-clause-left c probe whole going =
+pub check_off-passed-requires-clause-left : goal.check_off-passed-requires-clause-left
+check_off-passed-requires-clause-left c probe whole going =
     let plan = c.args.plan.now in
     let board = c.args.board.now in
     let history = board.history.items in
@@ -191,6 +201,26 @@ ended-requires-clause-flying c =
     can_end plan board.history.items ticket.worker ticket.id c.args.outcome parts.io board.tallies ticket.write.clone ticket.kind parts.at
     parts.clone parts.kind (next_of plan board (End ticket.worker ticket.id c.args.outcome) is c.requires.may) is.tallies
 
+pub overflow_sub-board : goal.overflow_sub-board
+overflow_sub-board c =
+    let plan = c.args.plan.now in
+    let board = c.args.board.now in
+    let clone = c.args.ticket.now.write.clone in
+    let old = c.index_mut.result.now in
+    let is = c.requires.board in
+    let parts = parts_of plan board c.args.ticket.now is c.requires.own in
+    let new : Standing = record old { rounds = c.commit.new.self } in
+    let there = clone_stands plan board clone parts.job is parts.planned in
+    omega (
+      arith,
+      is.left,
+      left_passed board.standings.items clone old new c.index_mut-2.result.now c.check_off-passed.new.standing c.check_off-passed.result
+          (stands_at plan board clone parts.job old is parts.planned c.index_mut.ensures.value)
+          (ap (λ (d : Deferred). length (round_now d).to_check) c.in_ok-commit.ensures.ok)
+          (read_after_set board.standings.items clone new c.index_mut-2.result.now there c.index_mut-2.ensures.value)
+          c.check_off-passed.ensures.left,
+    )
+
 pub returns-clause-board : goal.returns-clause-board
 returns-clause-board c =
     let plan = c.args.plan.now in
@@ -221,15 +251,26 @@ returns-clause-board c =
     (c.in_ok-log_end.ensures.kept plan history next c.requires.own (raced_here c) is.log)
     (c.ended.ensures plan history ticket.worker ticket.id parts.io parts.at parts.clone parts.kind
     (ap (λ (p : Piece). p.len) parts.piece) next is.tallies)
-    (standings_ended plan history ticket.worker outcome ticket (set board.standings.items clone new) c.check_off.new.standing parts next
+    (standings_ended plan history ticket.worker outcome ticket (set board.standings.items clone new)
+    c.check_off-passed.new.standing parts next
     (standings_set plan history clone parts.job board.standings.items new parts.planned is.standings stands)
-    (c.check_off.ensures.kept plan history parts.job ticket.worker ticket.id parts.io next parts.at parts.kind parts.write
+    (c.check_off-passed.ensures.kept plan history parts.job ticket.worker ticket.id parts.io next parts.at parts.kind parts.write
     parts.named halted found)) refl
-    (others_moved plan board.last_issued clone (set board.standings.items clone new) new c.check_off.new.standing parts.job
+    (others_moved plan board.last_issued clone (set board.standings.items clone new) new c.check_off-passed.new.standing parts.job
     (others_moved plan board.last_issued clone board.standings.items old new parts.job is.others parts.planned
     (stands_at plan board clone parts.job old is parts.planned c.index_mut.ensures.value)
     (prepared_settled_now parts.job old c.commit.new.self (ap is_committed c.in_ok-commit.ensures.ok)))
     parts.planned (got_set_here board.standings.items clone new there)
-    (λ was. c.check_off.ensures.prepared parts.job
+    (λ was. c.check_off-passed.ensures.prepared parts.job
     (subst (IsPrepared parts.job)
     (sym (read_after_set board.standings.items clone new c.index_mut-2.result.now there c.index_mut-2.ensures.value)) was)))
+    (omega (
+      arith,
+      is.left,
+      left_passed board.standings.items clone old new c.index_mut-2.result.now c.check_off-passed.new.standing c.check_off-passed.result
+          (stands_at plan board clone parts.job old is parts.planned c.index_mut.ensures.value)
+          (ap (λ (d : Deferred). length (round_now d).to_check) c.in_ok-commit.ensures.ok)
+          (read_after_set board.standings.items clone new c.index_mut-2.result.now there c.index_mut-2.ensures.value)
+          c.check_off-passed.ensures.left,
+    ))
+    (omega (arith, is.few))

@@ -1,5 +1,5 @@
 -- The index of each part takes the step that the verdict is, or stays.
-use Rattle.std.proofs.Common.{◌≡◌, List, refl, sym, ◌∙◌, ap}
+use Rattle.std.proofs.Common.{◌≡◌, List, refl, sym, ◌∙◌, ap, arith}
 use Rattle.std.proofs.lemmas.Option.{slice_get_within}
 use Rattle.jr_model.specs.declared.events.Event.{Event}
 use Rattle.jr_model.specs.declared.events.Event.TheVariants.{Verdict as Judged}
@@ -17,7 +17,8 @@ use Rattle.jr_desk_state.proofs.ending.judge.Goals as goal
 pub returns-in_err-reserve-clause-board : goal.returns-in_err-reserve-clause-board
 returns-in_err-reserve-clause-board c =
     let is = c.requires.board in
-    board_stays c.args.plan.now c.args.board.now _ is c.reserve.ensures.items is.tickets is.flying refl is.tallies is.standings refl is.others
+    board_stays c.args.plan.now c.args.board.now _ is c.reserve.ensures.items is.tickets is.flying refl
+    is.tallies is.standings refl is.others refl refl
 
 pub returns-in_err-reserve-2-clause-board : goal.returns-in_err-reserve-2-clause-board
 returns-in_err-reserve-2-clause-board c =
@@ -26,7 +27,7 @@ returns-in_err-reserve-2-clause-board c =
     let is = c.requires.board in
     board_stays plan board _ is c.reserve.ensures.items is.tickets is.flying refl
     (tallied_same plan board.history.items board.tallies c.reserve-2.new.self is.tallies c.reserve-2.ensures.counts
-    c.reserve-2.ensures.totals c.reserve-2.ensures.bads) is.standings refl is.others
+    c.reserve-2.ensures.totals c.reserve-2.ensures.bads) is.standings refl is.others refl refl
 
 pub clone_at-requires : goal.clone_at-requires
 clone_at-requires c =
@@ -81,4 +82,5 @@ returns-clause-board c =
     (c.judged.ensures plan history by ticket.id parts.io parts.job parts.at parts.write parts.piece parts.planned fatal next
     (tallied_same plan history board.tallies c.reserve-2.new.self is.tallies c.reserve-2.ensures.counts c.reserve-2.ensures.totals
     c.reserve-2.ensures.bads))
-    (standings_judged plan history by ticket.id verdict board.standings.items next is.standings) refl is.others
+    (standings_judged plan history by ticket.id verdict board.standings.items next is.standings) refl
+    is.others is.left (omega (arith, is.few))

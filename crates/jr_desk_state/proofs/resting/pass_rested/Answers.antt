@@ -14,4 +14,6 @@ returns-then-earliest-clones-clause-board c =
       standings = is.standings;
       rested = record { leading = c.first_busy.ensures; earlier = c.earliest_busy.ensures };
       others = is.others;
+      left = is.left;
+      few = is.few;
     }

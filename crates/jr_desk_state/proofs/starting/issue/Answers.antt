@@ -15,7 +15,7 @@ use Rattle.jr_desk_state.proofs.LogMoves.{log_issue}
 use Rattle.jr_desk_state.proofs.IssueMoves.{issue_fills}
 use Rattle.jr_desk_state.proofs.StandingMoves.{clone_is, clone_there, stays_other_issue}
 use Rattle.jr_desk_state.proofs.StartingBoards.{board_grows, clone_stands, next_of, stands_at, stands_now}
-use Rattle.jr_desk_state.proofs.StartingStandings.{others_kept, others_prepared, standing_moves}
+use Rattle.jr_desk_state.proofs.StartingStandings.{added_few, left_set, others_kept, others_prepared, standing_moves}
 use Rattle.jr_desk_state.proofs.StartingTickets.{declines_planned, issue_io, issue_ticket}
 use Rattle.jr_desk_state.proofs.starting.issue.Goals as goal
 
@@ -139,6 +139,15 @@ returns-clause-board c =
     (λ (same : write.clone ≡ other.clone). apart (same ∙ sym (clone_is plan k other is.planned there))))) refl
     (others_kept plan write.clone board.standings.items c.issue.new.self
     (others_prepared plan write.clone board.standings.items c.requires.ready.standings))
+    (omega (
+      arith,
+      is.left,
+      left_set board.standings.items write.clone c.index_mut.result.now c.issue.new.self
+          (stands_at plan board write.clone job c.index_mut.result.now is planned c.index_mut.ensures.value),
+      c.issue.ensures.left,
+      c.added_by.ensures,
+    ))
+    (omega (arith, is.few, c.added_by.ensures, added_few job dir))
 
 pub start-requires-clause-fits : goal.start-requires-clause-fits
 start-requires-clause-fits c =

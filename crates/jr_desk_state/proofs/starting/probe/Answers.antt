@@ -21,7 +21,7 @@ use Rattle.jr_desk_state.proofs.FlyingMoves.{start_fits}
 use Rattle.jr_desk_state.proofs.LogMoves.{log_probe}
 use Rattle.jr_desk_state.proofs.StandingMoves.{clone_is, clone_there, taken_up_here, stays_other_probe}
 use Rattle.jr_desk_state.proofs.StartingBoards.{board_grows, clone_stands, next_of, stands_at, stands_now}
-use Rattle.jr_desk_state.proofs.StartingStandings.{others_moved, standing_moves}
+use Rattle.jr_desk_state.proofs.StartingStandings.{left_same, others_moved, standing_moves}
 use Rattle.jr_desk_state.proofs.StartingTickets.{declines_planned, issue_io, method_planned, probe_expects, ticket_made}
 use Rattle.jr_desk_state.proofs.starting.probe.Goals as goal
 
@@ -137,6 +137,13 @@ returns-clause-board c =
     (λ (same : write.clone ≡ other.clone). apart (same ∙ sym (clone_is plan k other is.planned there))))) refl
     (others_moved plan board.last_issued write.clone board.standings.items standing c.take_up.new.self job is.others planned
     (stands_at plan board write.clone job standing is planned c.index_mut.ensures.value) (c.take_up.ensures.prepared job))
+    (omega (
+      arith,
+      is.left,
+      left_same board.standings.items write.clone standing c.take_up.new.self
+          (stands_at plan board write.clone job standing is planned c.index_mut.ensures.value) c.take_up.ensures.left,
+    ))
+    (omega (arith, is.few))
 
 pub start-requires-clause-fits : goal.start-requires-clause-fits
 start-requires-clause-fits c =

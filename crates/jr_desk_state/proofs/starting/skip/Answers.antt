@@ -8,7 +8,7 @@ use Rattle.jr_desk_state.proofs.FlyingMoves.{flying_skip}
 use Rattle.jr_desk_state.proofs.LogMoves.{log_skip}
 use Rattle.jr_desk_state.proofs.StandingMoves.{clone_is, clone_there, skip_left, skipped_here, stays_other_skip}
 use Rattle.jr_desk_state.proofs.StartingBoards.{board_grows, clone_stands, next_of, stands_at, stands_now}
-use Rattle.jr_desk_state.proofs.StartingStandings.{others_prepared, left_falls, prepared_moves, standing_moves}
+use Rattle.jr_desk_state.proofs.StartingStandings.{left_falls, others_prepared, prepared_moves, standing_moves}
 use Rattle.jr_desk_state.proofs.starting.skip.Goals as goal
 
 pub skipped-requires : goal.skipped-requires
@@ -61,6 +61,26 @@ skip-requires-clause-left c =
     (stands_now plan board write.clone step.job standing is step.named.planned c.index_mut.ensures.value)
     worker write (next_of plan board (Skip worker write) is c.requires.may) step.named.planned (skip-requires-clause-settled c)
 
+pub returns-clause-fewer : goal.returns-clause-fewer
+returns-clause-fewer c =
+    let plan = c.args.plan.now in
+    let board = c.args.board.now in
+    let write = c.args.write in
+    let step = may_skip_of plan board.history.items c.args.worker write c.requires.may in
+    left_falls board.standings.items write.clone c.index_mut.result.now c.skip.new.self
+    (stands_at plan board write.clone step.job c.index_mut.result.now c.requires.board step.named.planned c.index_mut.ensures.value)
+    c.skip.ensures.fewer
+
+pub overflow_sub-board : goal.overflow_sub-board
+overflow_sub-board c =
+    let board = c.args.board.now in
+    let write = c.args.write in
+    let step = may_skip_of c.args.plan.now board.history.items c.args.worker write c.requires.may in
+    let fewer = left_falls board.standings.items write.clone c.index_mut.result.now c.skip.new.self
+    (stands_at c.args.plan.now board write.clone step.job c.index_mut.result.now c.requires.board step.named.planned
+    c.index_mut.ensures.value) c.skip.ensures.fewer in
+    omega (arith, fewer, c.requires.board.left)
+
 pub returns-clause-ready : goal.returns-clause-ready
 returns-clause-ready c =
     let plan = c.args.plan.now in
@@ -108,13 +128,4 @@ returns-clause-board c =
     stays_other_skip plan history other standing stands worker write next (clone_there plan k other is.planned there)
     (λ (same : write.clone ≡ other.clone). apart (same ∙ sym (clone_is plan k other is.planned there))))) refl
     (others_prepared plan board.last_issued _ (returns-clause-ready c).standings)
-
-pub returns-clause-fewer : goal.returns-clause-fewer
-returns-clause-fewer c =
-    let plan = c.args.plan.now in
-    let board = c.args.board.now in
-    let write = c.args.write in
-    let step = may_skip_of plan board.history.items c.args.worker write c.requires.may in
-    left_falls board.standings.items write.clone c.index_mut.result.now c.skip.new.self
-    (stands_at plan board write.clone step.job c.index_mut.result.now c.requires.board step.named.planned c.index_mut.ensures.value)
-    c.skip.ensures.fewer
+    (let fewer = returns-clause-fewer c in omega (arith, fewer, is.left)) (omega (arith, is.few))

@@ -1,5 +1,5 @@
 -- Each part is that of the empty history.
-use Rattle.std.proofs.Common.{[], ◌∙◌, ap, arith}
+use Rattle.std.proofs.Common.{[], refl, ◌∙◌, ap, arith}
 use Rattle.std.proofs.lemmas.Option.{slice_get_within}
 use Rattle.jr_model.specs.Plan.{clone_of}
 use Rattle.jr_desk_state.proofs.EndingBoards.{board_begins}
@@ -13,7 +13,7 @@ loop-clone-init c = stand_none c.args.plan.now [] c.new-standings.result.items c
 pub prepare-requires : goal.prepare-requires
 prepare-requires c =
     let at = c.clone_at-job.ensures.value in
-    (c.in_ok-standing.ensures c.args.plan.now c.clones-clone-end.ensures.facts
+    (c.in_ok-standing.ensures.stands c.args.plan.now c.clones-clone-end.ensures.facts
     (ap (clone_of c.args.plan.now) c.clone_at-job.ensures.placed.number ∙ at)).in_pass.within
 
 pub loop-clone-preserved : goal.loop-clone-preserved
@@ -23,8 +23,8 @@ loop-clone-preserved c =
     stand_more plan [] c.loop-clone.clone c.clone_at-job.result.now c.loop-clone.standings.items c.push.new.self.items c.prepare.new.self
     c.loop-clone.invariant c.in_ok-push.ensures.items at
     (c.in_ok-prepare.ensures.kept []
-    (c.in_ok-standing.ensures plan c.clones-clone-end.ensures.facts (ap (clone_of plan) c.clone_at-job.ensures.placed.number ∙ at)))
-    c.in_ok-prepare.ensures.prepared
+    (c.in_ok-standing.ensures.stands plan c.clones-clone-end.ensures.facts (ap (clone_of plan) c.clone_at-job.ensures.placed.number ∙ at)))
+    c.in_ok-prepare.ensures.prepared (c.in_ok-prepare.ensures.left ∙ c.in_ok-standing.ensures.left)
 
 pub returns-clause-board : goal.returns-clause-board
 returns-clause-board c =
@@ -41,4 +41,4 @@ returns-clause-board c =
       earlier = λ clone job first there at before.
           absurd (omega (arith, slice_get_within plan.clones _ first at, c.clones.ensures.value));
     })
-    (others_prepared plan 0 _ c.loop-clone.invariant.prepared)
+    (others_prepared plan 0 _ c.loop-clone.invariant.prepared) c.loop-clone.invariant.left refl

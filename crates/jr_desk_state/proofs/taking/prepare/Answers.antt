@@ -1,9 +1,6 @@
 -- All parts stay those of the history.
-use Rattle.std.proofs.Common.{◌≡◌, ℕ, List, refl, sym, ◌∙◌, ap}
-use Rattle.std.specs.Prelude.{Some, slice_get}
-use Rattle.jr_desk_state.specs.declared.standings.Standing.{Standing}
+use Rattle.std.proofs.Common.{refl, ◌∙◌}
 use Rattle.jr_desk_state.proofs.EndingBoards.{board_stays}
-use Rattle.jr_desk_state.proofs.Preparing.{prepared_settled}
 use Rattle.jr_desk_state.proofs.taking.prepare.Goals as goal
 
 pub prepare_last-requires-clause-within : goal.prepare_last-requires-clause-within
@@ -23,15 +20,7 @@ returns-in_err-prepare_last-clause-board c =
     })
     (c.in_ok-commit.ensures.kept c.args.plan.now history is.flying) refl is.tallies
     (c.prepare_last.ensures.kept history is.standings) refl c.prepare_last.ensures.others
-
-pub left_in-requires : goal.left_in-requires
-left_in-requires c = record {
-  settled = λ (k : ℕ) (standing : Standing) (got : slice_get c.deref.result.now k ≡ Some standing).
-      prepared_settled c.args.plan.now c.pass_rested.new.board.history.items c.prepare_last.new.standings.items
-      (c.prepare_last.ensures.kept c.pass_rested.new.board.history.items c.pass_rested.ensures.board.standings)
-      c.in_ok-prepare_last.ensures.prepared k standing
-      (ap (λ (standings : List Standing). slice_get standings k) (sym c.deref.ensures.value) ∙ got);
-}
+    c.prepare_last.ensures.left refl
 
 pub returns-in_err-reserve-2-clause-board : goal.returns-in_err-reserve-2-clause-board
 returns-in_err-reserve-2-clause-board c =
@@ -46,6 +35,7 @@ returns-in_err-reserve-2-clause-board c =
     })
     (c.in_ok-commit.ensures.kept c.args.plan.now history is.flying) refl is.tallies
     (c.prepare_last.ensures.kept history is.standings) refl c.prepare_last.ensures.others
+    c.prepare_last.ensures.left refl
 
 pub returns-clause-board : goal.returns-clause-board
 returns-clause-board c =
@@ -60,3 +50,4 @@ returns-clause-board c =
     })
     (c.in_ok-commit.ensures.kept c.args.plan.now history is.flying) refl is.tallies
     (c.prepare_last.ensures.kept history is.standings) refl c.prepare_last.ensures.others
+    c.prepare_last.ensures.left refl

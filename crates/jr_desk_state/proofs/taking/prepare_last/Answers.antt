@@ -3,7 +3,7 @@ use Rattle.std.proofs.Common.{◌≡◌, length, refl, arith}
 use Rattle.std.specs.Prelude.{Some, slice_get}
 use Rattle.std.proofs.lemmas.Option.{slice_get_read, slice_get_within}
 use Rattle.jr_desk_state.proofs.StandingSets.{standings_set}
-use Rattle.jr_desk_state.proofs.StartingStandings.{others_all, others_kept}
+use Rattle.jr_desk_state.proofs.StartingStandings.{left_same, others_all, others_kept}
 use Rattle.jr_desk_state.proofs.taking.prepare_last.Goals as goal
 
 pub returns-then-last-clones-clause-prepared : goal.returns-then-last-clones-clause-prepared
@@ -55,3 +55,19 @@ pub returns-clause-prepared : goal.returns-clause-prepared
 returns-clause-prepared c =
     others_all c.args.plan.now c.args.last c.args.standings.now.items c.prepare.new.self c.clone_at.result.now c.requires.others
     c.clone_at.ensures.value c.in_ok-prepare.ensures.prepared
+
+pub returns-in_err-prepare-clause-left : goal.returns-in_err-prepare-clause-left
+returns-in_err-prepare-clause-left c =
+    let items = c.args.standings.now.items in
+    left_same items c.args.last c.index_mut.result.now c.prepare.new.self
+    (slice_get_read items (length items) c.args.last c.index_mut.result.now refl
+    (omega (arith, c.requires.count, c.if-last-clones.false, c.clones.ensures.value)) c.index_mut.ensures.value)
+    c.in_err-prepare.ensures.left
+
+pub returns-clause-left : goal.returns-clause-left
+returns-clause-left c =
+    let items = c.args.standings.now.items in
+    left_same items c.args.last c.index_mut.result.now c.prepare.new.self
+    (slice_get_read items (length items) c.args.last c.index_mut.result.now refl
+    (omega (arith, c.requires.count, c.if-last-clones.false, c.clones.ensures.value)) c.index_mut.ensures.value)
+    c.in_ok-prepare.ensures.left

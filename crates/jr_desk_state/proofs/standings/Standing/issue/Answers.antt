@@ -1,9 +1,11 @@
-use Rattle.std.proofs.Common.{Bool, refl, sym, ap, subst, ◌∙◌, inl, inr}
+use Rattle.std.proofs.Common.{◌+◌, ◌≤◌, Bool, length, refl, sym, ap, subst, ◌∙◌, arith, inl, inr}
 use Rattle.std.specs.Prelude.{Option}
 use Rattle.std.proofs.lemmas.Bool.{false≢true}
 use Rattle.jr_model.specs.declared.events.WriteId.{WriteId}
 use Rattle.jr_model.specs.Machine.{seed_of_draw}
-use Rattle.jr_backlog.specs.Deferred.{Deferred, with_draw}
+use Rattle.jr_backlog.specs.Deferred.{Deferred, round_now, with_draw}
+use Rattle.jr_desk_state.specs.Standings.{added_by}
+use Rattle.jr_desk_state.proofs.StartingStandings.{left_drawn}
 use Rattle.jr_desk_state.proofs.IssueMoves.{IsReady, ready_rounds, at_draw, seed_at, stands_after, written, written_is}
 use Rattle.jr_desk_state.proofs.standings.Standing.issue.Goals.{then-is_over, else-is_over}
 use Rattle.jr_desk_state.proofs.standings.Standing.issue.Goals as goal
@@ -75,3 +77,21 @@ returns-else-has_rounds-clause-kept c =
     c.args.self.now c.if-is_over.self _ c.args.id is c.requires.prepared.settled here place
     refl c.pass.ensures refl c.push_reserved.ensures.items
     (λ has. absurd (false≢true (sym c.if-has_rounds.false ∙ c.has_rounds.ensures ∙ has)))
+
+pub returns-then-has_rounds-clause-left : goal.returns-then-has_rounds-clause-left
+returns-then-has_rounds-clause-left c =
+    let rounds = c.args.self.now.rounds in
+    let drawn = c.issued.ensures
+    ∙ ap (λ (d : Deferred). with_draw d c.written.result c.is_over-then-has_rounds.result)
+    (ready_rounds c.args.self.now c.if-is_over.self (ready_then c)) in
+    subst (λ (d : Deferred). length (round_now d).to_check ≤ length (round_now rounds).to_check + added_by c.args.job.now c.args.kind)
+    (sym drawn)
+    (left_drawn c.args.job.now c.args.kind c.args.write rounds c.written.result c.is_over-then-has_rounds.result
+    (sym c.has_rounds.ensures ∙ c.if-has_rounds.true) c.requires.prepared.settled c.written.ensures.write c.written.ensures.read
+    c.written.ensures.checked)
+
+pub returns-else-has_rounds-clause-left : goal.returns-else-has_rounds-clause-left
+returns-else-has_rounds-clause-left c =
+    let same = ap (λ (d : Deferred). length (round_now d).to_check)
+    (ready_rounds c.args.self.now c.if-is_over.self (ready_else c)) in
+    omega (arith, same)

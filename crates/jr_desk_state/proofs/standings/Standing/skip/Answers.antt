@@ -2,12 +2,11 @@ use Rattle.std.proofs.Common.{◌<◌, true, refl, sym, subst, length}
 use Rattle.std.specs.Vec.{with_item}
 use Rattle.std.proofs.lemmas.Option.{slice_get_read}
 use Rattle.jr_model.specs.declared.events.Event.TheVariants.{Skip}
-use Rattle.jr_model.specs.History.{same_write}
-use Rattle.jr_backlog.specs.Deferred.{Deferred}
+use Rattle.jr_backlog.specs.Deferred.{Deferred, round_now}
 use Rattle.jr_laws_steps.specs.Nexts.{grown}
 use Rattle.jr_desk_state.specs.Standings.{IsStanding}
 use Rattle.jr_desk_state.proofs.StandingMoves.{skip_moves}
-use Rattle.jr_desk_state.proofs.StartingStandings.{fewer_without}
+use Rattle.jr_desk_state.proofs.StartingStandings.{fewer_passed}
 use Rattle.jr_desk_state.proofs.standings.Standing.skip.Goals as goal
 
 pub returns-clause-kept : goal.returns-clause-kept
@@ -24,6 +23,6 @@ returns-clause-kept c plan history job worker next at now =
 
 pub returns-clause-fewer : goal.returns-clause-fewer
 returns-clause-fewer c =
-    let before = c.args.self.now.rounds.round.to_check in
-    subst (λ (d : Deferred). length d.round.to_check < length before) (sym c.passed.ensures)
-    (fewer_without (same_write c.args.write) before c.requires.left)
+    let rounds = c.args.self.now.rounds in
+    subst (λ (d : Deferred). length (round_now d).to_check < length (round_now rounds).to_check) (sym c.passed.ensures)
+    (fewer_passed rounds c.args.write c.requires.settled c.requires.left)
