@@ -1,27 +1,41 @@
 #!/usr/bin/env python3
-"""checks/more.py [NAME..] tries the edits of checks/edits/: mistakes beyond those that the gate tries (crates/NAME/must-fail/), each of
-which the prover must refuse too. The list checks/edits/REFUSED then says, for each that was refused, of which sources: a checksum of the
-edit and of its crate's src/, specs/ and proofs/. checks/more.py --changed tries those alone that the list doesn't have, so after a change
-of a crate all of its own, and writes nothing. checks/more.py --look only looks, in no time, that each can be applied: that each text it
-takes away stands once in its file.
+"""checks/more.py [NAME..] has the prover try the edits of checks/edits/: mistakes beyond those that rt ci tries (crates/NAME/must-fail/),
+each of which must be refused too. It ends with 0 if each was. With names it tries those crates alone, in that order.
 
-A crate's contracts also speak of definitions of crates below it. What changes there isn't in the checksum: try all where one changes.
+  --changed  tries only the edits that the list doesn't have of these sources. A crate that the list has nothing of is only looked at,
+             unless it is named. (Once the list has an edit of a crate, each change of the crate has all its edits tried.)
+  --look     only looks whether each edit can be applied: whether each text that it takes away stands once in its file. Takes no time.
+  --jobs N   how many checks run at once (as many as there are processors, if there are 3 GB of memory for each)
 
-It has rt ci try them, in a copy of the sources in which they are in the place of the gate's edits. So what a gate on this machine has
-proved of the same sources isn't proved again, and what was tried of an edit is kept too. It ends with 0 where each edit was refused."""
+The list is checks/edits/REFUSED. It says of each edit that was refused of which sources: a checksum of the edit and of its crate's src/,
+specs/ and proofs/. What was refused goes into the list as soon as its crate is done, so an interrupted run loses little. A crate's
+contracts also speak of definitions of crates below it. What changes there isn't in the checksum: name the crates to try all of theirs.
 
+An edit is tried as rt ci tries it: in a copy of the crate, over libraries that rt ci, rt check or a build has left (checks/prover.py). The
+edits of a crate are tried in turn, each over what the checks before it have proved. An edit that isn't refused so is tried again from
+nothing, and so are all if the crate itself isn't proved over that work. A crate that has more to do than the others is shared out."""
+
+import argparse
+import concurrent.futures
+import fcntl
 import hashlib
 import os
 import re
 import shutil
-import subprocess
+import signal
 import sys
 import tempfile
+import threading
+import time
+from typing import NamedTuple
 
-TOP = os.path.dirname(os.path.dirname(os.path.abspath(__file__)))
+from prover import PARTS, TOP, Ended, Lacking, Prover, libraries
+
 EDITS = os.path.join(TOP, "checks", "edits")
 REFUSED = os.path.join(EDITS, "REFUSED")
-PARTS = ("src", "specs", "proofs")
+# What a check from nothing takes, in checks of an edit.
+WHOLE = 6
+MEMORY = 3_000_000
 
 
 def crates_with_edits():
@@ -29,39 +43,49 @@ def crates_with_edits():
 
 
 def edits_of(name):
-    folder = os.path.join(EDITS, name)
-    return [os.path.join(folder, it) for it in sorted(os.listdir(folder))]
+    """The names of a crate's edits, as the list has them."""
+    return [f"{name}/{it}" for it in sorted(os.listdir(os.path.join(EDITS, name)))]
 
 
-def name_of(edit):
-    return os.path.relpath(edit, EDITS)
+def crate_of(edit):
+    return edit.split("/")[0]
 
 
-def sources_of(name):
-    """The files of a crate that the prover reads."""
+def text_of(edit):
+    with open(os.path.join(EDITS, edit), encoding="utf-8") as it:
+        return it.read()
+
+
+def folder_of(name):
+    return os.path.join(TOP, "crates", name)
+
+
+# The list.
+
+
+def add_to(digest, path, text):
+    digest.update(f"{path} {len(text)}\n".encode() + text)
+
+
+def checksum_of_crate(name, folder):
+    """The checksum of a crate's sources, which lie in this folder."""
+    digest = hashlib.sha256()
     for part in PARTS:
-        for folder, folders, files in os.walk(os.path.join(TOP, "crates", name, part)):
+        for at, folders, files in os.walk(os.path.join(folder, part)):
             folders.sort()
-            yield from (os.path.join(folder, it) for it in sorted(files))
+            for path in (os.path.join(at, it) for it in sorted(files)):
+                with open(path, "rb") as it:
+                    add_to(digest, f"crates/{name}/{os.path.relpath(path, folder)}", it.read())
+    return digest
 
 
-def add_to(digest, path):
-    with open(path, "rb") as it:
-        text = it.read()
-    digest.update(f"{os.path.relpath(path, TOP)} {len(text)}\n".encode() + text)
-
-
-def checksums(names):
-    """For each edit of these crates the checksum of its crate's sources and of itself."""
-    found = {}
-    for name in names:
-        crate = hashlib.sha256()
-        for path in sources_of(name):
-            add_to(crate, path)
-        for edit in edits_of(name):
-            digest = crate.copy()
-            add_to(digest, edit)
-            found[name_of(edit)] = digest.hexdigest()[:16]
+def checksums(name, folder, edits):
+    """For each of these edits of a crate the checksum of itself and of the crate's sources, which lie in this folder."""
+    crate, found = checksum_of_crate(name, folder), {}
+    for edit in edits:
+        digest = crate.copy()
+        add_to(digest, f"checks/edits/{edit}", text_of(edit).encode())
+        found[edit] = digest.hexdigest()[:16]
     return found
 
 
@@ -73,112 +97,281 @@ def listed():
         return dict(line.split() for line in it)
 
 
-def note(names, refused):
-    """Writes into the list what was refused of these crates. What stands there of others stays, where there is such an edit."""
-    now = checksums(names)
-    known = {edit: value for edit, value in listed().items() if edit.split("/")[0] not in names and os.path.exists(os.path.join(EDITS, edit))}
-    known |= {edit: value for edit, value in now.items() if edit in refused}
-    with open(REFUSED, "w", encoding="ascii") as it:
-        it.writelines(f"{edit} {known[edit]}\n" for edit in sorted(known))
+def note(tried, refused):
+    """Writes into the list what was refused of those that were tried, each with its checksum. What stands there of others stays, if there
+    is such an edit."""
+    folder = os.open(EDITS, os.O_RDONLY)
+    try:
+        fcntl.flock(folder, fcntl.LOCK_EX)
+        known = {edit: value for edit, value in listed().items() if os.path.exists(os.path.join(EDITS, edit))}
+        known = {edit: value for edit, value in known.items() if edit not in tried} | refused
+        with open(f"{REFUSED}.new", "w", encoding="ascii") as it:
+            it.writelines(f"{edit} {known[edit]}\n" for edit in sorted(known))
+        os.replace(f"{REFUSED}.new", REFUSED)
+    finally:
+        os.close(folder)
 
 
 def changed(names):
-    """The edits that the list doesn't have of these sources."""
-    known = listed()
-    missing = {edit for edit, value in checksums(names).items() if known.get(edit) != value}
-    return [edit for name in names for edit in edits_of(name) if name_of(edit) in missing]
+    """The edits of these crates that the list doesn't have of their sources."""
+    known, now = listed(), {}
+    for name in names:
+        now |= checksums(name, folder_of(name), edits_of(name))
+    return [edit for edit, value in now.items() if known.get(edit) != value]
 
 
-def wrong_with(edit, crate):
-    """What is in the way of applying the edit to its crate, if anything. It is applied as rt does it: pair by pair."""
+# What an edit makes of a crate's files.
+
+
+def edited(text, folder):
+    """The texts of the files that an edit changes in this folder, by their paths, or why it can't be applied. (rt: edited.)"""
     path, old, texts = "", "", {}
-    with open(edit, encoding="utf-8") as it:
-        lines = it.read().split("\n")
-    for line in lines:
+    for line in text.split("\n"):
         if line.startswith("file: "):
-            path = os.path.join(TOP, "crates", crate, line[6:])
-            if not os.path.isfile(path):
-                return f"there is no {line[6:]}"
+            path = line[6:].strip()
+            if not path.startswith(tuple(f"{it}/" for it in PARTS)) or not os.path.isfile(os.path.join(folder, path)):
+                return None, f"there is no {path}"
             if path not in texts:
-                with open(path, encoding="utf-8") as it:
+                with open(os.path.join(folder, path), encoding="utf-8") as it:
                     texts[path] = it.read()
         elif line.startswith("old: "):
             old = line[5:]
-            if texts[path].count(old) != 1:
-                return f"stands {texts[path].count(old)} times: {old}"
         elif line.startswith("new:"):
-            texts[path] = texts[path].replace(old, line[4:].removeprefix(" "))
-    return None if old else "it changes nothing"
+            if not path or not old or texts[path].count(old) != 1:
+                return None, f"stands {texts[path].count(old) if path and old else 0} times: {old}"
+            texts[path], old = texts[path].replace(old, line[4:].removeprefix(" ")), ""
+    return (texts, None) if texts else (None, "it changes nothing")
 
 
 def look(names):
     """Says what can't be applied, and how many that are."""
-    edits = [(name, edit) for name in names for edit in edits_of(name)]
-    wrong = [(edit, wrong_with(edit, name)) for name, edit in edits]
-    for edit, why in wrong:
+    edits = [edit for name in names for edit in edits_of(name)]
+    wrong = {edit: edited(text_of(edit), folder_of(crate_of(edit)))[1] for edit in edits}
+    wrong = {edit: why for edit, why in wrong.items() if why}
+    wrong |= {edit: "crates/NAME/must-fail has one of this name" for edit in edits if os.path.exists(by_rt(edit))}
+    for edit, why in wrong.items():
+        print(f"checks/edits/{edit}: BAD EDIT: {why}")
+    print(f"checks/more.py: {len(edits)} edits, {len(wrong)} can't be applied")
+    return len(wrong)
+
+
+def by_rt(edit):
+    """Where an edit of this name would be tried by rt ci."""
+    return os.path.join(folder_of(crate_of(edit)), "must-fail", os.path.basename(edit))
+
+
+# What the prover says of them.
+
+
+class Tried(NamedTuple):
+    """What became of an edit: was it refused, and in words."""
+
+    is_refused: bool
+    said: str
+
+
+def is_unread(line, texts):
+    """Does the prover say here that it can't read a file of src/ or specs/, or an edited one? (rt: unread.)"""
+    at = re.match(r"(?:\./)?(\S+?):\d+:\d+: error: (?:(`[^`]*`): )?(.*)", line)
+    if not at or at[1] not in texts and not at[1].startswith(("src/", "specs/")):
+        return False
+    said = re.sub(r"`[^`]*`", "", at[3])
+    unreadable = r"is not in scope|has no field|is no name|operand is missing|expected the end|cannot continue"
+    return not at[2] or re.search(unreadable, said) is not None
+
+
+def verdict(status, said, texts):
+    """What a check of an edited crate says of the edit. (rt: must_fail.)"""
+    lines = said.rstrip("\n").split("\n")
+    unread = next((it for it in lines if is_unread(it, texts)), "")
+    if unread:
+        return Tried(False, f"BAD EDIT: the edited text can't be read, so no contract was tried: {unread[:200]}")
+    if re.search(r"module .Rattle-(\w+)-.*Run the lower steps again", said):
+        return Tried(False, "BAD EDIT: a library's kept work can't be used")
+    if status == 1 and lines[-1].startswith("logic=not-proved"):
+        return Tried(True, "refused")
+    if status == 0:
+        return Tried(False, "NOT REFUSED: the crate is still proved with this edit")
+    return Tried(False, f"BAD EDIT: no verdict, status {status}: {' / '.join(lines[-3:])[:300]}")
+
+
+class Share:
+    """Edits of one crate that are tried in turn, on the crate's sources as they are when the first begins."""
+
+    def __init__(self, name, edits):
+        self.name, self.edits = name, edits
+
+    def cost(self):
+        return (len(self.edits) + WHOLE) * lines_of(self.name)
+
+    def check(self, prover, texts, kept=None):
+        """Has a copy of the crate checked, with these texts in the place of its own."""
+        with tempfile.TemporaryDirectory(prefix="rt-edit-") as folder:
+            shutil.copytree(self.whole, folder, dirs_exist_ok=True)
+            for path, text in texts.items():
+                with open(os.path.join(folder, path), "w", encoding="utf-8") as it:
+                    it.write(text)
+            return prover.check(self.name, folder, kept)
+
+    def try_one(self, prover, edit, kept, tell):
+        texts, why = edited(text_of(edit), self.whole)
         if why:
-            print(f"{os.path.relpath(edit, TOP)}: {why}")
-    print(f"checks/more.py: {len(edits)} edits, {sum(why is not None for _, why in wrong)} can't be applied")
-    return sum(why is not None for _, why in wrong)
+            return Tried(False, f"BAD EDIT: {why}")
+        status, said, took = self.check(prover, texts, kept)
+        tried = verdict(status, said, texts)
+        again = "" if tried.is_refused or not kept else "; once more, from nothing"
+        tell(edit, f"{tried.said} ({took:.0f} s{'' if kept else ' from nothing'}){again}")
+        return tried
+
+    def try_over(self, prover, kept, tell):
+        """Tries the edits over what those before have proved: what of them holds."""
+        tried = {edit: self.try_one(prover, edit, kept, tell) for edit in self.edits}
+        status, _, _ = self.check(prover, {}, kept)
+        if status:
+            tell(self.name, f"isn't proved over that work (status {status}): all once more, from nothing")
+            return {}
+        return {edit: it for edit, it in tried.items() if it.is_refused}
+
+    def try_all(self, prover, tell):
+        """Tries the edits, notes in the list which were refused, and returns what became of each."""
+        with tempfile.TemporaryDirectory(prefix="more-edits-") as room:
+            self.whole, kept = os.path.join(room, "whole"), os.path.join(room, "kept")
+            for part in PARTS:
+                if os.path.isdir(os.path.join(folder_of(self.name), part)):
+                    shutil.copytree(os.path.join(folder_of(self.name), part), os.path.join(self.whole, part))
+            sums = checksums(self.name, self.whole, self.edits)
+            tried = self.try_over(prover, kept, tell) if len(self.edits) > 1 else {}
+            for edit in self.edits:
+                if edit not in tried:
+                    tried[edit] = self.try_one(prover, edit, None, tell)
+        note(self.edits, {edit: sums[edit] for edit, it in tried.items() if it.is_refused})
+        return tried
 
 
-def lay(room, edits):
-    """The sources, and these edits in the place of those of the gate."""
-    for it in ("crates.txt", "HANDLES"):
-        shutil.copy(os.path.join(TOP, it), room)
-    for name in os.listdir(os.path.join(TOP, "crates")):
-        crate, to = os.path.join(TOP, "crates", name), os.path.join(room, "crates", name)
-        for part in PARTS:
-            if os.path.isdir(os.path.join(crate, part)):
-                shutil.copytree(os.path.join(crate, part), os.path.join(to, part))
+# Which are tried side by side.
+
+
+def lines_of(name):
+    """How many lines of source a crate has."""
+    found = 0
+    for at, _, files in os.walk(os.path.join(folder_of(name), "src")):
+        for path in (os.path.join(at, it) for it in files):
+            with open(path, "rb") as it:
+                found += it.read().count(b"\n")
+    return found
+
+
+def places():
+    """How many checks may run at once: one for each processor, with 3 GB of memory for each, but at least one."""
+    with open("/proc/meminfo", encoding="ascii") as it:
+        free = int(re.search(r"MemAvailable: *(\d+) kB", it.read())[1])
+    return max(1, min(len(os.sched_getaffinity(0)), free // MEMORY))
+
+
+def shares_of(edits, jobs):
+    """The edits by crates. Those of a crate that has more to do than one of so many lanes are shared out."""
+    names = list(dict.fromkeys(map(crate_of, edits)))
+    whole = [Share(name, [it for it in edits if crate_of(it) == name]) for name in names]
+    lane, shares = sum(it.cost() for it in whole) / jobs, []
+    for it in whole:
+        parts = max(1, min(round(it.cost() / lane), len(it.edits) // WHOLE))
+        shares += [Share(it.name, it.edits[at::parts]) for at in range(parts)]
+    return shares
+
+
+class Teller:
+    """Says of each edit what became of it, and how far the run is."""
+
+    def __init__(self, edits):
+        self.lock, self.edits, self.done, self.begun = threading.Lock(), set(edits), set(), time.monotonic()
+
+    def tell(self, edit, text):
+        with self.lock:
+            self.done |= {edit} & self.edits
+            print(f"checks/more.py: {len(self.done)} of {len(self.edits)}, {self.minutes()} min: {edit}: {text}", flush=True)
+
+    def minutes(self):
+        return round((time.monotonic() - self.begun) / 60)
+
+
+def try_shares(shares, jobs, teller):
+    """Tries them side by side, and returns what became of each edit."""
+    prover, tried = Prover(), {}
+    with concurrent.futures.ThreadPoolExecutor(jobs) as pool:
+        try:
+            for it in concurrent.futures.as_completed([pool.submit(share.try_all, prover, teller.tell) for share in shares]):
+                tried |= it.result()
+        except BaseException:
+            prover.end()
+            raise
+    return tried
+
+
+def try_edits(edits, jobs, is_named):
+    """Tries these edits, says what became of them, and returns the status."""
+    shares = shares_of(edits, jobs)
+    if not is_named:
+        shares.sort(key=lambda it: -it.cost())
+    counts = [f"{name} {sum(crate_of(it) == name for it in edits)}" for name in dict.fromkeys(map(crate_of, edits))]
+    print(f"checks/more.py: {len(edits)} edits to try, {jobs} at once: {', '.join(counts) or 'none'}", flush=True)
+    teller = Teller(edits)
+    tried = try_shares(shares, jobs, teller)
     for edit in edits:
-        to = os.path.join(room, "crates", name_of(edit).split("/")[0], "must-fail")
-        os.makedirs(to, exist_ok=True)
-        shutil.copy(edit, to)
+        if not tried[edit].is_refused:
+            print(f"checks/more.py: {edit}: {tried[edit].said}")
+    refused = sum(it.is_refused for it in tried.values())
+    print(f"checks/more.py: {refused} of {len(edits)} edits refused, {teller.minutes()} min")
+    return 0 if refused == len(edits) else 1
 
 
-def try_all(room, names):
-    """Has rt ci try them, prints what it says, and returns its status and the edits that were refused. It doesn't fail for one that can't
-    be compiled."""
-    refused = set()
-    with subprocess.Popen(["rt", "ci", *names], cwd=room, stdout=subprocess.PIPE, text=True, errors="replace") as it:
-        for line in it.stdout:
-            print(line, end="", flush=True)
-            if found := re.match(r"rt: must-fail (\S+): refused", line):
-                refused.add(found[1])
-    return it.returncode, refused
+def chosen(names, is_changed, is_named):
+    """The edits to try. Says which crates are only looked at."""
+    if is_changed and not is_named:
+        known = {crate_of(it) for it in listed()}
+        left = [f"{name} {len(edits_of(name))}" for name in names if name not in known]
+        if left:
+            print(f"checks/more.py: only looked at, since the list has nothing of them: {', '.join(left)}")
+        names = [name for name in names if name in known]
+    return changed(names) if is_changed else [edit for name in names for edit in edits_of(name)]
 
 
-def tried(edits):
-    """Tries these edits, and returns the status and the names of those that were refused."""
-    names = sorted({name_of(it).split("/")[0] for it in edits})
-    if not edits:
-        return 0, set()
-    with tempfile.TemporaryDirectory(prefix="more-edits-") as room:
-        lay(room, edits)
-        status, refused = try_all(room, names)
-    for it in edits:
-        if name_of(it) not in refused:
-            print(f"checks/more.py: not refused: {name_of(it)}")
-    return status, refused
+def asked(words):
+    """What the words ask for."""
+    how = {"description": __doc__, "formatter_class": argparse.RawDescriptionHelpFormatter, "usage": "checks/more.py [OPTION..] [NAME..]"}
+    parser = argparse.ArgumentParser(**how)
+    parser.add_argument("names", nargs="*", metavar="NAME")
+    parser.add_argument("--changed", action="store_true")
+    parser.add_argument("--look", action="store_true")
+    parser.add_argument("--jobs", type=int, default=0, metavar="N")
+    return parser.parse_args(words)
+
+
+def stop(*_):
+    raise KeyboardInterrupt
 
 
 def main(words):
-    is_look, is_changed = "--look" in words, "--changed" in words
-    names = [it for it in words if not it.startswith("--")] or crates_with_edits()
-    unknown = [it for it in names if it not in crates_with_edits()]
+    given = asked(words)
+    known = crates_with_edits()
+    unknown = [it for it in given.names if it not in known]
     if unknown:
         print(f"checks/more.py: checks/edits has nothing for {' '.join(unknown)}")
         return 2
-    failed = look(names)
-    if failed or is_look:
+    failed = look(given.names or known)
+    if failed or given.look:
         return 1 if failed else 0
-    edits = changed(names) if is_changed else [it for name in names for it in edits_of(name)]
-    status, refused = tried(edits)
-    if not is_changed:
-        note(names, refused)
-    print(f"checks/more.py: {len(refused)} of {len(edits)} edits refused")
-    return status or (0 if len(refused) == len(edits) else 1)
+    edits = chosen(given.names or known, given.changed, bool(given.names))
+    try:
+        for name in sorted(set(map(crate_of, edits))):
+            libraries(name)
+        signal.signal(signal.SIGTERM, stop)
+        return try_edits(edits, given.jobs or places(), bool(given.names))
+    except Lacking as it:
+        print(f"checks/more.py: FAILED: {it}")
+        return 2
+    except (KeyboardInterrupt, Ended):
+        print("checks/more.py: FAILED: interrupted. The list has what was refused until then")
+        return 130
 
 
 if __name__ == "__main__":
