@@ -51,9 +51,13 @@ def crate_of(edit):
     return edit.split("/")[0]
 
 
-def text_of(edit):
-    with open(os.path.join(EDITS, edit), encoding="utf-8") as it:
-        return it.read()
+def texts_of(edits):
+    """These edits, each with its text."""
+    found = {}
+    for edit in edits:
+        with open(os.path.join(EDITS, edit), encoding="utf-8") as it:
+            found[edit] = it.read()
+    return found
 
 
 def folder_of(name):
@@ -79,12 +83,12 @@ def checksum_of_crate(name, folder):
     return digest
 
 
-def checksums(name, folder, edits):
-    """For each of these edits of a crate the checksum of itself and of the crate's sources, which lie in this folder."""
+def checksums(name, folder, texts):
+    """For each of these edits of a crate, with their texts, the checksum of itself and of the crate's sources, which lie in this folder."""
     crate, found = checksum_of_crate(name, folder), {}
-    for edit in edits:
+    for edit, text in texts.items():
         digest = crate.copy()
-        add_to(digest, f"checks/edits/{edit}", text_of(edit).encode())
+        add_to(digest, f"checks/edits/{edit}", text.encode())
         found[edit] = digest.hexdigest()[:16]
     return found
 
@@ -116,7 +120,7 @@ def changed(names):
     """The edits of these crates that the list doesn't have of their sources."""
     known, now = listed(), {}
     for name in names:
-        now |= checksums(name, folder_of(name), edits_of(name))
+        now |= checksums(name, folder_of(name), texts_of(edits_of(name)))
     return [edit for edit, value in now.items() if known.get(edit) != value]
 
 
@@ -145,8 +149,8 @@ def edited(text, folder):
 
 def look(names):
     """Says what can't be applied, and how many that are."""
-    edits = [edit for name in names for edit in edits_of(name)]
-    wrong = {edit: edited(text_of(edit), folder_of(crate_of(edit)))[1] for edit in edits}
+    edits = texts_of(edit for name in names for edit in edits_of(name))
+    wrong = {edit: edited(text, folder_of(crate_of(edit)))[1] for edit, text in edits.items()}
     wrong = {edit: why for edit, why in wrong.items() if why}
     wrong |= {edit: "crates/NAME/must-fail has one of this name" for edit in edits if os.path.exists(by_rt(edit))}
     for edit, why in wrong.items():
@@ -196,7 +200,7 @@ def verdict(status, said, texts):
 
 
 class Share:
-    """Edits of one crate that are tried in turn, on the crate's sources as they are when the first begins."""
+    """Edits of one crate that are tried in turn, as they and the crate's sources are when the first begins."""
 
     def __init__(self, name, edits):
         self.name, self.edits = name, edits
@@ -214,7 +218,7 @@ class Share:
             return prover.check(self.name, folder, kept)
 
     def try_one(self, prover, edit, kept, tell):
-        texts, why = edited(text_of(edit), self.whole)
+        texts, why = edited(self.texts[edit], self.whole)
         if why:
             return Tried(False, f"BAD EDIT: {why}")
         status, said, took = self.check(prover, texts, kept)
@@ -239,7 +243,8 @@ class Share:
             for part in PARTS:
                 if os.path.isdir(os.path.join(folder_of(self.name), part)):
                     shutil.copytree(os.path.join(folder_of(self.name), part), os.path.join(self.whole, part))
-            sums = checksums(self.name, self.whole, self.edits)
+            self.texts = texts_of(self.edits)
+            sums = checksums(self.name, self.whole, self.texts)
             tried = self.try_over(prover, kept, tell) if len(self.edits) > 1 else {}
             for edit in self.edits:
                 if edit not in tried:
