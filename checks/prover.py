@@ -49,10 +49,9 @@ def below(name):
 
 
 def changed_at(name):
-    """When a crate's sources were changed last."""
-    paths = [os.path.join(TOP, "crates", name, it) for it in PARTS]
-    paths += [os.path.join(at, it) for path in paths for at, folders, files in os.walk(path) for it in (*folders, *files)]
-    return max(os.stat(it).st_mtime for it in paths if os.path.exists(it))
+    """When a file of a crate's sources was changed last."""
+    parts = [os.path.join(TOP, "crates", name, it) for it in PARTS]
+    return max(os.stat(os.path.join(at, it)).st_mtime for part in parts for at, _, files in os.walk(part) for it in files)
 
 
 def by_gate(name):
