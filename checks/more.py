@@ -2,8 +2,8 @@
 """checks/more.py [NAME..] has the prover try the edits of checks/edits/: mistakes beyond those that rt ci tries (crates/NAME/must-fail/),
 each of which must be refused too. It ends with 0 if each was. With names it tries those crates alone, in that order.
 
-  --changed  tries only the edits that the list doesn't have of these sources. A crate that the list has nothing of is only looked at,
-             unless it is named. (Once the list has an edit of a crate, each change of the crate has all its edits tried.)
+  --changed  tries only the edits that the list doesn't have of these sources. Those of checks/edits/UNTRIED, which were not tried since
+             there is a list, are only looked at, unless their crate is named. Nothing is added there.
   --look     only looks whether each edit can be applied: whether each text that it takes away stands once in its file. Takes no time.
   --jobs N   how many checks run at once (as many as there are processors, if there are 3 GB of memory for each)
 
@@ -33,6 +33,7 @@ from prover import PARTS, TOP, Ended, Lacking, Prover, libraries
 
 EDITS = os.path.join(TOP, "checks", "edits")
 REFUSED = os.path.join(EDITS, "REFUSED")
+UNTRIED = os.path.join(EDITS, "UNTRIED")
 # What a check from nothing takes, in checks of an edit.
 WHOLE = 6
 MEMORY = 3_000_000
@@ -101,6 +102,20 @@ def listed():
         return dict(line.split() for line in it)
 
 
+def untried():
+    """The edits that were not tried since there is a list."""
+    if not os.path.exists(UNTRIED):
+        return set()
+    with open(UNTRIED, encoding="ascii") as it:
+        return set(it.read().split())
+
+
+def replace(path, lines):
+    with open(f"{path}.new", "w", encoding="ascii") as it:
+        it.writelines(f"{line}\n" for line in sorted(lines))
+    os.replace(f"{path}.new", path)
+
+
 def note(tried, refused):
     """Writes into the list what was refused of those that were tried, each with its checksum. What stands there of others stays, if there
     is such an edit."""
@@ -109,9 +124,10 @@ def note(tried, refused):
         fcntl.flock(folder, fcntl.LOCK_EX)
         known = {edit: value for edit, value in listed().items() if os.path.exists(os.path.join(EDITS, edit))}
         known = {edit: value for edit, value in known.items() if edit not in tried} | refused
-        with open(f"{REFUSED}.new", "w", encoding="ascii") as it:
-            it.writelines(f"{edit} {known[edit]}\n" for edit in sorted(known))
-        os.replace(f"{REFUSED}.new", REFUSED)
+        replace(REFUSED, [f"{edit} {known[edit]}" for edit in known])
+        left = {edit for edit in untried() - set(tried) if os.path.exists(os.path.join(EDITS, edit))}
+        if left != untried():
+            replace(UNTRIED, left)
     finally:
         os.close(folder)
 
@@ -330,14 +346,16 @@ def try_edits(edits, jobs, is_named):
 
 
 def chosen(names, is_changed, is_named):
-    """The edits to try. Says which crates are only looked at."""
-    if is_changed and not is_named:
-        known = {crate_of(it) for it in listed()}
-        left = [f"{name} {len(edits_of(name))}" for name in names if name not in known]
-        if left:
-            print(f"checks/more.py: only looked at, since the list has nothing of them: {', '.join(left)}")
-        names = [name for name in names if name in known]
-    return changed(names) if is_changed else [edit for name in names for edit in edits_of(name)]
+    """The edits to try. Says how many are only looked at."""
+    if not is_changed:
+        return [edit for name in names for edit in edits_of(name)]
+    edits = changed(names)
+    if is_named:
+        return edits
+    left = [it for it in edits if it in untried()]
+    if left:
+        print(f"checks/more.py: {len(left)} of checks/edits/UNTRIED are only looked at")
+    return [it for it in edits if it not in untried()]
 
 
 def asked(words):
