@@ -6,4 +6,4 @@ mod rows;
 mod texts;
 
 pub use endings::RunStatus;
-pub use texts::json_text;
+pub use texts::{json_text, push_clones};

@@ -139,8 +139,8 @@ fn push_end(text: &mut Vec<u8>, more: u64, ending: &RunStatus<'_>) -> Result<(),
     Ok(())
 }
 
-// The array of the clones, by their totals.
-fn push_clones(
+/// Appends the array of the clones, by their totals, as a report has it.
+pub fn push_clones(
     text: &mut Vec<u8>,
     alloc: Global,
     plan: &Plan,

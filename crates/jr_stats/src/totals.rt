@@ -17,7 +17,7 @@ pub fn totals_text(alloc: Global, plan: &Plan, totals: &[Totals]) -> Result<Vec<
     Ok(text)
 }
 
-/// The line of a clone; it ends in a line feed.
+/// Appends the line of a clone; it ends in a line feed.
 pub fn push_totals_line(text: &mut Vec<u8>, job: &SubJob, totals: &Totals) -> Result<(), Memory>
     ensures { OnOk result (text.new.items ≡ text.old.items ++ totals_line job.now totals.now) }
 {
