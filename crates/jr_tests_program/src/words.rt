@@ -23,6 +23,9 @@ const NOTHING: Choice<'static> = Choice {
     progress: None,
     json: None,
     page: None,
+    run_for: None,
+    repeat: None,
+    keep_going: false,
 };
 
 #[test]
@@ -47,6 +50,9 @@ fn each_word_goes_to_its_field(rt: HostRuntime) -> Result<(), Fail> {
         "--progress=86400",
         "--json=j",
         "--page=p",
+        "--for=90s",
+        "--repeat=4294967295",
+        "--keep-going",
     ];
     let want = Choice {
         job: Some("disk.fio"),
@@ -67,6 +73,9 @@ fn each_word_goes_to_its_field(rt: HostRuntime) -> Result<(), Fail> {
         progress: Some(86400),
         json: Some("j"),
         page: Some("p"),
+        run_for: Some("90s"),
+        repeat: Some(4294967295),
+        keep_going: true,
     };
     same(&rt, choose(rt.alloc(), &words)?, want);
     Ok(())
@@ -117,6 +126,8 @@ fn words_are_refused_by_their_kind(rt: HostRuntime) -> Result<(), Fail> {
     assert_refused(&rt, "--progress=0", value, 2)?;
     assert_refused(&rt, "--progress=86401", value, 2)?;
     assert_refused(&rt, "--progress=1.5", value, 2)?;
+    assert_refused(&rt, "--repeat=0", value, 2)?;
+    assert_refused(&rt, "--repeat=4294967296", value, 2)?;
     assert_refused(&rt, "--nosuch", ErrorKind::UnknownArgument, 2)?;
     assert_refused(&rt, "--workers", ErrorKind::InvalidValue, 2)?;
     assert_refused(&rt, "--parse-only=1", ErrorKind::TooManyValues, 2)?;
