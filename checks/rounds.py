@@ -225,7 +225,7 @@ class Rounds(Case):
     def test_memory_does_not_grow(self):
         """200 rounds take no more memory than 2."""
         for job, words in ((IN_MEMORY, ["--workers=1"]), (OVER_FILES, ["--workers=4", "--cached"])):
-            job = job.replace("size=64k", "size=4m")
+            job = job.replace("size=64k", "size=1m")
             few, many = (self.peak(job, [f"--repeat={it}", *words]) for it in (2, 200))
             expect(many <= 1.1 * few, f"{few} KiB for 2 rounds, {many} KiB for 200", words)
 
