@@ -104,8 +104,9 @@ impl<'a, R: Outlet + Machine> RoundRunner for Runner<'a, R> {
         Ok(ended)
     }
 
+    // What can't be stored or written ends the job too.
     fn is_over(&mut self) -> bool {
-        self.asked.is_time_over()
+        self.asked.is_time_over() || self.missing.is_some() || self.closed.unstored.is_some()
     }
 
     fn told(&mut self, round: u32, ended: &RunEnd, is_last: bool, _sums: &Sums) {
@@ -329,7 +330,7 @@ impl<'a, R: Outlet + Machine> Runner<'a, R> {
             let _ = stop.tell(self.rt, has_notes);
         }
         let status = ended.status(self.missing.is_none());
-        if status == INTERRUPTED && ended.is_over {
+        if status == INTERRUPTED && self.asked.is_time_over() {
             0
         } else {
             status

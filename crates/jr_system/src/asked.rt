@@ -32,6 +32,8 @@ pub struct Asked {
     is_time_over: AtomicBool,
     lines: AtomicU64,
     sleeper: Parker,
+    // Whether a thread sleeps here, or shows what it was woken for.
+    has_sleeper: AtomicBool,
 }
 
 impl Asked {
@@ -48,6 +50,7 @@ impl Asked {
             is_time_over: AtomicBool::new(false),
             lines: AtomicU64::new(0),
             sleeper: Parker::new(),
+            has_sleeper: AtomicBool::new(false),
         }
     }
 
@@ -97,6 +100,21 @@ impl Asked {
     /// Ends the sleep of the one thread that may sleep here, or its next one.
     pub fn wake(&self) {
         self.sleeper.unpark();
+    }
+
+    /// Makes the caller, or a thread that it starts, the one that may sleep here. False if there is one already.
+    pub fn move_in(&self) -> bool {
+        !self.has_sleeper.swap(true, Ordering::SeqCst)
+    }
+
+    /// The thread that might sleep here doesn't any more.
+    pub fn move_out(&self) {
+        self.has_sleeper.store(false, Ordering::SeqCst);
+    }
+
+    /// Whether there is a thread that may sleep here.
+    pub fn has_sleeper(&self) -> bool {
+        self.has_sleeper.load(Ordering::SeqCst)
     }
 
     // Takes in what came by the pipe.

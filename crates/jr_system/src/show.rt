@@ -45,6 +45,9 @@ const PAUSE_MILLISECONDS: u64 = 10;
 
 const MOST_PAUSES: u32 = 50;
 
+// So long it waits each time for the thread that was woken to end.
+const WAKING_MICROSECONDS: u64 = 200;
+
 // Back to the line's begin, and nothing on it.
 const WIPED: &str = "\r\x1b[K";
 
@@ -102,17 +105,40 @@ pub fn shown<R: Machine, T, F: for<'p> FnOnce(Watch<'p>, &'p Meter) -> T>(
     let progress = Some(&meter.progress);
     let ended = f(Watch { progress, stop }, &meter);
     meter.end(rt);
-    asked.wake();
+    end_showing(rt, asked);
     ended
 }
 
-// Has a thread show the run. It is never joined: who reads what it says may have stopped to, and the run's end doesn't wait for that.
+// Has a thread show the run, unless that of an earlier run still does. It is never joined: who reads what it says may have stopped to, and
+// the run's end doesn't wait for that.
 fn begin_to_show<R: Machine>(rt: &R, meter: &Arc<Meter, Global>, asked: &Arc<Asked, Global>) {
     let own: Result<R, AllocError> = rt.clone();
-    let (Ok(meter), Ok(asked), Ok(own)) = (Arc::try_clone(meter), Arc::try_clone(asked), own) else {
+    let (Ok(meter), Ok(theirs), Ok(own)) = (Arc::try_clone(meter), Arc::try_clone(asked), own)
+    else {
         return;
     };
-    let _shown = thread::spawn(rt, move || show(&own, &meter, &asked));
+    if !asked.move_in() {
+        return;
+    }
+    let begun = thread::spawn(rt, move || {
+        show(&own, &meter, &theirs);
+        theirs.move_out();
+    });
+    if begun.is_err() {
+        asked.move_out();
+    }
+}
+
+// Wakes the thread that shows the run, and waits a moment for its end, so that it doesn't take what wakes that of the next run.
+fn end_showing<R: Wait>(rt: &R, asked: &Asked) {
+    let pause = Parker::new();
+    for _ in 0..MOST_PAUSES {
+        asked.wake();
+        if !asked.has_sleeper() {
+            return;
+        }
+        pause.park_timeout(rt, Duration::from_micros(WAKING_MICROSECONDS));
+    }
 }
 
 // What is shown of a run.
