@@ -5,9 +5,12 @@ mod jobs;
 mod keys;
 mod laws;
 mod lines;
+mod near;
 mod notes;
+mod rows;
 mod whole;
 
 pub use laws::{accepted_have_none, first_is_named, refused_ascend};
-pub use lines::line_notes;
+pub use lines::{line_notes, told_of};
 pub use notes::{Note, job_notes, plan_notes};
+pub use rows::{Fate, Told, Way};

@@ -1,18 +1,22 @@
-ghost use Rattle.std.specs.Prelude.{◌≡◌, ◌++◌, ◌∷◌, [], IfOk, OnOk, option_copied};
+ghost use Rattle.std.specs.Prelude.{◌≡◌, ◌++◌, ◌∷◌, [], IfOk, OnOk, is_some, option_copied};
 ghost use Rattle.jr_options.specs.Refusals.{counts, line_fault};
 ghost use Rattle.jr_options.specs.Surveys.{is_global, is_planned};
 ghost use Rattle.jr_job_notes.specs.Notes.{lines_noted, noted, sections_noted};
 
-use crate::keys::{Row, key_row, value_row};
+use crate::keys::{key_told, value_told};
 use crate::notes::Note;
+use crate::rows::Told;
 use jr_job_options::JobOptions;
 use jr_options::JobFault;
 use jr_text::{Line, Section};
 use std::alloc::{AllocError, Global};
 use std::slice;
 
-/// The most characters of a name or a key that a note has.
-pub const MOST_SHOWN: usize = 26;
+// The most characters of a name that a note has.
+const MOST_SHOWN: usize = 26;
+
+// The most characters of a key.
+const LONGEST_SHOWN: usize = 200;
 
 // The section's lines count for the jobs below it; it is no job.
 pub(crate) fn is_global(section: &Section) -> bool
@@ -107,31 +111,53 @@ fn fault_of(line: &Line) -> Option<JobFault>
     }
 }
 
+/// What is said of a line that is refused by itself; nothing of one that is taken.
+pub fn told_of(line: &Line) -> Option<Told>
+    ensures { is_some result ≡ is_some (line_fault line.now) }
+{
+    match fault_of(line) {
+        Some(fault) => Some(told_as(line, fault)),
+        None => None,
+    }
+}
+
+// What is said of a line that is refused so.
+fn told_as(line: &Line, fault: JobFault) -> Told {
+    match fault {
+        JobFault::Unknown(_) => key_told(line),
+        _ => value_told(line),
+    }
+}
+
 // The note of a line that is refused so.
 fn note_of(alloc: Global, line: &Line, fault: JobFault) -> Result<Note, AllocError>
     ensures { IfOk result (λ note. note.line ≡ Some line.now.line) }
 {
-    let row = match fault {
-        JobFault::Unknown(_) => key_row(line),
-        _ => value_row(line),
-    };
-    let text = line_text(alloc, line.key(), row)?;
+    let text = line_text(alloc, line.key(), told_as(line, fault))?;
     Ok(Note {
         line: Some(line.line()),
         text,
     })
 }
 
-fn line_text(alloc: Global, key: &str, row: Row) -> Result<String, AllocError> {
-    let key = shown(alloc, key)?;
-    let (_, why, instead) = row;
-    format!(in alloc; "{key}: {why}; instead: {instead}")
+fn line_text(alloc: Global, key: &str, told: Told) -> Result<String, AllocError> {
+    let key = first_letters(alloc, key, LONGEST_SHOWN)?;
+    let fate = told.fate.text(alloc)?;
+    let (why, instead) = (told.why, told.instead);
+    match told.meant {
+        Some(word) => format!(in alloc; "{key}: {why}; did you mean `{word}`? ({fate})"),
+        None => format!(in alloc; "{key}: {why}; instead: {instead} ({fate})"),
+    }
 }
 
-// The first characters of a name or a key.
+// The first characters of a name.
 pub(crate) fn shown(alloc: Global, name: &str) -> Result<String, AllocError> {
+    first_letters(alloc, name, MOST_SHOWN)
+}
+
+fn first_letters(alloc: Global, name: &str, most: usize) -> Result<String, AllocError> {
     let mut text = String::new(alloc);
-    for letter in name.chars().take(MOST_SHOWN) {
+    for letter in name.chars().take(most) {
         text.push(letter)?;
     }
     Ok(text)
