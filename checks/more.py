@@ -8,8 +8,9 @@ each of which must be refused too. It ends with 0 if each was. With names it tri
   --jobs N   how many checks run at once (as many as there are processors, if there are 3 GB of memory for each)
 
 The list is checks/edits/REFUSED. It says of each edit that was refused of which sources: a checksum of the edit and of its crate's src/,
-specs/ and proofs/. What was refused goes into the list as soon as its crate is done, so an interrupted run loses little. A crate's
-contracts also speak of definitions of crates below it. What changes there isn't in the checksum: name the crates to try all of theirs.
+specs/ and proofs/. An edit that wasn't refused has a "-". What a crate's edits gave goes into the list as soon as the crate is done, so an
+interrupted run loses little. A crate's contracts also speak of definitions of crates below it. What changes there isn't in the checksum:
+name the crates to try all of theirs.
 
 An edit is tried as rt ci tries it: in a copy of the crate, over libraries that rt ci, rt check or a build has left (checks/prover.py). The
 edits of a crate are tried in turn, each over what the checks before it have proved. An edit that isn't refused so is tried again from
@@ -116,16 +117,15 @@ def replace(path, lines):
     os.replace(f"{path}.new", path)
 
 
-def note(tried, refused):
-    """Writes into the list what was refused of those that were tried, each with its checksum. What stands there of others stays, if there
-    is such an edit."""
+def note(found):
+    """Writes into the list what was found of edits: a checksum, or "-" if the edit wasn't refused. What stands there of others stays, if
+    there is such an edit."""
     folder = os.open(EDITS, os.O_RDONLY)
     try:
         fcntl.flock(folder, fcntl.LOCK_EX)
-        known = {edit: value for edit, value in listed().items() if os.path.exists(os.path.join(EDITS, edit))}
-        known = {edit: value for edit, value in known.items() if edit not in tried} | refused
+        known = {edit: value for edit, value in (listed() | found).items() if os.path.exists(os.path.join(EDITS, edit))}
         replace(REFUSED, [f"{edit} {known[edit]}" for edit in known])
-        left = {edit for edit in untried() - set(tried) if os.path.exists(os.path.join(EDITS, edit))}
+        left = {edit for edit in untried() - set(found) if os.path.exists(os.path.join(EDITS, edit))}
         if left != untried():
             replace(UNTRIED, left)
     finally:
@@ -265,7 +265,7 @@ class Share:
             for edit in self.edits:
                 if edit not in tried:
                     tried[edit] = self.try_one(prover, edit, None, tell)
-        note(self.edits, {edit: sums[edit] for edit, it in tried.items() if it.is_refused})
+        note({edit: sums[edit] if it.is_refused else "-" for edit, it in tried.items()})
         return tried
 
 
