@@ -86,7 +86,7 @@ def checksum_of_crate(name, folder):
 
 
 def checksums(name, folder, texts):
-    """For each of these edits of a crate, with their texts, the checksum of itself and of the crate's sources, which lie in this folder."""
+    """For each of these edits, with their texts, the checksum of itself and of its crate's sources, which lie in this folder."""
     crate, found = checksum_of_crate(name, folder), {}
     for edit, text in texts.items():
         digest = crate.copy()
