@@ -2,10 +2,11 @@
 """checks/more.py [NAME..] has the prover try the edits of checks/edits/: mistakes beyond those that rt ci tries (crates/NAME/must-fail/),
 each of which must be refused too. It ends with 0 if each was. With names it tries those crates alone, in that order.
 
-  --changed  tries only the edits that the list doesn't have of these sources. Those of checks/edits/UNTRIED, which were not tried since
-             there is a list, are only looked at, unless their crate is named. Nothing is added there.
-  --look     only looks whether each edit can be applied: whether each text that it takes away stands once in its file. Takes no time.
-  --jobs N   how many checks run at once (as many as there are processors, if there are 3 GB of memory for each)
+  --changed    tries only the edits that the list doesn't have of these sources. Those of checks/edits/UNTRIED, which were not tried
+               since there is a list, are only looked at, unless their crate is named. Nothing is added there.
+  --look       only looks whether each edit can be applied: whether each text that it takes away stands once in its file. Takes no time.
+  --jobs N     how many checks run at once (as many as there are processors, if there are 3 GB of memory for each)
+  --minutes N  ends after N minutes, and fails if not all were tried by then
 
 The list is checks/edits/REFUSED. It says of each edit that was refused of which sources: a checksum of the edit and of its crate's src/,
 specs/ and proofs/. An edit that wasn't refused has a "-". What a crate's edits gave goes into the list as soon as the crate is done, so an
@@ -38,6 +39,8 @@ UNTRIED = os.path.join(EDITS, "UNTRIED")
 # What a check from nothing takes, in checks of an edit.
 WHOLE = 6
 MEMORY = 3_000_000
+# In minutes.
+DAY = 1440.0
 
 
 def crates_with_edits():
@@ -315,9 +318,12 @@ class Teller:
         return round((time.monotonic() - self.begun) / 60)
 
 
-def try_shares(shares, jobs, teller):
+def try_shares(shares, jobs, minutes, teller):
     """Tries them side by side, and returns what became of each edit."""
     prover, tried = Prover(), {}
+    limit = threading.Timer(max(minutes, 0) * 60, prover.end)
+    limit.daemon = True
+    limit.start()
     with concurrent.futures.ThreadPoolExecutor(jobs) as pool:
         try:
             for it in concurrent.futures.as_completed([pool.submit(share.try_all, prover, teller.tell) for share in shares]):
@@ -328,7 +334,7 @@ def try_shares(shares, jobs, teller):
     return tried
 
 
-def try_edits(edits, jobs, is_named):
+def try_edits(edits, jobs, minutes, is_named):
     """Tries these edits, says what became of them, and returns the status."""
     shares = shares_of(edits, jobs)
     if not is_named:
@@ -336,7 +342,7 @@ def try_edits(edits, jobs, is_named):
     counts = [f"{name} {sum(crate_of(it) == name for it in edits)}" for name in dict.fromkeys(map(crate_of, edits))]
     print(f"checks/more.py: {len(edits)} edits to try, {jobs} at once: {', '.join(counts) or 'none'}", flush=True)
     teller = Teller(edits)
-    tried = try_shares(shares, jobs, teller)
+    tried = try_shares(shares, jobs, minutes, teller)
     for edit in edits:
         if not tried[edit].is_refused:
             print(f"checks/more.py: {edit}: {tried[edit].said}")
@@ -366,6 +372,7 @@ def asked(words):
     parser.add_argument("--changed", action="store_true")
     parser.add_argument("--look", action="store_true")
     parser.add_argument("--jobs", type=int, default=0, metavar="N")
+    parser.add_argument("--minutes", type=float, default=DAY, metavar="N")
     return parser.parse_args(words)
 
 
@@ -388,11 +395,14 @@ def main(words):
         for name in sorted(set(map(crate_of, edits))):
             libraries(name)
         signal.signal(signal.SIGTERM, stop)
-        return try_edits(edits, given.jobs or places(), bool(given.names))
+        return try_edits(edits, given.jobs or places(), given.minutes, bool(given.names))
     except Lacking as it:
         print(f"checks/more.py: FAILED: {it}")
         return 2
-    except (KeyboardInterrupt, Ended):
+    except Ended:
+        print(f"checks/more.py: FAILED: not all were tried in {given.minutes:.0f} min. Try them by hand, and commit the list")
+        return 1
+    except KeyboardInterrupt:
         print("checks/more.py: FAILED: interrupted. The list has what was refused until then")
         return 130
 
