@@ -24,7 +24,7 @@ unit_seconds (letter ∷ second ∷ more) = None
 abbrev pub fitting_seconds : ℕ → Option ℕ
 fitting_seconds n = if nat_le 1 n && nat_le n MOST_SECONDS then Some n else None
 
--- so many units
+-- this number of units
 abbrev pub seconds_in : ℕ → Option ℕ → Option ℕ
 seconds_in number None = None
 seconds_in number (Some unit) = fitting_seconds (number * unit)

@@ -49,7 +49,7 @@ run_text number plan history is_last =
 abbrev pub round_text : Plan → Bool → Round → List ℕ
 round_text plan is_last round = run_text round.number (plan_in plan round) round.history is_last
 
--- the line of a clone's sums over so many rounds
+-- the line of a clone's sums over this number of rounds
 abbrev pub sums_line : ℕ → SubJob → Totals → List ℕ
 sums_line rounds job sum = codes "total:" ++ field (codes "rounds") rounds ++ codes " " ++ totals_line job sum
 

@@ -26,7 +26,7 @@ sum_of all = record {
 abbrev pub of_clone : List (List Totals) → ℕ → List Totals
 of_clone rounds c = filter_map (λ (totals : List Totals). slice_get totals c) rounds
 
--- the sums of each of so many clones over these rounds
+-- the sums of each clone over these rounds, where this is the number of clones
 abbrev pub sums_of : ℕ → List (List Totals) → List Totals
 sums_of clones rounds = map (λ c. sum_of (of_clone rounds c)) (range_with_len 0 clones)
 

@@ -55,7 +55,7 @@ fn letter_seconds(letter: u8) -> Option<u64>
     }
 }
 
-// The value of digits in a unit of so many seconds, if it is a duration.
+// The value of digits in a unit of this number of seconds, if it is a duration.
 fn scaled_seconds(digits: &[u8], unit: u64) -> Option<u64>
     requires digits { All (λ b. is_ascii_digit b ≡ true) digits.now }
     requires unit { (1 ≤ unit) × (unit ≤ 86400) }

@@ -35,7 +35,7 @@ struct Turn {
 }
 
 /// Runs the plan again and again, each time with other seeds. Prints the report of each round that is bad or interrupted and of the last
-/// one, and then the sums. It ends after so many rounds, after one that is bad unless it is to keep going, after one that is interrupted,
+/// one, and then the sums. It ends after `limit` rounds, after one that is bad unless `is_keeping_going`, after one that is interrupted,
 /// or when the runner says so. While a round runs, nothing is kept of those before it but their sums.
 pub fn run_rounds<T: RoundRunner, V: Write>(
     alloc: Global,

@@ -16,7 +16,7 @@ pub fn seed_offset(round: u32) -> u64
     u64::from(round) * SEED_STEP
 }
 
-/// What this round runs: the plan with the seeds of its clones so much further on, modulo 2^64. Rounds are counted from 0.
+/// What this round runs: the plan with `seed_offset` added to the seed of each clone, modulo 2^64. Rounds are counted from 0.
 pub fn plan_of_round(alloc: Global, plan: &Plan, round: u32) -> Result<Plan, Memory>
     ensures { IfOk result (λ made. made ≡ plan_of_round plan.now round) }
 {

@@ -60,7 +60,7 @@ impl Sums {
     }
 }
 
-// What so many clones did that did nothing.
+// The totals of clones that did nothing, one for each.
 fn nothing_done(alloc: Global, clones: usize) -> Result<Vec<Totals>, AllocError>
     ensures { IfOk result (λ totals. totals.items ≡ replicate clones nothing_done) }
 {
