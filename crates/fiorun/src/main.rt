@@ -8,13 +8,14 @@ use jr_cli::{print_check, print_part};
 use jr_cli_words::{
     Choice, CliFault, answer_words, choose, memory_or, print_plan, read_job, read_text, read_trace,
 };
+use jr_engines::Engine;
 use jr_job_notes::{job_notes, plan_notes};
 use jr_plan::Plan;
 use jr_replay_traces::Checked;
 use jr_system::{Machine, Outlet, Screen, Stop, tell_all, wishes};
 use places::Wanted;
 use rounds::{Limits, run_all};
-use running::{Finished, run_plan, to_output};
+use running::{Finished, SharedRun, Turn, add, boxed, run_memory, run_plan, shares, to_output};
 use std::alloc::Global;
 use std::env::Env;
 use std::fs::{File, Files};
@@ -32,8 +33,38 @@ mod unfailing;
 
 fn main(rt: HostRuntime) -> ExitCode {
     let _held = held(&rt);
+    // The shares of a memory keep the runtime, so they are boxed here.
+    let run_shared = |job: SharedRun| -> Result<Finished, Stop> {
+        let mut engines: Vec<Box<dyn Engine + Send>> = Vec::new(rt.alloc());
+        let Ok(shared) = rt.clone() else {
+            return Err(job.given_up(&rt, CliFault::Memory));
+        };
+        let shares = match shares(shared, rt.alloc(), &job.plan, job.workers) {
+            Ok(shares) => shares,
+            Err(fault) => return Err(job.given_up(&rt, fault)),
+        };
+        for share in shares {
+            let added = match boxed(rt.alloc(), share) {
+                Ok(share) => add(&mut engines, share),
+                Err(fault) => Err(fault),
+            };
+            if let Err(fault) = added {
+                return Err(job.given_up(&rt, fault));
+            }
+        }
+        run_memory(&rt, job, engines)
+    };
     let mut has_notes = rt.is_shown();
-    match begin(&rt, &mut has_notes) {
+    let ended = match begin(&rt, &mut has_notes) {
+        Ok(Turn::Ended(status)) => Ok(status),
+        Ok(Turn::Ran(ran)) => Ok(told(&rt, &ran, has_notes)),
+        Ok(Turn::Shared(job)) => match run_shared(job) {
+            Ok(ran) => Ok(told(&rt, &ran, has_notes)),
+            Err(stop) => Err(stop),
+        },
+        Err(stop) => Err(stop),
+    };
+    match ended {
         Ok(status) => ExitCode::from(status),
         Err(stop) => ExitCode::from(stop.tell(&rt, has_notes)),
     }
@@ -63,15 +94,15 @@ fn held<R: Files>(
     (fs::open(rt, "/"), fs::open(rt, "/"), fs::open(rt, "/"))
 }
 
-// Does what the words ask for, and gives the exit status. They may ask for notes.
-fn begin<R: Env + Input + Outlet + Machine>(rt: &R, has_notes: &mut bool) -> Result<u8, Stop> {
+// Does what the words ask for, but for a run over a shared memory. They may ask for notes.
+fn begin<R: Env + Input + Outlet + Machine>(rt: &R, has_notes: &mut bool) -> Result<Turn, Stop> {
     let words = words_of(rt)?;
     match choose(rt.alloc(), words.as_slice()) {
         Ok(choice) => {
             *has_notes |= choice.notes;
             perform(rt, &choice, *has_notes)
         }
-        Err(error) => Ok(answer_words(rt, words.as_slice(), &error)?),
+        Err(error) => Ok(Turn::Ended(answer_words(rt, words.as_slice(), &error)?)),
     }
 }
 
@@ -86,7 +117,7 @@ fn perform<R: Input + Outlet + Machine>(
     rt: &R,
     choice: &Choice<'_>,
     has_notes: bool,
-) -> Result<u8, Stop> {
+) -> Result<Turn, Stop> {
     let text = job_text(rt, choice.job)?;
     let plan = job_plan(rt.alloc(), text.as_slice(), choice.section, has_notes)?;
     if has_notes {
@@ -94,25 +125,36 @@ fn perform<R: Input + Outlet + Machine>(
     }
     if choice.parse_only || choice.check_trace.is_some() {
         show(rt, choice, &plan)?;
-        return Ok(0);
+        return Ok(Turn::Ended(0));
     }
-    let limits = Limits::of(choice)?;
-    let Ok(wishes) = wishes(rt.alloc(), text.as_slice(), choice, &plan) else {
-        return Err(Stop::from(CliFault::Memory));
-    };
-    match limits {
-        Some(limits) => run_all(rt, choice, wishes.as_slice(), limits, plan, has_notes),
-        None => {
-            let ran = run_plan(rt, choice, wishes.as_slice(), plan)?;
-            Ok(told(rt, &ran, has_notes))
-        }
-    }
+    carry_out(rt, choice, text.as_slice(), plan, has_notes)
 }
 
 // Says what is worth knowing of a job text that makes a plan.
 fn tell_notes<R: Eprint + AllocGlobal>(rt: &R, text: &[u8], section: Option<&str>) {
     if let Ok(notes) = plan_notes(rt.alloc(), text, section) {
         tell_all(rt, notes.as_slice());
+    }
+}
+
+// Runs the plan of this job text, once or again and again.
+fn carry_out<R: Outlet + Machine>(
+    rt: &R,
+    choice: &Choice<'_>,
+    text: &[u8],
+    plan: Plan,
+    has_notes: bool,
+) -> Result<Turn, Stop> {
+    let limits = Limits::of(choice)?;
+    let Ok(wishes) = wishes(rt.alloc(), text, choice, &plan) else {
+        return Err(Stop::from(CliFault::Memory));
+    };
+    match limits {
+        Some(limits) => {
+            let status = run_all(rt, choice, wishes.as_slice(), limits, plan, has_notes)?;
+            Ok(Turn::Ended(status))
+        }
+        None => run_plan(rt, choice, wishes.as_slice(), plan),
     }
 }
 

@@ -1,17 +1,19 @@
 // Rounds: the job runs again and again, each time with other data, until its time is over, it ran so many times, or something stops it.
 ghost use Rattle.std.specs.Prelude.{◌≤◌};
 
+use crate::outputs::Outputs;
 use crate::places::Wanted;
-use crate::running::{Ground, run_once, to_output};
-use crate::unfailing::{Nowhere, Unfailing};
+use crate::running::{Ground, run_silent, to_output};
+use crate::unfailing::Unfailing;
 use jr_cli::{Findings, RunEnd, Storage};
 use jr_cli_words::{BlockSize, Choice, CliFault, workers_of};
+use jr_desk::Desk;
 use jr_job_direct::Wish;
 use jr_model::Totals;
 use jr_plan::Plan;
 use jr_report_maps::bad_blocks;
 use jr_rounds::{
-    RoundRunner, RoundsEnd, RoundsFault, Sums, duration_seconds, round_json, run_rounds, sums_json,
+    Sums, duration_seconds, is_bad, plan_of_round, round_json, sums_json, tell_round, tell_sums,
 };
 use jr_system::{Asked, Closed, Machine, Outlet, Pace, Stop, asked_by, stop_after};
 use std::alloc::Global;
@@ -65,14 +67,9 @@ fn time_of(choice: &Choice<'_>) -> Result<Option<Duration>, CliFault> {
     }
 }
 
-// What the rounds of a job have in common, and what is told at the end of each.
+// What is kept from one round to the next.
 #[derive(Drop)]
-struct Runner<'a, R> {
-    rt: &'a R,
-    ground: &'a Ground<'a>,
-    wanted: &'a Wanted,
-    asked: &'a Arc<Asked, Global>,
-    workers: u32,
+struct Course {
     has_lines: bool,
     // When the last line of a round's end was printed.
     line: Option<Instant>,
@@ -81,48 +78,40 @@ struct Runner<'a, R> {
     cached_before: u64,
     // The blocks that were bad in any round, ascending, where a list of them is wanted.
     blocks: Vec<u64>,
+    sums: Sums,
+    // Whether something was bad or failed in any round.
+    is_bad: bool,
     // Why the first thing that couldn't be stored or written couldn't be, where there is one.
     missing: Option<Stop>,
 }
 
-impl<'a, R: Outlet + Machine> RoundRunner for Runner<'a, R> {
-    type Fault = Stop;
+impl Course {
+    // Before the first round.
+    fn new(alloc: Global, plan: &Plan, has_lines: bool) -> Result<Course, Stop> {
+        let Ok(sums) = Sums::new(alloc, plan) else {
+            return Err(Stop::from(CliFault::Memory));
+        };
+        Ok(Course {
+            has_lines,
+            line: None,
+            closed: Closed::of_no_files(alloc),
+            cached_before: 0,
+            blocks: Vec::new(alloc),
+            sums,
+            is_bad: false,
+            missing: None,
+        })
+    }
 
-    fn run(&mut self, plan: Plan, _round: u32) -> Result<RunEnd, Stop> {
+    // Takes in what the system said at the end of a round.
+    fn close(&mut self, closed: Closed) {
         self.cached_before = self.closed.cached.unwrap_or(0);
-        let ran = run_once(
-            self.rt,
-            self.ground,
-            self.asked,
-            plan,
-            self.workers,
-            None,
-            &mut Nowhere,
-        )?;
-        let (ended, closed) = self.ground.close(self.rt, ran)?.into_parts();
         self.closed = closed;
-        Ok(ended)
-    }
-
-    // What can't be stored or written ends the job too.
-    fn is_over(&mut self) -> bool {
-        self.asked.is_time_over() || self.missing.is_some() || self.closed.unstored.is_some()
-    }
-
-    fn told(&mut self, round: u32, ended: &RunEnd, is_last: bool, _sums: &Sums) {
-        if self.has_lines {
-            self.tell_line(round, ended, is_last);
-        }
         if let Some(stop) = self.closed.unstored.take() {
             self.miss(stop);
         }
-        if let Err(stop) = self.tell_outputs(round, ended) {
-            self.miss(stop);
-        }
     }
-}
 
-impl<'a, R: Outlet + Machine> Runner<'a, R> {
     // Keeps the first thing that couldn't be stored or written.
     fn miss(&mut self, stop: Stop) {
         if self.missing.is_none() {
@@ -130,53 +119,91 @@ impl<'a, R: Outlet + Machine> Runner<'a, R> {
         }
     }
 
-    // Says what came of a round, of the last one and of those that end a second after the one that was told before.
-    fn tell_line(&mut self, round: u32, ended: &RunEnd, is_last: bool) {
-        let is_due = match self.line {
-            Some(line) => line
-                .elapsed(self.rt)
-                .is_ok_and(|it| it.as_secs() >= LINE_SECONDS),
-            None => true,
-        };
-        if is_due || is_last {
-            let done = RoundCounts::of(ended.desk.totals());
-            let _ = eprintln!(self.rt;
-                "fiorun: round {round}: {} I/Os, {} checked, {} bad, {} faults",
-                done.ios, done.checks, done.bad, done.faults
-            );
-            self.line = Instant::now(self.rt).ok();
+    // Adds what a round did to the sums.
+    fn add(&mut self, desk: &Desk) {
+        self.is_bad |= is_bad(desk);
+        let totals = desk.totals();
+        if totals.len() == self.sums.totals().len() {
+            self.sums.add(totals);
         }
     }
 
-    // Writes the round's line of the JSON, and keeps its bad blocks, where these are wanted.
-    fn tell_outputs(&mut self, round: u32, ended: &RunEnd) -> Result<(), Stop> {
-        let outputs = &self.wanted.outputs;
-        let size = outputs.list_size();
-        if !outputs.has_json() && (size.is_none() || ended.found == 0) {
-            return Ok(());
+    // What the system said of the files of the last round.
+    fn storage(&self) -> Storage {
+        Storage {
+            cached: match self.closed.cached {
+                Some(reads) => Some(reads.saturating_sub(self.cached_before)),
+                None => None,
+            },
+            direct: self.closed.direct,
+            is_stored: self.missing.is_none(),
         }
-        let alloc = self.rt.alloc();
-        let findings = findings_of(alloc, ended)?;
-        if let Some(size) = size {
-            add_blocks(alloc, &mut self.blocks, &findings, size)?;
-        }
-        if outputs.has_json() {
-            let storage = Storage {
-                cached: self
-                    .closed
-                    .cached
-                    .map(|it| it.saturating_sub(self.cached_before)),
-                direct: self.closed.direct,
-                is_stored: self.missing.is_none(),
-            };
-            let reasons = self.closed.reasons.as_slice();
-            let Ok(text) = round_json(alloc, round, &findings, reasons, &storage) else {
-                return Err(Stop::from(CliFault::Memory));
-            };
-            outputs.add_json(self.rt, text.as_slice(), round == 0)?;
-        }
-        Ok(())
     }
+}
+
+// Says what came of a round: of the last one, and of those that end a second after the one that was told before.
+fn tell_line<R: Outlet + Machine>(
+    rt: &R,
+    course: &mut Course,
+    round: u32,
+    desk: &Desk,
+    is_last: bool,
+) {
+    let is_due = match course.line {
+        Some(line) => line.elapsed(rt).unwrap_or(Duration::ZERO).as_secs() >= LINE_SECONDS,
+        None => true,
+    };
+    if course.has_lines && (is_due || is_last) {
+        let done = RoundCounts::of(desk.totals());
+        let _ = eprintln!(rt;
+            "fiorun: round {round}: {} I/Os, {} checked, {} bad, {} faults",
+            done.ios, done.checks, done.bad, done.faults
+        );
+        course.line = Instant::now(rt).ok();
+    }
+}
+
+// Writes the round's line of the JSON, and keeps its bad blocks, where these are wanted.
+fn tell_outputs<R: Outlet>(
+    rt: &R,
+    outputs: &Outputs,
+    course: &mut Course,
+    round: u32,
+    ended: &RunEnd,
+) -> Result<(), Stop> {
+    let alloc = rt.alloc();
+    let size = outputs.list_size();
+    if !outputs.has_json() && (size.is_none() || ended.found == 0) {
+        return Ok(());
+    }
+    let Ok(findings) = Findings::of_desk(alloc, &ended.desk) else {
+        return Err(Stop::from(CliFault::Memory));
+    };
+    if let Some(size) = size {
+        add_blocks(alloc, &mut course.blocks, &findings, size)?;
+    }
+    if outputs.has_json() {
+        let reasons = course.closed.reasons.as_slice();
+        let Ok(text) = round_json(alloc, round, &findings, reasons, &course.storage()) else {
+            return Err(Stop::from(CliFault::Memory));
+        };
+        outputs.add_json(rt, text.as_slice(), round == 0)?;
+    }
+    Ok(())
+}
+
+// Adds the blocks that were bad in a run to those of the runs before it.
+fn add_blocks(
+    alloc: Global,
+    blocks: &mut Vec<u64>,
+    findings: &Findings<'_>,
+    size: &BlockSize,
+) -> Result<(), CliFault> {
+    let more = bad_blocks(alloc, findings.plan(), findings.bads(), 0, size.bytes())?;
+    blocks.extend_from_slice(more.as_slice())?;
+    blocks.sort_unstable();
+    blocks.dedup();
+    Ok(())
 }
 
 // What the clones of a round did together.
@@ -209,27 +236,6 @@ impl RoundCounts {
     }
 }
 
-fn findings_of(alloc: Global, ended: &RunEnd) -> Result<Findings<'_>, Stop> {
-    match Findings::of_desk(alloc, &ended.desk) {
-        Ok(findings) => Ok(findings),
-        Err(_) => Err(Stop::from(CliFault::Memory)),
-    }
-}
-
-// Adds the blocks that were bad in a run to those of the runs before it.
-fn add_blocks(
-    alloc: Global,
-    blocks: &mut Vec<u64>,
-    findings: &Findings<'_>,
-    size: &BlockSize,
-) -> Result<(), CliFault> {
-    let more = bad_blocks(alloc, findings.plan(), findings.bads(), 0, size.bytes())?;
-    blocks.extend_from_slice(more.as_slice())?;
-    blocks.sort_unstable();
-    blocks.dedup();
-    Ok(())
-}
-
 // Runs the plan again and again, and gives the exit status.
 pub fn run_all<R: Outlet + Machine>(
     rt: &R,
@@ -255,85 +261,146 @@ fn run_limited<R: Outlet + Machine>(
     has_notes: bool,
 ) -> Result<u8, Stop> {
     let pace = Pace::of(rt, choice.progress);
-    let asked = &asked_by(rt, pace, choice.stop_fd, limits.time.is_some())?;
+    let asked = asked_by(rt, pace, choice.stop_fd, limits.time.is_some())?;
     if let Some(time) = limits.time {
-        stop_after(rt, asked, time)?;
+        stop_after(rt, &asked, time)?;
     }
-    let ground = &Ground::of(rt, choice, wishes, wanted, plan)?;
-    let mut runner = Runner {
+    let ground = Ground::of(rt, choice, wishes, wanted, plan)?;
+    let has_lines = has_notes || !matches!(pace, Pace::Never);
+    let mut course = Course::new(rt.alloc(), plan, has_lines)?;
+    let workers = workers_of(plan, choice.workers);
+    let last = run_rounds(
         rt,
-        ground,
         wanted,
-        asked,
-        workers: workers_of(plan, choice.workers),
-        has_lines: has_notes || !matches!(pace, Pace::Never),
-        line: None,
-        closed: Closed::of_no_files(rt.alloc()),
-        cached_before: 0,
-        blocks: Vec::new(rt.alloc()),
-        missing: None,
-    };
-    let mut out = Unfailing::new(to_output(rt)?);
-    let going = limits.is_keeping_going;
-    let ended = run_rounds(
-        rt.alloc(),
+        &ground,
+        &asked,
+        limits,
         plan,
-        limits.rounds,
-        going,
-        &mut runner,
-        &mut out,
-    );
-    let ended = match ended {
-        Ok(ended) => ended,
-        Err(RoundsFault::Round(stop)) | Err(RoundsFault::Untold(stop)) => return Err(stop),
-        Err(RoundsFault::Cli(fault)) => return Err(Stop::from(fault)),
-    };
-    if out.has_failed {
-        runner.miss(Stop::from(CliFault::Write));
+        workers,
+        &mut course,
+    )?;
+    if let Some(ended) = &last {
+        tell_end(rt, wanted, plan, ended, &mut course);
     }
-    runner.finish(plan, &ended);
-    Ok(runner.status(&ended, has_notes))
+    Ok(status(rt, &last, &asked, &course, has_notes))
 }
 
-impl<'a, R: Outlet + Machine> Runner<'a, R> {
-    // Tells what is told at the end of all rounds.
-    fn finish(&mut self, plan: &Plan, ended: &RoundsEnd) {
-        if let Err(stop) = self.write_sums(plan, &ended.sums) {
-            self.miss(stop);
-        }
-        let blocks = self.blocks.as_slice();
-        if let Err(stop) = self.wanted.tell_last(self.rt, &ended.last, blocks) {
-            self.miss(stop);
-        }
-    }
-
-    // Writes the last line of the JSON, where it is wanted.
-    fn write_sums(&self, plan: &Plan, sums: &Sums) -> Result<(), Stop> {
-        if !self.wanted.outputs.has_json() {
-            return Ok(());
-        }
-        let Ok(text) = sums_json(self.rt.alloc(), plan, sums) else {
-            return Err(Stop::from(CliFault::Memory));
+// Runs the rounds, prints what is printed of them and then the sums, and gives how the last one ended.
+fn run_rounds<R: Outlet + Machine>(
+    rt: &R,
+    wanted: &Wanted,
+    ground: &Ground<'_>,
+    asked: &Arc<Asked, Global>,
+    limits: Limits,
+    plan: &Plan,
+    workers: u32,
+    course: &mut Course,
+) -> Result<Option<RunEnd>, Stop> {
+    let mut out = Unfailing::new(to_output(rt)?);
+    for round in 0..limits.rounds {
+        let ended = match run_round(rt, ground, asked, plan, round, workers, course) {
+            Ok(ended) => ended,
+            Err(stop) => {
+                if round > 0 {
+                    let _ = tell_sums(rt.alloc(), plan, &course.sums, &mut out);
+                }
+                return Err(stop);
+            }
         };
-        self.wanted
-            .outputs
-            .add_json(self.rt, text.as_slice(), false)
+        let is_last = ends(limits, round, &ended, asked, course);
+        tell_round(rt.alloc(), round, &ended.desk, is_last, &mut out)?;
+        course.add(&ended.desk);
+        tell_line(rt, course, round, &ended.desk, is_last);
+        if let Err(stop) = tell_outputs(rt, &wanted.outputs, course, round, &ended) {
+            course.miss(stop);
+        }
+        if is_last {
+            tell_sums(rt.alloc(), plan, &course.sums, &mut out)?;
+            if out.has_failed {
+                course.miss(Stop::from(CliFault::Write));
+            }
+            return Ok(Some(ended));
+        }
     }
+    Ok(None)
+}
 
-    // Says where the last round was interrupted, and the first thing that couldn't be stored or written, and gives the exit status. The end of
-    // the time that the words gave is no interruption for it.
-    fn status(&self, ended: &RoundsEnd, has_notes: bool) -> u8 {
-        if ended.last.is_interrupted() {
-            let _ = eprintln!(self.rt; "fiorun: interrupted");
-        }
-        if let Some(stop) = &self.missing {
-            let _ = stop.tell(self.rt, has_notes);
-        }
-        let status = ended.status(self.missing.is_none());
-        if status == INTERRUPTED && self.asked.is_time_over() {
-            0
-        } else {
-            status
-        }
+// Runs one round.
+fn run_round<R: Outlet + Machine>(
+    rt: &R,
+    ground: &Ground<'_>,
+    asked: &Arc<Asked, Global>,
+    plan: &Plan,
+    round: u32,
+    workers: u32,
+    course: &mut Course,
+) -> Result<RunEnd, Stop> {
+    let Ok(plan) = plan_of_round(rt.alloc(), plan, round) else {
+        return Err(Stop::from(CliFault::Memory));
+    };
+    let ran = run_silent(rt, ground, asked, plan, workers)?;
+    let (ended, closed) = ground.close(rt, ran)?.into_parts();
+    course.close(closed);
+    Ok(ended)
+}
+
+// Whether no other round follows: this was as many as were wanted, something was bad and the words don't say to go on, it was stopped, its time
+// is over, or something couldn't be stored or written.
+fn ends(limits: Limits, round: u32, ended: &RunEnd, asked: &Asked, course: &Course) -> bool {
+    round >= limits.rounds - 1
+        || is_bad(&ended.desk) && !limits.is_keeping_going
+        || ended.is_interrupted()
+        || asked.is_time_over()
+        || course.missing.is_some()
+}
+
+// Tells what is told at the end of all rounds.
+fn tell_end<R: Outlet>(rt: &R, wanted: &Wanted, plan: &Plan, ended: &RunEnd, course: &mut Course) {
+    if let Err(stop) = write_sums(rt, &wanted.outputs, plan, &course.sums) {
+        course.miss(stop);
+    }
+    if let Err(stop) = wanted.tell_last(rt, ended, course.blocks.as_slice()) {
+        course.miss(stop);
+    }
+}
+
+// Writes the last line of the JSON, where it is wanted.
+fn write_sums<R: Outlet>(rt: &R, outputs: &Outputs, plan: &Plan, sums: &Sums) -> Result<(), Stop> {
+    if !outputs.has_json() {
+        return Ok(());
+    }
+    let Ok(text) = sums_json(rt.alloc(), plan, sums) else {
+        return Err(Stop::from(CliFault::Memory));
+    };
+    outputs.add_json(rt, text.as_slice(), false)
+}
+
+// Says where the last round was interrupted, and the first thing that couldn't be stored or written, and gives the exit status. The end of
+// the time that the words gave is no interruption for it.
+fn status<R: Eprint>(
+    rt: &R,
+    last: &Option<RunEnd>,
+    asked: &Asked,
+    course: &Course,
+    has_notes: bool,
+) -> u8 {
+    let is_interrupted = match last {
+        Some(ended) => ended.is_interrupted(),
+        None => false,
+    };
+    if is_interrupted {
+        let _ = eprintln!(rt; "fiorun: interrupted");
+    }
+    if let Some(stop) = &course.missing {
+        let _ = stop.tell(rt, has_notes);
+    }
+    if course.is_bad {
+        1
+    } else if course.missing.is_some() {
+        3
+    } else if is_interrupted && !asked.is_time_over() {
+        INTERRUPTED
+    } else {
+        0
     }
 }

@@ -3,7 +3,7 @@ ghost use Rattle.std.specs.Prelude.{◌≤◌, ◌^◌};
 
 use crate::outputs::TraceFile;
 use crate::places::Wanted;
-use crate::unfailing::Unfailing;
+use crate::unfailing::{Nowhere, Unfailing};
 use jr_cli::{RunEnd, execute, execute_serial};
 use jr_cli_words::{Choice, CliFault, Wiping, workers_of};
 use jr_engines::{Engine, MemoryEngine, NullEngine, SharedMemory};
@@ -15,11 +15,19 @@ use jr_system::{
     Asked, Closed, Machine, Outlet, Pace, PlanBytes, Stop, Taken, Wiper, asked_by, shown,
     take_files,
 };
-use std::alloc::{AllocError, Global};
+use std::alloc::Global;
 use std::fs::{File, Files};
 use std::io;
 use std::io::{BufWriter, Printer, Write};
 use std::sync::{Arc, Wait};
+
+// How far the program gets by itself: to its end with this status, to the end of a run, or to a run whose workers share a memory.
+#[derive(Drop)]
+pub enum Turn {
+    Ended(u8),
+    Ran(Finished),
+    Shared(SharedRun),
+}
 
 // How a run ended that has its report, what the system said of its files, and why the first of its other outputs couldn't be written,
 // where one couldn't.
@@ -103,6 +111,26 @@ impl Finished {
     }
 }
 
+// A run whose workers share a memory: the plan, how many they are, what is asked of it, and what is told after its report. The shares keep
+// the runtime, so they are boxed in `main`.
+#[derive(Drop)]
+pub struct SharedRun {
+    pub plan: Plan,
+    pub workers: u32,
+    asked: Arc<Asked, Global>,
+    wanted: Option<Wanted>,
+}
+
+impl SharedRun {
+    // Why the program ends where the run can't begin. Its outputs are as if it had not been asked for.
+    pub fn given_up<R: Outlet>(&self, rt: &R, fault: CliFault) -> Stop {
+        if let Some(wanted) = &self.wanted {
+            wanted.outputs.clear(rt);
+        }
+        Stop::from(fault)
+    }
+}
+
 // What carries out the I/O of a run, or of all its rounds: files that were taken, a memory for each run, or nothing.
 #[derive(Drop)]
 pub enum Ground<'a> {
@@ -150,19 +178,31 @@ pub fn to_output<P: Print + AllocGlobal>(rt: &P) -> Result<BufWriter<Printer<'_,
     }
 }
 
-// Runs the plan, writes its report to standard output, and tells where it found what.
+// Runs the plan, but for one over a memory that several workers share, and tells where it found what.
 pub fn run_plan<R: Outlet + Machine>(
     rt: &R,
     choice: &Choice<'_>,
     wishes: &[Wish],
     plan: Plan,
-) -> Result<Finished, Stop> {
+) -> Result<Turn, Stop> {
     let wanted = Wanted::of(rt, choice, &plan)?;
     match run_wanted(rt, choice, wishes, &wanted, plan) {
-        Ok(ran) => Ok(wanted.tell(rt, ran)),
+        Ok(turn) => told(rt, wanted, turn),
         Err(stop) => {
             wanted.outputs.clear(rt);
             Err(stop)
+        }
+    }
+}
+
+// What is wanted is told of a run that has ended, and kept with one that is still to come.
+fn told<R: Outlet>(rt: &R, wanted: Wanted, turn: Turn) -> Result<Turn, Stop> {
+    match turn {
+        Turn::Ended(status) => Ok(Turn::Ended(status)),
+        Turn::Ran(ran) => Ok(Turn::Ran(wanted.tell(rt, ran))),
+        Turn::Shared(mut job) => {
+            job.wanted = Some(wanted);
+            Ok(Turn::Shared(job))
         }
     }
 }
@@ -174,18 +214,60 @@ fn run_wanted<R: Outlet + Machine>(
     wishes: &[Wish],
     wanted: &Wanted,
     plan: Plan,
-) -> Result<Finished, Stop> {
+) -> Result<Turn, Stop> {
     let asked = asked_by(rt, Pace::of(rt, choice.progress), choice.stop_fd, false)?;
-    let ground = Ground::of(rt, choice, wishes, wanted, &plan)?;
     let workers = workers_of(&plan, choice.workers);
-    let events = wanted.outputs.trace(rt)?;
-    let mut out = to_output(rt)?;
-    let ran = run_once(rt, &ground, &asked, plan, workers, events, &mut out)?;
-    ground.close(rt, ran)
+    if matches!(plan.engine(), EngineKind::Memory) && !is_alone(&plan, workers) {
+        return Ok(shared_run(asked, plan, workers));
+    }
+    let ground = Ground::of(rt, choice, wishes, wanted, &plan)?;
+    let ran = run_traced(rt, wanted, &ground, &asked, plan, workers)?;
+    Ok(Turn::Ran(ground.close(rt, ran)?))
 }
 
-// One run of the plan: its report goes to `out`, and then its trace where one is asked for.
-pub fn run_once<R: Outlet + Machine, V: Write>(
+// A run with this many workers over a memory that they share is still to come.
+fn shared_run(asked: Arc<Asked, Global>, plan: Plan, workers: u32) -> Turn {
+    Turn::Shared(SharedRun {
+        plan,
+        workers,
+        asked,
+        wanted: None,
+    })
+}
+
+// Whether one worker runs the plan by itself, and judges its own checks.
+fn is_alone(plan: &Plan, workers: u32) -> bool {
+    workers == 1 && plan.verifiers() == 0
+}
+
+// Runs the plan, and writes the report to standard output and then the trace where one is wanted.
+fn run_traced<R: Outlet + Machine>(
+    rt: &R,
+    wanted: &Wanted,
+    ground: &Ground<'_>,
+    asked: &Arc<Asked, Global>,
+    plan: Plan,
+    workers: u32,
+) -> Result<Finished, Stop> {
+    let events = wanted.outputs.trace(rt)?;
+    let mut out = to_output(rt)?;
+    run_once(rt, ground, asked, plan, workers, events, &mut out)
+}
+
+// Runs the plan with no trace, and writes its report nowhere.
+pub fn run_silent<'a, R: Outlet + Machine>(
+    rt: &'a R,
+    ground: &Ground<'_>,
+    asked: &Arc<Asked, Global>,
+    plan: Plan,
+    workers: u32,
+) -> Result<Finished, Stop> {
+    let events: Option<TraceFile<'a, R>> = None;
+    run_once(rt, ground, asked, plan, workers, events, &mut Nowhere)
+}
+
+// One run of the plan: its report goes to `out`, and then its trace where one is asked for. Over a memory it has one worker.
+fn run_once<R: Outlet + Machine, V: Write>(
     rt: &R,
     ground: &Ground<'_>,
     asked: &Arc<Asked, Global>,
@@ -194,7 +276,7 @@ pub fn run_once<R: Outlet + Machine, V: Write>(
     events: Option<TraceFile<'_, R>>,
     out: &mut V,
 ) -> Result<Finished, Stop> {
-    if workers == 1 && plan.verifiers() == 0 {
+    if is_alone(&plan, workers) {
         return run_alone(rt, ground, asked, plan, events, out);
     }
     match ground {
@@ -202,7 +284,7 @@ pub fn run_once<R: Outlet + Machine, V: Write>(
             let engines = file_engines(rt, files, workers)?;
             Ok(run_files(rt, asked, plan, engines, events, out)?)
         }
-        Ground::Memory => Ok(run_shares(rt, asked, plan, workers, events, out)?),
+        Ground::Memory => run_alone(rt, ground, asked, plan, events, out),
         Ground::Nothing => Ok(run_nulls(rt, asked, plan, workers, events, out)?),
     }
 }
@@ -250,7 +332,7 @@ fn file_engines<R: Files<File = File> + AllocGlobal + Eprint>(
     Ok(engines)
 }
 
-fn boxed<X: Drop>(alloc: Global, one: X) -> Result<Box<X>, CliFault> {
+pub fn boxed<X: Drop>(alloc: Global, one: X) -> Result<Box<X>, CliFault> {
     match Box::new(alloc, one) {
         Ok(made) => Ok(made),
         Err(_) => Err(CliFault::Memory),
@@ -325,28 +407,8 @@ fn run_nulls<R: Outlet + Machine, V: Write>(
     run_with(rt, asked, plan, engines, events, out)
 }
 
-// Runs the plan over a memory that this many workers share.
-fn run_shares<R: Outlet + Machine, V: Write>(
-    rt: &R,
-    asked: &Arc<Asked, Global>,
-    plan: Plan,
-    workers: u32,
-    events: Option<TraceFile<'_, R>>,
-    out: &mut V,
-) -> Result<Finished, CliFault> {
-    let own: Result<R, AllocError> = rt.clone();
-    let Ok(own) = own else {
-        return Err(CliFault::Memory);
-    };
-    let mut engines: Vec<Box<dyn Engine + Send>> = Vec::new(rt.alloc());
-    for share in shares(own, rt.alloc(), &plan, workers)? {
-        add(&mut engines, boxed(rt.alloc(), share)?)?;
-    }
-    run_with(rt, asked, plan, engines, events, out)
-}
-
 // The shares of one memory for the plan's files, one for each worker.
-fn shares<R: Wait + Clone + Drop>(
+pub fn shares<R: Wait + Clone + Drop>(
     rt: R,
     alloc: Global,
     plan: &Plan,
@@ -359,6 +421,43 @@ fn shares<R: Wait + Clone + Drop>(
     }
     add(&mut shares, first)?;
     Ok(shares)
+}
+
+// Runs the job over the shares of a memory, writes its report to standard output, and tells where it found what.
+pub fn run_memory<R: Outlet + Machine>(
+    rt: &R,
+    job: SharedRun,
+    engines: Vec<Box<dyn Engine + Send>>,
+) -> Result<Finished, Stop> {
+    let SharedRun {
+        plan,
+        workers: _,
+        asked,
+        wanted,
+    } = job;
+    let Some(wanted) = wanted else {
+        return Err(Stop::from(CliFault::Memory));
+    };
+    match run_shares(rt, &asked, &wanted, plan, engines) {
+        Ok(ran) => Ok(wanted.tell(rt, ran)),
+        Err(stop) => {
+            wanted.outputs.clear(rt);
+            Err(stop)
+        }
+    }
+}
+
+// Runs the job over the shares of a memory, with its trace where one is wanted.
+fn run_shares<R: Outlet + Machine>(
+    rt: &R,
+    asked: &Arc<Asked, Global>,
+    wanted: &Wanted,
+    plan: Plan,
+    engines: Vec<Box<dyn Engine + Send>>,
+) -> Result<Finished, Stop> {
+    let events = wanted.outputs.trace(rt)?;
+    let mut out = to_output(rt)?;
+    Ok(run_with(rt, asked, plan, engines, events, &mut out)?)
 }
 
 // Runs the plan with a worker for each engine.
