@@ -69,7 +69,7 @@ def in_notes_of_lines(program, room, _calls):
     key = "k" + "".join(SHOWN)[:20].replace("\\", "")
     shown = "".join(SHOWN.get(it, it) for it in key)
     ended = run(program, room, job_of(f"{key}=1", name=NAME), "--notes")
-    note = f"fiorun: note: line 2: {shown}: fiorun knows no such option; instead: see docs/USING.md for those that it knows"
+    note = f"fiorun: note: line 2: {shown}: not an option of fio; instead: one of those in docs/USING.md (yours to decide: what it means)"
     said(ended, 2, "fiorun: job file: line 2: option out of scope", note)
     shown = "".join(SHOWN.get(it, it) for it in NAME[:26])
     note = f"fiorun: note: line 1: [{shown}]: no size; instead: a line size=.., here or in [global] above"
