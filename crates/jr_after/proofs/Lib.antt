@@ -1,0 +1,4 @@
+pub mod Courses
+pub mod Told
+pub mod LedgerLemmas
+mod WorkedCuts
