@@ -1,4 +1,5 @@
 pub mod Courses
 pub mod Told
 pub mod LedgerLemmas
+pub mod SectorLemmas
 mod WorkedCuts

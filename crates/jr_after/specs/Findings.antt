@@ -49,10 +49,14 @@ first_such test (x ∷ xs) = if test x then Some x else first_such test xs
 abbrev pub sector_of : List ℕ → ℕ → List ℕ
 sector_of bytes i = take SECTOR (drop (i * SECTOR) bytes)
 
+-- the piece of a file that they are, in a chunk
+abbrev pub sector_at : Piece → ℕ → Piece
+sector_at chunk i = record { file = chunk.file; offset = chunk.offset + i * SECTOR; len = SECTOR }
+
 -- they are those of one of these writes that may stand there
 abbrev pub is_sector_held : ℕ → List Named → Piece → List ℕ → ℕ → Bool
 is_sector_held last over chunk bytes i =
-    list_any (λ (named : Named). may_stand last named && same_bytes (sector_of bytes i) (sector_of (bytes_in named.planned chunk) i)) over
+    list_any (λ (named : Named). may_stand last named && same_bytes (sector_of bytes i) (bytes_in named.planned (sector_at chunk i))) over
 
 -- each 512 bytes are of a write that may stand there
 abbrev pub is_torn : ℕ → List Named → Piece → List ℕ → Bool

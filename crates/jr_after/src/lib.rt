@@ -2,11 +2,12 @@
 #![tactic(auto)]
 
 mod findings;
+mod held;
 mod laws;
 mod ledgers;
 mod writes;
 
-pub use findings::Finding;
+pub use findings::{Finding, finding_of};
 pub use laws::nothing_is_told;
 pub use ledgers::{kept_lines, line_of};
-pub use writes::{Named, PlannedWrite};
+pub use writes::{Named, PlannedWrite, has_chunk, named_by};
