@@ -1,0 +1,4 @@
+mod DrawnRows
+mod Rows
+mod RowLaws
+mod TriedLaws

@@ -1,0 +1,4 @@
+pub mod Left
+pub mod NextRound
+pub mod Told
+pub mod Untried
