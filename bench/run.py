@@ -18,8 +18,10 @@ standard error is how far it is. From the environment:
     COUNTS     runs of how many I/Os are tried for what an I/O costs (10000 100000 1000000 10000000)
     GROWTH     the short run and the long one that show what memory an I/O takes (10000 1000000)
     EVENTS     traces of how many events are checked (10000 100000 1000000)
+    NULLS      how many I/Os a row of the part null has (2097152)
     PROGRAM    the program (bin/fiorun)
-    PARTS      which parts of the page are measured (fio jobs deep floor verifiers chunks direct sync cost traces)
+    OTHER      another program, which the part null runs in turn with it (none)
+    PARTS      which parts of the page are measured (fio jobs deep null floor verifiers chunks direct sync cost traces)
     KEPT       a page that was printed before: it has the figures of the other parts
 """
 
@@ -61,12 +63,16 @@ COUNTS = listed("COUNTS", "10000 100000 1000000 10000000")
 GROWTH = listed("GROWTH", "10000 1000000")
 EVENTS = [int(it) for it in listed("EVENTS", "10000 100000 1000000")]
 PROGRAM = os.environ.get("PROGRAM", os.path.join(HERE, "..", "bin", "fiorun"))
-PARTS = listed("PARTS", "fio jobs deep floor verifiers chunks direct sync cost traces")
+NULLS = int(os.environ.get("NULLS", "2097152"))
+OTHER = os.environ.get("OTHER")
+PARTS = listed("PARTS", "fio jobs deep null floor verifiers chunks direct sync cost traces")
 METHODS = ("0", "pattern", "md5", "sha256")
 # Where fio has fewer seconds than these without its start, nothing is divided by them.
 LEAST = 0.05
 # The part deep: how many jobs, and their iodepth.
 DEEP = ((4, 16), (4, 1), (1, 16))
+# The part null: with how many workers.
+CROWDS = ("1", "4", "16")
 # Jobs with direct=1: the engine that fio has, rw, bs, iodepth, with how many workers fiorun has the same, and how many MiB.
 DIRECT = (("psync", "randwrite", "4k", 1, 32), ("libaio", "randwrite", "4k", 16, 64), ("psync", "write", "1m", 1, 256))
 # Jobs through the cache: verify_backlog, and how many MiB.
@@ -227,6 +233,23 @@ def by_depth(began):
         yield [place, clones, depth, verify, shown(fio), four, one, speed_up, verifiers, part]
 
 
+def by_null():
+    """A row for each job over the null engine: how many I/Os a second there are by each number of workers, also of the other program."""
+    programs = [it for it in (PROGRAM, OTHER) if it]
+    for rw, block, clones in itertools.product(("randwrite", "randread"), ("512", "4k"), (1, 4, 64)):
+        each = NULLS // clones * (512 if block == "512" else 4096)
+        job = functools.partial(job_text, rw, block, "0", clones, ioengine="null", iodepth=1)
+        sides = {(it, workers): [it, f"--workers={workers}", "job.fio"] for it in programs for workers in CROWDS}
+        took = in_turn("/dev/shm", {"job": job(each)}, sides)
+        began = in_turn("/dev/shm", {"job": job(block)}, sides)
+        yield [rw, block, clones, *(a_second(took[it], began[it]) for it in sides)]
+
+
+def a_second(took, began):
+    """How many I/Os of the part null a second these are, with the start taken off, in thousands."""
+    return "-" if took is None or began is None else f"{NULLS / max(took - began, 0.001) / 1000:,.0f}"
+
+
 def beside_floor(place):
     """A row for each method: what one worker's fills, digests, copies and calls take alone, and its run."""
     said = subprocess.run([os.path.join(HERE, "floor"), "--program"], stdout=subprocess.PIPE, check=True)
@@ -376,6 +399,13 @@ def print_deep():
     table(["Place", "jobs", "iodepth", "verify", "fio", *heads], by_depth(began))
 
 
+def print_null():
+    print(f"{NULLS} I/Os into the null engine, which does nothing, by random jobs of depth 1 that check nothing: thousands of I/Os a")
+    print("second, with the start taken off. So this is what the desk and the filling of blocks let through.\n")
+    heads = [f"{it} workers" if it != "1" else "1 worker" for it in CROWDS]
+    table(["rw", "bs", "jobs", *heads, *(f"{it}, other program" for it in heads if OTHER)], by_null())
+
+
 def print_floor():
     print("Writes of 4 KiB and then their checks by one worker, and the same tickets served and judged with no desk")
     print("(`bench/floor`): fills, digests, copies and calls alone.\n")
@@ -426,6 +456,7 @@ PAGE = {
     "fio": ("Beside fio", print_fio),
     "jobs": ("Beside fio, four jobs", print_jobs),
     "deep": ("Beside fio, iodepth=16", print_deep),
+    "null": ("No device at all", print_null),
     "floor": ("One worker against its floor", print_floor),
     "verifiers": ("Workers and verifiers", print_verifiers),
     "chunks": ("Large blocks of small chunks", print_chunks),

@@ -5,4 +5,3 @@ pub mod Marked
 pub mod Spans
 pub mod Sweeps
 pub mod Told
-pub mod WrongBlocks
