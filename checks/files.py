@@ -264,7 +264,7 @@ def lines_of(text):
 
 
 def stands(wanted, lines):
-    if wanted not in [it for it, _ in lines]:
+    if not any(it == wanted or it.startswith(f"{wanted}, ") for it, _ in lines):
         raise Wrong(f"{wanted!r} isn't one of {len(lines)} lines: {str(lines)[:400]}")
 
 
@@ -276,7 +276,7 @@ def line_text(place):
 [w]\nsize={(91750 - 2) * 512}\nverify_backlog={checked}
 [r]\nrw=read\nverify=0\nbs=4m\nsize=80m
 """
-    wanted = "fiorun: 52 % done, 91750 I/Os, 89120 checked, 2 bad"
+    wanted = "fiorun: 52.0 % done, 91750 I/Os, 89120 checked, 2 bad"
     ended, text = held_run(place, jobs, "pwrite 91750 wait", wanted)
     stands(wanted, lines_of(text))
     same("status", ended.status, 1)
@@ -285,7 +285,7 @@ def line_text(place):
 # Two clones of 8 MiB, twice over each, and one of 32 MiB: 64 MiB in 131072 blocks.
 EXTENT = 131072
 EXTENT_JOBS = "bs=512\n[a]\nrw=write\nsize=8m\nnumjobs=2\nloops=2\n[b]\nrw=randread\nsize=32m\n"
-HUNDREDTHS = {0: 0, 1310: 0, 1311: 1, 65536: 50, 131071: 99, 131072: 100}
+DONE = {0: "0.0", 1310: "0.9", 1311: "1.0", 65536: "50.0", 131071: "99.9", 131072: "100.0"}
 
 
 def hundredths(place, ios):
@@ -294,7 +294,7 @@ def hundredths(place, ios):
     if ios == 0:
         # (before the thread of a verifier is started, behind that of the line, no worker begins)
         jobs, fault = jobs + "verify_async=1\n", "pthread_create 2 wait"
-    wanted = f"fiorun: {HUNDREDTHS[ios]} % done, {ios} I/Os, 0 checked, 0 bad"
+    wanted = f"fiorun: {DONE[ios]} % done, {ios} I/Os, 0 checked, 0 bad"
     ended, text = held_run(place, jobs, fault, wanted)
     lines = lines_of(text)
     stands(wanted, lines)
@@ -308,7 +308,7 @@ def hundredths(place, ios):
 def flipped_chunk(place):
     """A bit that is flipped in the file, between a block's write and its check, in its last chunk: that chunk is named, and listed."""
     jobs = "[w]\nfilename=f\nrw=write\nbs=1m\nsize=2m\nverify=sha256\nverify_interval=4k\n"
-    wanted = "fiorun: 50 % done, 2 I/Os, 0 checked, 0 bad"
+    wanted = "fiorun: 50.0 % done, 2 I/Os, 0 checked, 0 bad"
 
     def flip():
         with open(os.path.join(place.jobs, "f"), "r+b") as it:
@@ -328,7 +328,7 @@ def flipped_chunk(place):
 
 CASES = [
     (flipped_chunk,),
-    *((hundredths, ios) for ios in HUNDREDTHS),
+    *((hundredths, ios) for ios in DONE),
     (line_text,),
     *((one_file, workers) for workers in (1, 4, 16)),
     *((offsets, workers) for workers in (1, 2, 4, 16)),

@@ -18,9 +18,9 @@ FIELDS = "reads rbytes writes wbytes checks good bad skipped void faults".split(
 WIPED = "\r\x1b[K"
 # What is said with notes of a run with checks that wasn't started by bin/fiorun.
 UNDROPPED = "fiorun: note: the system's cache may have answered checks: started by bin/fiorun, files are dropped from it\n"
-LINE = re.compile(r"fiorun: (\d+) % done, (\d+) I/Os, (\d+) checked, (\d+) bad")
+LINE = re.compile(r"fiorun: (\d+)\.\d % done, (\d+) I/Os, (\d+) checked, (\d+) bad(?:, \d+:\d\d:\d\d left)?")
 # The same as it is printed, with the time.
-PRINTED = re.compile(LINE.pattern + r", after (\d+) s")
+PRINTED = re.compile(LINE.pattern + r"(?:, \d+ [KM]iB/s)?, after (\d+) s")
 
 # (what is ignored where a check begins, as nohup has it, would be ignored in all that it starts)
 for number in (signal.SIGHUP, signal.SIGINT, signal.SIGQUIT, signal.SIGTERM):

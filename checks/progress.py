@@ -34,7 +34,7 @@ SHORT = "[long]\nioengine=null\nrw=write\nbs=4k\nsize=64m\nloops={loops}\n[bad]\
 # Two clones over files, of which one is halted by a fault.
 FAULTY = "[global]\nioengine=psync\nrw=write\nbs=4k\nsize=64m\nloops={loops}\n[a]\n[b]\n"
 # The lines that a report, its notes and its maps have.
-DRAWN = re.compile(r"\r\x1b\[Kfiorun: \d+ % done, ")
+DRAWN = re.compile(r"\r\x1b\[Kfiorun: \d+\.\d % done, ")
 REPORT = re.compile(r"\S+: clone=\d+( \w+=\S+)+|fiorun: (note:|map of) .*|fiorun: interrupted|[BFvusgr.]+|fiorun: B bad, F fault, .*")
 
 

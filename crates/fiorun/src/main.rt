@@ -4,6 +4,8 @@
 ghost use Rattle.std.specs.Prelude.{IfOk};
 ghost use Rattle.jr_replay_traces.specs.Runs.{IsRunIn};
 
+use adapting::{job_size, print_adapted};
+use going_on::{is_going_on, run_on};
 use jr_cli::{print_check, print_part};
 use jr_cli_words::{
     Choice, CliFault, answer_words, choose, memory_or, print_plan, read_job, read_text, read_trace,
@@ -23,6 +25,8 @@ use std::process::ExitCode;
 use std::{env, fs, io};
 use traced::TraceReader;
 
+mod adapting;
+mod going_on;
 mod outputs;
 mod places;
 mod roads;
@@ -118,7 +122,11 @@ fn perform<R: Input + Outlet + Machine>(
     choice: &Choice<'_>,
     has_notes: bool,
 ) -> Result<Turn, Stop> {
+    let size = job_size(choice)?;
     let text = job_text(rt, choice.job)?;
+    if choice.adapt {
+        return Ok(Turn::Ended(print_adapted(rt, text.as_slice(), size)?));
+    }
     let plan = job_plan(rt.alloc(), text.as_slice(), choice.section, has_notes)?;
     if has_notes {
         tell_notes(rt, text.as_slice(), choice.section);
@@ -137,7 +145,7 @@ fn tell_notes<R: Eprint + AllocGlobal>(rt: &R, text: &[u8], section: Option<&str
     }
 }
 
-// Runs the plan of this job text, once or again and again.
+// Runs the plan of this job text: once, again and again, or what is left of it after faults too.
 fn carry_out<R: Outlet + Machine>(
     rt: &R,
     choice: &Choice<'_>,
@@ -149,6 +157,10 @@ fn carry_out<R: Outlet + Machine>(
     let Ok(wishes) = wishes(rt.alloc(), text, choice, &plan) else {
         return Err(Stop::from(CliFault::Memory));
     };
+    if is_going_on(choice, &plan, limits.is_some())? {
+        let status = run_on(rt, choice, wishes.as_slice(), plan, has_notes)?;
+        return Ok(Turn::Ended(status));
+    }
     match limits {
         Some(limits) => {
             let status = run_all(rt, choice, wishes.as_slice(), limits, plan, has_notes)?;

@@ -2,7 +2,7 @@
 // ready there.
 use crate::roads::{Road, Sink};
 use crate::unfailing::Unfailing;
-use jr_cli::{Findings, Storage, json_text, list_text};
+use jr_cli::{Findings, Storage, json_text, list_text, list_text_with_faults};
 use jr_cli_words::{BlockSize, Choice, CliFault, list_size};
 use jr_desk::Desk;
 use jr_io_devices::FileNumbers;
@@ -25,6 +25,8 @@ enum Content {
     Trace,
     // The list of the bad blocks of the plan's only file, with blocks of this size.
     BadBlocks(BlockSize),
+    // The same with the blocks of faults.
+    WrongBlocks(BlockSize),
     // The report as JSON.
     Json,
     // The page that shows the run.
@@ -86,9 +88,15 @@ impl Outputs {
         if choice.check_trace.is_none() {
             self.add(rt, choice.trace, Content::Trace)?;
         }
+        let has_faults = has_faults(choice)?;
         if choice.bad_blocks.is_some() {
             let size = list_size(plan, choice.bad_blocks_size)?;
-            self.add(rt, choice.bad_blocks, Content::BadBlocks(size))?;
+            let content = if has_faults {
+                Content::WrongBlocks(size)
+            } else {
+                Content::BadBlocks(size)
+            };
+            self.add(rt, choice.bad_blocks, content)?;
         }
         self.add(rt, choice.json, Content::Json)?;
         self.add(rt, choice.page, Content::Page)
@@ -258,11 +266,17 @@ impl Outputs {
     // The size of the blocks of the list, where that is asked for.
     pub fn list_size(&self) -> Option<&BlockSize> {
         for output in self.all.iter() {
-            if let Content::BadBlocks(size) = &output.content {
-                return Some(size);
+            match &output.content {
+                Content::BadBlocks(size) | Content::WrongBlocks(size) => return Some(size),
+                Content::Trace | Content::Json | Content::Page => {}
             }
         }
         None
+    }
+
+    // Whether that list has the blocks of faults too.
+    pub fn lists_faults(&self) -> bool {
+        self.all.iter().any(|output| matches!(&output.content, Content::WrongBlocks(_)))
     }
 
     // Writes a line of the JSON of several rounds, which has its name from the first line on.
@@ -290,7 +304,9 @@ impl Outputs {
         for output in self.all.iter() {
             let text = match &output.content {
                 Content::Trace => trace(rt.alloc(), desk),
-                Content::BadBlocks(_) => blocks_text(rt.alloc(), blocks),
+                Content::BadBlocks(_) | Content::WrongBlocks(_) => {
+                    blocks_text(rt.alloc(), blocks)
+                }
                 Content::Page => page_text(rt.alloc(), findings),
                 Content::Json => continue,
             };
@@ -437,7 +453,7 @@ impl Content {
     fn word(&self) -> &'static str {
         match self {
             Content::Trace => "--trace",
-            Content::BadBlocks(_) => "--bad-blocks",
+            Content::BadBlocks(_) | Content::WrongBlocks(_) => "--bad-blocks",
             Content::Json => "--json",
             Content::Page => "--page",
         }
@@ -452,6 +468,7 @@ impl Content {
         match self {
             Content::Trace => Ok(Vec::new(alloc)),
             Content::BadBlocks(size) => list_text(alloc, findings, size),
+            Content::WrongBlocks(size) => list_text_with_faults(alloc, findings, size),
             Content::Json => {
                 json_text(
                     alloc,
@@ -510,6 +527,15 @@ fn plain_input<R: Outlet>(rt: &R) -> Option<Spot> {
         jr_report_outputs::spot_of(&found)
     } else {
         None
+    }
+}
+
+// Whether the list of bad blocks is to have the blocks of faults too.
+fn has_faults(choice: &Choice<'_>) -> Result<bool, CliFault> {
+    match choice.bad_blocks_also {
+        None => Ok(false),
+        Some("faults") => Ok(true),
+        Some(_) => Err(CliFault::BlockKind),
     }
 }
 

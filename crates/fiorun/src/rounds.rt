@@ -11,7 +11,7 @@ use jr_desk::Desk;
 use jr_job_direct::Wish;
 use jr_model::Totals;
 use jr_plan::Plan;
-use jr_report_maps::bad_blocks;
+use jr_report_maps::{bad_blocks, wrong_blocks};
 use jr_rounds::{
     Sums, duration_seconds, is_bad, plan_of_round, round_json, sums_json, tell_round, tell_sums,
 };
@@ -69,7 +69,7 @@ fn time_of(choice: &Choice<'_>) -> Result<Option<Duration>, CliFault> {
 
 // What is kept from one round to the next.
 #[derive(Drop)]
-struct Course {
+pub struct Course {
     has_lines: bool,
     // When the last line of a round's end was printed.
     line: Option<Instant>,
@@ -78,16 +78,16 @@ struct Course {
     cached_before: u64,
     // The blocks that were bad in any round, ascending, where a list of them is wanted.
     blocks: Vec<u64>,
-    sums: Sums,
+    pub sums: Sums,
     // Whether something was bad or failed in any round.
     is_bad: bool,
     // Why the first thing that couldn't be stored or written couldn't be, where there is one.
-    missing: Option<Stop>,
+    pub missing: Option<Stop>,
 }
 
 impl Course {
     // Before the first round.
-    fn new(alloc: Global, plan: &Plan, has_lines: bool) -> Result<Course, Stop> {
+    pub fn new(alloc: Global, plan: &Plan, has_lines: bool) -> Result<Course, Stop> {
         let Ok(sums) = Sums::new(alloc, plan) else {
             return Err(Stop::from(CliFault::Memory));
         };
@@ -104,7 +104,7 @@ impl Course {
     }
 
     // Takes in what the system said at the end of a round.
-    fn close(&mut self, closed: Closed) {
+    pub fn close(&mut self, closed: Closed) {
         self.cached_before = self.closed.cached.unwrap_or(0);
         self.closed = closed;
         if let Some(stop) = self.closed.unstored.take() {
@@ -113,16 +113,15 @@ impl Course {
     }
 
     // Keeps the first thing that couldn't be stored or written.
-    fn miss(&mut self, stop: Stop) {
+    pub fn miss(&mut self, stop: Stop) {
         if self.missing.is_none() {
             self.missing = Some(stop);
         }
     }
 
-    // Adds what a round did to the sums.
-    fn add(&mut self, desk: &Desk) {
+    // Adds a round to what is kept: these totals to the sums.
+    pub fn add(&mut self, desk: &Desk, totals: &[Totals]) {
         self.is_bad |= is_bad(desk);
-        let totals = desk.totals();
         if totals.len() == self.sums.totals().len() {
             self.sums.add(totals);
         }
@@ -142,7 +141,7 @@ impl Course {
 }
 
 // Says what came of a round: of the last one, and of those that end a second after the one that was told before.
-fn tell_line<R: Outlet + Machine>(
+pub fn tell_line<R: Outlet + Machine>(
     rt: &R,
     course: &mut Course,
     round: u32,
@@ -164,7 +163,7 @@ fn tell_line<R: Outlet + Machine>(
 }
 
 // Writes the round's line of the JSON, and keeps its bad blocks, where these are wanted.
-fn tell_outputs<R: Outlet>(
+pub fn tell_outputs<R: Outlet>(
     rt: &R,
     outputs: &Outputs,
     course: &mut Course,
@@ -180,7 +179,8 @@ fn tell_outputs<R: Outlet>(
         return Err(Stop::from(CliFault::Memory));
     };
     if let Some(size) = size {
-        add_blocks(alloc, &mut course.blocks, &findings, size)?;
+        let more = blocks_of(alloc, &findings, size, outputs.lists_faults())?;
+        add_blocks(&mut course.blocks, more.as_slice())?;
     }
     if outputs.has_json() {
         let reasons = course.closed.reasons.as_slice();
@@ -192,15 +192,25 @@ fn tell_outputs<R: Outlet>(
     Ok(())
 }
 
-// Adds the blocks that were bad in a run to those of the runs before it.
-fn add_blocks(
+// The blocks that were bad in a run, with those of faults where these are wanted.
+fn blocks_of(
     alloc: Global,
-    blocks: &mut Vec<u64>,
     findings: &Findings<'_>,
     size: &BlockSize,
-) -> Result<(), CliFault> {
-    let more = bad_blocks(alloc, findings.plan(), findings.bads(), 0, size.bytes())?;
-    blocks.extend_from_slice(more.as_slice())?;
+    has_faults: bool,
+) -> Result<Vec<u64>, CliFault> {
+    let (plan, bads) = (findings.plan(), findings.bads());
+    if has_faults {
+        let history = findings.history();
+        Ok(wrong_blocks(alloc, plan, history, bads, 0, size.bytes())?)
+    } else {
+        Ok(bad_blocks(alloc, plan, bads, 0, size.bytes())?)
+    }
+}
+
+// Adds the blocks of a run to those of the runs before it.
+fn add_blocks(blocks: &mut Vec<u64>, more: &[u64]) -> Result<(), CliFault> {
+    blocks.extend_from_slice(more)?;
     blocks.sort_unstable();
     blocks.dedup();
     Ok(())
@@ -309,7 +319,7 @@ fn run_rounds<R: Outlet + Machine>(
         };
         let is_last = ends(limits, round, &ended, asked, course);
         tell_round(rt.alloc(), round, &ended.desk, is_last, &mut out)?;
-        course.add(&ended.desk);
+        course.add(&ended.desk, ended.desk.totals());
         tell_line(rt, course, round, &ended.desk, is_last);
         if let Err(stop) = tell_outputs(rt, &wanted.outputs, course, round, &ended) {
             course.miss(stop);
@@ -355,7 +365,13 @@ fn ends(limits: Limits, round: u32, ended: &RunEnd, asked: &Asked, course: &Cour
 }
 
 // Tells what is told at the end of all rounds.
-fn tell_end<R: Outlet>(rt: &R, wanted: &Wanted, plan: &Plan, ended: &RunEnd, course: &mut Course) {
+pub fn tell_end<R: Outlet>(
+    rt: &R,
+    wanted: &Wanted,
+    plan: &Plan,
+    ended: &RunEnd,
+    course: &mut Course,
+) {
     if let Err(stop) = write_sums(rt, &wanted.outputs, plan, &course.sums) {
         course.miss(stop);
     }
@@ -377,7 +393,7 @@ fn write_sums<R: Outlet>(rt: &R, outputs: &Outputs, plan: &Plan, sums: &Sums) ->
 
 // Says where the last round was interrupted, and the first thing that couldn't be stored or written, and gives the exit status. The end of
 // the time that the words gave is no interruption for it.
-fn status<R: Eprint>(
+pub fn status<R: Eprint>(
     rt: &R,
     last: &Option<RunEnd>,
     asked: &Asked,

@@ -17,6 +17,6 @@ pub use jr_cli_words::{
     print_plan, read_job, read_text, read_trace, workers_of,
 };
 pub use jr_crew::{Progress, StopFlag, StopRequest, Watch};
-pub use places::list_text;
+pub use places::{list_text, list_text_with_faults};
 pub use runs::{execute, execute_serial, print_check, print_part};
 pub use storage::Storage;

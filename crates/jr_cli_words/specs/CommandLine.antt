@@ -84,6 +84,20 @@ repeat_rule = record (option_rule (codes "repeat")) { parser = Some (parser.Sign
 abbrev pub keep_going_rule : Rule
 keep_going_rule = flag_rule (codes "keep-going")
 
+abbrev pub go_on_rule : Rule
+go_on_rule = flag_rule (codes "go-on")
+
+-- what the list of bad blocks has beside them
+abbrev pub bad_blocks_also_rule : Rule
+bad_blocks_also_rule = option_rule (codes "bad-blocks-also")
+
+abbrev pub adapt_rule : Rule
+adapt_rule = flag_rule (codes "adapt")
+
+-- the size of a job that has none, where it is adapted
+abbrev pub size_rule : Rule
+size_rule = option_rule (codes "size")
+
 -- a program that tells its version
 abbrev pub with_version : App → App
 with_version app = on_top (λ shape. record shape { has_version = true }) app
@@ -107,8 +121,18 @@ with_report_rules app = with_rule (with_rule (with_rule (with_rule (with_rule (
 abbrev pub with_round_rules : App → App
 with_round_rules app = with_rule (with_rule (with_rule app for_rule) repeat_rule) keep_going_rule
 
+-- with the arguments for going on after faults
+abbrev pub with_go_on_rules : App → App
+with_go_on_rules app = with_rule (with_rule app go_on_rule) bad_blocks_also_rule
+
+-- with the arguments for a job file that is adapted
+abbrev pub with_adapt_rules : App → App
+with_adapt_rules app = with_rule (with_rule app adapt_rule) size_rule
+
 unfoldable pub command_line : App
-command_line = with_round_rules (with_report_rules (with_run_rules (with_job_rules (with_version (new_app (codes "fiorun"))))))
+command_line =
+    with_adapt_rules (with_go_on_rules (with_round_rules (with_report_rules (with_run_rules (with_job_rules (with_version
+    (new_app (codes "fiorun"))))))))
 
 -- the number that a text of digits writes
 abbrev pub number_in : Text → ℕ
@@ -137,3 +161,7 @@ pub record IsChoiceOf (choice : Choice) (rows : List Row) : Type 0 where
   pub run_for : option_copied choice.run_for ≡ first_of (codes "for") rows
   pub repeat : choice.repeat ≡ option_map number_in (one_of (codes "repeat") rows)
   pub keep_going : choice.keep_going ≡ unwrap_or (option_map (bytes_eq (codes "true")) (one_of (codes "keep-going") rows)) false
+  pub go_on : choice.go_on ≡ unwrap_or (option_map (bytes_eq (codes "true")) (one_of (codes "go-on") rows)) false
+  pub bad_blocks_also : option_copied choice.bad_blocks_also ≡ first_of (codes "bad-blocks-also") rows
+  pub adapt : choice.adapt ≡ unwrap_or (option_map (bytes_eq (codes "true")) (one_of (codes "adapt") rows)) false
+  pub size : option_copied choice.size ≡ first_of (codes "size") rows

@@ -24,10 +24,20 @@ pub enum CliFault {
     Duration,
     /// A page is wanted of rounds that go on after a bad one: a page shows one run.
     SeveralRounds,
+    /// The list of bad blocks is to have another kind of blocks too than those of faults.
+    BlockKind,
+    /// A job is to go on after faults and to be run again and again.
+    RepeatedGoOn,
+    /// A job is to go on after faults whose plan has more than one file.
+    GoOnFiles,
+    /// The size of jobs that have none is no number of bytes, or is named where no job file is adapted.
+    JobSize,
     /// Standard input or the job file can't be read.
     Read,
     /// The files of the plan can't be made, made long enough or opened.
     Open,
+    /// The job file isn't adapted: what came of it isn't what is promised.
+    Unadapted,
     Run(RunFault),
     Trace(TraceFault),
     /// The trace to check can't be read.
@@ -52,6 +62,9 @@ impl CliFault {
             CliFault::Words | CliFault::Text(_) | CliFault::Job(_) => 2,
             CliFault::Trace(_) | CliFault::SeveralFiles | CliFault::BlockSize => 2,
             CliFault::Duration | CliFault::SeveralRounds => 2,
+            CliFault::BlockKind | CliFault::RepeatedGoOn | CliFault::GoOnFiles => 2,
+            CliFault::JobSize => 2,
+            CliFault::Unadapted => 3,
             CliFault::Read | CliFault::ReadTrace | CliFault::Open | CliFault::Run(_) => 3,
             CliFault::Write | CliFault::Memory => 3,
         }
@@ -73,8 +86,13 @@ impl fmt::Display for CliFault {
             CliFault::BlockSize => write!(f, "command line: bad block size"),
             CliFault::Duration => write!(f, "command line: bad duration"),
             CliFault::SeveralRounds => write!(f, "page of several rounds"),
+            CliFault::BlockKind => write!(f, "command line: bad kind of blocks"),
+            CliFault::RepeatedGoOn => { write!(f, "command line: --go-on with --for or --repeat") }
+            CliFault::GoOnFiles => write!(f, "--go-on over several files"),
+            CliFault::JobSize => write!(f, "command line: bad size of jobs"),
             CliFault::Read => write!(f, "cannot read the job file"),
             CliFault::Open => write!(f, "cannot open the files"),
+            CliFault::Unadapted => write!(f, "cannot adapt the job file"),
             CliFault::Run(fault) => write!(f, "{fault}"),
             CliFault::Trace(fault) => write!(f, "{fault}"),
             CliFault::ReadTrace => write!(f, "cannot read the trace"),

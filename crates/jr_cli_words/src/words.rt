@@ -8,6 +8,8 @@ ghost use Rattle.jr_cli_words.specs.CommandLine.{
   with_run_rules,
   with_report_rules,
   with_round_rules,
+  with_go_on_rules,
+  with_adapt_rules,
   job_rule,
   section_rule,
   parse_only_rule,
@@ -29,6 +31,10 @@ ghost use Rattle.jr_cli_words.specs.CommandLine.{
   for_rule,
   repeat_rule,
   keep_going_rule,
+  go_on_rule,
+  bad_blocks_also_rule,
+  adapt_rule,
+  size_rule,
   IsChoiceOf,
 };
 
@@ -87,6 +93,14 @@ pub struct Choice<'a> {
     pub repeat: Option<u32>,
     /// Run the job again also after a round in which something was bad or failed.
     pub keep_going: bool,
+    /// Run again what is left of clones that a fault halted.
+    pub go_on: bool,
+    /// What the list of bad blocks has beside them.
+    pub bad_blocks_also: Option<&'a str>,
+    /// Print the job file as it has to be written here, in place of running it.
+    pub adapt: bool,
+    /// The size of a job that has none, where the job file is adapted.
+    pub size: Option<&'a str>,
 }
 
 /// Reads the words of the command line, of which the first is the program's name. Help and the version are
@@ -137,6 +151,10 @@ fn choice_in<'a>(matches: &ArgMatches<'a>) -> Choice<'a>
         run_for: matches.get_str("for"),
         repeat: matches.get_one::<u32>("repeat"),
         keep_going: matches.get_flag("keep-going"),
+        go_on: matches.get_flag("go-on"),
+        bad_blocks_also: matches.get_str("bad-blocks-also"),
+        adapt: matches.get_flag("adapt"),
+        size: matches.get_str("size"),
     }
 }
 
@@ -184,7 +202,9 @@ fn command<'a>(alloc: Global) -> Result<Command<'a>, AllocError>
     let command = with_job_args(alloc, command)?;
     let command = with_run_args(alloc, command)?;
     let command = with_report_args(alloc, command)?;
-    with_round_args(alloc, command)
+    let command = with_round_args(alloc, command)?;
+    let command = with_go_on_args(alloc, command)?;
+    with_adapt_args(alloc, command)
 }
 
 // The arguments for the job and its trace.
@@ -230,6 +250,22 @@ fn with_round_args<'a>(alloc: Global, command: Command<'a>) -> Result<Command<'a
     let command = added(Ok(command), for_arg(alloc));
     let command = added(command, repeat_arg(alloc));
     added(command, keep_going_arg(alloc))
+}
+
+// The arguments for going on after faults.
+fn with_go_on_args<'a>(alloc: Global, command: Command<'a>) -> Result<Command<'a>, AllocError>
+    ensures { IfOk result (λ made. app_of made ≡ with_go_on_rules (app_of command.entry)) }
+{
+    let command = added(Ok(command), go_on_arg(alloc));
+    added(command, bad_blocks_also_arg(alloc))
+}
+
+// The arguments for a job file that is adapted.
+fn with_adapt_args<'a>(alloc: Global, command: Command<'a>) -> Result<Command<'a>, AllocError>
+    ensures { IfOk result (λ made. app_of made ≡ with_adapt_rules (app_of command.entry)) }
+{
+    let command = added(Ok(command), adapt_arg(alloc));
+    added(command, size_arg(alloc))
 }
 
 // One more argument, where none before it failed. A `?` behind each argument would be a way out for each, and slow to prove.
@@ -474,4 +510,48 @@ fn keep_going_arg<'a>(alloc: Global) -> Arg<'a>
         .action(ArgAction::SetTrue)
         .value_parser(value_parser!(bool))
         .help("Go on also after a round in which something was bad or failed")
+}
+
+fn go_on_arg<'a>(alloc: Global) -> Arg<'a>
+    ensures rule { rule_of result ≡ go_on_rule }
+    ensures local { result.global ≡ false }
+{
+    Arg::new(alloc, "go-on")
+        .long("go-on")
+        .action(ArgAction::SetTrue)
+        .value_parser(value_parser!(bool))
+        .help("Go on after I/Os that fail with what is left of the job")
+}
+
+fn bad_blocks_also_arg<'a>(alloc: Global) -> Arg<'a>
+    ensures rule { rule_of result ≡ bad_blocks_also_rule }
+    ensures local { result.global ≡ false }
+{
+    Arg::new(alloc, "bad-blocks-also")
+        .long("bad-blocks-also")
+        .value_name("K")
+        .action(ArgAction::Set)
+        .help("What that list has too: with faults the blocks of I/Os that failed")
+}
+
+fn adapt_arg<'a>(alloc: Global) -> Arg<'a>
+    ensures rule { rule_of result ≡ adapt_rule }
+    ensures local { result.global ≡ false }
+{
+    Arg::new(alloc, "adapt")
+        .long("adapt")
+        .action(ArgAction::SetTrue)
+        .value_parser(value_parser!(bool))
+        .help("Print the job file as it has to be written here, and run nothing")
+}
+
+fn size_arg<'a>(alloc: Global) -> Arg<'a>
+    ensures rule { rule_of result ≡ size_rule }
+    ensures local { result.global ≡ false }
+{
+    Arg::new(alloc, "size")
+        .long("size")
+        .value_name("N")
+        .action(ArgAction::Set)
+        .help("With --adapt: the size of each job that has none, as 16m or 1g")
 }

@@ -9,8 +9,8 @@ ghost use Rattle.jr_crew.specs.Working.{CanBeServed, CanStart};
 
 use crate::outcomes::{CarriedOut, TakenIn};
 use jr_crew_threads::{
-    Crowd, Halt, MOST_BYTES, MOST_IOS, Naming, Shares, Watch, asked_at, note_start, note_verdict,
-    push,
+    Crowd, Halt, MOST_BYTES, MOST_IOS, Naming, Shares, Turns, Watch, asked_at, note_start,
+    note_verdict, push,
 };
 use jr_desk::{Desk, DeskFault, Take};
 use jr_header::{Ruling, Served};
@@ -22,8 +22,8 @@ use std::thread;
 use std::time::{Clock, Duration};
 
 // What lies under the lock: the desk of that plan, why the run was ended before its time, if it was, how many I/Os and checks workers
-// have in hand, how many workers haven't begun, how many wait for something to do, and how many rest. One that waits may have been called
-// and not have come yet.
+// have in hand, how many workers haven't begun, how many wait for something to do, and how many rest. One that waits, or one that rests, may
+// have been called and not have come yet.
 #[derive(Drop)]
 pub struct Held<P: Naming> {
     desk: Desk,
@@ -33,6 +33,7 @@ pub struct Held<P: Naming> {
     waiting: u64,
     resting: u64,
     is_called: bool,
+    is_roused: bool,
     of: PhantomData<P>,
     ghost plan_is: { desk.plan ≡ P.plan },
 }
@@ -91,6 +92,12 @@ impl<P: Naming> Held<P> {
         Ok(said)
     }
 
+    // How many workers do nothing.
+    fn idle(&self) -> u64 {
+        let idle = self.waiting.saturating_add(self.resting);
+        self.absent.saturating_add(idle)
+    }
+
     fn stop(&mut self, halt: Halt)
         ensures stopped { self.new.desk.is_stopped ≡ true }
         ensures cause { self.new.halt ≡ Some (first_cause halt self.old.halt) }
@@ -112,6 +119,7 @@ impl<P: Naming> Held<P> {
             waiting: _,
             resting: _,
             is_called: _,
+            is_roused: _,
             of: _,
         } = self;
         (desk, halt)
@@ -143,6 +151,25 @@ const REST: u64 = 1000;
 pub enum NextTicket {
     Ticket(Ticket),
     Nothing(GoOn),
+}
+
+// Whom a worker that gives the lock away calls then, so that who is called finds it free: one that waits, one that rests, or all.
+#[derive(Clone, Copy)]
+struct Calls {
+    waiting: bool,
+    resting: bool,
+    all: bool,
+}
+
+impl Calls {
+    // Nobody.
+    fn none() -> Calls {
+        Calls {
+            waiting: false,
+            resting: false,
+            all: false,
+        }
+    }
 }
 
 // How a worker goes on: with the tickets that it took, not before others have ended something, or not at all.
@@ -184,6 +211,7 @@ impl<'p, P: Naming> Shared<'p, P> {
             waiting: 0,
             resting: 0,
             is_called: false,
+            is_roused: false,
             of: PhantomData,
         };
         Shared {
@@ -258,9 +286,15 @@ impl<'p, P: Naming> Shared<'p, P> {
         let held = self.enter(rt);
         let mut held = self.make_way(rt, held);
         for _ in rt.forever() {
-            match self.share(&mut held, worker, tickets)? {
-                GoOn::Wait => held = self.pause(rt, held),
-                step => return Ok(step),
+            let mut calls = Calls::none();
+            let step = self.share(&mut held, worker, tickets, &mut calls)?;
+            if let GoOn::Wait = step {
+                self.call(calls);
+                held = self.pause(rt, held);
+            } else {
+                drop(held);
+                self.call(calls);
+                return Ok(step);
             }
         }
         unreachable!()
@@ -274,8 +308,7 @@ impl<'p, P: Naming> Shared<'p, P> {
 
     // Whether more workers are at work than are of use.
     fn is_crowded(&self, held: &Held<P>) -> bool {
-        let idle = held.waiting.saturating_add(held.resting);
-        self.crowd.is_too_large(held.absent.saturating_add(idle))
+        self.crowd.is_too_large(held.idle())
     }
 
     // Does nothing for a while: the others take what may be started where they are enough for it.
@@ -313,6 +346,7 @@ impl<'p, P: Naming> Shared<'p, P> {
         let limit = Duration::from_millis(REST);
         let (mut held, _) = self.rested.wait_timeout(rt, held, limit);
         held.resting = held.resting.saturating_sub(1);
+        held.is_roused = false;
         held
     }
 
@@ -328,10 +362,11 @@ impl<'p, P: Naming> Shared<'p, P> {
 
     // Takes in how a worker's tickets ended, in their order, and takes what is next for the worker, unless the workers are too many. The
     // lock is taken once for all of it, and nothing is waited for.
-    pub fn hand_in<'a, R: Wait>(
+    pub fn hand_in<'a, R: Wait + Clock>(
         &self,
         rt: &R,
         worker: u32,
+        turns: &mut Turns,
         settled: &[CarriedOut<'a>],
         told: &mut Vec<TakenIn<'a>>,
         tickets: &mut Vec<Ticket>,
@@ -341,7 +376,9 @@ impl<'p, P: Naming> Shared<'p, P> {
             ≡ map (λ one. one.served.now) told.old.items ++ map (λ one. one.served.now) settled.now) }
         ensures next { OnOk result (All CanBeServed tickets.new.items) }
     {
+        turns.arrive(rt);
         let mut held = self.enter(rt);
+        turns.enter(rt);
         for one in settled {
             let said = held.take_in(worker, one)?;
             note_said(&self.watch, &said);
@@ -350,37 +387,59 @@ impl<'p, P: Naming> Shared<'p, P> {
         if self.is_crowded(&held) {
             return Ok(GoOn::Wait);
         }
-        self.share(&mut held, worker, tickets)
+        let mut calls = Calls::none();
+        let step = self.share(&mut held, worker, tickets, &mut calls)?;
+        turns.leave(rt, &self.crowd, held.idle());
+        drop(held);
+        self.call(calls);
+        Ok(step)
     }
 
-    // Takes a worker's share of what may be started. Where the run has ended all are told; and those that rest where they may be of use.
+    // Calls those that are to be called.
+    fn call(&self, calls: Calls) {
+        if calls.all {
+            self.wake_all();
+            return;
+        }
+        if calls.waiting {
+            self.changed.notify_one();
+        }
+        if calls.resting {
+            self.rested.notify_one();
+        }
+    }
+
+    // Takes a worker's share of what may be started. If the run has ended all are to be called; and one that rests if it may be of use.
     fn share(
         &self,
         held: &mut Held<P>,
         worker: u32,
         tickets: &mut Vec<Ticket>,
+        calls: &mut Calls,
     ) -> Result<GoOn, Halt>
         requires { All CanBeServed tickets.old.items }
         ensures next { OnOk result (All CanBeServed tickets.new.items) }
         ensures memory { IfErr result (λ halt. halt ≡ Halt.Memory) }
     {
-        if held.resting > 0 && !self.crowd.is_quick() {
-            self.rested.notify_all();
+        if held.resting > 0 && !held.is_roused && self.crowd.is_too_small(held.idle()) {
+            held.is_roused = true;
+            calls.resting = true;
         }
-        let step = self.take_share(held, worker, tickets)?;
+        let step = self.take_share(held, worker, tickets, calls)?;
         if let GoOn::End = step {
-            self.wake_all();
+            calls.all = true;
         }
         Ok(step)
     }
 
-    // Takes tickets until this worker has its share, and then wakes one that may take more; or until nothing more may be started.
+    // Takes tickets until this worker has its share, and then has one called that may take more; or until nothing more may be started.
     #[tactic(auto, using(crate::proofs::Worked::taken))]
     fn take_share(
         &self,
         held: &mut Held<P>,
         worker: u32,
         tickets: &mut Vec<Ticket>,
+        calls: &mut Calls,
     ) -> Result<GoOn, Halt>
         requires { All CanBeServed tickets.old.items }
         ensures next { OnOk result (All CanBeServed tickets.new.items) }
@@ -394,14 +453,14 @@ impl<'p, P: Naming> Shared<'p, P> {
                     bytes = bytes.saturating_add(u64::from(ticket.piece.len));
                     let share = self.shares.of(&ticket, held.waiting > 0, held.resting);
                     if taken + 1 >= share || bytes >= MOST_BYTES {
-                        self.wake_next(held);
+                        self.call_next(held, calls);
                         return Ok(GoOn::Go);
                     }
                 }
                 NextTicket::Nothing(step) => return Ok(or_go(taken, step)),
             }
         }
-        self.wake_next(held);
+        self.call_next(held, calls);
         Ok(GoOn::Go)
     }
 
@@ -411,16 +470,16 @@ impl<'p, P: Naming> Shared<'p, P> {
         self.rested.notify_all();
     }
 
-    // Wakes one that may take what this worker left. Where workers have as much in hand as all depths allow, nothing is left; and where
+    // Has one called that may take what this worker left. Where workers have as much in hand as all depths allow, nothing is left; and where
     // one was called already, or another comes for the lock, that one takes it.
-    fn wake_next(&self, held: &mut Held<P>) {
+    fn call_next(&self, held: &mut Held<P>, calls: &mut Calls) {
         if held.in_hand < self.shares.depths()
             && held.waiting > 0
             && !held.is_called
             && self.coming.load(Ordering::Relaxed) == 0
         {
             held.is_called = true;
-            self.changed.notify_one();
+            calls.waiting = true;
         }
     }
 

@@ -9,7 +9,7 @@ ghost use Rattle.jr_crew.specs.Working.{AreAnswered, AreDone, CanBeServed, IsAns
 use crate::held::{GoOn, Shared};
 use crate::outcomes::{note_all, rule_all};
 use jr_crew_books::Book;
-use jr_crew_threads::{ChannelEnd, Crowd, Halt, Naming, make_room, push};
+use jr_crew_threads::{ChannelEnd, Crowd, Halt, Naming, Turns, make_room, push};
 use jr_engines::Engine;
 use jr_header::{Served, ready_own};
 use jr_model::Ticket;
@@ -45,12 +45,13 @@ pub(crate) fn work<P: Naming, R: Wait + Clock>(
     book
 }
 
-// What a worker has in hand: the tickets that it took, the buffers that it has free, and its book.
+// What a worker has in hand: the tickets that it took, the buffers that it has free, and its book; and how long its turns take.
 #[derive(Drop)]
 pub struct Load {
     pub tickets: Vec<Ticket>,
     pub buffers: Vec<Vec<u8>>,
     pub book: Book,
+    pub turns: Turns,
 }
 
 fn work_on<P: Naming, R: Wait + Clock>(
@@ -66,12 +67,16 @@ fn work_on<P: Naming, R: Wait + Clock>(
         tickets: Vec::new(post.alloc),
         buffers: Vec::new(post.alloc),
         book: Book::new(post.alloc),
+        turns: Turns::new(),
     };
     let mut step = GoOn::Wait;
     for _ in rt.forever() {
         step = match step {
             GoOn::Go => carry_out(rt, post, channel, engine, &mut load)?,
-            GoOn::Wait => post.shared.next(rt, post.number, &mut load.tickets)?,
+            GoOn::Wait => {
+                load.turns.give_up();
+                post.shared.next(rt, post.number, &mut load.tickets)?
+            }
             GoOn::End => return Ok(load.book),
         };
     }
@@ -162,7 +167,7 @@ fn serve<R: Clock>(
 }
 
 // Judges what is judged here, tells the desk, takes what is next, and only then writes into the book: the lock isn't held for it.
-fn exchange<P: Naming, R: Wait>(
+fn exchange<P: Naming, R: Wait + Clock>(
     rt: &R,
     post: &Post<'_, P>,
     served: &[Served],
@@ -175,9 +180,14 @@ fn exchange<P: Naming, R: Wait>(
     let mut settled = Vec::new(post.alloc);
     rule_all(post.inline, served, &mut settled)?;
     let mut told = Vec::with_capacity(post.alloc, settled.len())?;
-    let step = post
-        .shared
-        .hand_in(rt, post.number, &settled, &mut told, &mut load.tickets)?;
+    let step = post.shared.hand_in(
+        rt,
+        post.number,
+        &mut load.turns,
+        &settled,
+        &mut told,
+        &mut load.tickets,
+    )?;
     note_all(post.inline, &told, &mut load.book)?;
     Ok(step)
 }

@@ -12,6 +12,7 @@ mod progress;
 mod rooms;
 mod shares;
 mod staff;
+mod turns;
 mod watch;
 
 pub use brought::{Books, Judged, Judgements, Judges, Worked, WorkerEnd, books_of};
@@ -24,4 +25,5 @@ pub use progress::{Progress, note_start, note_verdict};
 pub use rooms::make_room;
 pub use shares::{MOST_BYTES, MOST_IOS, Shares};
 pub use staff::{Seat, Verifier, Verifiers, Worker, push, room_for, staff_for};
+pub use turns::Turns;
 pub use watch::{StopFlag, StopRequest, Watch, asked_at};

@@ -17,6 +17,7 @@ pub record ReadSoFar (old now : FileView) (offset calls done : ℕ) (buffer : Li
 pub record WrittenSoFar (old now : FileView) (offset calls done : ℕ) (buffer : List ℕ) : Type 0 where
   pub same : now.is_known ≡ old.is_known
   pub stays : now.is_sound ≡ old.is_sound
+  pub named : now.name ≡ old.name
   pub goes_on : IsTrue old.is_sound → calls ≤ done
   pub most : done ≤ length buffer
   pub stored : IsTrue old.is_known → offset + length buffer ≤ length old.bytes → now.bytes ≡ placed old.bytes offset (take done buffer)
@@ -87,11 +88,12 @@ placed_more bytes offset d n buffer inside most =
     ∙ ap (λ (z : List ℕ). z ++ drop (offset + length (take (d + n) buffer)) bytes) (append_assoc front t s ∙ ap (λ (z : List ℕ). front ++ z) (sym both))
 
 -- n bytes more of the buffer stand in the file
-pub written_more : (old now after : FileView) (offset calls d n m : ℕ) (buffer : List ℕ) → WrittenSoFar old now offset calls d buffer → after.is_known ≡ now.is_known → after.is_sound ≡ now.is_sound → m ≡ d + n → (IsTrue now.is_sound → 0 < n) → d + n ≤ length buffer → (IsTrue now.is_known → offset + d + length (drop d buffer) ≤ length now.bytes → after.bytes ≡ placed now.bytes (offset + d) (take n (drop d buffer))) → WrittenSoFar old after offset (calls + 1) m buffer
-written_more old now after offset calls d n m buffer so_far same stays sum goes_on most stored =
+pub written_more : (old now after : FileView) (offset calls d n m : ℕ) (buffer : List ℕ) → WrittenSoFar old now offset calls d buffer → after.is_known ≡ now.is_known → after.is_sound ≡ now.is_sound → after.name ≡ now.name → m ≡ d + n → (IsTrue now.is_sound → 0 < n) → d + n ≤ length buffer → (IsTrue now.is_known → offset + d + length (drop d buffer) ≤ length now.bytes → after.bytes ≡ placed now.bytes (offset + d) (take n (drop d buffer))) → WrittenSoFar old after offset (calls + 1) m buffer
+written_more old now after offset calls d n m buffer so_far same stays named sum goes_on most stored =
     subst (λ (k : ℕ). WrittenSoFar old after offset (calls + 1) k buffer) (sym sum) (record {
       same = same ∙ so_far.same;
       stays = stays ∙ so_far.stays;
+      named = named ∙ so_far.named;
       goes_on = λ sound.
           let a : calls ≤ d = so_far.goes_on sound in
           let b : 0 < n = goes_on (subst (λ b. IsTrue b) (sym so_far.stays) sound) in

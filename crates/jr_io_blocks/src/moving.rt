@@ -63,6 +63,7 @@ pub fn write_whole<F: Positioned>(
     ensures device { IfErr result (λ fault. fault ≡ EngineFault.Device) }
     ensures known { (F.view file.new).is_known ≡ (F.view file.old).is_known }
     ensures stays { (F.view file.new).is_sound ≡ (F.view file.old).is_sound }
+    ensures named { (F.view file.new).name ≡ (F.view file.old).name }
     ensures sound { IsTrue (F.view file.old).is_sound → result ≡ Ok (length buf.now) }
     ensures bytes { IsTrue (F.view file.old).is_known → offset + length buf.now ≤ length (F.view file.old).bytes
         → Stores (F.view file.old).bytes offset buf.now result (F.view file.new).bytes }

@@ -8,7 +8,7 @@ use std::os::unix::fs::FileExt;
 
 /// An open file whose bytes are read and written by their offsets. A call may move a part of what was asked for.
 ///
-/// Contracts see its bytes if they are known (`FileView`). Of a file of the system they aren't.
+/// Contracts see its bytes if they are known, and the name by which it was opened (`FileView`). Of a file of the system the bytes aren't.
 pub trait Positioned: Drop {
     ghost view: { Self → FileView };
 
@@ -24,6 +24,7 @@ pub trait Positioned: Drop {
         ensures most { IfOk result (λ n. n ≤ length buf.now) }
         ensures known { (view self.new).is_known ≡ (view self.old).is_known }
         ensures stays { (view self.new).is_sound ≡ (view self.old).is_sound }
+        ensures named { (view self.new).name ≡ (view self.old).name }
         ensures sound { IsTrue (view self.old).is_sound → IsOk result }
         ensures takes { IsTrue (view self.old).is_sound → IfOk result (λ n. 0 < length buf.now → 0 < n) }
         ensures part { IsTrue (view self.old).is_known → offset + length buf.now ≤ length (view self.old).bytes

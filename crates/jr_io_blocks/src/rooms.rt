@@ -92,6 +92,7 @@ impl Room {
         ensures most { IfOk result (λ n. n ≤ length buf.now) }
         ensures known { (F.view file.new).is_known ≡ (F.view file.old).is_known }
         ensures stays { (F.view file.new).is_sound ≡ (F.view file.old).is_sound }
+        ensures named { (F.view file.new).name ≡ (F.view file.old).name }
         ensures sound { IsTrue (F.view file.old).is_sound → IsOk result }
         ensures takes { IsTrue (F.view file.old).is_sound → IfOk result (λ n. 0 < length buf.now → 0 < n) }
         ensures part { IsTrue (F.view file.old).is_known → offset + length buf.now ≤ length (F.view file.old).bytes
@@ -151,6 +152,7 @@ fn write_by<F: Positioned>(
     ensures most { IfOk result (λ n. n ≤ length buf.now) }
     ensures known { (F.view file.new).is_known ≡ (F.view file.old).is_known }
     ensures stays { (F.view file.new).is_sound ≡ (F.view file.old).is_sound }
+    ensures named { (F.view file.new).name ≡ (F.view file.old).name }
     ensures sound { IsTrue (F.view file.old).is_sound → IsOk result }
     ensures takes { IsTrue (F.view file.old).is_sound → IfOk result (λ n. 0 < length buf.now → 0 < n) }
     ensures part { IsTrue (F.view file.old).is_known → offset + length buf.now ≤ length (F.view file.old).bytes

@@ -1,8 +1,8 @@
 -- Lemmas on reads and writes of one of some files.
-use Rattle.std.proofs.Common.{◌≡◌, ℕ, ◌<◌, List, length, map, slice_get, slice_set, slice_index_or, Some, Result, IsTrue, subst, ap, ◌∙◌, arith}
+use Rattle.std.proofs.Common.{◌≡◌, ℕ, ◌+◌, ◌<◌, List, [], ◌∷◌, ◌++◌, length, map, take, slice_get, slice_set, slice_index_or, Some, Result, IsTrue, sym, subst, ap, ◌∙◌, arith}
 use Rattle.std.specs.Option.{option_map}
 use Rattle.std.proofs.lemmas.Bool.Decides.{nat_tests}
-use Rattle.std.proofs.lemmas.List.{map-set}
+use Rattle.std.proofs.lemmas.List.{map-append, map-set, map_more, take-map}
 use Rattle.std.proofs.lemmas.Option.{slice_get-map, slice_get-get_or}
 use Rattle.jr_engines.specs.declared.faults.EngineFault.{EngineFault}
 use Rattle.jr_io_files.specs.Engines.{ReadsFile, ReadsKnown, WritesFile, WritesKnown, has_place}
@@ -32,3 +32,16 @@ writes_known view files place offset buffer answer other after places writes =
       files = map-set view files place after;
       writes = λ before there. subst (λ (v : FileView). WritesFile v offset buffer answer (view after)) (view_of view files place other before inside there) writes;
     }
+
+-- one more file, of which as much is known as of the next one of these
+pub one_more : {F : Type 0} (view : F → FileView) (shared made : List F) (all : List FileView) (i : ℕ) (next one : F) → map view shared ≡ all → i < length shared → next ≡ slice_index_or shared i next → view one ≡ view next → map view made ≡ take i all → map view (made ++ one ∷ []) ≡ take (i + 1) all
+one_more view shared made all i next one seen inside is same so_far =
+    let more = map_more view shared i next inside in
+    let cut : take (i + 1) all ≡ map view (take (i + 1) shared) = ap (λ z. take (i + 1) z) (sym seen) ∙ take-map view (i + 1) shared in
+    let front : take i all ≡ map view (take i shared) = ap (λ z. take i z) (sym seen) ∙ take-map view i shared in
+    let last : view one ≡ view (slice_index_or shared i next) = same ∙ ap view is in
+    map-append view made (one ∷ [])
+    ∙ ap (λ z. z ++ view one ∷ []) (so_far ∙ front)
+    ∙ ap (λ v. map view (take i shared) ++ v ∷ []) last
+    ∙ sym more
+    ∙ sym cut

@@ -1,11 +1,12 @@
 -- Believed: what contracts see of an engine over files of the system, and of files that couldn't be opened.
-use Rattle.std.specs.Prelude.{◌≡◌, ℕ, ◌+◌, ◌<◌, ◌≤◌, ◌^◌, nat_lt, IsTrue, Bool, false, ◌&&◌, List, [], length, slice_get, slice_set, Some, Result, Ok, IsOk}
+use Rattle.std.specs.Prelude.{◌≡◌, ℕ, ◌+◌, ◌<◌, ◌≤◌, ◌^◌, nat_lt, IsTrue, Bool, false, ◌&&◌, List, [], length, map, slice_get, slice_set, Some, Result, Ok, IsOk}
+use Rattle.jr_model.specs.Plan.{FileSpec}
 use Rattle.jr_model.specs.Replies.{EngineState}
 use Rattle.jr_engines.specs.declared.faults.EngineFault.{EngineFault}
 use Rattle.jr_io_files.specs.declared.faults.FileFault.{FileFault}
 use Rattle.jr_io_files.specs.declared.faults.FileFault.TheVariants as fault
 use Rattle.jr_io_blocks.specs.Moves.{GetsAll, Stores}
-use Rattle.jr_io_blocks.specs.Parts.{FileView}
+use Rattle.jr_io_blocks.specs.Parts.{FileView, named_view}
 
 -- its calls so far, how many of them failed, and what is known of each of its files
 pub record FilesState : Type 0 where
@@ -13,11 +14,19 @@ pub record FilesState : Type 0 where
   pub failures : ℕ
   pub files : List FileView
 
--- an engine over so many files that has had no call
-pub record IsFresh (engine : FilesState) (files : ℕ) : Type 0 where
+-- an engine that has had no call, over files of which this is known
+pub record IsFresh (engine : FilesState) (known : List FileView) : Type 0 where
   pub calls : engine.calls ≡ 0
   pub failures : engine.failures ≡ 0
-  pub files_count : length engine.files ≡ files
+  pub files : engine.files ≡ known
+
+-- what is known of a file of a plan once it is open: that it was opened by its name
+abbrev pub opened_view : FileSpec → FileView
+opened_view spec = named_view spec.name
+
+-- the same of all of them, in their order
+abbrev pub opened_views : List FileSpec → List FileView
+opened_views specs = map opened_view specs
 
 -- a file may refuse any call, so of a run the calls alone are known
 abbrev pub files_state : FilesState → EngineState
@@ -46,6 +55,7 @@ ReadsKnown files file offset before answer after =
 pub record WritesFile (old : FileView) (offset : ℕ) (buffer : List ℕ) (answer : Result ℕ EngineFault) (new : FileView) : Type 0 where
   pub known : new.is_known ≡ old.is_known
   pub stays : new.is_sound ≡ old.is_sound
+  pub named : new.name ≡ old.name
   pub sound : IsTrue old.is_sound → answer ≡ Ok (length buffer)
   pub stores : IsTrue old.is_known → offset + length buffer ≤ length old.bytes → Stores old.bytes offset buffer answer new.bytes
 

@@ -1,3 +1,5 @@
+pub mod Devices
 pub mod Engines
 pub mod Made
+pub mod Opened
 pub mod Uses

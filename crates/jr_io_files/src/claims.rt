@@ -1,5 +1,7 @@
-ghost use Rattle.std.specs.Prelude.{◌≡◌, ◌<◌, length, IfOk, IfErr};
-ghost use Rattle.jr_io_files.specs.Engines.{IsFresh, IsOpenFault};
+ghost use Rattle.std.specs.Prelude.{◌≡◌, ◌<◌, length, map, IfOk, IfErr};
+ghost use Rattle.jr_io_files.specs.Devices.{held_by};
+ghost use Rattle.jr_io_files.specs.Engines.{IsFresh, IsOpenFault, opened_views};
+ghost use Rattle.jr_io_files.specs.Opened.{shared_view};
 
 use crate::devices::held;
 use crate::directs::Directs;
@@ -12,6 +14,7 @@ use crate::making::opened_file;
 use crate::refusals::{Refusal, Why};
 use crate::shares::{Reads, SharedFile};
 use crate::uses::is_written;
+use jr_io_blocks::Dropper;
 use jr_io_devices::{Layers, first_overlap, first_twins};
 use jr_plan::Plan;
 use std::alloc::{AllocError, Global};
@@ -44,7 +47,7 @@ pub fn claim<R: Files<File = File>>(
     plan: &Plan,
     claims: Claims,
 ) -> Result<FileEngine<SharedFile>, Refusal>
-    ensures ok { IfOk result (λ engine. IsFresh engine (length plan.now.files)) }
+    ensures ok { IfOk result (λ engine. IsFresh engine (opened_views plan.now.files)) }
     ensures err { IfErr result (λ refusal. IsOpenFault refusal.fault (length plan.now.files)) }
 {
     claim_direct(rt, alloc, plan, claims, Directs::none(), &[])
@@ -63,7 +66,7 @@ pub fn claim_direct<R: Files<File = File>>(
     directs: Directs<'_>,
     kept: &[Reserved<'_>],
 ) -> Result<FileEngine<SharedFile>, Refusal>
-    ensures ok { IfOk result (λ engine. IsFresh engine (length plan.now.files)) }
+    ensures ok { IfOk result (λ engine. IsFresh engine (opened_views plan.now.files)) }
     ensures err { IfErr result (λ refusal. IsOpenFault refusal.fault (length plan.now.files)) }
 {
     let mut made = Vec::new(alloc);
@@ -86,25 +89,36 @@ fn claimed<R: Files<File = File>>(
     kept: &[Reserved<'_>],
     made: &mut Vec<Made>,
 ) -> Result<FileEngine<SharedFile>, Refusal>
-    ensures ok { IfOk result (λ engine. IsFresh engine (length plan.now.files)) }
+    ensures ok { IfOk result (λ engine. IsFresh engine (opened_views plan.now.files)) }
     ensures err { IfErr result (λ refusal. IsOpenFault refusal.fault (length plan.now.files)) }
 {
-    let mut files = Vec::new(alloc);
-    for index in 0..plan.files().len() {
-        let reads = claims.reads;
-        files.push(opened_file(rt, alloc, plan, index, reads, directs, made)?)?;
-    }
+    let files = opened_files(rt, alloc, plan, claims.reads, directs, made)?;
     apart(alloc, plan, files.as_slice())?;
     without_overlap(rt, alloc, plan, files.as_slice())?;
     unkept(rt, alloc, plan, files.as_slice(), kept)?;
-    let held = if claims.devices_in_use {
-        Vec::new(alloc)
-    } else {
-        held(rt, alloc, plan, files.as_slice(), directs.asked)?
-    };
+    let held = held_by(rt, alloc, plan, files.as_slice(), claims, directs.asked)?;
     locked(rt, alloc, plan, files.as_slice(), held.as_slice())?;
     extended(rt, alloc, plan, files.as_slice())?;
     Ok(FileEngine::over(files))
+}
+
+// Opens the plan's files in their order, each by its name.
+fn opened_files<R: Files<File = File>>(
+    rt: &R,
+    alloc: Global,
+    plan: &Plan,
+    reads: Reads,
+    directs: Directs<'_>,
+    made: &mut Vec<Made>,
+) -> Result<Vec<SharedFile>, Refusal>
+    ensures ok { IfOk result (λ files. map shared_view files.items ≡ opened_views plan.now.files) }
+    ensures err { IfErr result (λ refusal. IsOpenFault refusal.fault (length plan.now.files)) }
+{
+    let mut files = Vec::new(alloc);
+    for (index, spec) in plan.files().iter().enumerate() {
+        files.push(opened_file(rt, alloc, plan, index, spec, reads, directs, made)?)?;
+    }
+    Ok(files)
 }
 
 // Whether no two of the files are one.
@@ -173,6 +187,26 @@ fn without_overlap<R: Files>(
     Err(refused(second, Why::Overlap(first, second_name)))
 }
 
+// Has the devices held that have to be, unless those that are in use may be written too. Answers which files are held.
+fn held_by<R: Files<File = File>>(
+    rt: &R,
+    alloc: Global,
+    plan: &Plan,
+    files: &[SharedFile],
+    claims: Claims,
+    asked: Option<&Dropper>,
+) -> Result<Vec<bool>, Refusal>
+    requires { length files.now ≡ length plan.now.files }
+    ensures ok { IfOk result (λ held. held.items ≡ held_by claims.devices_in_use plan.now.clones files.now) }
+    ensures err { IfErr result (λ refusal. IsOpenFault refusal.fault (length plan.now.files)) }
+{
+    if claims.devices_in_use {
+        Ok(Vec::new(alloc))
+    } else {
+        held(rt, alloc, plan, files, asked)
+    }
+}
+
 // Locks each file: for this run alone where a clone writes it. The lock is of the file at that path only if it is there still: another
 // run may have made and removed it meanwhile. A device that is held is this run's, whoever has its lock: who may only read can have that.
 fn locked<R: Files>(
@@ -191,7 +225,7 @@ fn locked<R: Files>(
             let name = name_of(alloc, plan, index)?;
             return Err(refused(index, Why::Locked(name)));
         }
-        if !file.is_at(rt, plan.files()[index].name()) {
+        if !file.is_there(rt) {
             let name = name_of(alloc, plan, index)?;
             return Err(refused(index, Why::Replaced(name)));
         }

@@ -1,6 +1,10 @@
 // Files that clones write, and that something else may be using: block devices, and plain files under loop devices.
-ghost use Rattle.std.specs.Prelude.{◌≡◌, ◌<◌, length, IfOk, IfErr};
+ghost use Rattle.std.specs.Prelude.{◌≡◌, ◌<◌, ◌&&◌, length, slice_get, Some, IfOk, IfErr, is_ok};
+ghost use Rattle.std.specs.List.{list_any};
+ghost use Rattle.jr_io_files.specs.Devices.{may_be_written, to_be_held, user_of};
 ghost use Rattle.jr_io_files.specs.Engines.{IsOpenFault};
+ghost use Rattle.jr_io_files.specs.Opened.{is_device};
+ghost use Rattle.jr_io_files.specs.Uses.{writes_file};
 
 use crate::faults::FileFault;
 use crate::refusals::{Refusal, Why};
@@ -27,20 +31,41 @@ pub(crate) fn held<R: Files<File = File>>(
     asked: Option<&Dropper>,
 ) -> Result<Vec<bool>, Refusal>
     requires { length files.now ≡ length plan.now.files }
-    ensures { IfErr result (λ refusal. IsOpenFault refusal.fault (length plan.now.files)) }
+    ensures ok { IfOk result (λ held. held.items ≡ to_be_held plan.now.clones files.now) }
+    ensures err { IfErr result (λ refusal. IsOpenFault refusal.fault (length plan.now.files)) }
 {
     let mut held = Vec::new(alloc);
     let loops = Loops::of(rt, alloc);
     for (index, file) in files.iter().enumerate() {
-        let is_device = file.numbers().is_block_device;
-        if is_written(plan, index) && is_device {
-            device_alone(rt, alloc, plan, index, file, asked, &loops)?;
-        } else if is_written(plan, index) {
-            file_alone(rt, alloc, plan, index, file, &loops)?;
-        }
-        held.push(is_written(plan, index) && is_device)?;
+        let is_held = has_alone(rt, alloc, plan, index, file, asked, &loops)?;
+        held.push(is_held)?;
     }
     Ok(held)
+}
+
+// Sees that nothing else uses this file if a clone writes it, and answers whether it is held for that.
+fn has_alone<R: Files<File = File>>(
+    rt: &R,
+    alloc: Global,
+    plan: &Plan,
+    index: usize,
+    file: &SharedFile,
+    asked: Option<&Dropper>,
+    loops: &io::Result<Loops>,
+) -> Result<bool, Refusal>
+    requires { index < length plan.now.files }
+    ensures ok { IfOk result (λ is_held. is_held ≡ (list_any (writes_file index) plan.now.clones && is_device file.now)) }
+    ensures err { IfErr result (λ refusal. IsOpenFault refusal.fault (length plan.now.files)) }
+{
+    if !is_written(plan, index) {
+        return Ok(false);
+    }
+    if file.numbers().is_block_device {
+        let hold = device_alone(rt, alloc, plan, index, file, asked, loops)?;
+        return Ok(hold == Hold::Held);
+    }
+    file_alone(rt, alloc, plan, index, file, loops)?;
+    Ok(false)
 }
 
 // Has this device held, and sees what else uses it.
@@ -52,9 +77,10 @@ fn device_alone<R: Files>(
     file: &SharedFile,
     asked: Option<&Dropper>,
     loops: &io::Result<Loops>,
-) -> Result<(), Refusal>
+) -> Result<Hold, Refusal>
     requires { index < length plan.now.files }
-    ensures { IfErr result (λ refusal. IsOpenFault refusal.fault (length plan.now.files)) }
+    ensures ok { IfOk result (λ hold. hold ≡ Hold.Held) }
+    ensures err { IfErr result (λ refusal. IsOpenFault refusal.fault (length plan.now.files)) }
 {
     let hold = match asked {
         Some(asked) => asked.hold(file.file()),
@@ -72,7 +98,7 @@ fn device_alone<R: Files>(
     // (a run that writes it has its lock for itself)
     let is_locked = hold == Hold::Busy && !file.lock(false);
     match ruled(name, hold, is_locked, found) {
-        Ok(()) => Ok(()),
+        Ok(hold) => Ok(hold),
         Err(why) => Err(refused(index, why)),
     }
 }
@@ -96,12 +122,13 @@ fn ruled(
     hold: Hold,
     is_locked: bool,
     found: io::Result<Option<Use>>,
-) -> Result<(), Why>
-    ensures { IfOk result (λ _. hold ≡ Hold.Held) }
+) -> Result<Hold, Why>
+    ensures which { is_ok result ≡ may_be_written hold found }
+    ensures held { IfOk result (λ answered. answered ≡ Hold.Held) }
 {
     match (hold, found) {
         (_, Ok(Some(by))) => Err(Why::InUse(name, by)),
-        (Hold::Held, Ok(None)) => Ok(()),
+        (Hold::Held, Ok(None)) => Ok(hold),
         (Hold::Busy, _) if is_locked => Err(Why::Locked(name)),
         (Hold::Busy, _) => Err(Why::Claimed(name)),
         (Hold::Nothing, Ok(None)) => Err(Why::Unheld(name)),
@@ -125,12 +152,22 @@ fn file_alone<R: Files>(
     if is_memory(&found) {
         return Err(Refusal::memory());
     }
-    match found {
-        Ok(Some(by)) => {
+    match user_of(found) {
+        Some(by) => {
             let name = String::from_str(alloc, plan.files()[index].name())?;
             Err(refused(index, Why::InUse(name, by)))
         }
-        _ => Ok(()),
+        None => Ok(()),
+    }
+}
+
+// What is seen to use a plain file.
+fn user_of(found: io::Result<Option<Use>>) -> Option<Use>
+    ensures { result ≡ user_of found }
+{
+    match found {
+        Ok(by) => by,
+        Err(_) => None,
     }
 }
 

@@ -1,6 +1,7 @@
 // Files whose calls are to go past the system's cache.
-ghost use Rattle.std.specs.Prelude.{◌≡◌, ◌<◌, length, IfErr};
+ghost use Rattle.std.specs.Prelude.{◌≡◌, ◌<◌, length, IfOk, IfErr};
 ghost use Rattle.jr_io_files.specs.Engines.{IsOpenFault};
+ghost use Rattle.jr_io_files.specs.Opened.{name_of};
 
 use crate::faults::FileFault;
 use crate::opened::{OpenedFile, Sectors};
@@ -45,7 +46,8 @@ pub(crate) fn as_wanted<R: Files>(
     directs: Directs<'_>,
 ) -> Result<OpenedFile, Refusal>
     requires { index < length plan.now.files }
-    ensures { IfErr result (λ refusal. IsOpenFault refusal.fault (length plan.now.files)) }
+    ensures ok { IfOk result (λ opened. name_of opened ≡ name_of file) }
+    ensures err { IfErr result (λ refusal. IsOpenFault refusal.fault (length plan.now.files)) }
 {
     let Some(asked) = directs.asked else {
         return Ok(file);
@@ -72,7 +74,8 @@ fn in_sectors<R: Files>(
     file: OpenedFile,
 ) -> Result<OpenedFile, Refusal>
     requires { index < length plan.now.files }
-    ensures { IfErr result (λ refusal. IsOpenFault refusal.fault (length plan.now.files)) }
+    ensures ok { IfOk result (λ opened. name_of opened ≡ name_of file) }
+    ensures err { IfErr result (λ refusal. IsOpenFault refusal.fault (length plan.now.files)) }
 {
     let Ok(sector) = sector_of(rt, alloc, file.numbers()) else {
         return Err(Refusal::memory());

@@ -1,15 +1,15 @@
 ghost use Rattle.std.specs.Prelude.{◌≡◌, ◌-◌, ◌^◌, ◌<◌, ◌≤◌, ◌↔◌, false, length, map, IsTrue, IfOk, IfErr};
 ghost use Rattle.jr_engines.specs.Calls.{Counts, ReadsInside, WritesInside};
-ghost use Rattle.jr_io_files.specs.Engines.{IsFresh, IsOpenFault, ReadsKnown, WritesKnown, files_state, has_place};
+ghost use Rattle.jr_io_files.specs.Engines.{IsFresh, IsOpenFault, ReadsKnown, WritesKnown, files_state, has_place, opened_views};
 
 use crate::faults::FileFault;
+use crate::names::NamedFile;
 use crate::uses::is_written;
 use jr_engines::{CallCounts, Engine, EngineFault};
 use jr_io_blocks::{LARGEST_OFFSET, Positioned, Room, read_whole, write_whole};
 use jr_plan::Plan;
 use std::alloc::Global;
-use std::fs::{File, OpenOptions};
-use std::io;
+use std::fs::File;
 use std::marker::Model;
 use std::rt::Files;
 
@@ -18,7 +18,7 @@ use std::rt::Files;
 /// Bytes go between the caller's buffer and the file with no copy between, unless the file is direct. Of a file of the system nothing
 /// is claimed of them: others may change it too.
 #[derive(Drop)]
-pub struct FileEngine<F: Positioned = File> {
+pub struct FileEngine<F: Positioned = NamedFile> {
     files: Vec<F>,
     counts: CallCounts,
     room: Room,
@@ -65,19 +65,20 @@ impl<F: Positioned> FileEngine<F> {
     }
 }
 
-impl FileEngine<File> {
+impl FileEngine<NamedFile> {
     /// Opens the plan's files, which have to be there (`lay_out` makes them), each for this engine alone.
     pub fn new<R: Files<File = File>>(
         rt: &R,
         alloc: Global,
         plan: &Plan,
     ) -> Result<FileEngine, FileFault>
-        ensures ok { IfOk result (λ engine. IsFresh engine (length plan.now.files)) }
+        ensures ok { IfOk result (λ engine. IsFresh engine (opened_views plan.now.files)) }
         ensures err { IfErr result (λ fault. IsOpenFault fault (length plan.now.files)) }
     {
         let mut files = Vec::new(alloc);
         for (index, spec) in plan.files().iter().enumerate() {
-            let Ok(file) = open(rt, spec.name(), is_written(plan, index)) else {
+            let name = String::from_str(alloc, spec.name())?;
+            let Ok(file) = NamedFile::open(rt, name, is_written(plan, index)) else {
                 return Err(FileFault::File(index));
             };
             files.push(file)?;
@@ -130,18 +131,6 @@ impl<F: Positioned> Engine for FileEngine<F> {
     fn failures(&self) -> u64 {
         self.counts.failures()
     }
-}
-
-// Opens a file that is there, for reading alone where it isn't written.
-pub(crate) fn open<R: Files<File = File>>(
-    rt: &R,
-    name: &str,
-    is_written: bool,
-) -> io::Result<File> {
-    OpenOptions::new()
-        .read(true)
-        .write(is_written)
-        .open(rt, name)
 }
 
 // Whether there is this file, and the system can name all of these bytes of it.

@@ -85,7 +85,7 @@ fn extend<R: Files>(rt: &R, plan: &Plan, index: usize, file: &SharedFile) -> io:
     if is_written(plan, index) && !file.goes_direct() {
         file.lengthen(spec.high())
     } else {
-        file.lengthen_by_name(rt, spec.name(), spec.high())
+        file.lengthen_by_name(rt, spec.high())
     }
 }
 
@@ -95,6 +95,6 @@ fn take_back<R: Files>(rt: &R, plan: &Plan, files: &[SharedFile], longer: Longer
         return;
     };
     if file.length().is_ok_and(|length| length == spec.high()) {
-        let _ = file.shorten(rt, spec.name(), longer.old);
+        let _ = file.shorten(rt, longer.old);
     }
 }

@@ -1,18 +1,19 @@
 // Opens a plan's files, and makes those that are missing. Nothing is written to any of them.
-ghost use Rattle.std.specs.Prelude.{◌≡◌, ◌<◌, length, IfErr};
-ghost use Rattle.jr_io_files.specs.Engines.{IsOpenFault};
+ghost use Rattle.std.specs.Prelude.{◌≡◌, ◌<◌, length, IfOk, IfErr};
+ghost use Rattle.jr_io_files.specs.Engines.{IsOpenFault, opened_view};
+ghost use Rattle.jr_io_files.specs.Opened.{shared_view};
 
 use crate::directs::{Directs, as_wanted};
 use crate::faults::FileFault;
-use crate::file_engine::open;
 use crate::made::Made;
+use crate::names::NamedFile;
 use crate::opened::{FileUses, OpenedFile};
 use crate::refusals::{Act, Refusal, Why};
 use crate::shares::{Reads, SharedFile};
 use crate::uses::{is_checked, is_written};
 use jr_io_blocks::{Failures, SyncMarks};
 use jr_io_devices::{FileNumbers, end_of_links};
-use jr_plan::Plan;
+use jr_plan::{FileSpec, Plan};
 use std::alloc::Global;
 use std::fs::File;
 use std::io::ErrorKind;
@@ -21,21 +22,22 @@ use std::path::Path;
 use std::rt::Files;
 use std::{fs, io};
 
-/// Opens this file of the plan, for reading alone if no clone writes it, and past the system's cache if that is wanted; and adds
-/// it to `made` if it had to be made. One that is only read and checked has to be there.
+/// Opens this file of the plan, which has this number, for reading alone if no clone writes it, and past the system's cache if that is
+/// wanted; and adds it to `made` if it had to be made. One that is only read and checked has to be there.
 pub(crate) fn opened_file<R: Files<File = File>>(
     rt: &R,
     alloc: Global,
     plan: &Plan,
     index: usize,
+    spec: &FileSpec,
     reads: Reads,
     directs: Directs<'_>,
     made: &mut Vec<Made>,
 ) -> Result<SharedFile, Refusal>
     requires { index < length plan.now.files }
-    ensures { IfErr result (λ refusal. IsOpenFault refusal.fault (length plan.now.files)) }
+    ensures ok { IfOk result (λ file. shared_view file ≡ opened_view spec.now) }
+    ensures err { IfErr result (λ refusal. IsOpenFault refusal.fault (length plan.now.files)) }
 {
-    let spec = &plan.files()[index];
     let uses = uses_of(plan, index, reads);
     let has_marks = uses.checked == Some(Reads::Synced);
     let marks = SyncMarks::new(alloc, if has_marks { spec.high() } else { 0 })?;
@@ -52,7 +54,7 @@ pub(crate) fn opened_file<R: Files<File = File>>(
             made,
         )
     } else {
-        open_there(rt, spec.name(), false)
+        open_there(rt, alloc, spec.name(), false)
     };
     match opened.and_then(|file| OpenedFile::new(file, marks, failures, uses)) {
         Ok(file) => {
@@ -87,8 +89,10 @@ fn open_or_make<R: Files<File = File>>(
     is_written: bool,
     act: &mut Act,
     made: &mut Vec<Made>,
-) -> io::Result<File> {
-    match open_there(rt, name, is_written) {
+) -> io::Result<NamedFile>
+    ensures { IfOk result (λ opened. opened ≡ name.now) }
+{
+    match open_there(rt, alloc, name, is_written) {
         Err(error) if error.kind() == ErrorKind::NotFound => {
             if is_in_dev(rt, name) {
                 return Err(error);
@@ -96,14 +100,21 @@ fn open_or_make<R: Files<File = File>>(
             *act = Act::Make;
             make(rt, alloc, name, made)?;
             *act = Act::Open;
-            open(rt, name, is_written)
+            open(rt, alloc, name, is_written)
         }
         opened => opened,
     }
 }
 
 // Opens a file that is there. A pipe that is to be read would wait for its writer, and a folder opens but can't be read.
-fn open_there<R: Files<File = File>>(rt: &R, name: &str, is_written: bool) -> io::Result<File> {
+fn open_there<R: Files<File = File>>(
+    rt: &R,
+    alloc: Global,
+    name: &str,
+    is_written: bool,
+) -> io::Result<NamedFile>
+    ensures { IfOk result (λ opened. opened ≡ name.now) }
+{
     let kind = fs::metadata(rt, name)?.file_type();
     if kind.is_fifo() {
         return Err(io::Error::from(ErrorKind::NotSeekable));
@@ -111,7 +122,20 @@ fn open_there<R: Files<File = File>>(rt: &R, name: &str, is_written: bool) -> io
     if kind.is_dir() {
         return Err(io::Error::from(ErrorKind::IsADirectory));
     }
-    open(rt, name, is_written)
+    open(rt, alloc, name, is_written)
+}
+
+// Opens the file of this name.
+fn open<R: Files<File = File>>(
+    rt: &R,
+    alloc: Global,
+    name: &str,
+    is_written: bool,
+) -> io::Result<NamedFile>
+    ensures { IfOk result (λ opened. opened ≡ name.now) }
+{
+    let name = String::from_str(alloc, name)?;
+    NamedFile::open(rt, name, is_written)
 }
 
 // Makes the file, also where a link to nothing leads, and adds it to those that were made.

@@ -1,6 +1,8 @@
 ghost use Rattle.std.specs.Prelude.{◌≡◌, ◌≤◌, IfOk, length};
+ghost use Rattle.jr_io_files.specs.Opened.{has_cache, name_of};
 
 use crate::layouts::lengthen;
+use crate::names::NamedFile;
 use crate::shares::Reads;
 use jr_io_blocks::{Cached, Dropper, Failures, FileSync, SyncMarks, SyncStage, is_whole};
 use jr_io_devices::FileNumbers;
@@ -21,7 +23,7 @@ const MOST_DROPS: u32 = 4;
 /// may have answered out of its own cache is counted.
 #[derive(Drop)]
 pub struct OpenedFile {
-    file: File,
+    file: NamedFile,
     numbers: FileNumbers,
     marks: SyncMarks,
     is_plain: bool,
@@ -57,12 +59,14 @@ pub struct Sectors {
 impl OpenedFile {
     /// The file with these marks, no call of which has failed.
     pub fn new(
-        file: File,
+        file: NamedFile,
         marks: SyncMarks,
         failures: Failures,
         uses: FileUses,
-    ) -> io::Result<OpenedFile> {
-        let metadata = file.metadata()?;
+    ) -> io::Result<OpenedFile>
+        ensures { IfOk result (λ opened. name_of opened ≡ file) }
+    {
+        let metadata = file.file().metadata()?;
         let numbers = FileNumbers::of(&metadata);
         Ok(OpenedFile {
             file,
@@ -82,7 +86,9 @@ impl OpenedFile {
 
     /// The same file, whose calls go past the system's cache now. Those of a device do; some file systems take such a call and go by their
     /// cache all the same, so a plain file is looked at before it is read, as any other.
-    pub fn past_cache(self, sectors: Sectors) -> OpenedFile {
+    pub fn past_cache(self, sectors: Sectors) -> OpenedFile
+        ensures { name_of result ≡ name_of self }
+    {
         OpenedFile {
             direct: Some(sectors),
             ..self
@@ -96,7 +102,14 @@ impl OpenedFile {
 
     /// The open file itself.
     pub fn file(&self) -> &File {
-        &self.file
+        self.file.file()
+    }
+
+    /// The name by which it was opened.
+    pub fn name(&self) -> &str
+        ensures { result.now ≡ name_of self.now }
+    {
+        self.file.name()
     }
 
     /// The calls on it that the system refused.
@@ -105,7 +118,9 @@ impl OpenedFile {
     }
 
     /// The numbers by which the system knows the file.
-    pub fn numbers(&self) -> FileNumbers {
+    pub fn numbers(&self) -> FileNumbers
+        ensures { result ≡ self.now.numbers }
+    {
         self.numbers
     }
 
@@ -121,46 +136,49 @@ impl OpenedFile {
 
     /// How many bytes it has.
     pub fn length(&self) -> io::Result<u64> {
-        (&self.file).seek(SeekFrom::End(0))
+        self.file().seek(SeekFrom::End(0))
     }
 
     /// Locks the file for as long as it is open, alone or among others that share it. Whether no other handle has locked it
     /// otherwise: if its file system has no locks none has.
     pub fn lock(&self, alone: bool) -> bool {
         let locked = if alone {
-            self.file.try_lock()
+            self.file().try_lock()
         } else {
-            self.file.try_lock_shared()
+            self.file().try_lock_shared()
         };
         !matches!(locked, Err(TryLockError::WouldBlock))
     }
 
     /// Lets the file have at least so many bytes.
     pub fn lengthen(&self, high: u64) -> io::Result<()> {
-        lengthen(&mut &self.file, high)
+        lengthen(&mut self.file(), high)
     }
 
     /// The same if it is open for reading alone: it is opened anew by its name, and only if it is too short. Another file isn't lengthened
     /// that has that name by now.
-    pub fn lengthen_by_name<R: Files>(&self, rt: &R, name: &str, high: u64) -> io::Result<()> {
+    pub fn lengthen_by_name<R: Files>(&self, rt: &R, high: u64) -> io::Result<()> {
         if self.length()? >= high {
             return Ok(());
         }
-        lengthen(&mut self.opened_anew(rt, name)?, high)
+        lengthen(&mut self.opened_anew(rt)?, high)
     }
 
     /// Lets the file have so many bytes, and no more.
-    pub fn shorten<R: Files>(&self, rt: &R, name: &str, length: u64) -> io::Result<()> {
+    pub fn shorten<R: Files>(&self, rt: &R, length: u64) -> io::Result<()> {
         if self.uses.is_written {
-            self.file.set_len(length)
+            self.file().set_len(length)
         } else {
-            self.opened_anew(rt, name)?.set_len(length)
+            self.opened_anew(rt)?.set_len(length)
         }
     }
 
     // The file, opened by its name to be written. It is an error that another one has the name.
-    fn opened_anew<R: Files>(&self, rt: &R, name: &str) -> io::Result<R::File> {
-        let file = OpenOptions::new().read(true).write(true).open(rt, name)?;
+    fn opened_anew<R: Files>(&self, rt: &R) -> io::Result<R::File> {
+        let file = OpenOptions::new()
+            .read(true)
+            .write(true)
+            .open(rt, self.name())?;
         let there = FileNumbers::of(&file.metadata()?);
         if there.identity() != self.numbers.identity() {
             return Err(io::Error::from(ErrorKind::NotFound));
@@ -184,7 +202,7 @@ impl OpenedFile {
         if self.uses_cache() {
             self.leave_cache(offset, buf.len(), dropper)?;
         }
-        FileExt::read_at(&self.file, buf, offset)
+        FileExt::read_at(self.file(), buf, offset)
     }
 
     /// Writes bytes from `offset` on, and notes it once the call has ended, whatever it answers. To one that is direct it writes whole
@@ -195,7 +213,7 @@ impl OpenedFile {
         if self.is_broken(offset, buf.len()) {
             return Ok(0);
         }
-        let result = FileExt::write_at(&self.file, buf, offset);
+        let result = FileExt::write_at(self.file(), buf, offset);
         self.marks.note(offset, buf.len());
         result
     }
@@ -223,7 +241,9 @@ impl OpenedFile {
     }
 
     // Whether the system keeps its bytes in a cache, as those of a plain file and of a block device.
-    fn has_cache(&self) -> bool {
+    fn has_cache(&self) -> bool
+        ensures { result ≡ has_cache self.now }
+    {
         self.is_plain || self.numbers.is_block_device
     }
 
@@ -307,7 +327,7 @@ impl OpenedFile {
     fn drop_cached(&self, offset: u64, len: usize, dropper: Option<&Dropper>) -> Cached {
         let left = match dropper {
             Some(_) if self.stays.load(Ordering::SeqCst) => Cached::All,
-            Some(dropper) => dropper.drop_cached(&self.file, offset, len),
+            Some(dropper) => dropper.drop_cached(self.file(), offset, len),
             None => Cached::Unseen,
         };
         if left == Cached::All {
@@ -345,7 +365,7 @@ impl OpenedFile {
 
     // The same. A file that no clone writes may lie where there are no syncs: nothing has to be stored there.
     fn sync_data(&self) -> io::Result<()> {
-        match self.file.sync_data() {
+        match self.file().sync_data() {
             Err(error) if !self.uses.is_written && is_no_sync(&error) => Ok(()),
             synced => synced,
         }

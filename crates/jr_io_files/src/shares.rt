@@ -1,5 +1,7 @@
-ghost use Rattle.std.specs.Prelude.{◌≡◌, ◌<◌, length, IfOk, IfErr, IfSome};
+ghost use Rattle.std.specs.Prelude.{◌≡◌, ◌<◌, ◌≤◌, length, IfOk, IfErr, IfSome};
+ghost use Rattle.std.specs.Arc.{arc_value};
 ghost use Rattle.jr_io_files.specs.Engines.{IsFresh, NamesFile};
+ghost use Rattle.jr_io_files.specs.Opened.{files_to_begin};
 ghost use Rattle.jr_io_blocks.specs.Failures.{IsCallFor};
 
 use crate::faults::FileFault;
@@ -22,9 +24,9 @@ pub struct SharedFile {
 }
 
 impl Positioned for SharedFile {
-    ghost use Rattle.jr_io_blocks.specs.Parts.{unknown_view};
+    ghost use Rattle.jr_io_files.specs.Opened.{shared_view};
 
-    ghost view = { λ _. unknown_view };
+    ghost view = { shared_view };
 
     fn read_at(&mut self, buf: &mut [u8], offset: u64) -> io::Result<usize> {
         self.file.read_at(buf, offset, self.dropper.as_deref())
@@ -66,7 +68,9 @@ impl SharedFile {
     pub(crate) fn new(
         alloc: Global,
         file: OpenedFile,
-    ) -> Result<SharedFile, AllocFailed<OpenedFile>> {
+    ) -> Result<SharedFile, AllocFailed<OpenedFile>>
+        ensures { IfOk result (λ shared. arc_value shared.file ≡ file) }
+    {
         let file = Arc::new(alloc, file)?;
         Ok(SharedFile {
             file,
@@ -75,7 +79,9 @@ impl SharedFile {
     }
 
     /// The numbers by which the system knows it.
-    pub(crate) fn numbers(&self) -> FileNumbers {
+    pub(crate) fn numbers(&self) -> FileNumbers
+        ensures { result ≡ (arc_value self.now.file).numbers }
+    {
         self.file.numbers()
     }
 
@@ -87,6 +93,11 @@ impl SharedFile {
     /// Whether its calls go past the system's cache.
     pub(crate) fn goes_direct(&self) -> bool {
         self.file.direct().is_some()
+    }
+
+    /// Whether it is still at its path.
+    pub(crate) fn is_there<R: Files>(&self, rt: &R) -> bool {
+        self.is_at(rt, self.file.name())
     }
 
     /// Whether this file is the one at the path.
@@ -125,8 +136,8 @@ impl SharedFile {
     }
 
     /// Lets it have so many bytes, and no more.
-    pub(crate) fn shorten<R: Files>(&self, rt: &R, name: &str, length: u64) -> io::Result<()> {
-        self.file.shorten(rt, name, length)
+    pub(crate) fn shorten<R: Files>(&self, rt: &R, length: u64) -> io::Result<()> {
+        self.file.shorten(rt, length)
     }
 
     /// Lets it have at least so many bytes.
@@ -135,20 +146,15 @@ impl SharedFile {
     }
 
     /// The same of a file that is open for reading alone: it is opened anew by its name, and only if it is too short.
-    pub(crate) fn lengthen_by_name<R: Files>(
-        &self,
-        rt: &R,
-        name: &str,
-        high: u64,
-    ) -> io::Result<()> {
-        self.file.lengthen_by_name(rt, name, high)
+    pub(crate) fn lengthen_by_name<R: Files>(&self, rt: &R, high: u64) -> io::Result<()> {
+        self.file.lengthen_by_name(rt, high)
     }
 }
 
 impl FileEngine<SharedFile> {
     /// One more engine over the same open files, with counts of its own.
     pub fn share(&self, alloc: Global) -> Result<FileEngine<SharedFile>, FileFault>
-        ensures ok { IfOk result (λ engine. IsFresh engine (length self.now.files)) }
+        ensures ok { IfOk result (λ engine. IsFresh engine self.now.files) }
         ensures err { IfErr result (λ fault. fault ≡ FileFault.Memory) }
     {
         self.share_with(alloc, None)
@@ -161,7 +167,7 @@ impl FileEngine<SharedFile> {
         alloc: Global,
         dropper: Option<Arc<Dropper>>,
     ) -> Result<FileEngine<SharedFile>, FileFault>
-        ensures ok { IfOk result (λ engine. IsFresh engine (length self.now.files)) }
+        ensures ok { IfOk result (λ engine. IsFresh engine self.now.files) }
         ensures err { IfErr result (λ fault. fault ≡ FileFault.Memory) }
     {
         let mut files = Vec::new(alloc);
@@ -192,14 +198,15 @@ impl FileEngine<SharedFile> {
             .is_some_and(|shared| shared.goes_direct())
     }
 
-    /// Syncs each file, and drops what the system keeps of it, before anything of it is read or written.
+    /// Syncs each file, and drops what the system keeps of it, before anything of it is read or written; if checks read what the system
+    /// has, nothing is done.
     ///
     /// A fault names the first file of which the system can't store what was written before.
-    pub fn begin(&self) -> Result<(), Unsynced>
+    pub fn begin(&self, reads: Reads) -> Result<(), Unsynced>
         ensures { IfErr result (λ failed. NamesFile failed.fault (length self.now.files)) }
     {
         let mut begun = Ok(());
-        for (index, shared) in self.files().iter().enumerate() {
+        for (index, shared) in files_to_begin(self.files(), reads).iter().enumerate() {
             if let Err(error) = shared.file.begin(shared.dropper.as_deref())
                 && begun.is_ok()
             {
@@ -235,6 +242,17 @@ impl FileEngine<SharedFile> {
             Some(shared) => shared.file.failures().found(dir, offset, u64::from(len)),
             None => None,
         }
+    }
+}
+
+// The files that are synced and dropped before a run.
+fn files_to_begin(files: &[SharedFile], reads: Reads) -> &[SharedFile]
+    ensures which { result.now ≡ files_to_begin reads files.now }
+    ensures few { length result.now ≤ length files.now }
+{
+    match reads {
+        Reads::Synced => files,
+        Reads::Cached => &[],
     }
 }
 

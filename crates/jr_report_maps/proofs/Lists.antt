@@ -1,8 +1,9 @@
 -- Lists of blocks that ascend, one block more, and what the list then has.
 use Rattle.std.proofs.Common.{◌≡◌, ℕ, ◌+◌, ◌<◌, ◌≤◌, max, Bool, true, false, List, [], ◌∷◌, ◌++◌, length, get_or, take, refl, sym, ap, ◌∙◌, arith, inl, inr, length-append}
-use Rattle.std.specs.Prelude.{◌==◌, ◌&&◌, ◌||◌, nat_le, nat_lt, flat_map, map}
+use Rattle.std.specs.Prelude.{◌==◌, ◌&&◌, ◌||◌, nat_le, nat_lt, flat_map, map, Option, Some, None, filter_map, option_to_list}
+use Rattle.std.proofs.lemmas.List.Elements.{filter_map-append}
 use Rattle.std.proofs.lemmas.List.{flat_map_more, take_more}
-use Rattle.std.specs.List.{list_any}
+use Rattle.std.specs.List.{cons_option, list_any}
 use Rattle.std.specs.List.Sorted.{IsStrictlyIncreasing}
 use Rattle.std.proofs.Math.ListN.{get_or-append}
 use Rattle.std.proofs.Math.Seq.{get_or-append_seam}
@@ -104,3 +105,15 @@ lines_more line before after xs i within so more =
     ∙ ap (λ (t : List ℕ). t ++ line (get_or xs i 0)) so
     ∙ flat_map_more line [] (take i xs) (get_or xs i 0)
     ∙ ap (λ (ys : List ℕ). flat_map line ys) (sym (take_more xs i 0 within))
+
+one_given : {Y : Type 0} (o : Option Y) → cons_option o [] ≡ option_to_list o
+one_given None = refl
+one_given (Some y) = refl
+
+-- what is given by the items so far, and by one more
+pub given_more : {X Y : Type 0} (f : X → Option Y) (xs : List X) (i : ℕ) (d : X) → i < length xs
+    → filter_map f (take (i + 1) xs) ≡ filter_map f (take i xs) ++ option_to_list (f (get_or xs i d))
+given_more f xs i d within =
+    ap (filter_map f) (take_more xs i d within)
+    ∙ filter_map-append f (take i xs) (get_or xs i d ∷ [])
+    ∙ ap (λ ys. filter_map f (take i xs) ++ ys) (one_given (f (get_or xs i d)))

@@ -5,3 +5,4 @@ pub mod Marked
 pub mod Spans
 pub mod Sweeps
 pub mod Told
+pub mod WrongBlocks

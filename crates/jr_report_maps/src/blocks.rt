@@ -42,7 +42,7 @@ fn by_offset(alloc: Global, plan: &Plan, bads: &[Bad]) -> Result<Vec<Span>, Memo
 }
 
 // The bytes that bad verdicts are over.
-fn spans_of(alloc: Global, plan: &Plan, bads: &[Bad]) -> Result<Vec<Span>, Memory>
+pub(crate) fn spans_of(alloc: Global, plan: &Plan, bads: &[Bad]) -> Result<Vec<Span>, Memory>
     ensures { IfOk result (λ spans. map span_bytes spans.items ≡ map (bytes_of plan.now) bads.now) }
 {
     let mut spans = Vec::new(alloc);
@@ -60,7 +60,12 @@ fn add_span(spans: &mut Vec<Span>, plan: &Plan, bad: &Bad) -> Result<(), Memory>
 }
 
 // The blocks that these spans have a byte in; their offsets ascend.
-fn blocks_of(alloc: Global, spans: &[Span], file: u32, size: u64) -> Result<Vec<u64>, Memory>
+pub(crate) fn blocks_of(
+    alloc: Global,
+    spans: &[Span],
+    file: u32,
+    size: u64,
+) -> Result<Vec<u64>, Memory>
     requires size { SECTOR ≤ size }
     requires ascending { IsNonDecreasingBy (λ (span : Place). span.offset + span.skip) spans.now }
     ensures listed { IfOk result (λ blocks. (block : ℕ) →

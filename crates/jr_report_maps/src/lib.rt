@@ -10,6 +10,7 @@ mod maps;
 mod marks;
 mod spans;
 mod told;
+mod wrong;
 
 pub use bads::bads_of;
 pub use blocks::{bad_blocks, blocks_text};
@@ -17,3 +18,4 @@ pub use fates::Fate;
 pub use files::{FileMarks, marks_of};
 pub use firsts::first_bads;
 pub use maps::{FileMap, map_of};
+pub use wrong::wrong_blocks;

@@ -1,4 +1,5 @@
 pub mod JsonLemmas
+mod OriginalLemmas
 pub mod RoundLemmas
 pub mod SeedLemmas
 pub mod SumLemmas

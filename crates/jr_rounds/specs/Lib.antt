@@ -1,6 +1,7 @@
 pub mod Adding
 pub mod Durations
 pub mod Json
+pub mod Originals
 pub mod Repeats
 pub mod Rounds
 pub mod Seeds

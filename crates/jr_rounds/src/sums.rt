@@ -64,7 +64,19 @@ impl Sums {
 fn nothing_done(alloc: Global, clones: usize) -> Result<Vec<Totals>, AllocError>
     ensures { IfOk result (λ totals. totals.items ≡ replicate clones nothing_done) }
 {
-    let nothing = Totals {
+    let nothing = nothing();
+    let mut totals = Vec::new(alloc);
+    for _ in 0..clones {
+        totals.push(nothing)?;
+    }
+    Ok(totals)
+}
+
+// The totals of a clone that did nothing.
+pub(crate) fn nothing() -> Totals
+    ensures { result ≡ nothing_done }
+{
+    Totals {
         reads: 0,
         rbytes: 0,
         writes: 0,
@@ -75,12 +87,7 @@ fn nothing_done(alloc: Global, clones: usize) -> Result<Vec<Totals>, AllocError>
         skipped: 0,
         void: 0,
         faults: 0,
-    };
-    let mut totals = Vec::new(alloc);
-    for _ in 0..clones {
-        totals.push(nothing)?;
     }
-    Ok(totals)
 }
 
 // Adds to each sum what its clone did more.
@@ -93,7 +100,7 @@ fn add_all(sums: &mut [Totals], totals: &[Totals])
     }
 }
 
-fn added(sum: Totals, more: Totals) -> Totals
+pub(crate) fn added(sum: Totals, more: Totals) -> Totals
     ensures { result ≡ added sum more }
 {
     Totals {

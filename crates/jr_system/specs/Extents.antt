@@ -1,28 +1,29 @@
--- Believed: how many bytes the jobs of a plan read, write and read back, if no check is skipped (of this project).
+-- Believed: how many bytes the jobs of a plan read, write and have judged, if no check is skipped (of this project).
 use Rattle.std.specs.Prelude.{ℕ, ◌+◌, ◌-◌, ◌*◌, ◌/◌, List, sum_by, if◌then◌else◌}
 use Rattle.jr_model.specs.declared.workloads.IoType.{IoType}
 use Rattle.jr_model.specs.declared.workloads.IoType.TheVariants as io
 use Rattle.jr_model.specs.Plan.{SubJob}
 use Rattle.jr_model.specs.Rounds.{has_rounds}
 
--- how many hundredths of what a job of this type moves it writes, where so many hundredths of a mixed one are reads
-abbrev pub write_percent : IoType → ℕ → ℕ
-write_percent io.Read reads = 0
-write_percent io.RandRead reads = 0
-write_percent io.Write reads = 100
-write_percent io.RandWrite reads = 100
-write_percent io.ReadWrite reads = 100 - reads
-write_percent io.RandRw reads = 100 - reads
+-- how many hundredths of what a verified job of this type moves are judged, where so many hundredths of a mixed one are reads: what it
+-- writes is read back, and a job that only reads has its reads judged
+abbrev pub judged_percent : IoType → ℕ → ℕ
+judged_percent io.Read reads = 100
+judged_percent io.RandRead reads = 100
+judged_percent io.Write reads = 100
+judged_percent io.RandWrite reads = 100
+judged_percent io.ReadWrite reads = 100 - reads
+judged_percent io.RandRw reads = 100 - reads
 
--- how many hundredths of it are read back
+-- how many hundredths of what a clone moves are judged
 abbrev pub checked_percent : SubJob → ℕ
-checked_percent job = if has_rounds job then write_percent job.io_type job.read_percent else 0
+checked_percent job = if has_rounds job then judged_percent job.io_type job.read_percent else 0
 
 -- what the passes of a clone read and write
 abbrev pub own_bytes : SubJob → ℕ
 own_bytes job = job.cells * job.passes * job.cell
 
--- and with what it reads back
+-- and with what is judged
 abbrev pub bytes_of : SubJob → ℕ
 bytes_of job = own_bytes job + own_bytes job * checked_percent job / 100
 

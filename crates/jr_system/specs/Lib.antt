@@ -1,4 +1,9 @@
 pub mod Askable
 pub mod Extents
+pub mod Grounds
+pub mod Outcomes
+pub mod Signs
 pub mod Stops
+pub mod Taken
 pub mod Wanted
+pub mod Ways

@@ -1,12 +1,13 @@
-// How many bytes a run reads, writes and reads back.
-ghost use Rattle.std.specs.Prelude.{◌≡◌, ◌*◌, ◌^◌, ◌≤◌};
-ghost use Rattle.jr_system.specs.Extents.{bytes_of, checked_percent, write_percent};
+// How many bytes a run reads, writes and has judged.
+ghost use Rattle.std.specs.Prelude.{◌≡◌, ◌*◌, ◌-◌, ◌^◌, ◌≤◌};
+ghost use Rattle.jr_system.specs.Extents.{bytes_of, checked_percent, judged_percent};
 
 use jr_model::{IoType, MOST_WORK};
 use jr_plan::{Plan, SubJob};
 use std::marker::Model;
 
-/// How many bytes a plan's jobs read and write, and read back to check them. Some checks may be skipped, as overwritten.
+/// How many bytes a plan's jobs read and write, and have judged: those that are read back, and those of checked reads. Some checks may be
+/// skipped, as overwritten.
 #[derive(Clone, Copy)]
 pub struct PlanBytes {
     bytes: u64,
@@ -35,15 +36,22 @@ impl PlanBytes {
         PlanBytes { bytes }
     }
 
-    /// How many hundredths of them so many are.
-    pub(crate) fn percent(self, bytes: u64) -> u64
-        ensures { result ≤ 100 }
+    /// How many thousandths of them so many are.
+    pub(crate) fn per_mille(self, bytes: u64) -> u64
+        ensures { result ≤ 1000 }
     {
-        (bytes.saturating_mul(100) / self.bytes.max(1)).min(100)
+        (bytes.saturating_mul(1000) / self.bytes.max(1)).min(1000)
+    }
+
+    /// How many are left once so many are done.
+    pub(crate) fn left(self, done: u64) -> u64
+        ensures { result ≡ self - done }
+    {
+        self.bytes.saturating_sub(done)
     }
 }
 
-// What a clone reads and writes, and reads back.
+// What a clone reads and writes, and has judged.
 fn bytes_of(clone: &SubJob) -> u64
     requires { clone.now.cells * clone.now.passes ≤ MOST_WORK }
     ensures value { result ≡ bytes_of clone.now }
@@ -55,28 +63,27 @@ fn bytes_of(clone: &SubJob) -> u64
     own + own * u64::from(checked_percent(clone)) / 100
 }
 
-// How many hundredths of what a clone reads and writes are read back.
+// How many hundredths of what a clone reads and writes are judged.
 fn checked_percent(clone: &SubJob) -> u8
     ensures value { result ≡ checked_percent clone.now }
     ensures most { result ≤ 100 }
 {
     clone.facts();
     if clone.method().kind.is_verified() && clone.checks_writes() {
-        write_percent(clone.io_type(), clone.read_percent())
+        judged_percent(clone.io_type(), clone.read_percent())
     } else {
         0
     }
 }
 
-// How many hundredths of what a job of this type moves it writes.
-fn write_percent(io_type: IoType, reads: u8) -> u8
+// How many hundredths of what a verified job of this type moves are judged: what it writes, or all that it reads if it only reads.
+fn judged_percent(io_type: IoType, reads: u8) -> u8
     requires { reads ≤ 100 }
-    ensures value { result ≡ write_percent io_type reads }
+    ensures value { result ≡ judged_percent io_type reads }
     ensures most { result ≤ 100 }
 {
     match io_type {
-        IoType::Read | IoType::RandRead => 0,
-        IoType::Write | IoType::RandWrite => 100,
+        IoType::Read | IoType::RandRead | IoType::Write | IoType::RandWrite => 100,
         IoType::ReadWrite | IoType::RandRw => 100 - reads,
     }
 }

@@ -3,6 +3,8 @@ ghost use Rattle.std.specs.Prelude.{◌≡◌, ◌⊎◌, length, map, IfOk, IfE
 ghost use Rattle.std.specs.List.{list_any, range_with_len};
 ghost use Rattle.std.specs.Option.{option_copied};
 ghost use Rattle.jr_job_direct.specs.Wishes.{wish_of};
+ghost use Rattle.jr_io_files.specs.Engines.{IsFresh, IsOpenFault, opened_views};
+ghost use Rattle.jr_system.specs.Taken.{asks_launcher, claims_of, directs_of, drop_pipes_of, is_direct, reads_of};
 ghost use Rattle.jr_system.specs.Wanted.{is_wanted, wishes_of};
 
 use crate::closed::Closed;
@@ -30,7 +32,7 @@ use std::os::unix::fs::FileTypeExt;
 pub struct Taken<'a> {
     files: FileEngine<SharedFile>,
     launcher: Launcher<'a>,
-    is_cached: bool,
+    reads: Reads,
     direct: Option<bool>,
     remarks: Remarks,
 }
@@ -81,15 +83,13 @@ pub fn take_files<'a, R: Files<File = File> + AllocGlobal + Screen>(
     wishes: &[Wish],
     kept: &[Reserved<'_>],
 ) -> Result<Taken<'a>, Stop>
-    ensures { IfErr result (λ fault. (fault ≡ CliFault.Open) ⊎ (fault ≡ CliFault.Memory)) }
+    ensures opened { IfOk result (λ taken. taken.files.files ≡ opened_views plan.now.files) }
+    ensures reads { IfOk result (λ taken. taken.reads ≡ reads_of choice.now.cached) }
+    ensures failed { IfErr result (λ fault. (fault ≡ CliFault.Open) ⊎ (fault ≡ CliFault.Memory)) }
 {
-    let pipes = if choice.cached {
-        None
-    } else {
-        choice.drop_pipes
-    };
-    let launcher = Launcher::new(pipes);
-    let files = match claimed(rt, plan, choice, wishes, kept) {
+    let launcher = Launcher::new(drop_pipes_of(choice));
+    let claims = claims_of(choice);
+    let files = match claimed(rt, plan, choice, claims, wishes, kept) {
         Ok(files) => files,
         Err(refusal) => return Err(Stop::files(refusal)),
     };
@@ -101,7 +101,7 @@ pub fn take_files<'a, R: Files<File = File> + AllocGlobal + Screen>(
     Ok(Taken {
         files,
         launcher,
-        is_cached: choice.cached,
+        reads: claims.reads,
         direct,
         remarks: Remarks::new(rt, plan, choice)?,
     })
@@ -112,28 +112,74 @@ fn claimed<R: Files<File = File> + AllocGlobal>(
     rt: &R,
     plan: &Plan,
     choice: &Choice<'_>,
+    claims: Claims,
     wishes: &[Wish],
     kept: &[Reserved<'_>],
-) -> Result<FileEngine<SharedFile>, Refusal> {
-    let claims = Claims {
+) -> Result<FileEngine<SharedFile>, Refusal>
+    ensures ok { IfOk result (λ engine. IsFresh engine (opened_views plan.now.files)) }
+    ensures err { IfErr result (λ refusal. IsOpenFault refusal.fault (length plan.now.files)) }
+{
+    let wanted = directs_of(rt.alloc(), wishes)?;
+    // (no engine asks yet by the first pair of pipes)
+    let asked = if asks_launcher(has_device(rt, plan), wishes) {
+        Launcher::new(choice.drop_pipes).dropper(rt, rt.alloc(), 0)?
+    } else {
+        None
+    };
+    claim_wanted(rt, plan, claims, wanted.as_slice(), asked.as_deref(), kept)
+}
+
+// How the files are taken, as the words say.
+fn claims_of(choice: &Choice<'_>) -> Claims
+    ensures { result ≡ claims_of choice.now.cached choice.now.allow_mounted_write }
+{
+    Claims {
         reads: if choice.cached {
             Reads::Cached
         } else {
             Reads::Synced
         },
         devices_in_use: choice.allow_mounted_write,
-    };
-    let mut wanted = Vec::new(rt.alloc());
-    for wish in wishes {
-        wanted.push(*wish == Wish::Direct)?;
     }
-    // (no engine asks yet by the first pair of pipes)
-    let asked = if has_device(rt, plan) || wanted.iter().any(|it| *it) {
-        Launcher::new(choice.drop_pipes).dropper(rt, rt.alloc(), 0)?
-    } else {
+}
+
+// The pipes by which the run's engines have what is cached dropped.
+fn drop_pipes_of<'a>(choice: &Choice<'a>) -> Option<&'a str>
+    ensures { option_copied result ≡ drop_pipes_of choice.now.cached (option_copied choice.now.drop_pipes) }
+{
+    if choice.cached {
         None
-    };
-    claim_wanted(rt, plan, claims, wanted.as_slice(), asked.as_deref(), kept)
+    } else {
+        choice.drop_pipes
+    }
+}
+
+// Which files are to go past the cache.
+fn directs_of(alloc: Global, wishes: &[Wish]) -> Result<Vec<bool>, AllocError>
+    ensures { IfOk result (λ wanted. wanted.items ≡ directs_of wishes.now) }
+{
+    wishes.iter().map(|wish| is_direct(wish)).collect(alloc)
+}
+
+// Whether all jobs of the file say direct=1.
+fn is_direct(wish: &Wish) -> bool
+    ensures { result ≡ is_direct wish.now }
+{
+    *wish == Wish::Direct
+}
+
+// Whether the launcher is asked while the files are taken.
+fn asks_launcher(has_device: bool, wishes: &[Wish]) -> bool
+    ensures { result ≡ asks_launcher has_device wishes.now }
+{
+    has_device || any_direct(wishes)
+}
+
+// Whether all jobs of a file say direct=1.
+fn any_direct(wishes: &[Wish]) -> bool
+    ensures { result ≡ list_any is_direct wishes.now }
+{
+    wishes.iter().any(|wish| is_direct(wish))
 }
 
 // Whether a file of the plan is a block device.
@@ -154,7 +200,10 @@ fn claim_wanted<'x, R: Files<File = File> + AllocGlobal>(
     wanted: &'x [bool],
     asked: Option<&'x Dropper>,
     kept: &[Reserved<'_>],
-) -> Result<FileEngine<SharedFile>, Refusal> {
+) -> Result<FileEngine<SharedFile>, Refusal>
+    ensures ok { IfOk result (λ engine. IsFresh engine (opened_views plan.now.files)) }
+    ensures err { IfErr result (λ refusal. IsOpenFault refusal.fault (length plan.now.files)) }
+{
     let directs = Directs { wanted, asked };
     claim_direct(rt, rt.alloc(), plan, claims, directs, kept)
 }
@@ -216,7 +265,7 @@ impl<'a> Taken<'a> {
         rt: &R,
         place: usize,
     ) -> Result<FileEngine<SharedFile>, CliFault>
-        ensures uncalled { IfOk result (λ engine. engine.calls ≡ 0) }
+        ensures uncalled { IfOk result (λ engine. IsFresh engine self.now.files.files) }
         ensures failed { IfErr result (λ fault. fault ≡ CliFault.Memory) }
     {
         let alloc = rt.alloc();
@@ -229,16 +278,16 @@ impl<'a> Taken<'a> {
         }
     }
 
-    /// Has the system store and drop what it keeps of the files from before the run, by this engine of theirs.
+    /// Has the system store and drop what it keeps of the files from before the run, by this engine of theirs; not if checks read what the
+    /// system has.
     pub fn begin<R: Eprint>(&self, rt: &R, engine: &FileEngine<SharedFile>) {
-        if self.is_cached {
-            return;
-        }
         // (what was lost before the run isn't the run's)
-        if let Err(failed) = engine.begin() {
+        if let Err(failed) = engine.begin(self.reads) {
             self.remarks.tell_unsynced(rt, &failed);
         }
-        self.remarks.tell_tried(rt, engine);
+        if self.reads == Reads::Synced {
+            self.remarks.tell_tried(rt, engine);
+        }
     }
 
     // How many reads of files that are checked the system's cache may have answered.

@@ -144,25 +144,27 @@ fn end_showing<R: Wait>(rt: &R, asked: &Asked) {
 // What is shown of a run.
 #[derive(Clone, Copy)]
 struct Gauge {
-    percent: u64,
+    per_mille: u64,
     ios: u64,
     checks: u64,
     bad: u64,
+    rate: Option<RunRate>,
 }
 
 impl Gauge {
-    fn of(meter: &Meter) -> Gauge {
+    // Of a run that has gone on for this time.
+    fn of(meter: &Meter, passed: Duration) -> Gauge {
         let progress = &meter.progress;
         // (what counts fewer is read first, so that no number of a line is above one that it can't be above)
         let bad = progress.bad();
         let checks = progress.checks();
         let bytes = progress.bytes().saturating_add(progress.checked_bytes());
-        let percent = meter.extent.percent(bytes);
         Gauge {
-            percent,
+            per_mille: meter.extent.per_mille(bytes),
             ios: progress.ios(),
             checks,
             bad,
+            rate: RunRate::of(bytes, meter.extent.left(bytes), passed),
         }
     }
 }
@@ -171,9 +173,61 @@ impl fmt::Display for Gauge {
     fn fmt<W: fmt::Write>(&self, f: &mut fmt::Formatter<W>) -> fmt::Result {
         write!(
             f,
-            "fiorun: {} % done, {} I/Os, {} checked, {} bad",
-            self.percent, self.ios, self.checks, self.bad
+            "fiorun: {}.{} % done, {} I/Os, {} checked, {} bad",
+            self.per_mille / 10,
+            self.per_mille % 10,
+            self.ios,
+            self.checks,
+            self.bad
+        )?;
+        match self.rate {
+            Some(rate) => rate.write_left(f),
+            None => Ok(()),
+        }
+    }
+}
+
+// How quick a run has been so far, and how long it takes from here if it goes on like that.
+#[derive(Clone, Copy)]
+struct RunRate {
+    bytes_a_second: u64,
+    seconds_left: u64,
+}
+
+impl RunRate {
+    // That of so many bytes in this time, if so many are left; none before something is done.
+    fn of(done: u64, left: u64, passed: Duration) -> Option<RunRate> {
+        let millis = u64::try_from(passed.as_millis()).unwrap_or(u64::MAX);
+        if done == 0 || millis == 0 {
+            return None;
+        }
+        let bytes_a_second = done.saturating_mul(1000) / millis;
+        Some(RunRate {
+            bytes_a_second,
+            seconds_left: left / bytes_a_second.max(1),
+        })
+    }
+
+    fn write_left<W: fmt::Write>(self, f: &mut fmt::Formatter<W>) -> fmt::Result {
+        let minutes = self.seconds_left / 60;
+        write!(
+            f,
+            ", {}:{:02}:{:02} left",
+            minutes / 60,
+            minutes % 60,
+            self.seconds_left % 60
         )
+    }
+}
+
+impl fmt::Display for RunRate {
+    fn fmt<W: fmt::Write>(&self, f: &mut fmt::Formatter<W>) -> fmt::Result {
+        let kib = self.bytes_a_second / 1024;
+        if kib < 10 * 1024 {
+            write!(f, "{kib} KiB/s")
+        } else {
+            write!(f, "{} MiB/s", kib / 1024)
+        }
     }
 }
 
@@ -222,10 +276,10 @@ impl Meter {
     }
 
     // Draws the line in place of the one that stands there.
-    fn draw<R: Eprint + Wait>(&self, rt: &R) {
+    fn draw<R: Eprint + Clock + Wait>(&self, rt: &R) {
         let mut stage = self.stage.lock(rt);
         if !self.is_over() {
-            let _ = eprint!(rt; "{WIPED}{}", Gauge::of(self));
+            let _ = eprint!(rt; "{WIPED}{}", Gauge::of(self, self.passed(rt)));
             *stage = LineState::Drawn;
         }
     }
@@ -241,8 +295,13 @@ impl Meter {
         } else {
             ""
         };
-        let seconds = self.passed(rt).as_secs();
-        let _ = eprintln!(rt; "{front}{}, after {seconds} s", Gauge::of(self));
+        let passed = self.passed(rt);
+        let gauge = Gauge::of(self, passed);
+        let seconds = passed.as_secs();
+        let _ = match gauge.rate {
+            Some(rate) => eprintln!(rt; "{front}{gauge}, {rate}, after {seconds} s"),
+            None => eprintln!(rt; "{front}{gauge}, after {seconds} s"),
+        };
         *stage = LineState::Blank;
     }
 

@@ -297,9 +297,9 @@ struct Kept {
 }
 
 impl Positioned for Kept {
-    ghost use Rattle.std.specs.Prelude.{true};
+    ghost use Rattle.std.specs.Prelude.{None, true};
 
-    ghost view = { λ a. record { is_sound = true; is_known = true; bytes = a.bytes } };
+    ghost view = { λ a. record { is_sound = true; is_known = true; bytes = a.bytes; name = None } };
 
     fn read_at(&mut self, buf: &mut [u8], offset: u64) -> io::Result<usize> {
         let rest = &self.bytes[self.bytes.len().min(offset as usize)..];

@@ -26,6 +26,10 @@ const NOTHING: Choice<'static> = Choice {
     run_for: None,
     repeat: None,
     keep_going: false,
+    go_on: false,
+    bad_blocks_also: None,
+    adapt: false,
+    size: None,
 };
 
 #[test]
@@ -53,6 +57,10 @@ fn each_word_goes_to_its_field(rt: HostRuntime) -> Result<(), Fail> {
         "--for=90s",
         "--repeat=4294967295",
         "--keep-going",
+        "--go-on",
+        "--bad-blocks-also=k",
+        "--adapt",
+        "--size=16m",
     ];
     let want = Choice {
         job: Some("disk.fio"),
@@ -76,6 +84,10 @@ fn each_word_goes_to_its_field(rt: HostRuntime) -> Result<(), Fail> {
         run_for: Some("90s"),
         repeat: Some(4294967295),
         keep_going: true,
+        go_on: true,
+        bad_blocks_also: Some("k"),
+        adapt: true,
+        size: Some("16m"),
     };
     same(&rt, choose(rt.alloc(), &words)?, want);
     Ok(())

@@ -7,6 +7,7 @@ returns-clause-bytes g c =
     (record {
       known = c.write_whole.ensures.known;
       stays = c.write_whole.ensures.stays;
+      named = c.write_whole.ensures.named;
       sound = c.write_whole.ensures.sound;
       stores = c.write_whole.ensures.bytes;
     })

@@ -1,0 +1,268 @@
+// Going on after faults: what is left of a job after a run in which a fault halted clones is run again, until nothing is left.
+use crate::places::Wanted;
+use crate::rounds::{Course, status, tell_end, tell_line, tell_outputs};
+use crate::running::{Ground, run_silent, to_output};
+use crate::unfailing::Unfailing;
+use jr_cli::RunEnd;
+use jr_cli_words::{Choice, CliFault, workers_of, write_out};
+use jr_desk::Desk;
+use jr_escape::Escaped;
+use jr_job_direct::Wish;
+use jr_model::EngineKind;
+use jr_plan::Plan;
+use jr_rounds::{gathered, is_bad, plan_of_round, seed_offset, tell_round, tell_sums};
+use jr_rounds_rest::{
+    Task, first_tasks, goes_on, next_round, parts_text, tasks_left, untried_text,
+};
+use jr_system::{Asked, Machine, Outlet, Pace, Stop, asked_by};
+use std::alloc::Global;
+use std::io::Write;
+use std::sync::Arc;
+
+// Whether the words ask to go on after faults, where they may.
+pub fn is_going_on(choice: &Choice<'_>, plan: &Plan, has_rounds: bool) -> Result<bool, CliFault> {
+    if !choice.go_on {
+        return Ok(false);
+    }
+    if has_rounds {
+        return Err(CliFault::RepeatedGoOn);
+    }
+    if choice.page.is_some() {
+        return Err(CliFault::SeveralRounds);
+    }
+    if plan.files().len() > 1 {
+        return Err(CliFault::GoOnFiles);
+    }
+    Ok(true)
+}
+
+// Runs the plan and then, round by round, what is left of it after faults, and gives the exit status.
+pub fn run_on<R: Outlet + Machine>(
+    rt: &R,
+    choice: &Choice<'_>,
+    wishes: &[Wish],
+    plan: Plan,
+    has_notes: bool,
+) -> Result<u8, Stop> {
+    if has_notes {
+        tell_staying(rt, &plan);
+    }
+    let wanted = Wanted::of(rt, choice, &plan)?;
+    let ended = run_wanted(rt, choice, wishes, &wanted, &plan, has_notes);
+    wanted.outputs.clear(rt);
+    ended
+}
+
+// Says which clones don't go on.
+fn tell_staying<R: Eprint>(rt: &R, plan: &Plan) {
+    for i in 0..plan.clones() {
+        let job = plan.clone_at(i);
+        if !goes_on(plan, job) {
+            let name = job.job();
+            let name = Escaped(&name);
+            let _ = eprintln!(rt;
+                "fiorun: {name}: clone {i} doesn't go on after a fault: it isn't in order, or another clone writes where it does"
+            );
+        }
+    }
+}
+
+fn run_wanted<R: Outlet + Machine>(
+    rt: &R,
+    choice: &Choice<'_>,
+    wishes: &[Wish],
+    wanted: &Wanted,
+    plan: &Plan,
+    has_notes: bool,
+) -> Result<u8, Stop> {
+    let pace = Pace::of(rt, choice.progress);
+    let asked = asked_by(rt, pace, choice.stop_fd, false)?;
+    let ground = Ground::of(rt, choice, wishes, wanted, plan)?;
+    let has_lines = has_notes || !matches!(pace, Pace::Never);
+    let mut course = Course::new(rt.alloc(), plan, has_lines)?;
+    let last = run_parts(
+        rt,
+        choice.workers,
+        wanted,
+        &ground,
+        &asked,
+        plan,
+        &mut course,
+    )?;
+    if let Some(ended) = &last {
+        tell_end(rt, wanted, plan, ended, &mut course);
+    }
+    Ok(status(rt, &last, &asked, &course, has_notes))
+}
+
+// Runs the rounds, prints what is printed of them, and gives how the last one ended.
+fn run_parts<R: Outlet + Machine>(
+    rt: &R,
+    workers: Option<u32>,
+    wanted: &Wanted,
+    ground: &Ground<'_>,
+    asked: &Arc<Asked, Global>,
+    plan: &Plan,
+    course: &mut Course,
+) -> Result<Option<RunEnd>, Stop> {
+    let alloc = rt.alloc();
+    let mut out = Unfailing::new(to_output(rt)?);
+    let mut todo = ToDo::new(alloc, plan)?;
+    let mut part = todo.whole(alloc)?;
+    for round in 0..u32::MAX {
+        let ended = match run_part(rt, ground, asked, part, workers, course) {
+            Ok(ended) => ended,
+            Err(stop) => {
+                if round > 0 {
+                    let _ = tell_sums(alloc, plan, &course.sums, &mut out);
+                }
+                return Err(stop);
+            }
+        };
+        let done = todo.take_in(alloc, &ended.desk)?;
+        let next = todo.next(alloc, round, &ended, course)?;
+        let is_last = next.is_none();
+        if round > 0 && (is_last || is_bad(&ended.desk) || ended.is_interrupted()) {
+            tell_parts(alloc, round, done.as_slice(), &mut out)?;
+        }
+        tell_round(alloc, round, &ended.desk, is_last, &mut out)?;
+        add_part(alloc, plan, done.as_slice(), &ended.desk, course)?;
+        tell_line(rt, course, round, &ended.desk, is_last);
+        if let Err(stop) = tell_outputs(rt, &wanted.outputs, course, round, &ended) {
+            course.miss(stop);
+        }
+        match next {
+            Some(plan) => part = plan,
+            None => {
+                todo.tell(alloc, course, &mut out)?;
+                if out.has_failed {
+                    course.miss(Stop::from(CliFault::Write));
+                }
+                return Ok(Some(ended));
+            }
+        }
+    }
+    Ok(None)
+}
+
+// Prints of which clones of the job the clones of a round are parts.
+fn tell_parts<V: Write>(
+    alloc: Global,
+    round: u32,
+    done: &[Task],
+    out: &mut V,
+) -> Result<(), CliFault> {
+    let text = parts_text(alloc, round, done)?;
+    write_out(text.as_slice(), out)
+}
+
+// Runs the plan of one round.
+fn run_part<R: Outlet + Machine>(
+    rt: &R,
+    ground: &Ground<'_>,
+    asked: &Arc<Asked, Global>,
+    part: Plan,
+    workers: Option<u32>,
+    course: &mut Course,
+) -> Result<RunEnd, Stop> {
+    let workers = workers_of(&part, workers);
+    let ran = run_silent(rt, ground, asked, part, workers)?;
+    let (ended, closed) = ground.close(rt, ran)?.into_parts();
+    course.close(closed);
+    Ok(ended)
+}
+
+// Adds what the clones of a round did to the sums of the job's clones that they are parts of.
+fn add_part(
+    alloc: Global,
+    plan: &Plan,
+    done: &[Task],
+    desk: &Desk,
+    course: &mut Course,
+) -> Result<(), CliFault> {
+    let originals: Vec<u32> = done.iter().map(|task| task.original).collect(alloc)?;
+    let totals = desk.totals();
+    if originals.len() != totals.len() {
+        return Ok(());
+    }
+    let sums = gathered(alloc, plan.clones(), originals.as_slice(), totals)?;
+    course.add(desk, sums.as_slice());
+    Ok(())
+}
+
+// What is still to be done of a job: the tasks of the round under way come first.
+#[derive(Drop)]
+struct ToDo<'a> {
+    plan: &'a Plan,
+    tasks: Vec<Task>,
+}
+
+impl<'a> ToDo<'a> {
+    // All of the plan.
+    fn new(alloc: Global, plan: &'a Plan) -> Result<ToDo<'a>, CliFault> {
+        Ok(ToDo {
+            plan,
+            tasks: first_tasks(alloc, plan)?,
+        })
+    }
+
+    // The plan of the first round.
+    fn whole(&self, alloc: Global) -> Result<Plan, CliFault> {
+        Ok(plan_of_round(alloc, self.plan, 0)?)
+    }
+
+    // Takes in what happened in the round under way, of which this is the desk, and gives its tasks. What is left of these comes last.
+    fn take_in(&mut self, alloc: Global, desk: &Desk) -> Result<Vec<Task>, CliFault> {
+        let count = desk.plan().clones().min(self.tasks.len());
+        let (now, later) = self.tasks.as_slice().split_at(count);
+        let done = Vec::from_slice(alloc, now)?;
+        let mut tasks = Vec::from_slice(alloc, later)?;
+        let left = tasks_left(alloc, self.plan, desk.plan(), now, desk.history())?;
+        tasks.extend_from_slice(left.as_slice())?;
+        self.tasks = tasks;
+        Ok(done)
+    }
+
+    // The plan of the round after this one. There is none if nothing is left, this one was interrupted, a bad verdict is to end the run, or
+    // something couldn't be stored or written. What is in a memory is gone after a round.
+    fn next(
+        &self,
+        alloc: Global,
+        round: u32,
+        ended: &RunEnd,
+        course: &Course,
+    ) -> Result<Option<Plan>, CliFault> {
+        let ends = ended.is_interrupted()
+            || course.missing.is_some()
+            || has_fatal(&ended.desk)
+            || !matches!(self.plan.engine(), EngineKind::File)
+            || round >= u32::MAX - 1;
+        if ends {
+            return Ok(None);
+        }
+        Ok(next_round(
+            alloc,
+            self.plan,
+            seed_offset(round + 1),
+            self.tasks.as_slice(),
+        )?)
+    }
+
+    // Prints the sums, and how many bytes were never tried.
+    fn tell<V: Write>(&self, alloc: Global, course: &Course, out: &mut V) -> Result<(), CliFault> {
+        tell_sums(alloc, self.plan, &course.sums, out)?;
+        let text = untried_text(alloc, self.plan, self.tasks.as_slice())?;
+        write_out(text.as_slice(), out)
+    }
+}
+
+// Whether a bad verdict halted a clone of the desk's run.
+fn has_fatal(desk: &Desk) -> bool {
+    let plan = desk.plan();
+    for (i, totals) in desk.totals().iter().enumerate() {
+        if i < plan.clones() && plan.clone_at(i).is_fatal() && totals.bad != 0 {
+            return true;
+        }
+    }
+    false
+}
