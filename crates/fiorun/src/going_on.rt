@@ -1,9 +1,8 @@
 // Going on after faults: what is left of a job after a run in which a fault halted clones is run again, until nothing is left.
-use crate::places::Wanted;
 use crate::rounds::{Course, status, tell_end, tell_line, tell_outputs};
-use crate::running::{Ground, run_silent, to_output};
-use crate::unfailing::Unfailing;
+use crate::running::{close, ground_of, run_silent, to_output};
 use jr_cli::RunEnd;
+use jr_cli_outputs::{Unfailing, Wanted};
 use jr_cli_words::{Choice, CliFault, workers_of, write_out};
 use jr_desk::Desk;
 use jr_escape::Escaped;
@@ -14,7 +13,7 @@ use jr_rounds::{gathered, is_bad, plan_of_round, seed_offset, tell_round, tell_s
 use jr_rounds_rest::{
     Task, first_tasks, goes_on, next_round, parts_text, tasks_left, untried_text,
 };
-use jr_system::{Asked, Machine, Outlet, Pace, Stop, asked_by};
+use jr_system::{Asked, Ground, Machine, Outlet, Pace, Stop, asked_by};
 use std::alloc::Global;
 use std::io::Write;
 use std::sync::Arc;
@@ -77,7 +76,7 @@ fn run_wanted<R: Outlet + Machine>(
 ) -> Result<u8, Stop> {
     let pace = Pace::of(rt, choice.progress);
     let asked = asked_by(rt, pace, choice.stop_fd, false)?;
-    let ground = Ground::of(rt, choice, wishes, wanted, plan)?;
+    let ground = ground_of(rt, choice, wishes, wanted, plan)?;
     let has_lines = has_notes || !matches!(pace, Pace::Never);
     let mut course = Course::new(rt.alloc(), plan, has_lines)?;
     let last = run_parts(
@@ -167,7 +166,7 @@ fn run_part<R: Outlet + Machine>(
 ) -> Result<RunEnd, Stop> {
     let workers = workers_of(&part, workers);
     let ran = run_silent(rt, ground, asked, part, workers)?;
-    let (ended, closed) = ground.close(rt, ran)?.into_parts();
+    let (ended, closed) = close(rt, ground, ran)?.into_parts();
     course.close(closed);
     Ok(ended)
 }

@@ -7,17 +7,17 @@ ghost use Rattle.jr_replay_traces.specs.Runs.{IsRunIn};
 use adapting::{job_size, print_adapted};
 use going_on::{is_going_on, run_on};
 use jr_cli::{print_check, print_part};
+use jr_cli_outputs::{Finished, Wanted};
 use jr_cli_words::{
-    Choice, CliFault, answer_words, choose, memory_or, print_plan, read_job, read_text, read_trace,
+    Choice, CliFault, answer_words, choose, memory_or, print_plan, read_text, read_trace,
 };
 use jr_engines::Engine;
-use jr_job_notes::{job_notes, plan_notes};
+use jr_job_notes::plan_notes;
 use jr_plan::Plan;
 use jr_replay_traces::Checked;
-use jr_system::{Machine, Outlet, Screen, Stop, tell_all, wishes};
-use places::Wanted;
+use jr_system::{Machine, Outlet, Screen, Stop, job_plan, tell_all, wishes};
 use rounds::{Limits, run_all};
-use running::{Finished, SharedRun, Turn, add, boxed, run_memory, run_plan, shares, to_output};
+use running::{SharedRun, Turn, add, boxed, run_memory, run_plan, shares, to_output};
 use std::alloc::Global;
 use std::env::Env;
 use std::fs::{File, Files};
@@ -27,13 +27,9 @@ use traced::TraceReader;
 
 mod adapting;
 mod going_on;
-mod outputs;
-mod places;
-mod roads;
 mod rounds;
 mod running;
 mod traced;
-mod unfailing;
 
 fn main(rt: HostRuntime) -> ExitCode {
     let _held = held(&rt);
@@ -127,7 +123,7 @@ fn perform<R: Input + Outlet + Machine>(
     if choice.adapt {
         return Ok(Turn::Ended(print_adapted(rt, text.as_slice(), size)?));
     }
-    let plan = job_plan(rt.alloc(), text.as_slice(), choice.section, has_notes)?;
+    let plan = job_plan(rt.alloc(), text.as_slice(), choice, has_notes)?;
     if has_notes {
         tell_notes(rt, text.as_slice(), choice.section);
     }
@@ -215,23 +211,6 @@ fn print_totals<R: Print + AllocGlobal>(
     } else {
         print_check(rt.alloc(), plan, events, &mut out)
     }
-}
-
-// The plan of a job text, or its fault, with what is worth knowing of it where notes are wanted.
-fn job_plan(
-    alloc: Global,
-    text: &[u8],
-    section: Option<&str>,
-    has_notes: bool,
-) -> Result<Plan, Stop> {
-    let fault = match read_job(alloc, text, section) {
-        Ok(plan) => return Ok(plan),
-        Err(fault) => fault,
-    };
-    if has_notes && let Ok(notes) = job_notes(alloc, text, section) {
-        return Err(Stop::job(fault, notes));
-    }
-    Err(Stop::from(fault))
 }
 
 // The trace that is to be checked, or so much of it that it is refused as it would be whole.

@@ -1,11 +1,9 @@
 // Rounds: the job runs again and again, each time with other data, until its time is over, it ran so many times, or something stops it.
 ghost use Rattle.std.specs.Prelude.{◌≤◌};
 
-use crate::outputs::Outputs;
-use crate::places::Wanted;
-use crate::running::{Ground, run_silent, to_output};
-use crate::unfailing::Unfailing;
+use crate::running::{close, ground_of, run_silent, to_output};
 use jr_cli::{Findings, RunEnd, Storage};
+use jr_cli_outputs::{Outputs, Unfailing, Wanted};
 use jr_cli_words::{BlockSize, Choice, CliFault, workers_of};
 use jr_desk::Desk;
 use jr_job_direct::Wish;
@@ -15,13 +13,10 @@ use jr_report_maps::{bad_blocks, wrong_blocks};
 use jr_rounds::{
     Sums, duration_seconds, is_bad, plan_of_round, round_json, sums_json, tell_round, tell_sums,
 };
-use jr_system::{Asked, Closed, Machine, Outlet, Pace, Stop, asked_by, stop_after};
+use jr_system::{Asked, Closed, Ground, Machine, Outcome, Outlet, Pace, Stop, asked_by, stop_after};
 use std::alloc::Global;
 use std::sync::Arc;
 use std::time::{Duration, Instant};
-
-// The exit status of a run that was interrupted.
-const INTERRUPTED: u8 = 130;
 
 // So long at least from one line of a round's end to the next.
 const LINE_SECONDS: u64 = 1;
@@ -275,7 +270,7 @@ fn run_limited<R: Outlet + Machine>(
     if let Some(time) = limits.time {
         stop_after(rt, &asked, time)?;
     }
-    let ground = Ground::of(rt, choice, wishes, wanted, plan)?;
+    let ground = ground_of(rt, choice, wishes, wanted, plan)?;
     let has_lines = has_notes || !matches!(pace, Pace::Never);
     let mut course = Course::new(rt.alloc(), plan, has_lines)?;
     let workers = workers_of(plan, choice.workers);
@@ -349,7 +344,7 @@ fn run_round<R: Outlet + Machine>(
         return Err(Stop::from(CliFault::Memory));
     };
     let ran = run_silent(rt, ground, asked, plan, workers)?;
-    let (ended, closed) = ground.close(rt, ran)?.into_parts();
+    let (ended, closed) = close(rt, ground, ran)?.into_parts();
     course.close(closed);
     Ok(ended)
 }
@@ -410,13 +405,11 @@ pub fn status<R: Eprint>(
     if let Some(stop) = &course.missing {
         let _ = stop.tell(rt, has_notes);
     }
-    if course.is_bad {
-        1
-    } else if course.missing.is_some() {
-        3
-    } else if is_interrupted && !asked.is_time_over() {
-        INTERRUPTED
-    } else {
-        0
-    }
+    let outcome = Outcome {
+        is_bad: course.is_bad,
+        is_interrupted,
+        is_time_over: asked.is_time_over(),
+        is_stored: course.missing.is_none(),
+    };
+    outcome.status()
 }

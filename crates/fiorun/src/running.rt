@@ -1,22 +1,19 @@
 // Runs of a plan over its kind of engine.
-ghost use Rattle.std.specs.Prelude.{◌≤◌, ◌^◌};
+ghost use Rattle.std.specs.Prelude.{◌≤◌, ◌^◌, IfOk};
+ghost use Rattle.jr_system.specs.Grounds.{IsGroundOf};
 
-use crate::outputs::TraceFile;
-use crate::places::Wanted;
-use crate::unfailing::{Nowhere, Unfailing};
-use jr_cli::{RunEnd, execute, execute_serial};
+use jr_cli::{execute, execute_serial};
+use jr_cli_outputs::{Finished, Nowhere, TraceFile, Unfailing, Wanted};
 use jr_cli_words::{Choice, CliFault, Wiping, workers_of};
-use jr_engines::{Engine, MemoryEngine, NullEngine, SharedMemory};
+use jr_engines::{Engine, NullEngine, SharedMemory};
 use jr_io_files::{FileEngine, SharedFile};
 use jr_job_direct::Wish;
-use jr_model::EngineKind;
 use jr_plan::Plan;
 use jr_system::{
-    Asked, Closed, Machine, Outlet, Pace, PlanBytes, Stop, Taken, Wiper, asked_by, shown,
-    take_files,
+    Asked, Ground, Machine, OneEngine, Outlet, Pace, PlanBytes, Stop, Wiper, asked_by,
+    crew_engines, has_one_worker, shares_memory, shown,
 };
 use std::alloc::Global;
-use std::fs::{File, Files};
 use std::io;
 use std::io::{BufWriter, Printer, Write};
 use std::sync::{Arc, Wait};
@@ -27,88 +24,6 @@ pub enum Turn {
     Ended(u8),
     Ran(Finished),
     Shared(SharedRun),
-}
-
-// How a run ended that has its report, what the system said of its files, and why the first of its other outputs couldn't be written,
-// where one couldn't.
-#[derive(Drop)]
-pub struct Finished {
-    pub ended: RunEnd,
-    pub closed: Closed,
-    // Whether a trace was asked for, and couldn't be written to its end.
-    pub is_trace_cut: bool,
-    unwritten: Option<Stop>,
-}
-
-impl Finished {
-    // A run over no files, whose report may be cut, with its trace where one was asked for.
-    fn new<R: Outlet>(
-        alloc: Global,
-        ended: RunEnd,
-        is_cut: bool,
-        trace: Option<TraceFile<'_, R>>,
-    ) -> Finished {
-        let is_trace_cut = match &trace {
-            Some(trace) => trace.has_failed,
-            None => false,
-        };
-        let unwritten = if is_cut || is_trace_cut {
-            Some(Stop::from(CliFault::Write))
-        } else {
-            None
-        };
-        Finished {
-            ended,
-            closed: Closed::of_no_files(alloc),
-            is_trace_cut,
-            unwritten,
-        }
-    }
-
-    // This run with what the system said of its files.
-    fn over(self, closed: Closed) -> Finished {
-        let Finished {
-            ended,
-            closed: _nothing,
-            is_trace_cut,
-            unwritten,
-        } = self;
-        Finished {
-            ended,
-            closed,
-            is_trace_cut,
-            unwritten,
-        }
-    }
-
-    // This run with what became of its further outputs.
-    pub fn and(mut self, written: Result<(), Stop>) -> Finished {
-        if let Err(stop) = written
-            && self.unwritten.is_none()
-        {
-            self.unwritten = Some(stop);
-        }
-        self
-    }
-
-    // How it ended, and what the system said of its files.
-    pub fn into_parts(self) -> (RunEnd, Closed) {
-        let Finished {
-            ended,
-            closed,
-            is_trace_cut: _,
-            unwritten: _nothing,
-        } = self;
-        (ended, closed)
-    }
-
-    // Why the first thing that couldn't be stored or written couldn't be, where there is one.
-    pub fn missing(&self) -> Option<&Stop> {
-        match &self.closed.unstored {
-            Some(stop) => Some(stop),
-            None => self.unwritten.as_ref(),
-        }
-    }
 }
 
 // A run whose workers share a memory: the plan, how many they are, what is asked of it, and what is told after its report. The shares keep
@@ -131,42 +46,32 @@ impl SharedRun {
     }
 }
 
-// What carries out the I/O of a run, or of all its rounds: files that were taken, a memory for each run, or nothing.
-#[derive(Drop)]
-pub enum Ground<'a> {
-    Files(Taken<'a>),
-    Memory,
-    Nothing,
+// What carries out the I/Os of a run of the plan, or of all its rounds. No file of a job may be one that the run keeps for something else.
+pub fn ground_of<'a, R: Outlet + Machine>(
+    rt: &R,
+    choice: &Choice<'a>,
+    wishes: &[Wish],
+    wanted: &Wanted,
+    plan: &Plan,
+) -> Result<Ground<'a>, Stop>
+    ensures { IfOk result (IsGroundOf plan.now) }
+{
+    let kept = wanted.outputs.kept(rt)?;
+    Ground::of(rt, plan, choice, wishes, kept.as_slice())
 }
 
-impl<'a> Ground<'a> {
-    // That of the plan's kind of engine.
-    pub fn of<R: Outlet + Machine>(
-        rt: &R,
-        choice: &Choice<'a>,
-        wishes: &[Wish],
-        wanted: &Wanted,
-        plan: &Plan,
-    ) -> Result<Ground<'a>, Stop> {
-        match plan.engine() {
-            EngineKind::File => {
-                let kept = wanted.outputs.kept(rt)?;
-                Ok(Ground::Files(take_files(rt, plan, choice, wishes, kept.as_slice())?))
-            }
-            EngineKind::Memory => Ok(Ground::Memory),
-            EngineKind::Null => Ok(Ground::Nothing),
+// A run over it that has ended, with what the system said of its files.
+pub fn close<R: Outlet + Machine>(
+    rt: &R,
+    ground: &Ground<'_>,
+    ran: Finished,
+) -> Result<Finished, Stop> {
+    match ground {
+        Ground::Files(files) => {
+            let closed = files.close(rt, &ran.ended.faults)?;
+            Ok(ran.over(closed))
         }
-    }
-
-    // A run over it that has ended, with what the system said of its files.
-    pub fn close<R: Outlet + Machine>(&self, rt: &R, ran: Finished) -> Result<Finished, Stop> {
-        match self {
-            Ground::Files(files) => {
-                let closed = files.close(rt, &ran.ended.faults)?;
-                Ok(ran.over(closed))
-            }
-            Ground::Memory | Ground::Nothing => Ok(ran),
-        }
+        Ground::Memory | Ground::Nothing => Ok(ran),
     }
 }
 
@@ -217,12 +122,12 @@ fn run_wanted<R: Outlet + Machine>(
 ) -> Result<Turn, Stop> {
     let asked = asked_by(rt, Pace::of(rt, choice.progress), choice.stop_fd, false)?;
     let workers = workers_of(&plan, choice.workers);
-    if matches!(plan.engine(), EngineKind::Memory) && !is_alone(&plan, workers) {
+    if shares_memory(&plan, workers) {
         return Ok(shared_run(asked, plan, workers));
     }
-    let ground = Ground::of(rt, choice, wishes, wanted, &plan)?;
+    let ground = ground_of(rt, choice, wishes, wanted, &plan)?;
     let ran = run_traced(rt, wanted, &ground, &asked, plan, workers)?;
-    Ok(Turn::Ran(ground.close(rt, ran)?))
+    Ok(Turn::Ran(close(rt, &ground, ran)?))
 }
 
 // A run with this many workers over a memory that they share is still to come.
@@ -233,11 +138,6 @@ fn shared_run(asked: Arc<Asked, Global>, plan: Plan, workers: u32) -> Turn {
         asked,
         wanted: None,
     })
-}
-
-// Whether one worker runs the plan by itself, and judges its own checks.
-fn is_alone(plan: &Plan, workers: u32) -> bool {
-    workers == 1 && plan.verifiers() == 0
 }
 
 // Runs the plan, and writes the report to standard output and then the trace where one is wanted.
@@ -251,7 +151,7 @@ fn run_traced<R: Outlet + Machine>(
 ) -> Result<Finished, Stop> {
     let events = wanted.outputs.trace(rt)?;
     let mut out = to_output(rt)?;
-    run_once(rt, ground, asked, plan, workers, events, &mut out)
+    Ok(run_once(rt, ground, asked, plan, workers, events, &mut out)?)
 }
 
 // Runs the plan with no trace, and writes its report nowhere.
@@ -263,7 +163,7 @@ pub fn run_silent<'a, R: Outlet + Machine>(
     workers: u32,
 ) -> Result<Finished, Stop> {
     let events: Option<TraceFile<'a, R>> = None;
-    run_once(rt, ground, asked, plan, workers, events, &mut Nowhere)
+    Ok(run_once(rt, ground, asked, plan, workers, events, &mut Nowhere)?)
 }
 
 // One run of the plan: its report goes to `out`, and then its trace where one is asked for. Over a memory it has one worker.
@@ -275,17 +175,16 @@ fn run_once<R: Outlet + Machine, V: Write>(
     workers: u32,
     events: Option<TraceFile<'_, R>>,
     out: &mut V,
-) -> Result<Finished, Stop> {
-    if is_alone(&plan, workers) {
-        return run_alone(rt, ground, asked, plan, events, out);
-    }
+) -> Result<Finished, CliFault> {
     match ground {
-        Ground::Files(files) => {
-            let engines = file_engines(rt, files, workers)?;
-            Ok(run_files(rt, asked, plan, engines, events, out)?)
+        Ground::Files(files) if !has_one_worker(&plan, workers) => {
+            let engines = crew_engines(rt, files, workers)?;
+            run_files(rt, asked, plan, engines, events, out)
         }
-        Ground::Memory => run_alone(rt, ground, asked, plan, events, out),
-        Ground::Nothing => Ok(run_nulls(rt, asked, plan, workers, events, out)?),
+        Ground::Nothing if !has_one_worker(&plan, workers) => {
+            run_nulls(rt, asked, plan, workers, events, out)
+        }
+        _ => run_alone(rt, ground, asked, plan, events, out),
     }
 }
 
@@ -297,39 +196,12 @@ fn run_alone<R: Outlet + Machine, V: Write>(
     plan: Plan,
     events: Option<TraceFile<'_, R>>,
     out: &mut V,
-) -> Result<Finished, Stop> {
-    match ground {
-        Ground::Files(files) => {
-            let mut engine = files.engine(rt, 0)?;
-            files.begin(rt, &engine);
-            Ok(run_over(rt, asked, plan, &mut engine, events, out)?)
-        }
-        Ground::Memory => match MemoryEngine::new(rt.alloc(), &plan) {
-            Ok(engine) => {
-                let mut engine = engine;
-                Ok(run_over(rt, asked, plan, &mut engine, events, out)?)
-            }
-            Err(_) => Err(Stop::from(CliFault::Memory)),
-        },
-        Ground::Nothing => { Ok(run_over(rt, asked, plan, &mut NullEngine::new(), events, out)?) }
+) -> Result<Finished, CliFault> {
+    match ground.one_engine(rt, &plan)? {
+        OneEngine::Files(mut engine) => run_over(rt, asked, plan, &mut engine, events, out),
+        OneEngine::Memory(mut engine) => run_over(rt, asked, plan, &mut engine, events, out),
+        OneEngine::Nothing(mut engine) => run_over(rt, asked, plan, &mut engine, events, out),
     }
-}
-
-// The engines of the workers over the files, which the first of them drops from the system's cache.
-fn file_engines<R: Files<File = File> + AllocGlobal + Eprint>(
-    rt: &R,
-    files: &Taken<'_>,
-    workers: u32,
-) -> Result<Vec<FileEngine<SharedFile>>, CliFault> {
-    let mut engines = Vec::new(rt.alloc());
-    for place in 0..workers as usize {
-        let engine = files.engine(rt, place)?;
-        if place == 0 {
-            files.begin(rt, &engine);
-        }
-        add(&mut engines, engine)?;
-    }
-    Ok(engines)
 }
 
 pub fn boxed<X: Drop>(alloc: Global, one: X) -> Result<Box<X>, CliFault> {

@@ -1,4 +1,4 @@
--- Believed: what carries out the I/Os of a run: an engine of the plan's kind, and over files those that the plan names (of this project).
+-- Believed: what carries out the I/Os of a run: what the plan's kind of engine says, and an engine over it (of this project).
 use Rattle.std.specs.Prelude.{◌≡◌, ℕ}
 use Rattle.jr_model.specs.declared.workloads.EngineKind.{EngineKind}
 use Rattle.jr_model.specs.declared.workloads.EngineKind.TheVariants as kind
@@ -16,9 +16,14 @@ IsGroundOf plan (ground.Files taken) = (plan.engine ≡ kind.File) × (taken.fil
 IsGroundOf plan ground.Memory = plan.engine ≡ kind.Memory
 IsGroundOf plan ground.Nothing = plan.engine ≡ kind.Null
 
--- an engine of the plan's kind that has had no call: over the plan's files, over a memory of zeros for them, or over nothing
-abbrev pub IsEngineOf : Plan → OneEngine → Type 0
-IsEngineOf plan (one.Files engine) = (plan.engine ≡ kind.File) × IsFresh engine (opened_views plan.files)
-IsEngineOf plan (one.Memory engine) =
-    (plan.engine ≡ kind.Memory) × (engine ≡ record { calls = 0; failures = 0; memory = fresh_memory plan.files })
-IsEngineOf plan (one.Nothing engine) = (plan.engine ≡ kind.Null) × (engine ≡ record { calls = 0 })
+-- an engine for a run of the plan over this that has had no call: over the files, over a memory of zeros for those of the plan, or over nothing
+abbrev pub IsEngineOf : Plan → Ground → OneEngine → Type 0
+IsEngineOf plan (ground.Files taken) (one.Files engine) = IsFresh engine taken.files.files
+IsEngineOf plan (ground.Files taken) (one.Memory engine) = ⊥
+IsEngineOf plan (ground.Files taken) (one.Nothing engine) = ⊥
+IsEngineOf plan ground.Memory (one.Files engine) = ⊥
+IsEngineOf plan ground.Memory (one.Memory engine) = engine ≡ record { calls = 0; failures = 0; memory = fresh_memory plan.files }
+IsEngineOf plan ground.Memory (one.Nothing engine) = ⊥
+IsEngineOf plan ground.Nothing (one.Files engine) = ⊥
+IsEngineOf plan ground.Nothing (one.Memory engine) = ⊥
+IsEngineOf plan ground.Nothing (one.Nothing engine) = engine ≡ record { calls = 0 }

@@ -49,14 +49,13 @@ impl<'a> Ground<'a> {
         }
     }
 
-    /// Its engine for one worker. What the system keeps of files from before the run is dropped.
+    /// An engine over it for one worker of a run of the plan. What the system keeps of files from before the run is dropped.
     pub fn one_engine<R: Files<File = File> + AllocGlobal + Eprint>(
         &self,
         rt: &R,
         plan: &Plan,
     ) -> Result<OneEngine, CliFault>
-        requires { IsGroundOf plan.now self.now }
-        ensures { IfOk result (IsEngineOf plan.now) }
+        ensures { IfOk result (IsEngineOf plan.now self.now) }
     {
         match self {
             Ground::Files(files) => Ok(OneEngine::Files(engine_at(rt, files, 0)?)),

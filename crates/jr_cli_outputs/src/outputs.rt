@@ -43,8 +43,8 @@ struct Output {
     road: Road,
 }
 
-// The outputs of a run in the order in which they are written, and what they may not go over: the files of its jobs, by their names, what it
-// writes to otherwise, and standard input.
+/// The outputs of a run in the order in which they are written, and what they may not go over: the files of its jobs, by their names, what it
+/// writes to otherwise, and standard input.
 #[derive(Drop)]
 pub struct Outputs {
     all: Vec<Output>,
@@ -53,11 +53,11 @@ pub struct Outputs {
     input: Vec<Spot>,
 }
 
-// What writes the trace of a run.
+/// What writes the trace of a run.
 pub type TraceFile<'a, R> = Unfailing<BufWriter<Sink<'a, R>>>;
 
 impl Outputs {
-    // Those that the words ask for, each ready to be written. One that can't be is refused, and then none is made.
+    /// Those that the words ask for, each ready to be written. One that can't be is refused, and then none is made.
     pub fn of<R: Outlet>(rt: &R, choice: &Choice<'_>, plan: &Plan) -> Result<Outputs, Stop> {
         let mut outputs = Outputs {
             all: Vec::new(rt.alloc()),
@@ -195,7 +195,7 @@ impl Outputs {
         Ok(())
     }
 
-    // Removes the new files that haven't taken their names.
+    /// Removes the new files that haven't taken their names.
     pub fn clear<R: Outlet>(&self, rt: &R) {
         for output in self.all.iter() {
             if let Road::New(file) = &output.road {
@@ -204,14 +204,14 @@ impl Outputs {
         }
     }
 
-    // Whether none is asked for but a trace.
+    /// Whether none is asked for but a trace.
     pub fn is_empty(&self) -> bool {
         self.all
             .iter()
             .all(|output| matches!(&output.content, Content::Trace))
     }
 
-    // What no file of a job may be: an output, or a stream of the program.
+    /// What no file of a job may be: an output, or a stream of the program.
     pub fn kept<R: Outlet>(&self, rt: &R) -> Result<Vec<Reserved<'_>>, Stop> {
         let mut kept = Vec::new(rt.alloc());
         for output in self.all.iter() {
@@ -227,7 +227,7 @@ impl Outputs {
         Ok(kept)
     }
 
-    // What writes the trace, where one is asked for.
+    /// What writes the trace, where one is asked for.
     pub fn trace<'a, R: Outlet>(&self, rt: &'a R) -> Result<Option<TraceFile<'a, R>>, Stop> {
         let Some(output) = self.trace_output() else {
             return Ok(None);
@@ -248,7 +248,7 @@ impl Outputs {
             .find(|output| matches!(&output.content, Content::Trace))
     }
 
-    // Has the trace take its name, which was written whole.
+    /// Has the trace take its name, which was written whole.
     pub fn finish_trace<R: Outlet>(&self, rt: &R) -> Result<(), Stop> {
         match self.trace_output() {
             Some(output) => self.finish(rt, output),
@@ -256,14 +256,14 @@ impl Outputs {
         }
     }
 
-    // Whether the JSON is asked for.
+    /// Whether the JSON is asked for.
     pub fn has_json(&self) -> bool {
         self.all
             .iter()
             .any(|output| matches!(&output.content, Content::Json))
     }
 
-    // The size of the blocks of the list, where that is asked for.
+    /// The size of the blocks of the list, where that is asked for.
     pub fn list_size(&self) -> Option<&BlockSize> {
         for output in self.all.iter() {
             match &output.content {
@@ -274,12 +274,12 @@ impl Outputs {
         None
     }
 
-    // Whether that list has the blocks of faults too.
+    /// Whether that list has the blocks of faults too.
     pub fn lists_faults(&self) -> bool {
         self.all.iter().any(|output| matches!(&output.content, Content::WrongBlocks(_)))
     }
 
-    // Writes a line of the JSON of several rounds, which has its name from the first line on.
+    /// Writes a line of the JSON of several rounds, which has its name from the first line on.
     pub fn add_json<R: Outlet>(&self, rt: &R, line: &[u8], is_first: bool) -> Result<(), Stop> {
         for output in self.all.iter() {
             if matches!(&output.content, Content::Json) {
@@ -292,7 +292,7 @@ impl Outputs {
         Ok(())
     }
 
-    // Writes the others of several rounds: the trace and the page of the last one, and the list of the blocks that were bad in any.
+    /// Writes the others of several rounds: the trace and the page of the last one, and the list of the blocks that were bad in any.
     pub fn write_last<R: Outlet>(
         &self,
         rt: &R,
@@ -340,7 +340,7 @@ impl Outputs {
         }
     }
 
-    // Writes the others, of a run that has its report. What can't be written keeps no other from it, and the first that can't is answered.
+    /// Writes the others, of a run that has its report. What can't be written keeps no other from it, and the first that can't is answered.
     pub fn write<R: Outlet>(
         &self,
         rt: &R,

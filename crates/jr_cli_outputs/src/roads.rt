@@ -98,7 +98,7 @@ fn metadata_of<R: Outlet>(rt: &R, number: u32) -> Option<Metadata> {
     fs::metadata(rt, path.as_str()).ok()
 }
 
-// What an output is written to.
+/// What an output is written to.
 #[derive(Drop)]
 pub enum Sink<'a, R> {
     File(File),

@@ -1,14 +1,17 @@
+// Writers that never fail.
 use std::io;
 use std::io::Write;
 
-// Writes to `out` until that fails. Then it keeps that it has failed, and drops the rest, so that whoever writes goes on.
+/// Writes to `out` until that fails. Then it keeps that it has failed, and drops the rest, so that whoever writes goes on.
 #[derive(Drop)]
 pub struct Unfailing<W: Write> {
     out: W,
+    /// Whether something couldn't be written.
     pub has_failed: bool,
 }
 
 impl<W: Write> Unfailing<W> {
+    /// A writer to `out`, to which nothing was written yet.
     pub fn new(out: W) -> Unfailing<W> {
         Unfailing {
             out,
@@ -33,7 +36,7 @@ impl<W: Write> Write for Unfailing<W> {
     }
 }
 
-// Takes all that is written, and keeps nothing.
+/// Takes all that is written, and keeps nothing.
 #[derive(Clone, Copy)]
 pub struct Nowhere;
 
