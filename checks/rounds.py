@@ -104,6 +104,34 @@ class Rounds(Case):
         report = ran.out.decode().split("\n", 1)[1].split("total: ")[0]
         expect(checked == Ended(0, report.encode(), b""), "the trace says", checked, "and the report", report)
 
+    def test_traces_of_all_rounds(self):
+        """Each round's trace is in a file of its own, and legal for the job with that round's seeds."""
+        place = self.place
+        ran = place.run("--repeat=3", "--trace=trace", "--keep-traces", "--workers=4", text=IN_MEMORY)
+        expect(ran.status == 0 and not os.path.exists(place.at("trace")), "the rounds", ran)
+        for number in range(3):
+            checked = place.run(f"--check-trace=trace.{number}", text=of_round(IN_MEMORY, number))
+            expect(checked.status == 0 and not checked.error, "the trace of round", number, checked)
+            other = place.run(f"--check-trace=trace.{number}", text=of_round(IN_MEMORY, number + 1))
+            expect(other.status == 2, "the trace of another round", number, other)
+        expect(not os.path.exists(place.at("trace.3")), "a trace of no round")
+
+    def test_traces_over_nothing(self):
+        """A round's trace goes over nothing that the run has, and that ends the rounds."""
+        place = self.place
+        place.put("job.1", IN_MEMORY.encode())
+        ran = place.run("--repeat=5", "--trace=job", "--keep-traces", "job.1")
+        expect(ran.status == 3 and place.get("job.1") == IN_MEMORY.encode(), "over the job file", ran)
+        expect(b"total: rounds=3 " in ran.out, "rounds until then", ran)
+        ran = place.run("--repeat=5", "--trace=job", "--keep-traces", "--json=job.0", text=IN_MEMORY)
+        expect(ran.status == 3 and not ran.out and not os.path.exists(place.at("job.0")), "over the JSON", ran)
+
+    def test_traces_of_no_rounds(self):
+        place = self.place
+        for words in (["--trace=t"], ["--repeat=2"], ["--for=1s"], []):
+            refuses(place.run("--keep-traces", *words, text=IN_MEMORY), 2, "command line: --keep-traces without --trace or rounds")
+        expect(not os.path.exists(place.at("t")), "a trace was made")
+
     def test_json_lines(self):
         """An object for each round, which is that of its single run, and one with the sums."""
         place = self.place

@@ -127,9 +127,7 @@ fn run_parts<R: Outlet + Machine>(
         tell_round(alloc, round, &ended.desk, is_last, &mut out)?;
         add_part(alloc, plan, done.as_slice(), &ended.desk, course)?;
         tell_line(rt, course, round, &ended.desk, is_last);
-        if let Err(stop) = tell_outputs(rt, &wanted.outputs, course, round, &ended) {
-            course.miss(stop);
-        }
+        course.heed(tell_outputs(rt, &wanted.outputs, course, round, &ended));
         match next {
             Some(plan) => part = plan,
             None => {

@@ -13,7 +13,9 @@ use jr_report_maps::{bad_blocks, wrong_blocks};
 use jr_rounds::{
     Sums, duration_seconds, is_bad, plan_of_round, round_json, sums_json, tell_round, tell_sums,
 };
-use jr_system::{Asked, Closed, Ground, Machine, Outcome, Outlet, Pace, Stop, asked_by, stop_after};
+use jr_system::{
+    Asked, Closed, Ground, Machine, Outcome, Outlet, Pace, Stop, asked_by, stop_after,
+};
 use std::alloc::Global;
 use std::sync::Arc;
 use std::time::{Duration, Instant};
@@ -111,6 +113,13 @@ impl Course {
     pub fn miss(&mut self, stop: Stop) {
         if self.missing.is_none() {
             self.missing = Some(stop);
+        }
+    }
+
+    // Keeps why something couldn't be written, if it is the first.
+    pub fn heed(&mut self, written: Result<(), Stop>) {
+        if let Err(stop) = written {
+            self.miss(stop);
         }
     }
 
@@ -276,6 +285,7 @@ fn run_limited<R: Outlet + Machine>(
     let workers = workers_of(plan, choice.workers);
     let last = run_rounds(
         rt,
+        choice,
         wanted,
         &ground,
         &asked,
@@ -293,6 +303,7 @@ fn run_limited<R: Outlet + Machine>(
 // Runs the rounds, prints what is printed of them and then the sums, and gives how the last one ended.
 fn run_rounds<R: Outlet + Machine>(
     rt: &R,
+    choice: &Choice<'_>,
     wanted: &Wanted,
     ground: &Ground<'_>,
     asked: &Arc<Asked, Global>,
@@ -316,9 +327,8 @@ fn run_rounds<R: Outlet + Machine>(
         tell_round(rt.alloc(), round, &ended.desk, is_last, &mut out)?;
         course.add(&ended.desk, ended.desk.totals());
         tell_line(rt, course, round, &ended.desk, is_last);
-        if let Err(stop) = tell_outputs(rt, &wanted.outputs, course, round, &ended) {
-            course.miss(stop);
-        }
+        course.heed(tell_outputs(rt, &wanted.outputs, course, round, &ended));
+        course.heed(wanted.outputs.keep_trace(rt, choice, round, &ended.desk));
         if is_last {
             tell_sums(rt.alloc(), plan, &course.sums, &mut out)?;
             if out.has_failed {
@@ -367,12 +377,8 @@ pub fn tell_end<R: Outlet>(
     ended: &RunEnd,
     course: &mut Course,
 ) {
-    if let Err(stop) = write_sums(rt, &wanted.outputs, plan, &course.sums) {
-        course.miss(stop);
-    }
-    if let Err(stop) = wanted.tell_last(rt, ended, course.blocks.as_slice()) {
-        course.miss(stop);
-    }
+    course.heed(write_sums(rt, &wanted.outputs, plan, &course.sums));
+    course.heed(wanted.tell_last(rt, ended, course.blocks.as_slice()));
 }
 
 // Writes the last line of the JSON, where it is wanted.

@@ -51,6 +51,8 @@ pub struct Outputs {
     files: Vec<String>,
     streams: Vec<Spot>,
     input: Vec<Spot>,
+    // How the names of the traces begin, if each round has one.
+    kept_traces: Option<String>,
 }
 
 /// What writes the trace of a run.
@@ -64,10 +66,12 @@ impl Outputs {
             files: file_names(rt.alloc(), plan)?,
             streams: streams_of(rt, choice)?,
             input: Vec::new(rt.alloc()),
+            kept_traces: kept_traces(rt.alloc(), choice)?,
         };
         add_stream(rt, &mut outputs.input, "0")?;
         outputs.add_wanted(rt, choice, plan)?;
         outputs.refuse(rt, choice)?;
+        outputs.refuse_kept(rt, choice)?;
         match outputs.make(rt) {
             Ok(()) => Ok(outputs),
             Err(stop) => {
@@ -85,7 +89,7 @@ impl Outputs {
         plan: &Plan,
     ) -> Result<(), Stop> {
         // (the check of a trace has no trace of its own)
-        if choice.check_trace.is_none() {
+        if choice.check_trace.is_none() && !choice.keep_traces {
             self.add(rt, choice.trace, Content::Trace)?;
         }
         let has_faults = has_faults(choice)?;
@@ -106,44 +110,87 @@ impl Outputs {
         let Some(path) = path else {
             return Ok(());
         };
-        let target = match Target::at(rt, rt.alloc(), path) {
-            Ok(target) => target,
-            Err(error) => return Err(Stop::unmade(rt.alloc(), path, error)),
-        };
-        let way = match target.way() {
-            Ok(way) => way,
-            Err(why) => return Err(Stop::output(content.word(), why)),
-        };
-        let output = Output {
-            content,
-            path: owned(rt.alloc(), path)?,
-            target,
-            way,
-            road: Road::Unmade,
-        };
-        push(&mut self.all, output)
+        push(&mut self.all, Output::at(rt, path, content)?)
     }
 
-    // Refuses the first output that would go over what the run has otherwise, or over another output.
-    fn refuse<R: Outlet>(&self, rt: &R, choice: &Choice<'_>) -> Result<(), Stop> {
+    // Refuses the first output that would go over what the run has otherwise, or over another output. Answers what all of these are.
+    fn refuse<R: Outlet>(&self, rt: &R, choice: &Choice<'_>) -> Result<TakenSpots, Stop> {
         let mut known = self.known(rt, choice)?;
         for output in self.all.iter() {
-            let spot = match output.target.spot(rt, rt.alloc()) {
-                Ok(spot) => spot,
-                Err(error) => return Err(output.unmade(rt, error)),
-            };
-            let Some(spot) = spot else {
-                continue;
-            };
-            if !self.is_stream(rt, output) && self.is_of_stream(&spot) {
-                return Err(Stop::output(output.content.word(), Unfit::Stream));
-            }
-            if let Some(why) = known.why(&spot) {
-                return Err(Stop::output(output.content.word(), why));
-            }
-            known.add(Some(spot), Unfit::Output)?;
+            let spot = self.fitting(rt, &known, output)?;
+            known.add(spot, Unfit::Output)?;
+        }
+        Ok(known)
+    }
+
+    // The place of an output, which is refused if it would go over one of these.
+    fn fitting<R: Outlet>(
+        &self,
+        rt: &R,
+        known: &TakenSpots,
+        output: &Output,
+    ) -> Result<Option<Spot>, Stop> {
+        let spot = match output.target.spot(rt, rt.alloc()) {
+            Ok(spot) => spot,
+            Err(error) => return Err(output.unmade(rt, error)),
+        };
+        let Some(spot) = spot else {
+            return Ok(None);
+        };
+        if !self.is_stream(rt, output) && self.is_of_stream(&spot) {
+            return Err(Stop::output(output.content.word(), Unfit::Stream));
+        }
+        match known.why(&spot) {
+            Some(why) => Err(Stop::output(output.content.word(), why)),
+            None => Ok(Some(spot)),
+        }
+    }
+
+    // Refuses the traces of all rounds if that of the first one can't be written.
+    fn refuse_kept<R: Outlet>(&self, rt: &R, choice: &Choice<'_>) -> Result<(), Stop> {
+        if let Some(path) = &self.kept_traces {
+            let _first = self.kept_output(rt, choice, path.as_str(), 0)?;
         }
         Ok(())
+    }
+
+    // The trace of a round, not made yet.
+    fn kept_output<R: Outlet>(
+        &self,
+        rt: &R,
+        choice: &Choice<'_>,
+        path: &str,
+        round: u32,
+    ) -> Result<Output, Stop> {
+        let Ok(path) = format!(in rt.alloc(); "{path}.{round}") else {
+            return Err(Stop::from(CliFault::Memory));
+        };
+        let output = Output::at(rt, path.as_str(), Content::Trace)?;
+        let known = self.refuse(rt, choice)?;
+        let _spot = self.fitting(rt, &known, &output)?;
+        Ok(output)
+    }
+
+    /// Writes the trace of this round to a file of its own, if each round has one.
+    pub fn keep_trace<R: Outlet>(
+        &self,
+        rt: &R,
+        choice: &Choice<'_>,
+        round: u32,
+        desk: &Desk,
+    ) -> Result<(), Stop> {
+        let Some(path) = &self.kept_traces else {
+            return Ok(());
+        };
+        let mut output = self.kept_output(rt, choice, path.as_str(), round)?;
+        output.make(rt)?;
+        match self.write_made(rt, &output, trace(rt.alloc(), desk)) {
+            Ok(()) => Ok(()),
+            Err(stop) => {
+                output.clear(rt);
+                Err(stop)
+            }
+        }
     }
 
     // Whether the output is standard output or error by its number, or by that of another descriptor of the same file.
@@ -184,12 +231,8 @@ impl Outputs {
 
     fn make_those<R: Outlet>(&mut self, rt: &R, way: Way) -> Result<(), Stop> {
         for output in self.all.iter_mut() {
-            if output.way != way {
-                continue;
-            }
-            match Road::made(rt, &output.target, way) {
-                Ok(road) => output.road = road,
-                Err(error) => return Err(output.unmade(rt, error)),
+            if output.way == way {
+                output.make(rt)?;
             }
         }
         Ok(())
@@ -198,9 +241,7 @@ impl Outputs {
     /// Removes the new files that haven't taken their names.
     pub fn clear<R: Outlet>(&self, rt: &R) {
         for output in self.all.iter() {
-            if let Road::New(file) = &output.road {
-                file.remove(rt);
-            }
+            output.clear(rt);
         }
     }
 
@@ -400,6 +441,43 @@ impl Outputs {
 }
 
 impl Output {
+    // That of this path, not made yet.
+    fn at<R: Outlet>(rt: &R, path: &str, content: Content) -> Result<Output, Stop> {
+        let target = match Target::at(rt, rt.alloc(), path) {
+            Ok(target) => target,
+            Err(error) => return Err(Stop::unmade(rt.alloc(), path, error)),
+        };
+        let way = match target.way() {
+            Ok(way) => way,
+            Err(why) => return Err(Stop::output(content.word(), why)),
+        };
+        Ok(Output {
+            content,
+            path: owned(rt.alloc(), path)?,
+            target,
+            way,
+            road: Road::Unmade,
+        })
+    }
+
+    // Opens the stream that it is, or makes its new file.
+    fn make<R: Outlet>(&mut self, rt: &R) -> Result<(), Stop> {
+        match Road::made(rt, &self.target, self.way) {
+            Ok(road) => {
+                self.road = road;
+                Ok(())
+            }
+            Err(error) => Err(self.unmade(rt, error)),
+        }
+    }
+
+    // Removes its new file if that hasn't taken its name.
+    fn clear<R: Outlet>(&self, rt: &R) {
+        if let Road::New(file) = &self.road {
+            file.remove(rt);
+        }
+    }
+
     fn unmade<R: Outlet>(&self, rt: &R, error: std::io::Error) -> Stop {
         Stop::unmade(rt.alloc(), self.path.as_str(), error)
     }
@@ -527,6 +605,18 @@ fn plain_input<R: Outlet>(rt: &R) -> Option<Spot> {
         jr_report_outputs::spot_of(&found)
     } else {
         None
+    }
+}
+
+// How the names of the traces of all rounds begin, if these are wanted.
+fn kept_traces(alloc: Global, choice: &Choice<'_>) -> Result<Option<String>, Stop> {
+    if !choice.keep_traces {
+        return Ok(None);
+    }
+    let has_rounds = choice.run_for.is_some() || choice.repeat.is_some();
+    match choice.trace {
+        Some(path) if has_rounds => Ok(Some(owned(alloc, path)?)),
+        _ => Err(Stop::from(CliFault::KeptTraces)),
     }
 }
 

@@ -84,6 +84,9 @@ repeat_rule = record (option_rule (codes "repeat")) { parser = Some (parser.Sign
 abbrev pub keep_going_rule : Rule
 keep_going_rule = flag_rule (codes "keep-going")
 
+abbrev pub keep_traces_rule : Rule
+keep_traces_rule = flag_rule (codes "keep-traces")
+
 abbrev pub go_on_rule : Rule
 go_on_rule = flag_rule (codes "go-on")
 
@@ -119,7 +122,7 @@ with_report_rules app = with_rule (with_rule (with_rule (with_rule (with_rule (
 
 -- with the arguments for rounds of the job
 abbrev pub with_round_rules : App → App
-with_round_rules app = with_rule (with_rule (with_rule app for_rule) repeat_rule) keep_going_rule
+with_round_rules app = with_rule (with_rule (with_rule (with_rule app for_rule) repeat_rule) keep_going_rule) keep_traces_rule
 
 -- with the arguments for going on after faults
 abbrev pub with_go_on_rules : App → App
@@ -161,6 +164,7 @@ pub record IsChoiceOf (choice : Choice) (rows : List Row) : Type 0 where
   pub run_for : option_copied choice.run_for ≡ first_of (codes "for") rows
   pub repeat : choice.repeat ≡ option_map number_in (one_of (codes "repeat") rows)
   pub keep_going : choice.keep_going ≡ unwrap_or (option_map (bytes_eq (codes "true")) (one_of (codes "keep-going") rows)) false
+  pub keep_traces : choice.keep_traces ≡ unwrap_or (option_map (bytes_eq (codes "true")) (one_of (codes "keep-traces") rows)) false
   pub go_on : choice.go_on ≡ unwrap_or (option_map (bytes_eq (codes "true")) (one_of (codes "go-on") rows)) false
   pub bad_blocks_also : option_copied choice.bad_blocks_also ≡ first_of (codes "bad-blocks-also") rows
   pub adapt : choice.adapt ≡ unwrap_or (option_map (bytes_eq (codes "true")) (one_of (codes "adapt") rows)) false

@@ -51,6 +51,7 @@ status_of_fault fault.SeveralFiles = 2
 status_of_fault fault.BlockSize = 2
 status_of_fault fault.Duration = 2
 status_of_fault fault.SeveralRounds = 2
+status_of_fault fault.KeptTraces = 2
 status_of_fault fault.BlockKind = 2
 status_of_fault fault.RepeatedGoOn = 2
 status_of_fault fault.GoOnFiles = 2

@@ -24,6 +24,8 @@ pub enum CliFault {
     Duration,
     /// A page is wanted of rounds that go on after a bad one: a page shows one run.
     SeveralRounds,
+    /// The traces of all rounds are wanted where the words ask for no rounds, or name no file for a trace.
+    KeptTraces,
     /// The list of bad blocks is to have another kind of blocks too than those of faults.
     BlockKind,
     /// A job is to go on after faults and to be run again and again.
@@ -61,7 +63,7 @@ impl CliFault {
             | CliFault::Trace(TraceFault::Memory) => 3,
             CliFault::Words | CliFault::Text(_) | CliFault::Job(_) => 2,
             CliFault::Trace(_) | CliFault::SeveralFiles | CliFault::BlockSize => 2,
-            CliFault::Duration | CliFault::SeveralRounds => 2,
+            CliFault::Duration | CliFault::SeveralRounds | CliFault::KeptTraces => 2,
             CliFault::BlockKind | CliFault::RepeatedGoOn | CliFault::GoOnFiles => 2,
             CliFault::JobSize => 2,
             CliFault::Unadapted => 3,
@@ -86,6 +88,9 @@ impl fmt::Display for CliFault {
             CliFault::BlockSize => write!(f, "command line: bad block size"),
             CliFault::Duration => write!(f, "command line: bad duration"),
             CliFault::SeveralRounds => write!(f, "page of several rounds"),
+            CliFault::KeptTraces => {
+                write!(f, "command line: --keep-traces without --trace or rounds")
+            }
             CliFault::BlockKind => write!(f, "command line: bad kind of blocks"),
             CliFault::RepeatedGoOn => { write!(f, "command line: --go-on with --for or --repeat") }
             CliFault::GoOnFiles => write!(f, "--go-on over several files"),

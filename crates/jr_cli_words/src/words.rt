@@ -31,6 +31,7 @@ ghost use Rattle.jr_cli_words.specs.CommandLine.{
   for_rule,
   repeat_rule,
   keep_going_rule,
+  keep_traces_rule,
   go_on_rule,
   bad_blocks_also_rule,
   adapt_rule,
@@ -93,6 +94,8 @@ pub struct Choice<'a> {
     pub repeat: Option<u32>,
     /// Run the job again also after a round in which something was bad or failed.
     pub keep_going: bool,
+    /// Keep the trace of each round, in a file of its own.
+    pub keep_traces: bool,
     /// Run again what is left of clones that a fault halted.
     pub go_on: bool,
     /// What the list of bad blocks has beside them.
@@ -151,6 +154,7 @@ fn choice_in<'a>(matches: &ArgMatches<'a>) -> Choice<'a>
         run_for: matches.get_str("for"),
         repeat: matches.get_one::<u32>("repeat"),
         keep_going: matches.get_flag("keep-going"),
+        keep_traces: matches.get_flag("keep-traces"),
         go_on: matches.get_flag("go-on"),
         bad_blocks_also: matches.get_str("bad-blocks-also"),
         adapt: matches.get_flag("adapt"),
@@ -249,7 +253,8 @@ fn with_round_args<'a>(alloc: Global, command: Command<'a>) -> Result<Command<'a
 {
     let command = added(Ok(command), for_arg(alloc));
     let command = added(command, repeat_arg(alloc));
-    added(command, keep_going_arg(alloc))
+    let command = added(command, keep_going_arg(alloc));
+    added(command, keep_traces_arg(alloc))
 }
 
 // The arguments for going on after faults.
@@ -510,6 +515,19 @@ fn keep_going_arg<'a>(alloc: Global) -> Arg<'a>
         .action(ArgAction::SetTrue)
         .value_parser(value_parser!(bool))
         .help("Go on also after a round in which something was bad or failed")
+}
+
+fn keep_traces_arg<'a>(alloc: Global) -> Arg<'a>
+    ensures rule { rule_of result ≡ keep_traces_rule }
+    ensures local { result.global ≡ false }
+{
+    Arg::new(alloc, "keep-traces")
+        .long("keep-traces")
+        .action(ArgAction::SetTrue)
+        .value_parser(value_parser!(bool))
+        .help(
+            "Keep the trace of each round, in the trace's file with the round's number behind its name",
+        )
 }
 
 fn go_on_arg<'a>(alloc: Global) -> Arg<'a>

@@ -6,7 +6,7 @@ use Rattle.std.specs.declared.num.ParseIntError.{ParseIntError}
 use Rattle.clap.specs.Words.{Text, found_of, one_of, one_text, first_of, first_value, matches_of}
 use Rattle.clap.proofs.WalkLemmas.{first_value-rows, one_text-rows}
 use Rattle.jr_cli_words.specs.CommandLine.{command_line, number_in}
-use Rattle.jr_cli_words.proofs.CommandLineFacts.{adapt_parser, allow_mounted_write_parser, cached_parser, interrupted_parser, map_parser, notes_parser, parse_only_parser, progress_parser, repeat_parser, keep_going_parser, go_on_parser, workers_parser, number_read, flag_read, rows_are}
+use Rattle.jr_cli_words.proofs.CommandLineFacts.{adapt_parser, allow_mounted_write_parser, cached_parser, interrupted_parser, map_parser, notes_parser, parse_only_parser, progress_parser, repeat_parser, keep_going_parser, keep_traces_parser, go_on_parser, workers_parser, number_read, flag_read, rows_are}
 use Rattle.jr_cli_words.proofs.words.choice_in.Goals as goal
 
 -- how the number of a text is read
@@ -28,9 +28,10 @@ returns-clause-fields c command words is parsed has =
     let interrupted = flag_read command m is parsed (codes "interrupted") interrupted_parser refl refl refl c.get_flag-5.result c.get_flag-5.ensures.none c.get_flag-5.ensures.value c.get_flag-5.ensures.other in
     let map_shown = flag_read command m is parsed (codes "map") map_parser refl refl refl c.get_flag-6.result c.get_flag-6.ensures.none c.get_flag-6.ensures.value c.get_flag-6.ensures.other in
     let rounds = number_read command m is parsed (codes "repeat") 4294967295 repeat_parser refl refl refl (omega arith) Reads c.get_one-3.result (λ u x h. h.0) c.get_one-3.ensures.none c.get_one-3.ensures.value in
-    let adapts = flag_read command m is parsed (codes "adapt") adapt_parser refl refl refl c.get_flag-9.result c.get_flag-9.ensures.none c.get_flag-9.ensures.value c.get_flag-9.ensures.other in
+    let adapts = flag_read command m is parsed (codes "adapt") adapt_parser refl refl refl c.get_flag-10.result c.get_flag-10.ensures.none c.get_flag-10.ensures.value c.get_flag-10.ensures.other in
     let goes_on = flag_read command m is parsed (codes "keep-going") keep_going_parser refl refl refl c.get_flag-7.result c.get_flag-7.ensures.none c.get_flag-7.ensures.value c.get_flag-7.ensures.other in
-    let goes_on_after = flag_read command m is parsed (codes "go-on") go_on_parser refl refl refl c.get_flag-8.result c.get_flag-8.ensures.none c.get_flag-8.ensures.value c.get_flag-8.ensures.other in
+    let keeps_traces = flag_read command m is parsed (codes "keep-traces") keep_traces_parser refl refl refl c.get_flag-8.result c.get_flag-8.ensures.none c.get_flag-8.ensures.value c.get_flag-8.ensures.other in
+    let goes_on_after = flag_read command m is parsed (codes "go-on") go_on_parser refl refl refl c.get_flag-9.result c.get_flag-9.ensures.none c.get_flag-9.ensures.value c.get_flag-9.ensures.other in
     record {
       job = c.get_str.ensures ∙ first (codes "job");
       section = c.get_str-2.ensures ∙ first (codes "section");
@@ -53,6 +54,7 @@ returns-clause-fields c command words is parsed has =
       run_for = c.get_str-11.ensures ∙ first (codes "for");
       repeat = rounds.0 ∙ ap (option_map number_in) (one (codes "repeat"));
       keep_going = goes_on ∙ ap (λ (o : Option Text). unwrap_or (option_map (bytes_eq (codes "true")) o) false) (one (codes "keep-going"));
+      keep_traces = keeps_traces ∙ ap (λ (o : Option Text). unwrap_or (option_map (bytes_eq (codes "true")) o) false) (one (codes "keep-traces"));
       go_on = goes_on_after ∙ ap (λ (o : Option Text). unwrap_or (option_map (bytes_eq (codes "true")) o) false) (one (codes "go-on"));
       bad_blocks_also = c.get_str-12.ensures ∙ first (codes "bad-blocks-also");
       adapt = adapts ∙ ap (λ (o : Option Text). unwrap_or (option_map (bytes_eq (codes "true")) o) false) (one (codes "adapt"));
