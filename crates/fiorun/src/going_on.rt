@@ -1,6 +1,6 @@
 // Going on after faults: what is left of a job after a run in which a fault halted clones is run again, until nothing is left.
 use crate::rounds::{Course, status, tell_end, tell_line, tell_outputs};
-use crate::running::{close, ground_of, run_silent, to_output};
+use crate::running::{asked_for, close, ground_of, run_silent, to_output};
 use jr_cli::RunEnd;
 use jr_cli_outputs::{Unfailing, Wanted};
 use jr_cli_words::{Choice, CliFault, workers_of, write_out};
@@ -13,7 +13,7 @@ use jr_rounds::{gathered, is_bad, plan_of_round, seed_offset, tell_round, tell_s
 use jr_rounds_rest::{
     Task, first_tasks, goes_on, next_round, parts_text, tasks_left, untried_text,
 };
-use jr_system::{Asked, Ground, Machine, Outlet, Pace, Stop, asked_by};
+use jr_system::{Asked, Ground, Machine, Outlet, Pace, Stop};
 use std::alloc::Global;
 use std::io::Write;
 use std::sync::Arc;
@@ -75,7 +75,7 @@ fn run_wanted<R: Outlet + Machine>(
     has_notes: bool,
 ) -> Result<u8, Stop> {
     let pace = Pace::of(rt, choice.progress);
-    let asked = asked_by(rt, pace, choice.stop_fd, false)?;
+    let asked = asked_for(rt, choice, plan, false)?;
     let ground = ground_of(rt, choice, wishes, wanted, plan)?;
     let has_lines = has_notes || !matches!(pace, Pace::Never);
     let mut course = Course::new(rt.alloc(), plan, has_lines)?;
@@ -166,6 +166,9 @@ fn run_part<R: Outlet + Machine>(
     let ran = run_silent(rt, ground, asked, part, workers)?;
     let (ended, closed) = close(rt, ground, ran)?.into_parts();
     course.close(closed);
+    if asked.is_short() && ended.is_interrupted() {
+        course.miss(Stop::from(CliFault::Memory));
+    }
     Ok(ended)
 }
 

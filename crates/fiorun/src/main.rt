@@ -10,12 +10,13 @@ use jr_cli::{print_check, print_part};
 use jr_cli_outputs::{Finished, Wanted};
 use jr_cli_words::{
     Choice, CliFault, answer_words, choose, memory_or, print_plan, read_text, read_trace,
+    workers_of,
 };
 use jr_engines::Engine;
 use jr_job_notes::plan_notes;
 use jr_plan::Plan;
 use jr_replay_traces::Checked;
-use jr_system::{Machine, Outlet, Screen, Stop, job_plan, tell_all, wishes};
+use jr_system::{Machine, Outlet, Screen, Stop, job_plan, tell_all, tell_history, wishes};
 use rounds::{Limits, run_all};
 use running::{SharedRun, Turn, add, boxed, run_memory, run_plan, shares, to_output};
 use std::alloc::Global;
@@ -126,6 +127,10 @@ fn perform<R: Input + Outlet + Machine>(
     let plan = job_plan(rt.alloc(), text.as_slice(), choice, has_notes)?;
     if has_notes {
         tell_notes(rt, text.as_slice(), choice.section);
+        if choice.check_trace.is_none() {
+            let workers = workers_of(&plan, choice.workers);
+            tell_history(rt, &plan, workers, !choice.parse_only);
+        }
     }
     if choice.parse_only || choice.check_trace.is_some() {
         show(rt, choice, &plan)?;

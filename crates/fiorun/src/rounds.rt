@@ -1,7 +1,7 @@
 // Rounds: the job runs again and again, each time with other data, until its time is over, it ran so many times, or something stops it.
 ghost use Rattle.std.specs.Prelude.{◌≤◌};
 
-use crate::running::{close, ground_of, run_silent, to_output};
+use crate::running::{asked_for, close, ground_of, run_silent, to_output};
 use jr_cli::{Findings, RunEnd, Storage};
 use jr_cli_outputs::{Outputs, Unfailing, Wanted};
 use jr_cli_words::{BlockSize, Choice, CliFault, workers_of};
@@ -13,9 +13,7 @@ use jr_report_maps::{bad_blocks, wrong_blocks};
 use jr_rounds::{
     Sums, duration_seconds, is_bad, plan_of_round, round_json, sums_json, tell_round, tell_sums,
 };
-use jr_system::{
-    Asked, Closed, Ground, Machine, Outcome, Outlet, Pace, Stop, asked_by, stop_after,
-};
+use jr_system::{Asked, Closed, Ground, Machine, Outcome, Outlet, Pace, Stop, stop_after};
 use std::alloc::Global;
 use std::sync::Arc;
 use std::time::{Duration, Instant};
@@ -275,7 +273,7 @@ fn run_limited<R: Outlet + Machine>(
     has_notes: bool,
 ) -> Result<u8, Stop> {
     let pace = Pace::of(rt, choice.progress);
-    let asked = asked_by(rt, pace, choice.stop_fd, limits.time.is_some())?;
+    let asked = asked_for(rt, choice, plan, limits.time.is_some())?;
     if let Some(time) = limits.time {
         stop_after(rt, &asked, time)?;
     }
@@ -356,6 +354,9 @@ fn run_round<R: Outlet + Machine>(
     let ran = run_silent(rt, ground, asked, plan, workers)?;
     let (ended, closed) = close(rt, ground, ran)?.into_parts();
     course.close(closed);
+    if asked.is_short() && ended.is_interrupted() {
+        course.miss(Stop::from(CliFault::Memory));
+    }
     Ok(ended)
 }
 

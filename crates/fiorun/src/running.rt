@@ -10,8 +10,8 @@ use jr_io_files::{FileEngine, SharedFile};
 use jr_job_direct::Wish;
 use jr_plan::Plan;
 use jr_system::{
-    Asked, Ground, Machine, OneEngine, Outlet, Pace, PlanBytes, Stop, Wiper, asked_by,
-    crew_engines, has_one_worker, shares_memory, shown,
+    Asked, Ground, Machine, MemoryState, OneEngine, Outlet, Pace, PlanBytes, Stop, Wiper, asked_by,
+    crew_engines, has_one_worker, history_bytes, is_watched, shares_memory, shown, stop_when_short,
 };
 use std::alloc::Global;
 use std::io;
@@ -60,6 +60,15 @@ pub fn ground_of<'a, R: Outlet + Machine>(
     Ground::of(rt, plan, choice, wishes, kept.as_slice())
 }
 
+// A run that has ended, and why it is told as one that lacked memory, if it was asked to stop for that.
+pub fn with_shortage(ran: Finished, asked: &Asked) -> Finished {
+    if asked.is_short() && ran.ended.is_interrupted() {
+        ran.and(Err(Stop::from(CliFault::Memory)))
+    } else {
+        ran
+    }
+}
+
 // A run over it that has ended, with what the system said of its files.
 pub fn close<R: Outlet + Machine>(
     rt: &R,
@@ -73,6 +82,28 @@ pub fn close<R: Outlet + Machine>(
         }
         Ground::Memory | Ground::Nothing => Ok(ran),
     }
+}
+
+// What is asked of a run of the plan, or of each of its rounds. If its history may take much of the memory that is left, it is asked to stop
+// while there is some for the report.
+pub fn asked_for<R: Outlet + Machine>(
+    rt: &R,
+    choice: &Choice<'_>,
+    plan: &Plan,
+    has_limit: bool,
+) -> Result<Arc<Asked, Global>, Stop> {
+    let history = history_bytes(plan, workers_of(plan, choice.workers));
+    let is_watched = match MemoryState::now(rt) {
+        Some(state) => is_watched(history, state.left()),
+        None => false,
+    };
+    let pace = Pace::of(rt, choice.progress);
+    let asked = asked_by(rt, pace, choice.stop_fd, has_limit || is_watched)?;
+    if is_watched {
+        // (a run that can't be watched goes on)
+        let _watches = stop_when_short(rt, &asked);
+    }
+    Ok(asked)
 }
 
 // Where reports and what else standard output gets goes.
@@ -120,14 +151,14 @@ fn run_wanted<R: Outlet + Machine>(
     wanted: &Wanted,
     plan: Plan,
 ) -> Result<Turn, Stop> {
-    let asked = asked_by(rt, Pace::of(rt, choice.progress), choice.stop_fd, false)?;
+    let asked = asked_for(rt, choice, &plan, false)?;
     let workers = workers_of(&plan, choice.workers);
     if shares_memory(&plan, workers) {
         return Ok(shared_run(asked, plan, workers));
     }
     let ground = ground_of(rt, choice, wishes, wanted, &plan)?;
     let ran = run_traced(rt, wanted, &ground, &asked, plan, workers)?;
-    Ok(Turn::Ran(close(rt, &ground, ran)?))
+    Ok(Turn::Ran(with_shortage(close(rt, &ground, ran)?, &asked)))
 }
 
 // A run with this many workers over a memory that they share is still to come.
@@ -329,7 +360,8 @@ fn run_shares<R: Outlet + Machine>(
 ) -> Result<Finished, Stop> {
     let events = wanted.outputs.trace(rt)?;
     let mut out = to_output(rt)?;
-    Ok(run_with(rt, asked, plan, engines, events, &mut out)?)
+    let ran = run_with(rt, asked, plan, engines, events, &mut out)?;
+    Ok(with_shortage(ran, asked))
 }
 
 // Runs the plan with a worker for each engine.

@@ -1,6 +1,7 @@
 pub mod Askable
 pub mod Extents
 pub mod Grounds
+pub mod Memory
 pub mod Outcomes
 pub mod Signs
 pub mod Stops

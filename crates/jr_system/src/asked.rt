@@ -5,7 +5,8 @@ ghost use Rattle.std.specs.Arc.{arc_value};
 ghost use Rattle.jr_crew_threads.specs.declared.faults.RunFault.TheVariants.{Thread as NoThread};
 ghost use Rattle.jr_system.specs.Askable.{can_be_asked, can_be_stopped, pace_of};
 
-use crate::machine::Machine;
+use crate::machine::{Machine, Outlet};
+use crate::memory::MemoryState;
 use crate::show::Pace;
 use crate::stops::Stop;
 use jr_cli_words::CliFault;
@@ -22,6 +23,9 @@ use std::time::{Clock, Duration, Instant};
 // The byte that asks for a line of how far the run is.
 const LINE: u8 = b'p';
 
+// So many milliseconds lie between two looks at the memory that is left.
+const LOOK: u64 = 100;
+
 /// What is asked of a run: by its words, when to say how far it is, and how long it may take; and by the pipe.
 #[derive(Drop)]
 pub struct Asked {
@@ -30,6 +34,7 @@ pub struct Asked {
     has_limit: bool,
     stop: StopFlag,
     is_time_over: AtomicBool,
+    is_short: AtomicBool,
     lines: AtomicU64,
     sleeper: Parker,
     // Whether a thread sleeps here, or shows what it was woken for.
@@ -48,6 +53,7 @@ impl Asked {
             has_limit,
             stop: StopFlag::new(),
             is_time_over: AtomicBool::new(false),
+            is_short: AtomicBool::new(false),
             lines: AtomicU64::new(0),
             sleeper: Parker::new(),
             has_sleeper: AtomicBool::new(false),
@@ -71,6 +77,11 @@ impl Asked {
     /// Whether its time is over, where it has a limit. Then it was asked to stop.
     pub fn is_time_over(&self) -> bool {
         self.is_time_over.load(Ordering::SeqCst)
+    }
+
+    /// Whether it was asked to stop for lack of memory.
+    pub fn is_short(&self) -> bool {
+        self.is_short.load(Ordering::SeqCst)
     }
 
     /// What asks the run to stop, where anybody can, or the end of its time does.
@@ -216,5 +227,39 @@ fn end_after<R: Clock + Wait>(rt: &R, begun: Option<Instant>, limit: Duration, a
             return;
         }
         sleeper.park_timeout(rt, left);
+    }
+}
+
+/// Has the run asked to stop once the system has little memory left for the program, so that there is some for its report.
+pub fn stop_when_short<R: Outlet + Machine>(
+    rt: &R,
+    asked: &Arc<Asked, Global>,
+) -> Result<(), CliFault>
+    ensures failed { IfErr result (λ fault. (fault ≡ CliFault.Memory) ⊎ (fault ≡ CliFault.Run NoThread)) }
+{
+    let own: Result<R, AllocError> = rt.clone();
+    let (Ok(theirs), Ok(own)) = (Arc::try_clone(asked), own) else {
+        return Err(CliFault::Memory);
+    };
+    // (it is never joined: the program's end cuts it off)
+    match thread::spawn(rt, move || end_when_short(&own, &theirs)) {
+        Ok(_waits) => Ok(()),
+        Err(_) => Err(CliFault::Run(RunFault::Thread)),
+    }
+}
+
+// Asks the run to stop once little memory is left; never where the system doesn't say how much there is.
+fn end_when_short<R: Outlet + Wait>(rt: &R, asked: &Asked) {
+    let sleeper = Parker::new();
+    for _ in rt.forever() {
+        let Some(state) = MemoryState::now(rt) else {
+            return;
+        };
+        if state.is_short() {
+            asked.is_short.store(true, Ordering::SeqCst);
+            asked.stop.set();
+            return;
+        }
+        sleeper.park_timeout(rt, Duration::from_millis(LOOK));
     }
 }

@@ -64,7 +64,7 @@ fn bytes_of(clone: &SubJob) -> u64
 }
 
 // How many hundredths of what a clone reads and writes are judged.
-fn checked_percent(clone: &SubJob) -> u8
+pub(crate) fn checked_percent(clone: &SubJob) -> u8
     ensures value { result ≡ checked_percent clone.now }
     ensures most { result ≤ 100 }
 {
