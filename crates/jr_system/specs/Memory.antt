@@ -1,5 +1,5 @@
 -- Believed: how much memory the history of a run may take, about, and when a run is to stop for lack of it (of this project).
-use Rattle.std.specs.Prelude.{ℕ, ◌+◌, ◌*◌, ◌/◌, nat_lt, min, Bool, false, ◌||◌, List, sum_by, Option, Some, None, if◌then◌else◌}
+use Rattle.std.specs.Prelude.{ℕ, ◌+◌, ◌*◌, ◌/◌, nat_lt, min, Bool, false, ◌&&◌, ◌||◌, List, sum_by, Option, Some, None, if◌then◌else◌}
 use Rattle.jr_model.specs.Plan.{SubJob}
 use Rattle.jr_system.specs.Extents.{checked_percent}
 
@@ -9,7 +9,7 @@ ios_of job = job.cells * job.passes + job.cells * job.passes * checked_percent j
 
 -- how many bytes are kept of an I/O, about, as measured: more if several workers have books
 abbrev pub bytes_an_io : ℕ → ℕ
-bytes_an_io workers = if nat_lt 1 workers then 250 else 160
+bytes_an_io workers = if nat_lt 1 workers then 300 else 210
 
 abbrev pub history_bytes : List SubJob → ℕ → ℕ
 history_bytes clones workers = sum_by ios_of clones * bytes_an_io workers
@@ -36,6 +36,6 @@ abbrev pub left_in : ℕ → Option ℕ → ℕ
 left_in free None = free
 left_in free (Some left) = min free left
 
--- a history that may take more than a half of it is watched
+-- a history is watched that isn't small and may take more than a half of it
 abbrev pub is_watched : ℕ → ℕ → Bool
-is_watched bytes left = nat_lt (left / 2) bytes
+is_watched bytes left = nat_lt reserve bytes && nat_lt (left / 2) bytes

@@ -34,9 +34,9 @@ fn ios_of(clone: &SubJob) -> u64
 // How many bytes are kept of an I/O, about.
 fn bytes_an_io(workers: u32) -> u64
     ensures value { result ≡ bytes_an_io workers }
-    ensures most { result ≤ 250 }
+    ensures most { result ≤ 300 }
 {
-    if workers > 1 { 250 } else { 160 }
+    if workers > 1 { 300 } else { 210 }
 }
 
 /// What the program has of the machine's memory, and what is left for it, in bytes.
@@ -88,5 +88,5 @@ impl MemoryState {
 pub fn is_watched(history: u64, left: u64) -> bool
     ensures { result ≡ is_watched history left }
 {
-    left / 2 < history
+    RESERVE < history && left / 2 < history
 }
