@@ -1,0 +1,4 @@
+pub mod Bits
+pub mod Diagnoses
+pub mod Headers
+pub mod Sectors
