@@ -10,7 +10,7 @@ use jr_io_files::{FileEngine, SharedFile};
 use jr_job_direct::Wish;
 use jr_plan::Plan;
 use jr_system::{
-    Asked, Ground, Machine, MemoryState, OneEngine, Outlet, Pace, PlanBytes, Stop, Wiper, asked_by,
+    Asked, Ground, Machine, MemoryFiles, OneEngine, Outlet, Pace, PlanBytes, Stop, Wiper, asked_by,
     crew_engines, has_one_worker, history_bytes, is_watched, shares_memory, shown, stop_when_short,
 };
 use std::alloc::Global;
@@ -92,18 +92,26 @@ pub fn asked_for<R: Outlet + Machine>(
     plan: &Plan,
     has_limit: bool,
 ) -> Result<Arc<Asked, Global>, Stop> {
-    let history = history_bytes(plan, workers_of(plan, choice.workers));
-    let is_watched = match MemoryState::now(rt) {
-        Some(state) => is_watched(history, state.left()),
-        None => false,
-    };
+    let watched = files_to_watch(rt, choice, plan);
     let pace = Pace::of(rt, choice.progress);
-    let asked = asked_by(rt, pace, choice.stop_fd, has_limit || is_watched)?;
-    if is_watched {
+    let asked = asked_by(rt, pace, choice.stop_fd, has_limit || watched.is_some())?;
+    if let Some(files) = watched {
         // (a run that can't be watched goes on)
-        let _watches = stop_when_short(rt, &asked);
+        let _watches = stop_when_short(rt, &asked, files);
     }
     Ok(asked)
+}
+
+// What says how much memory is left, if the history of a run of the plan may take too much of it.
+fn files_to_watch<R: Outlet>(rt: &R, choice: &Choice<'_>, plan: &Plan) -> Option<MemoryFiles> {
+    let history = history_bytes(plan, workers_of(plan, choice.workers));
+    let mut files = MemoryFiles::open(rt)?;
+    let state = files.now(rt.alloc())?;
+    if is_watched(history, state.left()) {
+        Some(files)
+    } else {
+        None
+    }
 }
 
 // Where reports and what else standard output gets goes.

@@ -5,8 +5,8 @@ ghost use Rattle.std.specs.Arc.{arc_value};
 ghost use Rattle.jr_crew_threads.specs.declared.faults.RunFault.TheVariants.{Thread as NoThread};
 ghost use Rattle.jr_system.specs.Askable.{can_be_asked, can_be_stopped, pace_of};
 
-use crate::machine::{Machine, Outlet};
-use crate::memory::MemoryState;
+use crate::machine::Machine;
+use crate::meminfo::MemoryFiles;
 use crate::show::Pace;
 use crate::stops::Stop;
 use jr_cli_words::CliFault;
@@ -230,29 +230,32 @@ fn end_after<R: Clock + Wait>(rt: &R, begun: Option<Instant>, limit: Duration, a
     }
 }
 
-/// Has the run asked to stop once the system has little memory left for the program, so that there is some for its report.
-pub fn stop_when_short<R: Outlet + Machine>(
+/// Has the run asked to stop once these files say that little memory is left for the program, so that there is some for its report.
+pub fn stop_when_short<R: Machine>(
     rt: &R,
     asked: &Arc<Asked, Global>,
+    files: MemoryFiles,
 ) -> Result<(), CliFault>
     ensures failed { IfErr result (λ fault. (fault ≡ CliFault.Memory) ⊎ (fault ≡ CliFault.Run NoThread)) }
 {
+    let alloc = rt.alloc();
     let own: Result<R, AllocError> = rt.clone();
     let (Ok(theirs), Ok(own)) = (Arc::try_clone(asked), own) else {
         return Err(CliFault::Memory);
     };
     // (it is never joined: the program's end cuts it off)
-    match thread::spawn(rt, move || end_when_short(&own, &theirs)) {
+    match thread::spawn(rt, move || end_when_short(&own, alloc, files, &theirs)) {
         Ok(_waits) => Ok(()),
         Err(_) => Err(CliFault::Run(RunFault::Thread)),
     }
 }
 
-// Asks the run to stop once little memory is left; never where the system doesn't say how much there is.
-fn end_when_short<R: Outlet + Wait>(rt: &R, asked: &Asked) {
+// Asks the run to stop once little memory is left; never where the files can't be read.
+fn end_when_short<R: Wait>(rt: &R, alloc: Global, files: MemoryFiles, asked: &Asked) {
+    let mut files = files;
     let sleeper = Parker::new();
     for _ in rt.forever() {
-        let Some(state) = MemoryState::now(rt) else {
+        let Some(state) = files.now(alloc) else {
             return;
         };
         if state.is_short() {

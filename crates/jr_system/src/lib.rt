@@ -25,7 +25,7 @@ pub use files::{Taken, take_files, wishes};
 pub use grounds::{Ground, OneEngine, crew_engines};
 pub use jobs::job_plan;
 pub use machine::{Machine, Outlet};
-pub use meminfo::tell_history;
+pub use meminfo::{MemoryFiles, tell_history};
 pub use memory::{MemoryState, history_bytes, is_watched};
 pub use outcomes::Outcome;
 pub use show::{Meter, Pace, Screen, Wiper, shown};

@@ -2,8 +2,10 @@
 use crate::machine::Outlet;
 use crate::memory::{MemoryState, history_bytes, is_watched};
 use jr_plan::Plan;
+use std::alloc::Global;
 use std::fs;
 use std::fs::{File, Files};
+use std::io::{Read, Seek, SeekFrom};
 
 const MIB: u64 = 1024 * 1024;
 
@@ -38,20 +40,89 @@ const FIRST: GroupNames = GroupNames {
     pages: ["total_active_file", "total_inactive_file"],
 };
 
-impl MemoryState {
-    /// As the system says now; none if it doesn't say.
-    pub fn now<R: Files<File = File> + AllocGlobal>(rt: &R) -> Option<MemoryState> {
-        let status = text_at(rt, "/proc/self/status")?;
-        let all = text_at(rt, "/proc/meminfo")?;
+/// The system's files that say how much memory the program has and can get, open.
+#[derive(Drop)]
+pub struct MemoryFiles {
+    status: File,
+    all: File,
+    // The most addresses that the program may have, if they are limited.
+    most_addresses: Option<u64>,
+    groups: Vec<GroupFiles>,
+}
+
+// Those of a group with a limit of its own.
+#[derive(Drop)]
+struct GroupFiles {
+    limit: u64,
+    used: File,
+    counts: File,
+    pages: [&'static str; 2],
+}
+
+impl MemoryFiles {
+    /// Opens them; none where the system hasn't got them.
+    pub fn open<R: Files<File = File> + AllocGlobal>(rt: &R) -> Option<MemoryFiles> {
+        let limits = text_at(rt, "/proc/self/limits")?;
+        Some(MemoryFiles {
+            status: fs::open(rt, "/proc/self/status").ok()?,
+            all: fs::open(rt, "/proc/meminfo").ok()?,
+            most_addresses: number_in(limits.as_str(), "Max address space"),
+            groups: groups_of(rt)?,
+        })
+    }
+
+    /// What they say now; nothing where they can't be read.
+    pub fn now(&mut self, alloc: Global) -> Option<MemoryState> {
+        let status = text_of(alloc, &mut self.status)?;
+        let all = text_of(alloc, &mut self.all)?;
         let mut free = kib_in(all.as_str(), "MemAvailable:")?;
-        if let Some(left) = left_of_groups(rt) {
-            free = free.min(left);
+        for group in self.groups.iter_mut() {
+            if let Some(left) = group.left(alloc) {
+                free = free.min(left);
+            }
         }
+        let addresses = match self.most_addresses {
+            Some(most) => Some(most.saturating_sub(kib_in(status.as_str(), "VmSize:")?)),
+            None => None,
+        };
         Some(MemoryState {
             used: kib_in(status.as_str(), "RssAnon:")?,
             free,
-            addresses: addresses_left(rt, status.as_str()),
+            addresses,
         })
+    }
+}
+
+impl GroupFiles {
+    // Those of a group, if it has a limit.
+    fn open<R: Files<File = File> + AllocGlobal>(
+        rt: &R,
+        names: &GroupNames,
+        path: &str,
+    ) -> Option<GroupFiles> {
+        let limit = text_at(
+            rt,
+            group_path(rt.alloc(), names, path, names.limit)?.as_str(),
+        )?;
+        let used = group_path(rt.alloc(), names, path, names.used)?;
+        let counts = group_path(rt.alloc(), names, path, "memory.stat")?;
+        Some(GroupFiles {
+            limit: first_number(limit.as_str())?,
+            used: fs::open(rt, used.as_str()).ok()?,
+            counts: fs::open(rt, counts.as_str()).ok()?,
+            pages: names.pages,
+        })
+    }
+
+    // How much more the group can get. Pages of files are given back.
+    fn left(&mut self, alloc: Global) -> Option<u64> {
+        let used = first_number(text_of(alloc, &mut self.used)?.as_str())?;
+        let counts = text_of(alloc, &mut self.counts)?;
+        let [active, inactive] = self.pages;
+        let active = number_in(counts.as_str(), active).unwrap_or(0);
+        let inactive = number_in(counts.as_str(), inactive).unwrap_or(0);
+        let pages = active.saturating_add(inactive);
+        Some(self.limit.saturating_sub(used.saturating_sub(pages)))
     }
 }
 
@@ -59,90 +130,64 @@ fn text_at<R: Files<File = File> + AllocGlobal>(rt: &R, path: &str) -> Option<St
     fs::read_to_string(rt, path).ok()
 }
 
-// How many more addresses the program may have, if they are limited.
-fn addresses_left<R: Files<File = File> + AllocGlobal>(rt: &R, status: &str) -> Option<u64> {
-    let limits = text_at(rt, "/proc/self/limits")?;
-    let limit = number_in(limits.as_str(), "Max address space")?;
-    let used = kib_in(status, "VmSize:")?;
-    Some(limit.saturating_sub(used))
+// All that a file says now.
+fn text_of(alloc: Global, file: &mut File) -> Option<String> {
+    file.seek(SeekFrom::Start(0)).ok()?;
+    let mut text = String::new(alloc);
+    file.read_to_string(&mut text).ok()?;
+    Some(text)
 }
 
-// How much more the groups that the program is in can get, if one of them has a limit.
-fn left_of_groups<R: Files<File = File> + AllocGlobal>(rt: &R) -> Option<u64> {
-    let text = text_at(rt, "/proc/self/cgroup")?;
-    let mut least = None;
+fn group_path(alloc: Global, names: &GroupNames, path: &str, name: &str) -> Option<String> {
+    format!(in alloc; "{}{path}/{name}", names.root).ok()
+}
+
+// The groups with a limit that the program is in; none if there is no memory for them.
+fn groups_of<R: Files<File = File> + AllocGlobal>(rt: &R) -> Option<Vec<GroupFiles>> {
+    let mut groups = Vec::new(rt.alloc());
+    let Some(text) = text_at(rt, "/proc/self/cgroup") else {
+        return Some(groups);
+    };
     for line in text.as_str().split('\n') {
-        if let Some(left) = left_of_line(rt, line) {
-            least = Some(lesser(least, left));
-        }
+        add_groups(rt, &mut groups, line)?;
     }
-    least
+    Some(groups)
 }
 
-// The same of a line: a number, the controllers and the path of a group.
-fn left_of_line<R: Files<File = File> + AllocGlobal>(rt: &R, line: &str) -> Option<u64> {
-    let (_, rest) = line.split_once(':')?;
-    let (controllers, path) = rest.split_once(':')?;
-    if controllers.is_empty() {
-        left_upwards(rt, &SECOND, path)
-    } else if controllers == "memory" {
-        left_upwards(rt, &FIRST, path)
-    } else {
-        None
-    }
-}
-
-// How much more a group can get, and those that it is in.
-fn left_upwards<R: Files<File = File> + AllocGlobal>(
+// Adds those of a line: a number, the controllers and the path of a group.
+fn add_groups<R: Files<File = File> + AllocGlobal>(
     rt: &R,
+    groups: &mut Vec<GroupFiles>,
+    line: &str,
+) -> Option<()> {
+    let Some((_, rest)) = line.split_once(':') else {
+        return Some(());
+    };
+    match rest.split_once(':') {
+        Some(("", path)) => add_upwards(rt, groups, &SECOND, path),
+        Some(("memory", path)) => add_upwards(rt, groups, &FIRST, path),
+        _ => Some(()),
+    }
+}
+
+// Adds a group, and those that it is in.
+fn add_upwards<R: Files<File = File> + AllocGlobal>(
+    rt: &R,
+    groups: &mut Vec<GroupFiles>,
     names: &GroupNames,
     path: &str,
-) -> Option<u64> {
-    let mut least = None;
+) -> Option<()> {
     let mut path = path;
     for _ in 0..MOST_GROUPS {
-        if let Some(left) = left_of_group(rt, names, path) {
-            least = Some(lesser(least, left));
+        if let Some(group) = GroupFiles::open(rt, names, path) {
+            groups.push(group).ok()?;
         }
         let Some((above, _)) = path.rsplit_once('/') else {
-            return least;
+            return Some(());
         };
         path = above;
     }
-    least
-}
-
-// How much more a group can get by itself, if it has a limit. Pages of files are given back.
-fn left_of_group<R: Files<File = File> + AllocGlobal>(
-    rt: &R,
-    names: &GroupNames,
-    path: &str,
-) -> Option<u64> {
-    let limit = first_number(group_text(rt, names, path, names.limit)?.as_str())?;
-    let used = first_number(group_text(rt, names, path, names.used)?.as_str())?;
-    let counts = group_text(rt, names, path, "memory.stat")?;
-    let [active, inactive] = names.pages;
-    let active = number_in(counts.as_str(), active).unwrap_or(0);
-    let inactive = number_in(counts.as_str(), inactive).unwrap_or(0);
-    let pages = active.saturating_add(inactive);
-    Some(limit.saturating_sub(used.saturating_sub(pages)))
-}
-
-fn group_text<R: Files<File = File> + AllocGlobal>(
-    rt: &R,
-    names: &GroupNames,
-    path: &str,
-    name: &str,
-) -> Option<String> {
-    let path = format!(in rt.alloc(); "{}{path}/{name}", names.root).ok()?;
-    text_at(rt, path.as_str())
-}
-
-fn lesser(least: Option<u64>, other: u64) -> u64 {
-    match least {
-        Some(least) => least.min(other),
-        None => other,
-    }
+    Some(())
 }
 
 // The bytes that a line of this name says in KiB.
@@ -169,7 +214,10 @@ fn first_number(text: &str) -> Option<u64> {
 /// Says on standard error how much memory the history of a run of the plan with so many workers may take: of a run if that may be too much, and
 /// of a plan that isn't run if it is much.
 pub fn tell_history<R: Outlet>(rt: &R, plan: &Plan, workers: u32, is_run: bool) {
-    let Some(state) = MemoryState::now(rt) else {
+    let Some(mut files) = MemoryFiles::open(rt) else {
+        return;
+    };
+    let Some(state) = files.now(rt.alloc()) else {
         return;
     };
     let (history, left) = (history_bytes(plan, workers), state.left());
