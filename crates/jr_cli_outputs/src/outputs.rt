@@ -94,12 +94,7 @@ impl Outputs {
         }
         let has_faults = has_faults(choice)?;
         if choice.bad_blocks.is_some() {
-            let size = list_size(plan, choice.bad_blocks_size)?;
-            let content = if has_faults {
-                Content::WrongBlocks(size)
-            } else {
-                Content::BadBlocks(size)
-            };
+            let content = list_content(plan, choice, has_faults)?;
             self.add(rt, choice.bad_blocks, content)?;
         }
         self.add(rt, choice.json, Content::Json)?;
@@ -606,6 +601,15 @@ fn plain_input<R: Outlet>(rt: &R) -> Option<Spot> {
     } else {
         None
     }
+}
+
+// What the list of bad blocks says.
+fn list_content(plan: &Plan, choice: &Choice<'_>, has_faults: bool) -> Result<Content, CliFault> {
+    let size = list_size(plan, choice.bad_blocks_size)?;
+    if has_faults {
+        return Ok(Content::WrongBlocks(size));
+    }
+    Ok(Content::BadBlocks(size))
 }
 
 // How the names of the traces of all rounds begin, if these are wanted.
