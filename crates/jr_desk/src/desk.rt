@@ -105,6 +105,21 @@ impl Desk {
             { history = self.old.history ++ Event.End served.now.ticket.worker served.now.ticket.id served.now.outcome ∷ [] }) }
         ensures err { OnErr result (self.new ≡ self.old) }
     {
+        self.end_own(served)
+    }
+
+    // The same, which says of a ticket that isn't refused that it is the desk's own and had not ended.
+    fn end_own(&mut self, served: &Served) -> Result<(), DeskFault>
+        ensures refused { (own : Bool) → Owns self.old served.now.ticket own
+            → IfSome (end_fault self.old served.now.ticket.id own) (λ fault. result ≡ Err fault) }
+        ensures taken_in { Owns self.old served.now.ticket true → end_fault self.old served.now.ticket.id true ≡ None
+            → IfErr result (λ fault. fault ≡ DeskFault.Memory) }
+        ensures ok { OnOk result (self.new ≡ record self.old
+            { history = self.old.history ++ Event.End served.now.ticket.worker served.now.ticket.id served.now.outcome ∷ [] }) }
+        ensures own { OnOk result (IsOwn self.old.plan self.old.history served.now.ticket) }
+        ensures flying { OnOk result (is_some (outcome_of self.old.history served.now.ticket.id) ≡ false) }
+        ensures err { OnErr result (self.new ≡ self.old) }
+    {
         let ticket = served.ticket();
         self.check_own(ticket)?;
         if self.has_ended(ticket.id) {
@@ -118,6 +133,39 @@ impl Desk {
             served.expected(),
         )?;
         Ok(())
+    }
+
+    /// Takes in how a check ended that ended whole, and the verdict on it, which it gives: what `end` and then `judge` do, but its
+    /// ticket is compared once. Where memory is wanting for the verdict alone, the end was taken in.
+    pub fn end_judged(&mut self, by: u32, ruling: &Ruling<'_>) -> Result<Verdict, DeskFault>
+        ensures ok { let check = ruling.now.ticket in
+            let ended = self.old.history ++ Event.End check.worker check.id ruling.now.outcome ∷ [] in
+            IfOk result (λ said. (self.new ≡ record self.old { history = ended ++ Event.Verdict by check.id said ∷ [] })
+            × (said ≡ said_of (has_raced ended check.id) (answer_verdict ruling.now))) }
+        ensures says { IfOk result (λ said. is_void said ≡ false → said ≡ answer_verdict ruling.now) }
+        ensures err { OnErr result ((self.new.plan ≡ self.old.plan) × (self.new.is_stopped ≡ self.old.is_stopped)) }
+    {
+        let _ = &self.plan;
+        self.end_own(ruling.served())?;
+        self.judge_own(by, ruling)
+    }
+
+    // Takes in the verdict on a check of this desk's own that ended whole and has none, and gives it.
+    fn judge_own(&mut self, by: u32, ruling: &Ruling<'_>) -> Result<Verdict, DeskFault>
+        requires own { IsOwn self.old.plan self.old.history ruling.now.ticket }
+        requires whole { ended_whole (outcome_of self.old.history ruling.now.ticket.id) ≡ true }
+        requires unjudged { is_judged self.old.history ruling.now.ticket.id ≡ false }
+        ensures ok { IfOk result (λ said. self.new
+            ≡ record self.old { history = self.old.history ++ Event.Verdict by ruling.now.ticket.id said ∷ [] }) }
+        ensures said { IfOk result (λ said. said
+            ≡ said_of (has_raced self.old.history ruling.now.ticket.id) (answer_verdict ruling.now)) }
+        ensures says { IfOk result (λ said. is_void said ≡ false → said ≡ answer_verdict ruling.now) }
+        ensures err { OnErr result (self.new ≡ self.old) }
+    {
+        let ticket = ruling.served().ticket();
+        let said = self.said_of(ruling);
+        judge(&self.plan, &mut self.board, by, ticket, said)?;
+        Ok(said)
     }
 
     /// Takes in the verdict on a check that ended whole; `by` is the worker or verifier that judged. If the check raced its verdict

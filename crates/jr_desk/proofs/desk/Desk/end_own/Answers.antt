@@ -8,7 +8,7 @@ use Rattle.jr_model.specs.Legal.{may_happen, outcome_fits}
 use Rattle.jr_desk.specs.DeskState.{DeskState}
 use Rattle.jr_desk_state.proofs.Keeping.{may_end}
 use Rattle.jr_desk.proofs.Refusing.{end_refused, none_from}
-use Rattle.jr_desk.proofs.desk.Desk.end.Goals as goal
+use Rattle.jr_desk.proofs.desk.Desk.end_own.Goals as goal
 
 pub returns-then-has_ended-clause-taken_in : goal.returns-then-has_ended-clause-taken_in
 returns-then-has_ended-clause-taken_in c own free =

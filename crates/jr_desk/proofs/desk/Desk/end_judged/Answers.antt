@@ -1,0 +1,74 @@
+-- A check that has just ended whole is still the desk's own, and has no verdict.
+use Rattle.std.proofs.Common.{◌≡◌, List, [], ◌∷◌, ◌++◌, true, false, refl, sym, ◌∙◌, ap, subst}
+use Rattle.std.specs.Prelude.{Option, Some, None, is_some, slice_get}
+use Rattle.jr_model.specs.declared.events.Event.TheVariants.{End}
+use Rattle.jr_model.specs.declared.events.Outcome.{Outcome}
+use Rattle.jr_model.specs.declared.events.Outcome.TheVariants.{Whole, Failed, Short}
+use Rattle.jr_model.specs.declared.tickets.Ticket.{Ticket}
+use Rattle.jr_model.specs.declared.tickets.TicketKind.{TicketKind}
+use Rattle.jr_model.specs.declared.tickets.TicketKind.TheVariants as ticket
+use Rattle.jr_model.specs.History.{outcome_of, is_judged, ended_whole}
+use Rattle.jr_model.specs.Legal.{is_legal}
+use Rattle.jr_engines.specs.Answers.{AnswerParts}
+use Rattle.jr_header.specs.Served.{is_to_judge, is_whole_check}
+use Rattle.jr_laws_steps.proofs.Grown.{outcome_of-end, is_judged-stays}
+use Rattle.jr_laws_steps.proofs.JudgedEnded.{flying_unjudged}
+use Rattle.jr_desk_tickets.specs.Kept.{IsOwn}
+use Rattle.jr_desk_tickets.proofs.HandingMoves.{tickets_stay}
+use Rattle.jr_desk.specs.DeskState.{DeskState}
+use Rattle.jr_desk.proofs.desk.Desk.end_judged.Goals as goal
+
+none_of : (o : Option Outcome) → is_some o ≡ false → o ≡ None
+none_of None h = refl
+none_of (Some o) h = cc
+
+whole_of : (kind : TicketKind) (how : Outcome) → is_whole_check kind how ≡ true → how ≡ Whole
+whole_of kind Whole h = refl
+whole_of ticket.Probe Failed h = cc
+whole_of ticket.ReadCheck Failed h = cc
+whole_of ticket.Read Failed h = cc
+whole_of ticket.Write Failed h = cc
+whole_of ticket.Probe (Short n) h = cc
+whole_of ticket.ReadCheck (Short n) h = cc
+whole_of ticket.Read (Short n) h = cc
+whole_of ticket.Write (Short n) h = cc
+
+-- the desk has taken in the end of this answer
+abbrev HasEnded : DeskState → DeskState → AnswerParts → Type 0
+HasEnded old new served = new ≡ record old { history = old.history ++ End served.ticket.worker served.ticket.id served.outcome ∷ [] }
+
+still_own : (old new : DeskState) (served : AnswerParts) → HasEnded old new served → IsOwn old.plan old.history served.ticket → IsOwn new.plan new.history served.ticket
+still_own old new served is own =
+    subst (λ (d : DeskState). IsOwn d.plan d.history served.ticket) (sym is)
+    (ap (λ (ts : List Ticket). slice_get ts served.ticket.id)
+    (tickets_stay old.plan old.history (End served.ticket.worker served.ticket.id served.outcome) refl)
+    ∙ own)
+
+has_ended_whole : (old new : DeskState) (served : AnswerParts) → HasEnded old new served → is_some (outcome_of old.history served.ticket.id) ≡ false → is_to_judge served ≡ true → ended_whole (outcome_of new.history served.ticket.id) ≡ true
+has_ended_whole old new served is flying judged =
+    ap (λ (d : DeskState). ended_whole (outcome_of d.history served.ticket.id)) is
+    ∙ ap ended_whole (outcome_of-end old.history served.ticket.worker served.ticket.id served.outcome (none_of (outcome_of old.history served.ticket.id) flying))
+    ∙ ap (λ (o : Outcome). ended_whole (Some o)) (whole_of served.ticket.kind served.outcome judged)
+
+still_unjudged : (old new : DeskState) (served : AnswerParts) → HasEnded old new served → is_some (outcome_of old.history served.ticket.id) ≡ false → is_legal old.plan old.history ≡ true → is_judged new.history served.ticket.id ≡ false
+still_unjudged old new served is flying legal =
+    ap (λ (d : DeskState). is_judged d.history served.ticket.id) is
+    ∙ is_judged-stays old.history (End served.ticket.worker served.ticket.id served.outcome) served.ticket.id refl
+    ∙ flying_unjudged old.plan old.history served.ticket.id legal (none_of (outcome_of old.history served.ticket.id) flying)
+
+pub judge_own-requires-clause-own : goal.judge_own-requires-clause-own
+judge_own-requires-clause-own c =
+    subst (λ (a : AnswerParts). IsOwn c.end_own.new.self.plan c.end_own.new.self.history a.ticket) c.served.ensures.value
+    (still_own c.args.self.now c.end_own.new.self c.served.result.now c.in_ok-end_own.ensures.ok c.in_ok-end_own.ensures.own)
+
+pub judge_own-requires-clause-whole : goal.judge_own-requires-clause-whole
+judge_own-requires-clause-whole c =
+    subst (λ (a : AnswerParts). ended_whole (outcome_of c.end_own.new.self.history a.ticket.id) ≡ true) c.served.ensures.value
+    (has_ended_whole c.args.self.now c.end_own.new.self c.served.result.now c.in_ok-end_own.ensures.ok c.in_ok-end_own.ensures.flying
+    (subst (λ (a : AnswerParts). is_to_judge a ≡ true) (sym c.served.ensures.value) c.served.ensures.to_judge))
+
+pub judge_own-requires-clause-unjudged : goal.judge_own-requires-clause-unjudged
+judge_own-requires-clause-unjudged c =
+    subst (λ (a : AnswerParts). is_judged c.end_own.new.self.history a.ticket.id ≡ false) c.served.ensures.value
+    (still_unjudged c.args.self.now c.end_own.new.self c.served.result.now c.in_ok-end_own.ensures.ok c.in_ok-end_own.ensures.flying
+    (subst (λ (d : DeskState). is_legal d.plan d.history ≡ true) c.self.view_is c.self.invariant.legal))
