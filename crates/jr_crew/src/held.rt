@@ -56,13 +56,37 @@ impl<P: Naming> Held<P> {
         self.desk.end(served)
     }
 
-    // Takes in how a worker's ticket ended, and the verdict where the worker judged it.
+    // Takes in how a check ended and the verdict on it, and says that: the ruling's verdict, unless the check raced.
+    fn end_judged(&mut self, by: u32, ruling: &Ruling<'_>) -> Result<Verdict, DeskFault>
+        ensures says { IfOk result (λ said. is_void said ≡ false → said ≡ answer_verdict ruling.now) }
+    {
+        let said = self.desk.end_judged(by, ruling)?;
+        Ok(said)
+    }
+
+    // Takes in how a worker's ticket ended, and the verdict where the worker judged it: then the desk compares the ticket once.
     fn take_in<'a>(&mut self, worker: u32, one: &CarriedOut<'a>) -> Result<TakenIn<'a>, DeskFault>
         ensures { IfOk result (λ told. told.served.now ≡ one.now.served.now) }
     {
-        self.end(one.served)?;
         self.in_hand = self.in_hand.saturating_sub(1);
-        self.judge_one(worker, one)
+        match &one.ruling {
+            None => {
+                self.end(one.served)?;
+                Ok(TakenIn {
+                    served: one.served,
+                    inline: one.inline,
+                    said: None,
+                })
+            }
+            Some(ruling) => {
+                let said = self.end_judged(worker, ruling)?;
+                Ok(TakenIn {
+                    served: one.served,
+                    inline: one.inline,
+                    said: Some(said),
+                })
+            }
+        }
     }
 
     // Takes in the verdict, where there is a ruling.

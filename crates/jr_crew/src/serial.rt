@@ -1,13 +1,11 @@
 ghost use Rattle.std.specs.Prelude.{◌≡◌, ◌-◌, ◌^◌, ◌<◌, ◌≤◌, ◌++◌, ◌∷◌, [], true, false, Some, None, IfOk, IfErr, IfSome, IsSome, OnOk, OnErr, IsFalse};
 ghost use Rattle.std.specs.Bool.{MatchBool};
-ghost use Rattle.jr_model.specs.History.{outcome_of, is_judged};
 ghost use Rattle.jr_model.specs.Legal.{is_complete};
-ghost use Rattle.jr_model.specs.Races.{has_raced};
 ghost use Rattle.jr_model.specs.Serial.{serial_history};
-ghost use Rattle.jr_desk_tickets.specs.Kept.{IsOwn};
+ghost use Rattle.jr_header.specs.Served.{is_to_judge};
 ghost use Rattle.jr_crew_threads.specs.Stops.{IsCompleteOrAsked, WasAsked};
 ghost use Rattle.jr_crew.specs.Runs.{IsFresh};
-ghost use Rattle.jr_crew.specs.Turns.{IsBetweenTurns, IsOpen, IsNext, IsCarriedOut, IsTurn, IsLastTurn, judged_by};
+ghost use Rattle.jr_crew.specs.Turns.{IsBetweenTurns, IsOpen, IsNext, IsCarriedOut, IsTurn, IsLastTurn, ended_by};
 ghost use Rattle.jr_crew.specs.Whole.{IsRun, IsEndedRun};
 
 use jr_crew_threads::{
@@ -171,9 +169,24 @@ fn carry_out(
 {
     make_room(buffer, &ticket)?;
     let served = serve_own(engine, ticket, mem::replace(buffer, Vec::new(alloc)));
-    end(desk, &served)?;
-    judge(desk, &served, progress)?;
+    settle(desk, &served, progress)?;
     *buffer = served.into_buf();
+    Ok(())
+}
+
+// Takes in how a ticket ended, with the verdict where it is a check that ended whole.
+fn settle(desk: &mut Desk, served: &Served, progress: Option<&Progress>) -> Result<(), RunFault>
+    requires { IsOpen desk.old served.now.ticket }
+    ensures ok { OnOk result (desk.new ≡ record desk.old { history = desk.old.history ++ ended_by served.now }) }
+    ensures plan { desk.new.plan ≡ desk.old.plan }
+    ensures stop { desk.new.is_stopped ≡ desk.old.is_stopped }
+    ensures memory { IfErr result (λ fault. fault ≡ RunFault.Memory) }
+{
+    if !served.to_judge() {
+        end(desk, served)?;
+        return Ok(());
+    }
+    end_judged(desk, served, progress)?;
     Ok(())
 }
 
@@ -191,23 +204,18 @@ fn end(desk: &mut Desk, served: &Served) -> Result<(), RunFault>
     }
 }
 
-// Judges a check that ended whole.
-fn judge(desk: &mut Desk, served: &Served, progress: Option<&Progress>) -> Result<(), RunFault>
-    requires own { IsOwn desk.old.plan desk.old.history served.now.ticket }
-    requires unjudged { is_judged desk.old.history served.now.ticket.id ≡ false }
-    requires unraced { has_raced desk.old.history served.now.ticket.id ≡ false }
-    requires ended { outcome_of desk.old.history served.now.ticket.id ≡ Some served.now.outcome }
-    requires going { IsFalse desk.old.is_stopped }
-    ensures ok { OnOk result (desk.new ≡ record desk.old { history = desk.old.history ++ judged_by served.now }) }
-    ensures err { OnErr result (desk.new ≡ desk.old) }
+// The same for a check that ended whole, which it judges.
+fn end_judged(desk: &mut Desk, served: &Served, progress: Option<&Progress>) -> Result<(), RunFault>
+    requires open { IsOpen desk.old served.now.ticket }
+    requires whole { is_to_judge served.now ≡ true }
+    ensures ok { OnOk result (desk.new ≡ record desk.old { history = desk.old.history ++ ended_by served.now }) }
+    ensures plan { desk.new.plan ≡ desk.old.plan }
+    ensures stop { desk.new.is_stopped ≡ desk.old.is_stopped }
     ensures memory { IfErr result (λ fault. fault ≡ RunFault.Memory) }
 {
-    if !served.to_judge() {
-        return Ok(());
-    }
     let ruling = rule(served);
-    match desk.judge(0, &ruling) {
-        Ok(()) => {
+    match desk.end_judged(0, &ruling) {
+        Ok(_) => {
             note_verdict(progress, served.ticket().piece.len, ruling.verdict());
             Ok(())
         }

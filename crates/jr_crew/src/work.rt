@@ -127,7 +127,7 @@ fn serve_all<R: Clock>(
     requires { All CanBeServed tickets.now }
     ensures { IfOk result (λ served. AreAnswered (state engine.old) served.items (state engine.new)) }
 {
-    let mut all = Vec::new(alloc);
+    let mut all = Vec::with_capacity(alloc, tickets.len())?;
     for ticket in tickets {
         let buffer = match buffers.pop() {
             Some(buffer) => buffer,
@@ -177,7 +177,7 @@ fn exchange<P: Naming, R: Wait + Clock>(
     ensures done { OnOk result (AreDone post.now.inline served.now load.old.book load.new.book) }
     ensures next { OnOk result (All CanBeServed load.new.tickets.items) }
 {
-    let mut settled = Vec::new(post.alloc);
+    let mut settled = Vec::with_capacity(post.alloc, served.len())?;
     rule_all(post.inline, served, &mut settled)?;
     let mut told = Vec::with_capacity(post.alloc, settled.len())?;
     let step = post.shared.hand_in(
