@@ -6,8 +6,8 @@ _fiorun_options() {
   "${1/#\~\//$HOME/}" --help 2>/dev/null | sed -nE 's/^ +(-., )?(--[a-z0-9-]+)( <([A-Z]+)>)?( +(.*))?$/\2 \4- \6/p'
 }
 
-# The words that can come next: each option, with a = where something has to follow.
-_fiorun_words() { _fiorun_options "$1" | sed -E 's/^([^ ]+) [A-Z]+- .*/\1=/; s/ .*//'; }
+# The words that can come next: each option but those that the launcher gives, with a = where something has to follow.
+_fiorun_words() { _fiorun_options "$1" | sed -E '/^--(drop-pipes|stop-fd) /d; s/^([^ ]+) [A-Z]+- .*/\1=/; s/ .*//'; }
 
 # The names of the jobs in the files that the line names.
 _fiorun_jobs() {

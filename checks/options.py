@@ -11,8 +11,8 @@ import re
 import sys
 
 TOP = os.path.dirname(os.path.dirname(os.path.realpath(__file__)))
-# What bin/launch alone gives the program.
-LAUNCHERS = {"drop-pipes"}
+# What bin/launch gives the program, and no user.
+LAUNCHERS = {"drop-pipes", "stop-fd"}
 # These have a synopsis of their own.
 ALONE = {"help", "version"}
 UNITS = {"": 1, "k": 2**10, "m": 2**20, "g": 2**30}

@@ -191,6 +191,10 @@ printf '%s\\n' "${COMPREPLY[@]}"
 """
 
 
+# Words that bin/launch gives the program, and no user.
+LAUNCHERS = {"--drop-pipes", "--stop-fd"}
+
+
 def offered(root, room, *words):
     """What the completion offers for the last of these words, in a folder."""
     script = os.path.join(root, "usr", "share", "bash-completion", "completions", "fiorun")
@@ -200,7 +204,7 @@ def offered(root, room, *words):
 
 
 def bash_completes_its_words(program, room):
-    """Each word that --help names is offered, and behind it files, jobs or numbers."""
+    """Each word that --help names is offered, but for the launcher's, and behind it files, jobs or numbers."""
     root = unpacked(program, room)
     work = os.path.join(room, "work")
     os.makedirs(os.path.join(work, "folder"))
@@ -209,7 +213,7 @@ def bash_completes_its_words(program, room):
             it.write(text)
     with open(os.path.join(TOP, "docs", "help.txt"), encoding="utf-8") as it:
         takes = dict(re.findall(r"^ +(?:-., )?(--[a-z-]+)(?: <([A-Z]+)>)?", it.read(), re.MULTILINE))
-    words = [it + "=" * bool(takes[it]) for it in takes]
+    words = [it + "=" * bool(takes[it]) for it in takes if it not in LAUNCHERS]
     expect(offered(root, work, "-") == words and len(words) > 15, f"offered: {offered(root, work, '-')}")
     expect(offered(root, work, "--par") == ["--parse-only"], "not by how it begins")
     files = ["folder", "one.fio", "two words"]

@@ -1,10 +1,8 @@
 -- The notes of lines and of sections that are gone over one after another.
 use Rattle.std.proofs.Common.{◌≡◌, ℕ, ◌+◌, ◌<◌, Bool, true, false, cond, List, [], ◌∷◌, ◌++◌, length, drop, map, ◌≤◌, slice_index_or, Option, Some, None, Result, Ok, Err, ap, ◌∙◌, sym, refl, arith, append_assoc, append-nil}
-use Rattle.std.specs.Prelude.{IfOk, IsErr, filter, is_some, ◌||◌, ◌==◌}
-use Rattle.std.specs.List.{list_any}
+use Rattle.std.specs.Prelude.{IfOk, IsErr, filter, is_some, replicate, ◌-◌}
 use Rattle.std.specs.Result.{result_err}
-use Rattle.std.proofs.lemmas.List.{at_drop_all, at_drop_more, map-append}
-use Rattle.std.proofs.lemmas.Bool.{eqb-true}
+use Rattle.std.proofs.lemmas.List.{at_drop_all, at_drop_more, length-append, length-replicate, map-append, replicate-append-replicate}
 use Rattle.std.proofs.lemmas.List.Elements.{filter-append}
 use Rattle.jr_text.specs.declared.faults.TextFault.{TextFault}
 use Rattle.jr_text.specs.declared.faults.TextFault.TheVariants.{Memory}
@@ -18,7 +16,7 @@ use Rattle.jr_job_options.specs.Options.{and_setting, options_from}
 use Rattle.jr_job_options.specs.Settings.{setting_of}
 use Rattle.jr_options.specs.Refusals.{counts, counting_lines, line_fault, lines_of}
 use Rattle.jr_job_notes.specs.declared.notes.Note.{Note}
-use Rattle.jr_job_notes.specs.Notes.{HasRefused, is_refused, is_want, line_number, lines_noted, noted, noted_line, refused_in, sections_noted}
+use Rattle.jr_job_notes.specs.Notes.{AreFirst, is_refused, is_want, line_number, lines_noted, noted, noted_line, refused_in, sections_noted}
 
 -- a line that is read alone is refused by its own fault
 alone_by : (o : JobOptions) (read : Result Setting JobFault) → result_err (and_setting o read) ≡ result_err read
@@ -113,32 +111,30 @@ pub sections_done : (only : Option (List ℕ)) (notes : List Note) (before : Lis
 sections_done only notes before sections i past is =
     sym (append-nil (noted notes)) ∙ ap (λ ls. noted notes ++ ls) (sym (at_drop_all (sections_noted only) sections i past)) ∙ is
 
--- where a line is refused there is a note
-any_by : (fault : Option JobFault) (any : Bool) (line : LineText) (lines : List LineText) → (is_some fault || any) ≡ true → cond (is_some fault) (Some line.line ∷ lines_noted lines) (lines_noted lines) ≡ [] → (any ≡ true → lines_noted lines ≡ [] → ⊥) → ⊥
-any_by None any line lines has none later = later has none
-any_by (Some f) any line lines has none later = absurd (cc)
+-- nothing but these lines, and then one note of no line more
+pub first_alone : (lines : List (Option ℕ)) → AreFirst lines lines
+first_alone lines = sym (append-nil lines) ∙ ap (λ n. lines ++ replicate n None) none-left where
+  none-left : 0 ≡ length lines - length lines
+  none-left = omega arith
 
-some_noted : (lines : List LineText) → list_any is_refused lines ≡ true → lines_noted lines ≡ [] → ⊥
-some_noted [] has none = absurd (cc)
-some_noted (line ∷ lines) has none = any_by (line_fault line) (list_any is_refused lines) line lines has (sym (one_by (line_fault line) line lines) ∙ none) (some_noted lines)
-
--- so where there is none, no line is
-pub none_noted : (only : Option (List ℕ)) (sections : List SectionText) (notes : List Note) → noted notes ≡ sections_noted only sections → notes ≡ [] → HasRefused only sections → ⊥
-none_noted only sections notes is none has = some_noted (counting_lines only sections) has (sym is ∙ ap noted none)
-
--- notes of which there are none
-pub nothing_in : (notes : List Note) (n : ℕ) → length notes ≡ n → (n == 0) ≡ true → notes ≡ []
-nothing_in [] n count zero = refl
-nothing_in (note ∷ notes) n count zero = absurd (omega (arith, eqb-true n 0 zero, count))
-
--- what holds of anything holds of an answer
-pub of_any : {A E : Type 0} (P : A → Type 0) (r : Result A E) → ((x : A) → P x) → IfOk r P
-of_any P (Ok x) all = all x
-of_any P (Err e) all = tt
+pub first_more : (notes new : List Note) (note : Note) → new ≡ notes ++ note ∷ [] → note.line ≡ None → (lines : List (Option ℕ)) → AreFirst lines (noted notes) → AreFirst lines (noted new)
+first_more notes new note pushed none lines first =
+    let k = length (noted notes) - length lines in
+    let is : noted new ≡ lines ++ replicate (k + 1) None =
+    ap noted pushed
+    ∙ map-append noted_line notes (note ∷ [])
+    ∙ ap (λ n. noted notes ++ n ∷ []) none
+    ∙ ap (λ ns. ns ++ None ∷ []) first
+    ∙ append_assoc lines (replicate k None) (None ∷ [])
+    ∙ ap (λ ns. lines ++ ns) (replicate-append-replicate k 1 None) in
+    let count : length (noted new) ≡ length lines + (k + 1) =
+    ap length is ∙ length-append lines (replicate (k + 1) None) ∙ ap (λ n. length lines + n) (length-replicate (k + 1) None) in
+    let rest : k + 1 ≡ length (noted new) - length lines = omega (arith, count) in
+    is ∙ ap (λ n. lines ++ replicate n None) rest
 
 -- a text that says sections isn't refused but for want of memory
-pub of_unread : {A E : Type 0} (shown : A → List Note) (text : List ℕ) (only : Option (List ℕ)) (f : TextFault) (r : Result A E) → (refusal_of text ≡ None → f ≡ Memory) → (is_want f ≡ true → IsErr r) → IfOk r (λ x. (sections : List SectionText) → sections_of text ≡ Ok sections → HasRefused only sections → noted (shown x) ≡ sections_noted only sections)
+pub of_unread : {A E : Type 0} (shown : A → List Note) (text : List ℕ) (only : Option (List ℕ)) (f : TextFault) (r : Result A E) → (refusal_of text ≡ None → f ≡ Memory) → (is_want f ≡ true → IsErr r) → IfOk r (λ x. (sections : List SectionText) → sections_of text ≡ Ok sections → AreFirst (sections_noted only sections) (noted (shown x)))
 of_unread shown text only f (Err e) refused wants = tt
-of_unread shown text only f (Ok x) refused wants = λ sections is has.
+of_unread shown text only f (Ok x) refused wants = λ sections is.
     let clash : false ≡ true = wants (ap is_want (refused (ap result_err is))) in
     absurd (cc)

@@ -1,6 +1,5 @@
 -- Believed: which lines of a job file have notes, and what a note prints.
-use Rattle.std.specs.Prelude.{◌≡◌, ℕ, ◌++◌, Bool, true, false, List, filter, map, Option, Some, None, is_some, codes, decimal, string_bytes}
-use Rattle.std.specs.List.{list_any}
+use Rattle.std.specs.Prelude.{◌≡◌, ℕ, ◌-◌, ◌++◌, Bool, true, false, List, length, replicate, filter, map, Option, Some, None, is_some, codes, decimal, string_bytes}
 use Rattle.jr_text.specs.declared.faults.TextFault.{TextFault}
 use Rattle.jr_text.specs.declared.faults.TextFault.TheVariants as fault
 use Rattle.jr_text.specs.Records.{LineText, SectionText}
@@ -22,10 +21,6 @@ refused_in lines = map line_number (filter is_refused lines)
 abbrev pub refused_lines : Option (List ℕ) → List SectionText → List ℕ
 refused_lines only sections = refused_in (counting_lines only sections)
 
--- there is such a line
-abbrev pub HasRefused : Option (List ℕ) → List SectionText → Type 0
-HasRefused only sections = list_any is_refused (counting_lines only sections) ≡ true
-
 -- the lines that notes are of
 abbrev pub noted_line : Note → Option ℕ
 noted_line note = note.line
@@ -39,6 +34,10 @@ lines_noted lines = map (λ (n : ℕ). Some n) (refused_in lines)
 
 abbrev pub sections_noted : Option (List ℕ) → List SectionText → List (Option ℕ)
 sections_noted only sections = map (λ (n : ℕ). Some n) (refused_lines only sections)
+
+-- what is said of these lines comes first, and all that follows is of no line
+abbrev pub AreFirst : List (Option ℕ) → List (Option ℕ) → Type 0
+AreFirst lines noted = noted ≡ lines ++ replicate (length noted - length lines) None
 
 -- the sections of a text weren't read for want of memory
 abbrev pub is_want : TextFault → Bool

@@ -7,10 +7,17 @@ mod laws;
 mod lines;
 mod near;
 mod notes;
+mod numbers;
+mod open;
+mod others;
 mod rows;
+mod said;
+mod unread;
 mod whole;
 
 pub use laws::{accepted_have_none, first_is_named, refused_ascend};
 pub use lines::{line_notes, told_of};
 pub use notes::{Note, job_notes, plan_notes};
+pub use numbers::{fio_number, fio_seconds};
+pub use others::other_words;
 pub use rows::{Fate, Told, Way};

@@ -1,10 +1,11 @@
 ghost use Rattle.std.specs.Prelude.{◌≡◌, ◌++◌, ◌∷◌, [], IfOk, OnOk, is_some, option_copied};
 ghost use Rattle.jr_options.specs.Refusals.{counts, line_fault};
 ghost use Rattle.jr_options.specs.Surveys.{is_global, is_planned};
-ghost use Rattle.jr_job_notes.specs.Notes.{lines_noted, noted, sections_noted};
+ghost use Rattle.jr_job_notes.specs.Notes.{is_refused, lines_noted, noted, sections_noted};
 
 use crate::keys::{key_told, value_told};
 use crate::notes::Note;
+use crate::others::example;
 use crate::rows::Told;
 use jr_job_options::JobOptions;
 use jr_options::JobFault;
@@ -15,7 +16,7 @@ use std::slice;
 // The most characters of a name that a note has.
 const MOST_SHOWN: usize = 26;
 
-// The most characters of a key.
+// The most characters of a key, and of a line.
 const LONGEST_SHOWN: usize = 200;
 
 // The section's lines count for the jobs below it; it is no job.
@@ -111,6 +112,13 @@ fn fault_of(line: &Line) -> Option<JobFault>
     }
 }
 
+// Whether a line is refused by itself.
+pub(crate) fn is_refused(line: &Line) -> bool
+    ensures { result ≡ is_refused line.now }
+{
+    fault_of(line).is_some()
+}
+
 /// What is said of a line that is refused by itself; nothing of one that is taken.
 pub fn told_of(line: &Line) -> Option<Told>
     ensures { is_some result ≡ is_some (line_fault line.now) }
@@ -133,19 +141,22 @@ fn told_as(line: &Line, fault: JobFault) -> Told {
 fn note_of(alloc: Global, line: &Line, fault: JobFault) -> Result<Note, AllocError>
     ensures { IfOk result (λ note. note.line ≡ Some line.now.line) }
 {
-    let text = line_text(alloc, line.key(), told_as(line, fault))?;
+    let text = line_text(alloc, line, told_as(line, fault))?;
     Ok(Note {
         line: Some(line.line()),
         text,
     })
 }
 
-fn line_text(alloc: Global, key: &str, told: Told) -> Result<String, AllocError> {
-    let key = first_letters(alloc, key, LONGEST_SHOWN)?;
+fn line_text(alloc: Global, line: &Line, told: Told) -> Result<String, AllocError> {
+    let key = first_letters(alloc, line.key(), LONGEST_SHOWN)?;
     let fate = told.fate.text(alloc)?;
     let (why, instead) = (told.why, told.instead);
-    match told.meant {
-        Some(word) => format!(in alloc; "{key}: {why}; did you mean `{word}`? ({fate})"),
+    if let Some(word) = told.meant {
+        return format!(in alloc; "{key}: {why}; did you mean `{word}`? ({fate})");
+    }
+    match example(alloc, line, told.fate)? {
+        Some(here) => format!(in alloc; "{key}: {why}; instead: {instead}, here {here} ({fate})"),
         None => format!(in alloc; "{key}: {why}; instead: {instead} ({fate})"),
     }
 }
@@ -153,6 +164,11 @@ fn line_text(alloc: Global, key: &str, told: Told) -> Result<String, AllocError>
 // The first characters of a name.
 pub(crate) fn shown(alloc: Global, name: &str) -> Result<String, AllocError> {
     first_letters(alloc, name, MOST_SHOWN)
+}
+
+// So much of a line as a note has.
+pub(crate) fn shown_line(alloc: Global, line: &str) -> Result<String, AllocError> {
+    first_letters(alloc, line, LONGEST_SHOWN)
 }
 
 fn first_letters(alloc: Global, name: &str, most: usize) -> Result<String, AllocError> {

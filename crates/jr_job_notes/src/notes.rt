@@ -1,11 +1,12 @@
-ghost use Rattle.std.specs.Prelude.{◌≡◌, List, Ok, true, IfOk, IsErr, option_copied};
+ghost use Rattle.std.specs.Prelude.{◌≡◌, ℕ, List, Option, Ok, true, IfOk, IsErr, OnOk, option_copied};
 ghost use Rattle.jr_text.specs.Records.{SectionText};
 ghost use Rattle.jr_text.specs.JobText.{sections_of};
-ghost use Rattle.jr_job_notes.specs.Notes.{HasRefused, is_want, noted, sections_noted};
+ghost use Rattle.jr_job_notes.specs.Notes.{AreFirst, is_want, noted, sections_noted};
 
 use crate::jobs::jobs;
 use crate::lines::line_notes;
-use crate::whole::{add_joint, add_own, add_unplanned, unchecked_notes};
+use crate::unread::add_unread;
+use crate::whole::{add_joint, add_own, add_unplanned, plan_texts};
 use jr_text::{Section, TextFault, sections};
 use std::alloc::{AllocError, Global};
 use std::fmt;
@@ -32,29 +33,29 @@ impl fmt::Display for Note {
     }
 }
 
-/// What is wrong with a job file that is refused: each line that is refused by itself, or else each job, or else what is wrong with all
-/// jobs together. There are none if the text is no job file, since its fault says it all.
+/// What is wrong with a job file that is refused: each line that is refused by itself, and then each job at fault and what is wrong with all
+/// jobs together, as far as that doesn't hang on a refused line. Of a text that is no job file: the line that is at fault.
 pub fn job_notes(alloc: Global, text: &[u8], only: Option<&str>) -> Result<Vec<Note>, AllocError>
-    // Where lines are refused, the notes are of these lines.
+    // The notes of lines are of those that are refused, and stand before all others.
     ensures { IfOk result (λ notes. (sections : List SectionText) → sections_of text.now ≡ Ok sections
-        → HasRefused (option_copied only.entry) sections
-        → noted notes.items ≡ sections_noted (option_copied only.entry) sections) }
+        → AreFirst (sections_noted (option_copied only.entry) sections) (noted notes.items)) }
 {
     match sections(alloc, text) {
         Ok(sections) => section_notes(alloc, sections.as_slice(), only),
-        Err(fault) => unread(alloc, fault),
+        Err(fault) => unread(alloc, text, fault),
     }
 }
 
-// No notes where a text is no job file, unless memory is wanting.
-fn unread(alloc: Global, fault: TextFault) -> Result<Vec<Note>, AllocError>
+// What is said of a text that is no job file, unless memory is wanting.
+fn unread(alloc: Global, text: &[u8], fault: TextFault) -> Result<Vec<Note>, AllocError>
     ensures { is_want fault ≡ true → IsErr result }
 {
     if is_want(fault) {
-        Err(AllocError)
-    } else {
-        Ok(Vec::new(alloc))
+        return Err(AllocError);
     }
+    let mut notes = Vec::new(alloc);
+    add_unread(alloc, &mut notes, text, fault)?;
+    Ok(notes)
 }
 
 // Whether sections weren't read for want of memory.
@@ -70,42 +71,50 @@ fn section_notes(
     sections: &[Section],
     only: Option<&str>,
 ) -> Result<Vec<Note>, AllocError>
-    ensures { IfOk result (λ notes. HasRefused (option_copied only.entry) sections.now
-        → noted notes.items ≡ sections_noted (option_copied only.entry) sections.now) }
+    ensures { IfOk result (λ notes. AreFirst (sections_noted (option_copied only.entry) sections.now) (noted notes.items)) }
 {
-    let lines = line_notes(alloc, sections, only)?;
-    if !lines.is_empty() {
-        return Ok(lines);
-    }
-    whole_notes(alloc, sections, only)
-}
-
-// What is wrong with jobs whose lines are right.
-fn whole_notes(
-    alloc: Global,
-    sections: &[Section],
-    only: Option<&str>,
-) -> Result<Vec<Note>, AllocError> {
-    let mut notes = Vec::new(alloc);
-    let jobs = jobs(alloc, sections, only)?;
-    if jobs.is_empty() {
-        add_unplanned(alloc, &mut notes, sections)?;
-    }
-    add_own(alloc, &mut notes, jobs.as_slice())?;
-    if notes.is_empty() {
-        add_joint(alloc, &mut notes, jobs.as_slice())?;
-    }
+    let mut notes = line_notes(alloc, sections, only)?;
+    let texts = whole_texts(alloc, sections, only)?;
+    add_texts(&mut notes, texts)?;
     Ok(notes)
 }
 
+// Adds notes that are of no line.
+fn add_texts(notes: &mut Vec<Note>, texts: Vec<String>) -> Result<(), AllocError>
+    ensures { OnOk result ((lines : List (Option ℕ)) → AreFirst lines (noted notes.old.items) → AreFirst lines (noted notes.new.items)) }
+{
+    for text in texts {
+        notes.push(Note { line: None, text })?;
+    }
+    Ok(())
+}
+
+// What is wrong with jobs, each by itself and all together.
+fn whole_texts(
+    alloc: Global,
+    sections: &[Section],
+    only: Option<&str>,
+) -> Result<Vec<String>, AllocError> {
+    let mut texts = Vec::new(alloc);
+    let jobs = jobs(alloc, sections, only)?;
+    if jobs.is_empty() {
+        add_unplanned(alloc, &mut texts, sections)?;
+    }
+    add_own(alloc, &mut texts, jobs.as_slice())?;
+    add_joint(alloc, &mut texts, jobs.as_slice())?;
+    Ok(texts)
+}
+
 /// What is worth knowing of a job file that is taken: that a job has a pattern or a backlog and checks nothing, or only reads and checks
-/// nothing.
+/// nothing; that fio means something else by its lines.
 pub fn plan_notes(alloc: Global, text: &[u8], only: Option<&str>) -> Result<Vec<Note>, AllocError> {
     match sections(alloc, text) {
         Ok(sections) => {
             let jobs = jobs(alloc, sections.as_slice(), only)?;
-            unchecked_notes(alloc, jobs.as_slice())
+            let mut notes = Vec::new(alloc);
+            add_texts(&mut notes, plan_texts(alloc, jobs.as_slice())?)?;
+            Ok(notes)
         }
-        Err(fault) => unread(alloc, fault),
+        Err(fault) => unread(alloc, text, fault),
     }
 }

@@ -1,6 +1,5 @@
 use crate::jobs::Job;
 use crate::lines::{is_global, shown};
-use crate::notes::Note;
 use jr_job_options::{JobOptions, Shape};
 use jr_model::{
     EngineKind, LARGEST_BLOCK, LARGEST_END, MOST_CELLS, MOST_CLONES, MOST_WORK, SECTOR,
@@ -16,7 +15,7 @@ const MOST_NAMES: usize = 3;
 // Says that no job is planned, and which there are.
 pub(crate) fn add_unplanned(
     alloc: Global,
-    notes: &mut Vec<Note>,
+    texts: &mut Vec<String>,
     sections: &[Section],
 ) -> Result<(), AllocError> {
     let names = names(alloc, sections)?;
@@ -28,7 +27,7 @@ pub(crate) fn add_unplanned(
     } else {
         format!(in alloc; "no job of this name; instead: one of{names}")?
     };
-    notes.push(Note { line: None, text })?;
+    texts.push(text)?;
     Ok(())
 }
 
@@ -52,29 +51,27 @@ fn names(alloc: Global, sections: &[Section]) -> Result<String, AllocError> {
     Ok(names)
 }
 
-// Says of each job that is at fault by itself what is wrong with it.
+// Says of each job that is at fault by itself what is wrong with it, unless a refused line may say otherwise.
 pub(crate) fn add_own(
     alloc: Global,
-    notes: &mut Vec<Note>,
+    texts: &mut Vec<String>,
     jobs: &[Job],
 ) -> Result<(), AllocError> {
     for job in jobs {
-        if let Err(fault) = job.options.shape(job.line) {
+        if let Err(fault) = job.options.shape(job.line)
+            && job.open.keeps(fault)
+        {
             let text = own_text(alloc, job, fault)?;
-            add(alloc, notes, job, text)?;
+            add(alloc, texts, job, text)?;
         }
     }
     Ok(())
 }
 
-// Adds a note of a job, which its name begins.
-fn add(alloc: Global, notes: &mut Vec<Note>, job: &Job, text: String) -> Result<(), AllocError> {
-    let name = job.name.as_str();
-    let text = format!(in alloc; "[{name}]: {text}")?;
-    notes.push(Note {
-        line: Some(job.line),
-        text,
-    })?;
+// Adds a text of a job, which the line of its heading and its name begin.
+fn add(alloc: Global, texts: &mut Vec<String>, job: &Job, text: String) -> Result<(), AllocError> {
+    let (line, name) = (job.line, job.name.as_str());
+    texts.push(format!(in alloc; "line {line}: [{name}]: {text}")?)?;
     Ok(())
 }
 
@@ -157,36 +154,38 @@ fn add_sizes(sizes: &mut Vec<u32>, split: &Split) -> Result<(), AllocError> {
     Ok(())
 }
 
-// Says what is wrong with sound jobs together, and from which on.
+// Says what is wrong with sound jobs together, and from which on. Jobs of which a refused line may say otherwise are left out.
 pub(crate) fn add_joint(
     alloc: Global,
-    notes: &mut Vec<Note>,
+    texts: &mut Vec<String>,
     jobs: &[Job],
 ) -> Result<(), AllocError> {
-    add_engines(alloc, notes, jobs)?;
-    add_clones(alloc, notes, jobs)?;
+    add_engines(alloc, texts, jobs)?;
+    add_clones(alloc, texts, jobs)?;
     for job in jobs {
-        if let Ok(shape) = job.options.shape(job.line) {
-            add_long(alloc, notes, job, &shape)?;
+        if job.open.has_region()
+            && let Ok(shape) = job.options.shape(job.line)
+        {
+            add_long(alloc, texts, job, &shape)?;
         }
     }
-    add_work(alloc, notes, jobs)
+    add_work(alloc, texts, jobs)
 }
 
 // The first job whose engine is of another kind than that of the first of all.
-fn add_engines(alloc: Global, notes: &mut Vec<Note>, jobs: &[Job]) -> Result<(), AllocError> {
-    let Some(first) = jobs.first() else {
+fn add_engines(alloc: Global, texts: &mut Vec<String>, jobs: &[Job]) -> Result<(), AllocError> {
+    let Some(first) = jobs.iter().find(|job| job.open.has_engine()) else {
         return Ok(());
     };
     let kind = first.options.engine;
     for job in jobs {
-        if !is_same(kind, job.options.engine) {
+        if job.open.has_engine() && !is_same(kind, job.options.engine) {
             let (here, there) = (engine_word(job.options.engine), engine_word(kind));
             let (name, line) = (first.name.as_str(), first.line);
             let text = format!(in alloc;
                 "engine {here}, and {there} in [{name}] of line {line}; instead: one kind in all"
             )?;
-            return add(alloc, notes, job, text);
+            return add(alloc, texts, job, text);
         }
     }
     Ok(())
@@ -210,15 +209,17 @@ fn engine_word(kind: EngineKind) -> &'static str {
 }
 
 // The job with which there are too many clones.
-fn add_clones(alloc: Global, notes: &mut Vec<Note>, jobs: &[Job]) -> Result<(), AllocError> {
+fn add_clones(alloc: Global, texts: &mut Vec<String>, jobs: &[Job]) -> Result<(), AllocError> {
     let mut clones: u64 = 0;
     for job in jobs {
-        clones = clones.saturating_add(u64::from(job.options.clones));
+        if job.open.has_region() {
+            clones = clones.saturating_add(u64::from(job.options.clones));
+        }
         if clones > MOST_CLONES as u64 {
             let text = format!(in alloc;
                 "{clones} clones up to here; instead: at most 64 in all, by numjobs"
             )?;
-            return add(alloc, notes, job, text);
+            return add(alloc, texts, job, text);
         }
     }
     Ok(())
@@ -227,7 +228,7 @@ fn add_clones(alloc: Global, notes: &mut Vec<Note>, jobs: &[Job]) -> Result<(), 
 // A job that reaches too far, or whose clones have too many blocks.
 fn add_long(
     alloc: Global,
-    notes: &mut Vec<Note>,
+    texts: &mut Vec<String>,
     job: &Job,
     shape: &Shape,
 ) -> Result<(), AllocError> {
@@ -236,14 +237,14 @@ fn add_long(
         let text = format!(in alloc;
             "its last clone ends at {end}; instead: at most 1125899906842624 (2^50)"
         )?;
-        add(alloc, notes, job, text)?;
+        add(alloc, texts, job, text)?;
     }
     let (cells, cell) = (shape.cells, shape.cell);
     if cells > u64::from(MOST_CELLS) {
         let text = format!(in alloc;
             "{cells} blocks of {cell} bytes; instead: at most 16777216, by bs or size"
         )?;
-        add(alloc, notes, job, text)?;
+        add(alloc, texts, job, text)?;
     }
     Ok(())
 }
@@ -259,16 +260,18 @@ fn end_of(options: &JobOptions, shape: &Shape) -> u128 {
 }
 
 // The job with which there are too many blocks in all passes.
-fn add_work(alloc: Global, notes: &mut Vec<Note>, jobs: &[Job]) -> Result<(), AllocError> {
+fn add_work(alloc: Global, texts: &mut Vec<String>, jobs: &[Job]) -> Result<(), AllocError> {
     let mut work: u128 = 0;
     for job in jobs {
-        if let Ok(shape) = job.options.shape(job.line) {
+        if job.open.has_region()
+            && let Ok(shape) = job.options.shape(job.line)
+        {
             work = work.saturating_add(visits(&job.options, &shape));
             if work > u128::from(MOST_WORK) {
                 let text = format!(in alloc;
                     "{work} blocks of all loops up to here; instead: at most 1073741824 in all"
                 )?;
-                return add(alloc, notes, job, text);
+                return add(alloc, texts, job, text);
             }
         }
     }
@@ -282,27 +285,78 @@ fn visits(options: &JobOptions, shape: &Shape) -> u128 {
         .saturating_mul(u128::from(options.clones))
 }
 
-// Says which jobs have a pattern or a backlog and verify nothing, and which only read and don't check what they read.
-pub(crate) fn unchecked_notes(alloc: Global, jobs: &[Job]) -> Result<Vec<Note>, AllocError> {
-    let mut notes = Vec::new(alloc);
+// Says which jobs have a pattern or a backlog and verify nothing, which only read and don't check what they read, and of which fio means
+// something else.
+pub(crate) fn plan_texts(alloc: Global, jobs: &[Job]) -> Result<Vec<String>, AllocError> {
+    let mut texts = Vec::new(alloc);
     for job in jobs {
-        if !job.says_verify
-            && let Some(key) = idle_key(&job.options)
-        {
-            let text = format!(in alloc;
-                "{key} without verify: nothing is checked; instead: verify=pattern or verify=md5"
-            )?;
-            add(alloc, &mut notes, job, text)?;
-        }
-        if leaves_reads(&job.options) {
-            let text = String::from_str(
-                alloc,
-                "do_verify=0, and nothing is written: nothing is checked; instead: do_verify=1",
-            )?;
-            add(alloc, &mut notes, job, text)?;
+        add_unchecked(alloc, &mut texts, job)?;
+        add_meant(alloc, &mut texts, job)?;
+    }
+    Ok(texts)
+}
+
+fn add_unchecked(alloc: Global, texts: &mut Vec<String>, job: &Job) -> Result<(), AllocError> {
+    if !job.said.verify
+        && let Some(key) = idle_key(&job.options)
+    {
+        let text = format!(in alloc;
+            "{key} without verify: nothing is checked; instead: verify=pattern or verify=md5"
+        )?;
+        add(alloc, texts, job, text)?;
+    }
+    if leaves_reads(&job.options) {
+        let text = String::from_str(
+            alloc,
+            "do_verify=0, and nothing is written: nothing is checked; instead: do_verify=1",
+        )?;
+        add(alloc, texts, job, text)?;
+    }
+    Ok(())
+}
+
+// Says what fio means otherwise.
+fn add_meant(alloc: Global, texts: &mut Vec<String>, job: &Job) -> Result<(), AllocError> {
+    for text in [cache_text(job), repeat_text(job), null_text(job)] {
+        if let Some(text) = text {
+            add(alloc, texts, job, String::from_str(alloc, text)?)?;
         }
     }
-    Ok(notes)
+    Ok(())
+}
+
+// `buffered` is the other word for `direct` in fio.
+fn cache_text(job: &Job) -> Option<&'static str> {
+    match (job.said.direct, job.said.fio_direct) {
+        (false, true) => Some(
+            "buffered=0 says nothing here: files go through the cache; instead: direct=1, as fio means it",
+        ),
+        (true, false) => Some(
+            "buffered=1 says nothing here: files go past the cache; instead: direct=0, as fio means it",
+        ),
+        _ => None,
+    }
+}
+
+fn repeat_text(job: &Job) -> Option<&'static str> {
+    if job.said.repeats {
+        None
+    } else {
+        Some(
+            "randrepeat=0 says nothing here: each run draws and writes the same; instead: another randseed for each run",
+        )
+    }
+}
+
+fn null_text(job: &Job) -> Option<&'static str> {
+    let is_null = matches!(job.options.engine, EngineKind::Null);
+    if is_null && job.options.kind.is_verified() && job.options.checks_writes {
+        Some(
+            "verify over ioengine=null: what is checked is all zeros, where fio checks nothing; instead: memory, or verify=0",
+        )
+    } else {
+        None
+    }
 }
 
 // Whether a job says how its blocks are verified, and neither writes nor checks any.
