@@ -20,10 +20,19 @@ from program import FIELDS, SystemCalls, Wrong, expect, find_program, needed_lib
 SECONDS = 60
 LINE = re.compile(r"clone=(\d+) pass=(\d+) number=(\d+) file=(.*) offset=(\d+) length=(\d+) what=(\S+)")
 NUMBERS = ("clone", "pass", "number", "offset", "length")
-MEMBERS = "badreads cached direct faults fiorun interrupted jobs miscompares more_faults status stored".split()
+MEMBERS = "badreads cached direct faults fiorun interrupted jobs miscompares more_faults plan status stored".split()
 FAULT = {*NUMBERS, "file", "kind", "outcome", "moved", "reason"}
 # Names of jobs and files that a writer of JSON may trip over: quotes, backslashes, tags, control characters, bytes above 0x7f.
 NAMES = ['<script>"\\', "a\tb", "\x01\x1f\x7f", "\u009b\u2028\u202e", "é ✓ \U0001f600", "</script>", "\\u0041", "'", "a: clone=1"]
+
+
+PLANNED = re.compile(r"(.*): clone=(\d+) phase=(\d+) file=(.*) start=(\d+) size=(\d+) cell=(\d+) cells=\d+ rw=(\w+) iodepth=(\d+) loops=(\d+) verify=(\w+)")
+ASKED = "job clone phase file start size cell rw iodepth loops verify".split()
+
+
+def unchecked(counts):
+    """How many writes of a clone have no verdict and weren't skipped. A clone that has its reads checked has no writes."""
+    return counts["writes"] and counts["writes"] - counts["checks"] - counts["void"] - counts["skipped"]
 
 
 def told(report):
@@ -39,6 +48,7 @@ def told(report):
             name, counts = line.rsplit(": clone=", 1)
             counts = dict(it.split("=") for it in f"clone={counts}".split())
             jobs.append({"job": name, **{key: int(value) for key, value in counts.items()}})
+            jobs[-1]["unchecked"] = unchecked(jobs[-1])
     return jobs, bad
 
 
@@ -46,9 +56,10 @@ def agrees(report, status, found, interrupted=False, stored=True):
     """Whether an object is that of a report and a status."""
     jobs, bad = told(report)
     expect(list(found) == MEMBERS, "members", list(found))
-    expect(found["jobs"] == jobs and all(set(it) == {"job", "clone", *FIELDS} for it in jobs), "jobs", found["jobs"], jobs)
+    expect(found["jobs"] == jobs and all(set(it) == {"job", "clone", "unchecked", *FIELDS} for it in jobs), "jobs", found["jobs"], jobs)
     expect(found["badreads"] == bad["badread"], "badreads", found["badreads"], bad["badread"])
     expect(found["miscompares"] == bad["miscompare"], "miscompares", found["miscompares"], bad["miscompare"])
+    expect([it["clone"] for it in found["plan"]] == [it["clone"] for it in jobs], "plan", found["plan"])
     expect((found["status"], found["interrupted"]) == (status, interrupted), "end", found["status"], found["interrupted"])
     expect(found["stored"] is stored, "stored", found["stored"])
     expect(found["cached"] is None or type(found["cached"]) is int and found["cached"] >= 0, "cached", found["cached"])
@@ -95,6 +106,28 @@ def clean(place):
     expect(found["cached"] is None and found["direct"] is None, "a run over no files", found["cached"], found["direct"])
     version = subprocess.run([place.program, "--version"], capture_output=True, text=True, check=True).stdout
     expect(f"fiorun {found['fiorun']}\n" == version, "version", found["fiorun"], version)
+
+
+def planned(place):
+    """What clones are to do: what the plan's lines say, and options that these don't have."""
+    jobs = (
+        "[global]\nioengine=memory\nfilename=f\nsize=64k\n[a]\nrw=write\nverify=md5\nbs=8k\nnumjobs=2\noffset_increment=64k\n"
+        "[b]\nstonewall\nrw=randrw\nrwmixread=30\niodepth=4\nloops=3\nverify=pattern\nverify_pattern=7\nverify_backlog=5\nverify_fatal=1\n"
+        "[c]\nrw=randwrite\nnorandommap\nserialize_overlap=0\nrandseed=9\nverify=sha256\nverify_interval=512\ndo_verify=0\nfilename=g\n"
+    )
+    _, report, found = place.run(jobs, "--workers=1")
+    lines = subprocess.run([place.program, "--parse-only"], input=jobs, capture_output=True, text=True, check=True).stdout.splitlines()
+    wanted = [dict(zip(ASKED, PLANNED.fullmatch(it).groups())) for it in lines]
+    expect([{name: str(it[name]) for name in ASKED} for it in found["plan"]] == wanted, "plan", found["plan"], wanted)
+    options = [it["options"] for it in found["plan"]]
+    a, _, b, c = options
+    expect((a["rwmixread"], b["rwmixread"], b["verify_backlog"], c["verify_interval"]) == (50, 30, 5, 512), "numbers", found["plan"])
+    flags = [[it[name] for it in (a, b, c)] for name in ("verify_fatal", "norandommap", "serialize_overlap", "do_verify")]
+    wanted = [[False, True, False], [False, False, True], [True, True, False], [True, True, False]]
+    expect(flags == wanted, "flags", flags)
+    expect([it["seed"] for it in options] == [1, 1, 1, 9], "seeds", options)
+    left = [it["unchecked"] for it in found["jobs"]]
+    expect(left[:3] == [0, 0, 0] and left[3] == found["jobs"][3]["writes"] > 0, "unchecked", left, report)
 
 
 def names(place):
@@ -201,7 +234,7 @@ def main(words):
     wrong = []
     with tempfile.TemporaryDirectory(prefix="report-json-") as room:
         library = needed_library("faulty.c", room, "report_json")
-        for case in (clean, names, verdicts, reads, faults, many_faults, unstored, interrupted):
+        for case in (clean, planned, names, verdicts, reads, faults, many_faults, unstored, interrupted):
             path = os.path.join(room, case.__name__)
             os.mkdir(path)
             try:

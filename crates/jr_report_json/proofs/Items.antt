@@ -48,6 +48,19 @@ clones_none (job ∷ jobs) [] (suc i) h = nothing (drop i jobs)
 clones_none (job ∷ jobs) (t ∷ totals) zero h = absurd (omega arith)
 clones_none (job ∷ jobs) (t ∷ totals) (suc i) h = clones_none jobs totals i (omega arith)
 
+-- all that are left, each by its row
+pub rows_more : {X : Type 0} (row : X → Data) (xs : List X) (i : ℕ) (x : X) → slice_get xs i ≡ Some x
+    → rest_text i (map row (drop i xs)) ≡ item_text i (row x) ++ rest_text (i + 1) (map row (drop (i + 1) xs))
+rows_more {X} row xs i x at = rw add-one (ap (λ (ds : List Data). rest_text i ds) (rows_suc xs i at) ∙ next_item i (row x) (map row (drop (suc i) xs)))
+  where
+    rows_suc : (xs : List X) (i : ℕ) → slice_get xs i ≡ Some x → map row (drop i xs) ≡ row x ∷ map row (drop (suc i) xs)
+    rows_suc [] i at = cc
+    rows_suc (first ∷ rest) zero at = ap (λ (y : X). row y ∷ map row rest) (same first x at)
+      where
+        same : (a b : X) → Some a ≡ Some b → a ≡ b
+        same a b h = cc
+    rows_suc (first ∷ rest) (suc i) at = rows_suc rest i at
+
 -- of any list some are items: those that are left
 kept : {X Y : Type 0} (test : Y → Bool) (name : X → Y) (xs : List X) (i : ℕ) (d : X) (b : Bool) → i < length xs
     → test (name (get_or xs i d)) ≡ b

@@ -1,5 +1,5 @@
 -- The members of a report, one behind another.
-use Rattle.std.proofs.Common.{◌≡◌, ℕ, List, [], ◌∷◌, ◌++◌, codes, refl, ap, ◌∙◌, append_assoc}
+use Rattle.std.proofs.Common.{◌≡◌, ℕ, List, [], ◌∷◌, ◌++◌, map, codes, refl, ap, ◌∙◌, append_assoc}
 use Rattle.std.specs.Prelude.{Option, false, true}
 use Rattle.json.specs.Print.{escape_byte, quoted}
 use Rattle.serde_json.specs.Data.{array, boolean, string}
@@ -9,8 +9,8 @@ use Rattle.jr_model.specs.declared.totals.Totals.{Totals}
 use Rattle.jr_model.specs.Plan.{Plan}
 use Rattle.jr_model.specs.Report.{Miscompare}
 use Rattle.jr_report_faults.specs.Faults.{NamedFault}
-use Rattle.jr_report_json.specs.Json.{RunEnd, clones_json, count_json, faults_json, flag_json, natural, report_json}
-use Rattle.jr_report_json.specs.Rows.{bads_json, end_text, found_text, head_text, reads_text}
+use Rattle.jr_report_json.specs.Json.{RunEnd, asked_json, clones_json, count_json, faults_json, flag_json, natural, report_json}
+use Rattle.jr_report_json.specs.Rows.{bads_json, end_text, found_text, head_text, plan_text, reads_text}
 
 -- the names, as they are written
 
@@ -50,6 +50,10 @@ pub more_faults_name : codes ",\"more_faults\":" ≡ codes "," ++ (quoted (codes
 unfolding escape_byte
 more_faults_name = refl
 
+pub plan_name : codes ",\"plan\":" ≡ codes "," ++ (quoted (codes "plan") ++ 58 ∷ [])
+unfolding escape_byte
+plan_name = refl
+
 pub status_name : codes ",\"status\":" ≡ codes "," ++ (quoted (codes "status") ++ 58 ∷ [])
 unfolding escape_byte
 status_name = refl
@@ -81,27 +85,34 @@ pub four_more : (t0 t1 t2 t3 t4 a b c d : List ℕ)
 four_more t0 t1 t2 t3 t4 a b c d first second third fourth =
     two_more t0 t3 t4 (a ++ b ++ c) d (three_more t0 t1 t2 t3 a b c first second third) fourth
 
--- eleven members with their braces are an object
-all_members : (b m e k q1 q2 q3 q4 q5 q6 q7 q8 q9 q10 q11 v1 v2 v3 v4 v5 v6 v7 v8 v9 v10 v11 : List ℕ)
+pub five_more : (t0 t1 t2 t3 t4 t5 a b c d e : List ℕ)
+    → t1 ≡ t0 ++ a → t2 ≡ t1 ++ b → t3 ≡ t2 ++ c → t4 ≡ t3 ++ d → t5 ≡ t4 ++ e → t5 ≡ t0 ++ (a ++ b ++ c ++ d ++ e)
+five_more t0 t1 t2 t3 t4 t5 a b c d e first second third fourth fifth =
+    two_more t0 t4 t5 (a ++ b ++ c ++ d) e (four_more t0 t1 t2 t3 t4 a b c d first second third fourth) fifth
+
+-- twelve members with their braces are an object
+all_members : (b m e k q1 q2 q3 q4 q5 q6 q7 q8 q9 q10 q11 q12 v1 v2 v3 v4 v5 v6 v7 v8 v9 v10 v11 v12 : List ℕ)
     → (b ++ (q1 ++ (k ++ v1)))
     ++ (((m ++ (q2 ++ (k ++ v2))) ++ (m ++ (q3 ++ (k ++ v3)))) ++ (m ++ (q4 ++ (k ++ v4))) ++ (m ++ (q5 ++ (k ++ v5))) ++ (m ++ (q6 ++ (k ++ v6))))
     ++ ((m ++ (q7 ++ (k ++ v7))) ++ (m ++ (q8 ++ (k ++ v8))))
-    ++ ((m ++ (q9 ++ (k ++ v9))) ++ (m ++ (q10 ++ (k ++ v10))) ++ (m ++ (q11 ++ (k ++ v11))) ++ e)
+    ++ ((m ++ (q9 ++ (k ++ v9))) ++ (m ++ (q10 ++ (k ++ v10))))
+    ++ ((m ++ (q11 ++ (k ++ v11))) ++ (m ++ (q12 ++ (k ++ v12))) ++ e)
     ≡ b ++ (q1 ++ (k ++ (v1 ++ (m ++ (q2 ++ (k ++ (v2 ++ (m ++ (q3 ++ (k ++ (v3 ++ (m ++ (q4 ++ (k ++ (v4 ++ (m ++ (q5 ++ (k ++ (v5
     ++ (m ++ (q6 ++ (k ++ (v6 ++ (m ++ (q7 ++ (k ++ (v7 ++ (m ++ (q8 ++ (k ++ (v8 ++ (m ++ (q9 ++ (k ++ (v9
-    ++ (m ++ (q10 ++ (k ++ (v10 ++ (m ++ (q11 ++ (k ++ (v11 ++ e)))))))))))))))))))))))))))))))))))))))))))
-all_members b m e k q1 q2 q3 q4 q5 q6 q7 q8 q9 q10 q11 v1 v2 v3 v4 v5 v6 v7 v8 v9 v10 v11 = simp append_assoc
+    ++ (m ++ (q10 ++ (k ++ (v10 ++ (m ++ (q11 ++ (k ++ (v11 ++ (m ++ (q12 ++ (k ++ (v12 ++ e)))))))))))))))))))))))))))))))))))))))))))))))
+all_members b m e k q1 q2 q3 q4 q5 q6 q7 q8 q9 q10 q11 q12 v1 v2 v3 v4 v5 v6 v7 v8 v9 v10 v11 v12 = simp append_assoc
 
 pub report_text : (ending : RunEnd) (plan : Plan) (totals : List Totals) (found : List Miscompare) (faults : List NamedFault)
     (reasons : List (Option (List ℕ))) (more : ℕ)
-    → reads_text plan found ++ head_text ending faults reasons ++ found_text plan totals found ++ end_text ending more
+    → reads_text plan found ++ head_text ending faults reasons ++ found_text plan totals found ++ plan_text plan more ++ end_text ending
     ≡ compact_text (report_json ending plan totals found faults reasons more)
 report_text ending plan totals found faults reasons more =
     all_members (codes "{") (codes ",") (codes "}") (58 ∷ [])
     (quoted (codes "badreads")) (quoted (codes "cached")) (quoted (codes "direct")) (quoted (codes "faults")) (quoted (codes "fiorun")) (quoted (codes "interrupted"))
-    (quoted (codes "jobs")) (quoted (codes "miscompares")) (quoted (codes "more_faults")) (quoted (codes "status")) (quoted (codes "stored"))
+    (quoted (codes "jobs")) (quoted (codes "miscompares")) (quoted (codes "more_faults")) (quoted (codes "plan")) (quoted (codes "status")) (quoted (codes "stored"))
     (compact_text (array (items_of (bads_json plan true found)))) (compact_text (count_json ending.cached)) (compact_text (flag_json ending.direct))
     (compact_text (array (items_of (faults_json faults reasons))))
     (compact_text (string ending.version)) (compact_text (boolean ending.is_interrupted))
     (compact_text (array (items_of (clones_json plan.clones totals)))) (compact_text (array (items_of (bads_json plan false found))))
-    (compact_text (natural more)) (compact_text (natural ending.status)) (compact_text (boolean ending.is_stored))
+    (compact_text (natural more)) (compact_text (array (items_of (map (asked_json plan) plan.clones))))
+    (compact_text (natural ending.status)) (compact_text (boolean ending.is_stored))

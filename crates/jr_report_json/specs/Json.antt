@@ -1,6 +1,6 @@
 -- Believed: the report of a run as a JSON value (RFC 8259; the names are of this project). An object has its members in the order of
 -- their names.
-use Rattle.std.specs.Prelude.{ℕ, ◌-◌, Bool, false, not, List, [], ◌∷◌, length, map, filter, take, Option, Some, None, unwrap_or, codes}
+use Rattle.std.specs.Prelude.{ℕ, ◌-◌, ◌*◌, Bool, false, not, List, [], ◌∷◌, length, map, filter, take, Option, Some, None, unwrap_or, codes}
 use Rattle.std.specs.Option.{option_map}
 use Rattle.serde_json.specs.Data.{Data, null, boolean, number, string, array, object, unsigned, member, no_members}
 use Rattle.serde_json.specs.View.{items_of}
@@ -9,6 +9,7 @@ use Rattle.jr_model.specs.declared.events.Outcome.{Outcome}
 use Rattle.jr_model.specs.declared.events.Outcome.TheVariants.{Whole, Failed, Short}
 use Rattle.jr_model.specs.declared.totals.Totals.{Totals}
 use Rattle.jr_model.specs.Plan.{Plan, SubJob, checks_reads, clone_of}
+use Rattle.jr_plan.specs.PlanText.{io_type_word, verify_word}
 use Rattle.jr_model.specs.Report.{Miscompare, all_totals, file_name, in_order, miscompares, what_text}
 use Rattle.jr_report_faults.specs.declared.faults.TheConstants.{MOST_NAMED}
 use Rattle.jr_report_faults.specs.Faults.{NamedFault, faults_of, kind_word, named_by}
@@ -16,7 +17,12 @@ use Rattle.jr_report_faults.specs.Faults.{NamedFault, faults_of, kind_word, name
 abbrev pub natural : ℕ → Data
 natural n = number (unsigned n)
 
--- what the report's line of a clone says
+-- the writes that ended whole and have no verdict, not even a void one, and that weren't skipped. (A clone that has reads checked has no
+-- writes.)
+abbrev pub unchecked : Totals → ℕ
+unchecked t = t.writes - t.checks - t.void - t.skipped
+
+-- what the report's line of a clone says, and how many of its writes it leaves open
 abbrev pub clone_json : SubJob → Totals → Data
 clone_json job t = object
     (member (codes "bad") (natural t.bad)
@@ -28,9 +34,38 @@ clone_json job t = object
     (member (codes "rbytes") (natural t.rbytes)
     (member (codes "reads") (natural t.reads)
     (member (codes "skipped") (natural t.skipped)
+    (member (codes "unchecked") (natural (unchecked t))
     (member (codes "void") (natural t.void)
     (member (codes "wbytes") (natural t.wbytes)
-    (member (codes "writes") (natural t.writes) no_members))))))))))))
+    (member (codes "writes") (natural t.writes) no_members)))))))))))))
+
+-- the options of a clone that its line of the plan doesn't have
+abbrev pub options_json : SubJob → Data
+options_json job = object
+    (member (codes "do_verify") (boolean job.checks_writes)
+    (member (codes "norandommap") (boolean (not job.has_map))
+    (member (codes "rwmixread") (natural job.read_percent)
+    (member (codes "seed") (natural job.seed)
+    (member (codes "serialize_overlap") (boolean (not job.declines))
+    (member (codes "verify_backlog") (natural job.backlog)
+    (member (codes "verify_fatal") (boolean job.is_fatal)
+    (member (codes "verify_interval") (natural job.method.interval) no_members))))))))
+
+-- what a clone is to do: what its line of the plan says, and its other options
+abbrev pub asked_json : Plan → SubJob → Data
+asked_json plan job = object
+    (member (codes "cell") (natural job.cell)
+    (member (codes "clone") (natural job.clone)
+    (member (codes "file") (string (file_name plan job.file))
+    (member (codes "iodepth") (natural job.depth)
+    (member (codes "job") (string job.job)
+    (member (codes "loops") (natural job.passes)
+    (member (codes "options") (options_json job)
+    (member (codes "phase") (natural job.phase)
+    (member (codes "rw") (string (io_type_word job.io_type))
+    (member (codes "size") (natural (job.cells * job.cell))
+    (member (codes "start") (natural job.start)
+    (member (codes "verify") (string (verify_word job.method.kind)) no_members))))))))))))
 
 -- the clones, by their totals
 abbrev pub clones_json : List SubJob → List Totals → List Data
@@ -122,8 +157,9 @@ report_json ending plan totals found faults reasons more = object
     (member (codes "jobs") (array (items_of (clones_json plan.clones totals)))
     (member (codes "miscompares") (array (items_of (map (miscompare_json plan) (filter (λ m. not (is_bad_read plan m)) found))))
     (member (codes "more_faults") (natural more)
+    (member (codes "plan") (array (items_of (map (asked_json plan) plan.clones)))
     (member (codes "status") (natural ending.status)
-    (member (codes "stored") (boolean ending.is_stored) no_members)))))))))))
+    (member (codes "stored") (boolean ending.is_stored) no_members))))))))))))
 
 -- the report of a history: the totals and the bad verdicts of its text, and the first of its faults
 abbrev pub json_of : RunEnd → Plan → List Event → List (Option (List ℕ)) → Data

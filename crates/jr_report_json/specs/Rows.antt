@@ -13,7 +13,7 @@ use Rattle.jr_model.specs.Plan.{Plan}
 use Rattle.jr_model.specs.Report.{Miscompare}
 use Rattle.jr_report_faults.specs.Faults.{NamedFault}
 use Rattle.jr_report_json.specs.declared.endings.RunStatus.{RunStatus}
-use Rattle.jr_report_json.specs.Json.{RunEnd, clones_json, count_json, faults_json, flag_json, is_bad_read, miscompare_json, natural}
+use Rattle.jr_report_json.specs.Json.{RunEnd, asked_json, clones_json, count_json, faults_json, flag_json, is_bad_read, miscompare_json, natural}
 
 abbrev pub text_of : Option (Bor (String Global)) → Option (List ℕ)
 text_of None = None
@@ -96,8 +96,12 @@ found_text plan totals found =
     member_text (codes ",") (codes "jobs") (array (items_of (clones_json plan.clones totals)))
     ++ member_text (codes ",") (codes "miscompares") (array (items_of (bads_json plan false found)))
 
-abbrev pub end_text : RunEnd → ℕ → List ℕ
-end_text ending more =
+abbrev pub plan_text : Plan → ℕ → List ℕ
+plan_text plan more =
     member_text (codes ",") (codes "more_faults") (natural more)
-    ++ member_text (codes ",") (codes "status") (natural ending.status)
+    ++ member_text (codes ",") (codes "plan") (array (items_of (map (asked_json plan) plan.clones)))
+
+abbrev pub end_text : RunEnd → List ℕ
+end_text ending =
+    member_text (codes ",") (codes "status") (natural ending.status)
     ++ member_text (codes ",") (codes "stored") (boolean ending.is_stored) ++ codes "}"

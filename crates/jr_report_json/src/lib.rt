@@ -1,6 +1,7 @@
 // The report of a run as JSON: what its text says, and the faults.
 #![tactic(auto)]
 
+mod asked;
 mod endings;
 mod rows;
 mod texts;

@@ -4,7 +4,7 @@ ghost use Rattle.std.specs.Option.{option_map};
 ghost use Rattle.jr_model.specs.Plan.{clone_of};
 ghost use Rattle.jr_model.specs.Report.{file_name, found_word, part_text, what_text};
 ghost use Rattle.jr_report_faults.specs.Faults.{named};
-ghost use Rattle.jr_report_json.specs.Json.{clone_json, fault_json, is_bad_read, miscompare_json, moved_json, outcome_word, reason_json};
+ghost use Rattle.jr_report_json.specs.Json.{clone_json, fault_json, is_bad_read, miscompare_json, moved_json, outcome_word, reason_json, unchecked};
 ghost use Rattle.jr_report_json.specs.Rows.{text_of};
 ghost use Rattle.jr_desk_totals.specs.Tallying.{miscompare_of};
 ghost use Rattle.serde_json.specs.View.{view};
@@ -30,10 +30,21 @@ pub(crate) fn clone_row(alloc: Global, job: &SubJob, totals: &Totals) -> Result<
         "rbytes": totals.rbytes,
         "reads": totals.reads,
         "skipped": totals.skipped,
+        "unchecked": unchecked(totals),
         "void": totals.void,
         "wbytes": totals.wbytes,
         "writes": totals.writes
     })
+}
+
+// How many writes ended whole and were neither checked nor skipped.
+fn unchecked(totals: &Totals) -> u64
+    ensures { result ≡ unchecked totals.now }
+{
+    let unsaid = totals.writes.saturating_sub(totals.checks);
+    unsaid
+        .saturating_sub(totals.void)
+        .saturating_sub(totals.skipped)
 }
 
 // Whether a bad verdict is on a read that was checked: its clone checks its reads.
@@ -62,7 +73,7 @@ pub(crate) fn miscompare_row(alloc: Global, plan: &Plan, bad: &Bad) -> Result<Va
     })
 }
 
-fn file_name(plan: &Plan, file: u32) -> &str
+pub(crate) fn file_name(plan: &Plan, file: u32) -> &str
     ensures { result.now ≡ file_name plan.now file }
 {
     match plan.files().get(file as usize) {

@@ -1,14 +1,15 @@
 // The text of a report, row by row.
 ghost use Rattle.std.specs.Prelude.{◌≡◌, ◌++◌, IfOk, OnOk, codes, false, map, slice_get};
 ghost use Rattle.jr_report_faults.specs.Faults.{named};
-ghost use Rattle.jr_report_json.specs.Json.{clone_json, clones_json, count_json, fault_json, faults_json, flag_json, miscompare_json, report_json};
-ghost use Rattle.jr_report_json.specs.Rows.{array_text, bads_json, cache_text, end_text, ending_of, found_text, head_text, is_wanted, item_text, reads_text};
+ghost use Rattle.jr_report_json.specs.Json.{asked_json, clone_json, clones_json, count_json, fault_json, faults_json, flag_json, miscompare_json, report_json};
+ghost use Rattle.jr_report_json.specs.Rows.{array_text, bads_json, cache_text, end_text, ending_of, found_text, head_text, is_wanted, item_text, plan_text, reads_text};
 ghost use Rattle.jr_report_json.specs.Rows.{text_of, texts_of, told_by};
 ghost use Rattle.jr_desk_totals.specs.Tallying.{miscompare_of};
 ghost use Rattle.serde_json.specs.Data.{boolean, string};
 ghost use Rattle.serde_json.specs.View.{view};
 ghost use Rattle.serde_json.specs.Written.{compact_text, has_float};
 
+use crate::asked::asked_row;
 use crate::endings::RunStatus;
 use crate::rows::{clone_row, fault_row, is_bad_read, miscompare_row};
 use jr_desk_totals::Bad;
@@ -36,7 +37,8 @@ pub fn json_text(
     push_reads(&mut text, alloc, plan, bads)?;
     push_head(&mut text, alloc, faults.first.as_slice(), reasons, ending)?;
     push_found(&mut text, alloc, plan, totals, bads)?;
-    push_end(&mut text, faults.more, ending)?;
+    push_planned(&mut text, alloc, plan, faults.more)?;
+    push_end(&mut text, ending)?;
     push_text(&mut text, "\n")?;
     Ok(text)
 }
@@ -125,12 +127,46 @@ fn push_found(
     Ok(())
 }
 
-// The members behind them.
-fn push_end(text: &mut Vec<u8>, more: u64, ending: &RunStatus<'_>) -> Result<(), Memory>
-    ensures { OnOk result (text.new.items ≡ text.old.items ++ end_text (ending_of ending.now) more) }
+// How many faults there are more, and the plan.
+fn push_planned(text: &mut Vec<u8>, alloc: Global, plan: &Plan, more: u64) -> Result<(), Memory>
+    ensures { OnOk result (text.new.items ≡ text.old.items ++ plan_text plan.now more) }
 {
     push_text(text, ",\"more_faults\":")?;
     push_number(text, more)?;
+    push_text(text, ",\"plan\":")?;
+    push_asked(text, alloc, plan)?;
+    Ok(())
+}
+
+// The array of what the clones are to do.
+fn push_asked(text: &mut Vec<u8>, alloc: Global, plan: &Plan) -> Result<(), Memory>
+    ensures { OnOk result (text.new.items ≡ text.old.items ++ array_text (map (asked_json plan.now) plan.now.clones)) }
+{
+    push_text(text, "[")?;
+    for i in 0..plan.clones() {
+        push_job(text, alloc, i, plan, plan.clone_at(i))?;
+    }
+    push_text(text, "]")?;
+    Ok(())
+}
+
+fn push_job(
+    text: &mut Vec<u8>,
+    alloc: Global,
+    place: usize,
+    plan: &Plan,
+    job: &SubJob,
+) -> Result<(), Memory>
+    ensures { OnOk result (text.new.items ≡ text.old.items ++ item_text place (asked_json plan.now job.now)) }
+{
+    let row = asked_row(alloc, plan, job)?;
+    push_item(text, alloc, place, &row)
+}
+
+// The members behind them.
+fn push_end(text: &mut Vec<u8>, ending: &RunStatus<'_>) -> Result<(), Memory>
+    ensures { OnOk result (text.new.items ≡ text.old.items ++ end_text (ending_of ending.now)) }
+{
     push_text(text, ",\"status\":")?;
     push_number(text, u64::from(ending.status))?;
     push_text(text, ",\"stored\":")?;
