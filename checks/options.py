@@ -125,7 +125,7 @@ def compare_words():
     listed = words_of_man("\n".join(head for head, _ in items(options)))
     users = {word: takes for word, takes in program.items() if word not in LAUNCHERS}
     pairs = (
-        ("docs/help.txt", words_of_help(), program),
+        ("docs/help.txt", words_of_help(), users),
         ("docs/fiorun.1, options", listed, users),
         ("docs/fiorun.1, synopsis", words_of_man(synopsis), users),
     )

@@ -223,10 +223,10 @@ fn trace_text<R: Files + AllocGlobal>(
     rt: &R,
     path: &str,
     plan: &Plan,
-) -> Result<Vec<u8>, CliFault> {
+) -> Result<Vec<u8>, Stop> {
     match fs::open(rt, path) {
-        Ok(file) => read_trace(rt.alloc(), TraceReader::new(file, plan)),
-        Err(error) => Err(memory_or(&error, CliFault::ReadTrace)),
+        Ok(file) => Ok(read_trace(rt.alloc(), TraceReader::new(file, plan))?),
+        Err(error) => Err(Stop::unread(rt.alloc(), CliFault::ReadTrace, path, error)),
     }
 }
 
@@ -234,12 +234,12 @@ fn trace_text<R: Files + AllocGlobal>(
 fn job_text<R: Files + Input + AllocGlobal>(
     rt: &R,
     job: Option<&str>,
-) -> Result<Vec<u8>, CliFault> {
+) -> Result<Vec<u8>, Stop> {
     match job {
-        None => read_text(rt.alloc(), rt.reader()),
+        None => Ok(read_text(rt.alloc(), rt.reader())?),
         Some(path) => match fs::open(rt, path) {
-            Ok(file) => read_text(rt.alloc(), file),
-            Err(error) => Err(memory_or(&error, CliFault::Read)),
+            Ok(file) => Ok(read_text(rt.alloc(), file)?),
+            Err(error) => Err(Stop::unread(rt.alloc(), CliFault::Read, path, error)),
         },
     }
 }

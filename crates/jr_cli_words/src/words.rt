@@ -189,11 +189,42 @@ pub fn answer_words<R: Print + Eprint, S: AsStr>(
 // Says on standard error why these words are refused: on one line if a word has a line break, since then nothing tells which are clap's.
 fn tell_refused<R: Eprint, S: AsStr>(rt: &R, words: &[S], error: &Error) {
     // (nobody hears of a refusal that standard error doesn't take)
-    let _ = if words.iter().any(|word| word.as_str().contains('\n')) {
+    let _printed = if words.iter().any(|word| word.as_str().contains('\n')) {
         eprintln!(rt; "{}", Escaped(error))
     } else {
         eprint!(rt; "{}", EscapedLines(error))
     };
+    if words.iter().any(|word| is_of_job(word.as_str())) {
+        let _ = eprintln!(rt;
+            "\nfiorun: options of a job stand in a job file, one on each line:\n\n{EXAMPLE}"
+        );
+    }
+}
+
+// What a job file looks like.
+const EXAMPLE: &str =
+    "    [test]\n    filename=test.data\n    rw=write\n    size=16m\n    verify=md5";
+
+// Options of a job that are often written as words.
+const OF_JOBS: [&str; 9] = [
+    "--name",
+    "--rw",
+    "--readwrite",
+    "--filename",
+    "--bs",
+    "--ioengine",
+    "--iodepth",
+    "--numjobs",
+    "--verify",
+];
+
+// Whether a word is an option of a job, as fio takes it.
+fn is_of_job(word: &str) -> bool {
+    let name = match word.split_once('=') {
+        Some((name, _)) => name,
+        None => word,
+    };
+    OF_JOBS.iter().any(|option| *option == name)
 }
 
 // What the command line may say.
@@ -391,6 +422,7 @@ fn drop_pipes_arg<'a>(alloc: Global) -> Arg<'a>
         .long("drop-pipes")
         .value_name("PIPES")
         .action(ArgAction::Set)
+        .hide(true)
         .help("Pipes to ask for cached pages to be dropped, as the launcher gives them")
 }
 
@@ -413,6 +445,7 @@ fn stop_fd_arg<'a>(alloc: Global) -> Arg<'a>
         .long("stop-fd")
         .value_name("N")
         .action(ArgAction::Set)
+        .hide(true)
         .help("A pipe, by its number: where its other end is closed, the run stops and reports")
 }
 

@@ -111,6 +111,19 @@ impl Stop {
         )
     }
 
+    /// The job file, or the trace, of this path can't be read: the fault says which.
+    pub fn unread(alloc: Global, fault: CliFault, path: &str, error: io::Error) -> Stop
+        ensures memory { error_kind error ≡ ErrorKind.OutOfMemory → result ≡ CliFault.Memory }
+        ensures other { error_kind error ≢ ErrorKind.OutOfMemory → result ≡ fault }
+    {
+        Stop::file(
+            memory_or(&error, fault),
+            "read",
+            String::from_str(alloc, path).ok(),
+            error,
+        )
+    }
+
     /// What was written to the file of this name can't be synced.
     pub fn unsynced(name: String, error: io::Error) -> Stop
         ensures { result ≡ CliFault.Write }
