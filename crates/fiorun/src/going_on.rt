@@ -127,7 +127,8 @@ fn run_parts<R: Outlet + Machine>(
         tell_round(alloc, round, &ended.desk, is_last, &mut out)?;
         add_part(alloc, plan, done.as_slice(), &ended.desk, course)?;
         tell_line(rt, course, round, &ended.desk, is_last);
-        course.heed(tell_outputs(rt, &wanted.outputs, course, round, &ended));
+        let told = tell_outputs(rt, &wanted.outputs, course, round, &ended);
+        course.heed(told);
         match next {
             Some(plan) => part = plan,
             None => {

@@ -325,8 +325,10 @@ fn run_rounds<R: Outlet + Machine>(
         tell_round(rt.alloc(), round, &ended.desk, is_last, &mut out)?;
         course.add(&ended.desk, ended.desk.totals());
         tell_line(rt, course, round, &ended.desk, is_last);
-        course.heed(tell_outputs(rt, &wanted.outputs, course, round, &ended));
-        course.heed(wanted.outputs.keep_trace(rt, choice, round, &ended.desk));
+        let told = tell_outputs(rt, &wanted.outputs, course, round, &ended);
+        course.heed(told);
+        let kept = wanted.outputs.keep_trace(rt, choice, round, &ended.desk);
+        course.heed(kept);
         if is_last {
             tell_sums(rt.alloc(), plan, &course.sums, &mut out)?;
             if out.has_failed {
@@ -378,8 +380,10 @@ pub fn tell_end<R: Outlet>(
     ended: &RunEnd,
     course: &mut Course,
 ) {
-    course.heed(write_sums(rt, &wanted.outputs, plan, &course.sums));
-    course.heed(wanted.tell_last(rt, ended, course.blocks.as_slice()));
+    let summed = write_sums(rt, &wanted.outputs, plan, &course.sums);
+    course.heed(summed);
+    let told = wanted.tell_last(rt, ended, course.blocks.as_slice());
+    course.heed(told);
 }
 
 // Writes the last line of the JSON, where it is wanted.
