@@ -79,19 +79,19 @@ class Shortage(Case):
         expect(all(jobs[0][name] == said[name] for name in FIELDS), "the JSON", jobs, "and the report", said)
 
     def test_limit_of_addresses(self):
-        for mib in limits(200, 1100):
+        for mib in limits(150, 450):
             _, said = self.stops(f"ulimit -v {mib * 1024}")
             self.same(said)
 
     def test_limit_of_a_group(self):
-        for mib in limits(64, 500):
+        for mib in limits(48, 200):
             with group(mib * MIB) as shell:
                 _, said = self.stops(shell)
             self.same(said)
 
     def test_bad_blocks_are_told(self):
         """What was found before memory ran short is told, and the status is 1."""
-        ran, said = self.stops("ulimit -v 400000", text=BAD, status=1)
+        ran, said = self.stops("ulimit -v 250000", text=BAD, status=1)
         self.same(said)
         expect(total("b", writes=2, wbytes=8192, checks=2, bad=2).encode() in ran.out, "the bad job", ran.out)
         expect(ran.out.count(b"miscompare: ") == 2, "the bad blocks", ran.out)
@@ -99,7 +99,7 @@ class Shortage(Case):
     def test_rounds_end(self):
         """The rounds end, and the sums are those of the round that was cut."""
         place = self.place
-        ran = place.run("--workers=2", "--repeat=3", "--json=json", text=LONG, shell="ulimit -v 400000")
+        ran = place.run("--workers=2", "--repeat=3", "--json=json", text=LONG, shell="ulimit -v 250000")
         expect(ran.status == 3 and ran.err == SAID, "ended as", ran.status, ran.err)
         lines = ran.out.decode().splitlines()
         expect(len(lines) == 3 and lines[0].startswith("round: number=0 "), "printed", lines)
@@ -110,7 +110,7 @@ class Shortage(Case):
         place = self.place
         said = place.run("--parse-only", "--notes", text=LONG)
         expect(re.fullmatch(rb"fiorun: note: a run keeps a history of up to \d+ MiB, and \d+ MiB of memory are free\n", said.err), "a plan", said.err)
-        ran = place.run("--workers=2", "--notes", text=LONG, shell="ulimit -v 300000")
+        ran = place.run("--workers=2", "--notes", text=LONG, shell="ulimit -v 250000")
         first, *rest = ran.err.splitlines(keepends=True)
         expect(re.match(rb"fiorun: note: the history may take \d+ MiB, and \d+ MiB of memory are free: the run stops ", first), "a run", first)
         expect(b"".join(rest) == SAID and ran.status == 3, "and then", ran.status, rest)
