@@ -219,27 +219,20 @@ fn print_totals<R: Print + AllocGlobal>(
 }
 
 // The trace that is to be checked, or so much of it that it is refused as it would be whole.
-fn trace_text<R: Files + AllocGlobal>(
-    rt: &R,
-    path: &str,
-    plan: &Plan,
-) -> Result<Vec<u8>, Stop> {
+fn trace_text<R: Files + AllocGlobal>(rt: &R, path: &str, plan: &Plan) -> Result<Vec<u8>, Stop> {
     match fs::open(rt, path) {
         Ok(file) => Ok(read_trace(rt.alloc(), TraceReader::new(file, plan))?),
-        Err(error) => Err(Stop::unread(rt.alloc(), CliFault::ReadTrace, path, error)),
+        Err(error) => Err(Stop::unread_trace(rt.alloc(), path, error)),
     }
 }
 
 // The job file, or standard input where none is named.
-fn job_text<R: Files + Input + AllocGlobal>(
-    rt: &R,
-    job: Option<&str>,
-) -> Result<Vec<u8>, Stop> {
+fn job_text<R: Files + Input + AllocGlobal>(rt: &R, job: Option<&str>) -> Result<Vec<u8>, Stop> {
     match job {
         None => Ok(read_text(rt.alloc(), rt.reader())?),
         Some(path) => match fs::open(rt, path) {
             Ok(file) => Ok(read_text(rt.alloc(), file)?),
-            Err(error) => Err(Stop::unread(rt.alloc(), CliFault::Read, path, error)),
+            Err(error) => Err(Stop::unread_job(rt.alloc(), path, error)),
         },
     }
 }

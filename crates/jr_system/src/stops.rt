@@ -111,13 +111,26 @@ impl Stop {
         )
     }
 
-    /// The job file, or the trace, of this path can't be read: the fault says which.
-    pub fn unread(alloc: Global, fault: CliFault, path: &str, error: io::Error) -> Stop
+    /// The job file of this path can't be opened.
+    pub fn unread_job(alloc: Global, path: &str, error: io::Error) -> Stop
         ensures memory { error_kind error ≡ ErrorKind.OutOfMemory → result ≡ CliFault.Memory }
-        ensures other { error_kind error ≢ ErrorKind.OutOfMemory → result ≡ fault }
+        ensures other { error_kind error ≢ ErrorKind.OutOfMemory → result ≡ CliFault.Read }
     {
         Stop::file(
-            memory_or(&error, fault),
+            memory_or(&error, CliFault::Read),
+            "read",
+            String::from_str(alloc, path).ok(),
+            error,
+        )
+    }
+
+    /// The trace of this path can't be opened.
+    pub fn unread_trace(alloc: Global, path: &str, error: io::Error) -> Stop
+        ensures memory { error_kind error ≡ ErrorKind.OutOfMemory → result ≡ CliFault.Memory }
+        ensures other { error_kind error ≢ ErrorKind.OutOfMemory → result ≡ CliFault.ReadTrace }
+    {
+        Stop::file(
+            memory_or(&error, CliFault::ReadTrace),
             "read",
             String::from_str(alloc, path).ok(),
             error,
