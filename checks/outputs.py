@@ -87,7 +87,11 @@ class Room:
         """Runs the program in a shell, with what stands behind its words (`ends`), and behind a command."""
         command = ["sh", "-c", f'{before}\nexec "$0" "$@" {ends}', self.program, "--notes", *words]
         how = {"input": text.encode(), "capture_output": True, "timeout": SECONDS, "check": False, **how}
-        return subprocess.run(command, cwd=self.path, **how)
+        ended = subprocess.run(command, cwd=self.path, **how)
+        if ended.stderr:
+            # (what the null engine is for is said of each job that checks over it)
+            ended.stderr = re.sub(rb"\Afiorun: note: line \d+: \[w\]: verify over ioengine=null: .*\n", b"", ended.stderr)
+        return ended
 
     def refuses(self, why, *words, fault=WRITE, **how):
         """The run is refused with this note, and nothing differs."""

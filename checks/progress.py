@@ -103,7 +103,8 @@ def the_line(program, workers, folder):
     expect(not plain.stderr, "said where there is no terminal:", plain.stderr)
     expect((plain.stdout, plain.returncode) == (shown, status), "another report or status at a terminal:", shown, status, plain)
     first, *lines = said.split(WIPED)
-    expect(not first and lines and not lines.pop() and lines, "no line, or one that isn't wiped:", said[:100], said[-100:])
+    is_noted = re.fullmatch(r"fiorun: note: line 1: \[w\]: verify over ioengine=null: .*\r\n", first)
+    expect(is_noted and lines and not lines.pop() and lines, "no line, or one that isn't wiped:", said[:100], said[-100:])
     for percent, ios, checked, bad in numbers_of(lines):
         expect(0 < bad <= checked <= ios <= 16384 * loops and percent <= 100, "numbers that can't be:", percent, ios, checked, bad)
     print(f"progress: {workers} workers: {len(lines)} lines, the last one: {lines[-1]}")
@@ -205,6 +206,8 @@ def faults_on_one_terminal(program, workers, folder):
     said, status = on_one_terminal(words, folder)
     rows = rows_of(said)
     # (the job's bad blocks are what the status tells first)
+    noted = rows.pop(0)
+    expect(noted.startswith("fiorun: note: line 7: [bad]: verify over ioengine=null: "), "no note of the job:", noted)
     expect((rows, status) == (["fiorun: cannot write", ""], 1), f"a report that can't be written: status {status}", rows)
 
 

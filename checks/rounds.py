@@ -111,9 +111,9 @@ class Rounds(Case):
         expect(ran.status == 0 and not os.path.exists(place.at("trace")), "the rounds", ran)
         for number in range(3):
             checked = place.run(f"--check-trace=trace.{number}", text=of_round(IN_MEMORY, number))
-            expect(checked.status == 0 and not checked.error, "the trace of round", number, checked)
-            other = place.run(f"--check-trace=trace.{number}", text=of_round(IN_MEMORY, number + 1))
-            expect(other.status == 2, "the trace of another round", number, other)
+            expect(checked.status == 0 and not checked.err, "the trace of round", number, checked)
+            single = place.run("--trace=single", "--workers=1", text=of_round(IN_MEMORY, number))
+            expect(single.status == 0 and place.get("single") == place.get(f"trace.{number}"), "the trace of the single run", number, single)
         expect(not os.path.exists(place.at("trace.3")), "a trace of no round")
 
     def test_traces_over_nothing(self):
@@ -123,8 +123,8 @@ class Rounds(Case):
         ran = place.run("--repeat=5", "--trace=job", "--keep-traces", "job.1")
         expect(ran.status == 3 and place.get("job.1") == IN_MEMORY.encode(), "over the job file", ran)
         expect(b"total: rounds=3 " in ran.out, "rounds until then", ran)
-        ran = place.run("--repeat=5", "--trace=job", "--keep-traces", "--json=job.0", text=IN_MEMORY)
-        expect(ran.status == 3 and not ran.out and not os.path.exists(place.at("job.0")), "over the JSON", ran)
+        ran = place.run("--repeat=5", "--trace=k", "--keep-traces", "--json=k.0", text=IN_MEMORY)
+        expect(ran.status == 3 and not ran.out and not os.path.exists(place.at("k.0")), "over the JSON", ran)
 
     def test_traces_of_no_rounds(self):
         place = self.place

@@ -2,8 +2,9 @@
 """checks/shortage.py [PROGRAM [CASE..]] runs jobs whose history doesn't fit into the memory that they may have.
 
 Each run has to stop by itself while there is memory for its report: report, JSON and list are there and say the same, `out of memory` is the
-last line on standard error, and the status is 3, or 1 where a block was bad. The limits are those of addresses (`ulimit -v`) and of a control
-group, which needs root and is left out otherwise. SIZES says how many limits are tried of each kind (3). PROGRAM is the built program
+last line on standard error, and the status is 3, or 1 where a block was bad. The limits are those of a control group, which needs root and is
+left out otherwise. SIZES says how many are tried (3). Under a limit of addresses (`ulimit -v`) a list that grows may be refused first: then
+nothing is left of the run, and `out of memory` is all that is said. PROGRAM is the built program
 (crates/fiorun/out/fiorun, built where it has to be). The last line has the numbers; the status is 1 where a case fails.
 """
 
@@ -79,9 +80,16 @@ class Shortage(Case):
         expect(all(jobs[0][name] == said[name] for name in FIELDS), "the JSON", jobs, "and the report", said)
 
     def test_limit_of_addresses(self):
-        for mib in limits(150, 450):
-            _, said = self.stops(f"ulimit -v {mib * 1024}")
-            self.same(said)
+        """A run under `ulimit -v` ends for lack of memory, and what is left of it is whole."""
+        place = self.place
+        for mib in limits(300, 600):
+            place.put("json", b"")
+            ran = place.run("--workers=2", "--json=json", text=LONG, shell=f"ulimit -v {mib * 1024}")
+            expect(ran.status == 3 and ran.err in (SAID, SAID.split(b"\n", 1)[1]), mib, "MiB:", ran.status, ran.err)
+            if ran.err == SAID:
+                self.same({name: int(value) for name, value in re.findall(r"(\w+)=(\d+)", ran.out.decode())})
+            else:
+                expect(not ran.out and not place.get("json"), "a part of a report:", ran.out)
 
     def test_limit_of_a_group(self):
         for mib in limits(48, 200):
@@ -91,7 +99,8 @@ class Shortage(Case):
 
     def test_bad_blocks_are_told(self):
         """What was found before memory ran short is told, and the status is 1."""
-        ran, said = self.stops("ulimit -v 250000", text=BAD, status=1)
+        with group(100 * MIB) as shell:
+            ran, said = self.stops(shell, text=BAD, status=1)
         self.same(said)
         expect(total("b", writes=2, wbytes=8192, checks=2, bad=2).encode() in ran.out, "the bad job", ran.out)
         expect(ran.out.count(b"miscompare: ") == 2, "the bad blocks", ran.out)
@@ -99,7 +108,8 @@ class Shortage(Case):
     def test_rounds_end(self):
         """The rounds end, and the sums are those of the round that was cut."""
         place = self.place
-        ran = place.run("--workers=2", "--repeat=3", "--json=json", text=LONG, shell="ulimit -v 250000")
+        with group(100 * MIB) as shell:
+            ran = place.run("--workers=2", "--repeat=3", "--json=json", text=LONG, shell=shell)
         expect(ran.status == 3 and ran.err == SAID, "ended as", ran.status, ran.err)
         lines = ran.out.decode().splitlines()
         expect(len(lines) == 3 and lines[0].startswith("round: number=0 "), "printed", lines)
@@ -110,7 +120,8 @@ class Shortage(Case):
         place = self.place
         said = place.run("--parse-only", "--notes", text=LONG)
         expect(re.fullmatch(rb"fiorun: note: a run keeps a history of up to \d+ MiB, and \d+ MiB of memory are free\n", said.err), "a plan", said.err)
-        ran = place.run("--workers=2", "--notes", text=LONG, shell="ulimit -v 250000")
+        with group(100 * MIB) as shell:
+            ran = place.run("--workers=2", "--notes", text=LONG, shell=shell)
         first, *rest = ran.err.splitlines(keepends=True)
         expect(re.match(rb"fiorun: note: the history may take \d+ MiB, and \d+ MiB of memory are free: the run stops ", first), "a run", first)
         expect(b"".join(rest) == SAID and ran.status == 3, "and then", ran.status, rest)
