@@ -62,6 +62,11 @@ class GoingOn(Case):
         lists = {"SICK_READS": self.place.at("reads"), "SICK_WRITES": self.place.at("writes")}
         return {**os.environ, "LD_PRELOAD": library, "SICK": self.place.at("sick"), "SICK_SECTORS": str(sectors), **lists}
 
+    def made(self, size):
+        """The file `sick` as a sick disk has it: it is there, and needs no block to be written to be long enough."""
+        with open(self.place.at("sick"), "wb") as it:
+            it.truncate(size)
+
     def go(self, job, *words, **sick):
         """A run with --go-on. It may have thousands of rounds."""
         words = [Place.program, "--go-on", "--workers=1", "--cached", *words]
@@ -210,6 +215,7 @@ class GoingOn(Case):
             "[r]\nfilename=sick\nrw=randwrite\nbs=4k\nsize=64k\n[a]\nfilename=sick\noffset=1m\nrw=write\nbs=4k\nsize=64k\n"
             "[b]\nfilename=sick\noffset=1085440\nrw=write\nbs=4k\nsize=64k\n[c]\nfilename=sick\noffset=2m\nrw=write\nbs=4k\nsize=64k\n"
         )
+        self.made(4 << 20)
         ran = self.go(job, "--notes", writes=sectors_of(0, 4 << 20))
         stay = re.findall(rb"^fiorun: (\w): clone (\d) doesn't go on after a fault: ", ran.err, re.M)
         expect(stay == [(b"r", b"0"), (b"a", b"1"), (b"b", b"2")], "who stays", ran.err)
@@ -228,6 +234,7 @@ class GoingOn(Case):
     def test_stopped(self):
         """A stop ends it, with the sums so far and what was never tried."""
         job = VERIFIED.format(bs="4k", size=SIZE, depth=1)
+        self.made(SIZE)
         reading, writing = os.pipe()
         child = self.place.start(
             "--go-on", "--workers=1", "--cached", "--json=all", f"--stop-fd={reading}", text=job, pass_fds=[reading],
@@ -236,7 +243,7 @@ class GoingOn(Case):
         os.close(reading)
         deadline = time.monotonic() + SECONDS
         while not os.path.exists(self.place.at("all")) or self.place.get("all").count(b"\n") < 3:
-            expect(time.monotonic() < deadline, "no lines of the JSON come")
+            expect(time.monotonic() < deadline and child.poll() is None, "no lines of the JSON come")
             time.sleep(0.02)
         os.close(writing)
         ran = ending(child)
