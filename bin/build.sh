@@ -59,7 +59,7 @@ build_crates() {
 # Makes the crates that aren't made, side by side, each as soon as those below it are there. One that is made alone gets several provers;
 # that takes a quarter more of a processor, so those beside others get one.
 make_crates() {
-  local name places running=0 count=0 chosen
+  local name places running=0 count=0 chosen share
   set +m
   places=$(places)
   list_crates
@@ -69,7 +69,10 @@ make_crates() {
     for name in "${chosen[@]}"; do
       count=$((count + 1))
       say "$what: proving $name ($count of $total), $((SECONDS / 60)) min"
-      make_crate "$name" $((places / running)) &
+      # (the program stands on all others: they have ended, whether they were waited for or not)
+      share=$((places / running))
+      [ "$name" != fiorun ] || share=$places
+      make_crate "$name" "$share" &
     done
     # (where one fails, the others go on to their ends)
     wait -n || {
