@@ -39,6 +39,7 @@ pub fn is_going_on(choice: &Choice<'_>, plan: &Plan, has_rounds: bool) -> Result
 pub fn run_on<R: Outlet + Machine>(
     rt: &R,
     choice: &Choice<'_>,
+    job: &[u8],
     wishes: &[Wish],
     plan: Plan,
     has_notes: bool,
@@ -46,7 +47,7 @@ pub fn run_on<R: Outlet + Machine>(
     if has_notes {
         tell_staying(rt, &plan);
     }
-    let wanted = Wanted::of(rt, choice, &plan)?;
+    let wanted = Wanted::of(rt, choice, &plan, job)?;
     let ended = run_wanted(rt, choice, wishes, &wanted, &plan, has_notes);
     wanted.outputs.clear(rt);
     ended
@@ -127,7 +128,7 @@ fn run_parts<R: Outlet + Machine>(
         tell_round(alloc, round, &ended.desk, is_last, &mut out)?;
         add_part(alloc, plan, done.as_slice(), &ended.desk, course)?;
         tell_line(rt, course, round, &ended.desk, is_last);
-        let told = tell_outputs(rt, &wanted.outputs, course, round, &ended);
+        let told = tell_outputs(rt, wanted, course, round, &ended);
         course.heed(told);
         match next {
             Some(plan) => part = plan,
@@ -165,7 +166,7 @@ fn run_part<R: Outlet + Machine>(
 ) -> Result<RunEnd, Stop> {
     let workers = workers_of(&part, workers);
     let ran = run_silent(rt, ground, asked, part, workers)?;
-    let (ended, closed) = close(rt, ground, ran)?.into_parts();
+    let (ended, closed) = close(rt, ground, asked, ran)?.into_parts();
     course.close(closed);
     if asked.is_short() && ended.is_interrupted() {
         course.miss(Stop::from(CliFault::Memory));

@@ -133,7 +133,7 @@ fn perform<R: Input + Outlet + Machine>(
         }
     }
     if choice.parse_only || choice.check_trace.is_some() {
-        show(rt, choice, &plan)?;
+        show(rt, choice, text.as_slice(), &plan)?;
         return Ok(Turn::Ended(0));
     }
     carry_out(rt, choice, text.as_slice(), plan, has_notes)
@@ -159,23 +159,28 @@ fn carry_out<R: Outlet + Machine>(
         return Err(Stop::from(CliFault::Memory));
     };
     if is_going_on(choice, &plan, limits.is_some())? {
-        let status = run_on(rt, choice, wishes.as_slice(), plan, has_notes)?;
+        let status = run_on(rt, choice, text, wishes.as_slice(), plan, has_notes)?;
         return Ok(Turn::Ended(status));
     }
     match limits {
         Some(limits) => {
-            let status = run_all(rt, choice, wishes.as_slice(), limits, plan, has_notes)?;
+            let status = run_all(rt, choice, text, wishes.as_slice(), limits, plan, has_notes)?;
             Ok(Turn::Ended(status))
         }
-        None => run_plan(rt, choice, wishes.as_slice(), plan),
+        None => run_plan(rt, choice, text, wishes.as_slice(), plan),
     }
 }
 
 // Prints the plan, or checks a trace of it, as the words say.
-fn show<R: Outlet>(rt: &R, choice: &Choice<'_>, plan: &Plan) -> Result<(), Stop> {
+fn show<R: Outlet + Machine>(
+    rt: &R,
+    choice: &Choice<'_>,
+    text: &[u8],
+    plan: &Plan,
+) -> Result<(), Stop> {
     match choice.check_trace {
         Some(path) if !choice.parse_only => {
-            let wanted = Wanted::of(rt, choice, plan)?;
+            let wanted = Wanted::of(rt, choice, plan, text)?;
             let checked = check_trace(rt, choice, path, plan, &wanted);
             wanted.outputs.clear(rt);
             checked
@@ -189,7 +194,7 @@ fn show<R: Outlet>(rt: &R, choice: &Choice<'_>, plan: &Plan) -> Result<(), Stop>
 }
 
 // Checks a trace of the plan, and tells of its run what is wanted beside the totals.
-fn check_trace<R: Outlet>(
+fn check_trace<R: Outlet + Machine>(
     rt: &R,
     choice: &Choice<'_>,
     path: &str,

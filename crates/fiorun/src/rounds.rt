@@ -164,15 +164,17 @@ pub fn tell_line<R: Outlet + Machine>(
     }
 }
 
-// Writes the round's line of the JSON, and keeps its bad blocks, where these are wanted.
-pub fn tell_outputs<R: Outlet>(
+// Says what stood in the round's bad blocks, writes its line of the JSON, and keeps its bad blocks, where these are wanted.
+pub fn tell_outputs<R: Outlet + Machine>(
     rt: &R,
-    outputs: &Outputs,
+    wanted: &Wanted,
     course: &mut Course,
     round: u32,
     ended: &RunEnd,
 ) -> Result<(), Stop> {
     let alloc = rt.alloc();
+    let outputs = &wanted.outputs;
+    wanted.tell_found(rt, ended.desk.plan(), &course.closed);
     let size = outputs.list_size();
     if !outputs.has_json() && (size.is_none() || ended.found == 0) {
         return Ok(());
@@ -185,8 +187,10 @@ pub fn tell_outputs<R: Outlet>(
         add_blocks(&mut course.blocks, more.as_slice())?;
     }
     if outputs.has_json() {
-        let reasons = course.closed.reasons.as_slice();
-        let Ok(text) = round_json(alloc, round, &findings, reasons, &course.storage()) else {
+        let about = wanted.surroundings(rt, findings.plan())?;
+        let closed = &course.closed;
+        let notes = about.notes(closed.reasons.as_slice(), closed.found.as_slice());
+        let Ok(text) = round_json(alloc, round, &findings, &notes, &course.storage()) else {
             return Err(Stop::from(CliFault::Memory));
         };
         outputs.add_json(rt, text.as_slice(), round == 0)?;
@@ -252,12 +256,13 @@ impl RoundCounts {
 pub fn run_all<R: Outlet + Machine>(
     rt: &R,
     choice: &Choice<'_>,
+    job: &[u8],
     wishes: &[Wish],
     limits: Limits,
     plan: Plan,
     has_notes: bool,
 ) -> Result<u8, Stop> {
-    let wanted = Wanted::of(rt, choice, &plan)?;
+    let wanted = Wanted::of(rt, choice, &plan, job)?;
     let ended = run_limited(rt, choice, wishes, &wanted, limits, &plan, has_notes);
     wanted.outputs.clear(rt);
     ended
@@ -325,7 +330,7 @@ fn run_rounds<R: Outlet + Machine>(
         tell_round(rt.alloc(), round, &ended.desk, is_last, &mut out)?;
         course.add(&ended.desk, ended.desk.totals());
         tell_line(rt, course, round, &ended.desk, is_last);
-        let told = tell_outputs(rt, &wanted.outputs, course, round, &ended);
+        let told = tell_outputs(rt, wanted, course, round, &ended);
         course.heed(told);
         let kept = wanted.outputs.keep_trace(rt, choice, round, &ended.desk);
         course.heed(kept);
@@ -354,7 +359,7 @@ fn run_round<R: Outlet + Machine>(
         return Err(Stop::from(CliFault::Memory));
     };
     let ran = run_silent(rt, ground, asked, plan, workers)?;
-    let (ended, closed) = close(rt, ground, ran)?.into_parts();
+    let (ended, closed) = close(rt, ground, asked, ran)?.into_parts();
     course.close(closed);
     if asked.is_short() && ended.is_interrupted() {
         course.miss(Stop::from(CliFault::Memory));
@@ -373,7 +378,7 @@ fn ends(limits: Limits, round: u32, ended: &RunEnd, asked: &Asked, course: &Cour
 }
 
 // Tells what is told at the end of all rounds.
-pub fn tell_end<R: Outlet>(
+pub fn tell_end<R: Outlet + Machine>(
     rt: &R,
     wanted: &Wanted,
     plan: &Plan,
@@ -382,7 +387,7 @@ pub fn tell_end<R: Outlet>(
 ) {
     let summed = write_sums(rt, &wanted.outputs, plan, &course.sums);
     course.heed(summed);
-    let told = wanted.tell_last(rt, ended, course.blocks.as_slice());
+    let told = wanted.tell_last(rt, ended, &course.closed, course.blocks.as_slice());
     course.heed(told);
 }
 

@@ -10,8 +10,9 @@ use jr_io_files::{FileEngine, SharedFile};
 use jr_job_direct::Wish;
 use jr_plan::Plan;
 use jr_system::{
-    Asked, Ground, Machine, MemoryFiles, OneEngine, Outlet, Pace, PlanBytes, Stop, Wiper, asked_by,
-    crew_engines, has_one_worker, history_bytes, is_watched, shares_memory, shown, stop_when_short,
+    Asked, Closed, Ground, Machine, MemoryFiles, OneEngine, Outlet, Pace, PlanBytes, Stop, Wiper,
+    asked_by, crew_engines, has_one_worker, history_bytes, is_watched, shares_memory, shown,
+    stop_when_short,
 };
 use std::alloc::Global;
 use std::io;
@@ -69,19 +70,24 @@ pub fn with_shortage(ran: Finished, asked: &Asked) -> Finished {
     }
 }
 
-// A run over it that has ended, with what the system said of its files.
+// A run over it that has ended, with what the system said of its files and what stood in its bad blocks.
 pub fn close<R: Outlet + Machine>(
     rt: &R,
     ground: &Ground<'_>,
+    asked: &Asked,
     ran: Finished,
 ) -> Result<Finished, Stop> {
-    match ground {
-        Ground::Files(files) => {
-            let closed = files.close(rt, &ran.ended.faults)?;
-            Ok(ran.over(closed))
-        }
-        Ground::Memory | Ground::Nothing => Ok(ran),
-    }
+    let closed = match ground {
+        Ground::Files(files) => files.close(rt, &ran.ended.faults)?,
+        Ground::Memory | Ground::Nothing => Closed::of_no_files(rt.alloc()),
+    };
+    Ok(ran.over(with_found(rt, asked, closed)))
+}
+
+// With what stood in the run's bad blocks.
+fn with_found<R: Wait>(rt: &R, asked: &Asked, mut closed: Closed) -> Closed {
+    closed.found = asked.diagnoses().take(rt);
+    closed
 }
 
 // What is asked of a run of the plan, or of each of its rounds. If its history may take much of the memory that is left, it is asked to stop
@@ -126,10 +132,11 @@ pub fn to_output<P: Print + AllocGlobal>(rt: &P) -> Result<BufWriter<Printer<'_,
 pub fn run_plan<R: Outlet + Machine>(
     rt: &R,
     choice: &Choice<'_>,
+    job: &[u8],
     wishes: &[Wish],
     plan: Plan,
 ) -> Result<Turn, Stop> {
-    let wanted = Wanted::of(rt, choice, &plan)?;
+    let wanted = Wanted::of(rt, choice, &plan, job)?;
     match run_wanted(rt, choice, wishes, &wanted, plan) {
         Ok(turn) => told(rt, wanted, turn),
         Err(stop) => {
@@ -140,7 +147,7 @@ pub fn run_plan<R: Outlet + Machine>(
 }
 
 // What is wanted is told of a run that has ended, and kept with one that is still to come.
-fn told<R: Outlet>(rt: &R, wanted: Wanted, turn: Turn) -> Result<Turn, Stop> {
+fn told<R: Outlet + Machine>(rt: &R, wanted: Wanted, turn: Turn) -> Result<Turn, Stop> {
     match turn {
         Turn::Ended(status) => Ok(Turn::Ended(status)),
         Turn::Ran(ran) => Ok(Turn::Ran(wanted.tell(rt, ran))),
@@ -166,7 +173,7 @@ fn run_wanted<R: Outlet + Machine>(
     }
     let ground = ground_of(rt, choice, wishes, wanted, &plan)?;
     let ran = run_traced(rt, wanted, &ground, &asked, plan, workers)?;
-    Ok(Turn::Ran(with_shortage(close(rt, &ground, ran)?, &asked)))
+    Ok(Turn::Ran(with_shortage(close(rt, &ground, &asked, ran)?, &asked)))
 }
 
 // A run with this many workers over a memory that they share is still to come.
@@ -369,7 +376,8 @@ fn run_shares<R: Outlet + Machine>(
     let events = wanted.outputs.trace(rt)?;
     let mut out = to_output(rt)?;
     let ran = run_with(rt, asked, plan, engines, events, &mut out)?;
-    Ok(with_shortage(ran, asked))
+    let closed = with_found(rt, asked, Closed::of_no_files(rt.alloc()));
+    Ok(with_shortage(ran.over(closed), asked))
 }
 
 // Runs the plan with a worker for each engine.

@@ -1,5 +1,5 @@
 -- Believed: what is told of a run beside its report: its status, and the report as JSON (of this project).
-use Rattle.std.specs.Prelude.{◌≡◌, ℕ, Bool, true, not, List, ◌++◌, Option, map, codes}
+use Rattle.std.specs.Prelude.{◌≡◌, ℕ, Bool, true, not, List, ◌++◌, map, codes}
 use Rattle.serde_json.specs.Written.{compact_text}
 use Rattle.jr_model.specs.declared.events.Event.{Event}
 use Rattle.jr_model.specs.declared.totals.Totals.{Totals}
@@ -8,10 +8,10 @@ use Rattle.jr_model.specs.Plan.{Plan}
 use Rattle.jr_model.specs.Report.{all_totals, miscompares}
 use Rattle.jr_report_faults.specs.declared.faults.Faults.{Faults}
 use Rattle.jr_report_faults.specs.Faults.{AreFaultsOf}
-use Rattle.jr_report_json.specs.Json.{RunEnd, json_of}
+use Rattle.jr_report_json.specs.Json.{Notes, RunEnd, json_of}
 use Rattle.jr_desk_totals.specs.declared.tallies.Bad.{Bad}
 use Rattle.jr_desk_totals.specs.Tallying.{miscompare_of}
-use Rattle.jr_cli_words.specs.declared.words.TheConstants.{VERSION}
+use Rattle.jr_cli_words.specs.declared.words.TheConstants.{LOGIC, RELEASE}
 use Rattle.jr_cli.specs.declared.storage.Storage.{Storage}
 use Rattle.jr_cli.specs.Status.{status_of, status_with}
 
@@ -23,7 +23,8 @@ pub record RunOf : Type 0 where
 -- how the run of this history ended, of whose files the system said this
 abbrev pub end_of : RunOf → Storage → RunEnd
 end_of run storage = record {
-  version = VERSION.now;
+  version = RELEASE.now;
+  logic = LOGIC.now;
   status = status_with (status_of (all_totals run.plan run.history)) (not (is_complete run.plan run.history)) storage.is_stored;
   is_interrupted = not (is_complete run.plan run.history);
   cached = storage.cached;
@@ -32,8 +33,8 @@ end_of run storage = record {
 }
 
 -- its report as a line of JSON
-abbrev pub json_line : RunOf → List (Option (List ℕ)) → Storage → List ℕ
-json_line run reasons storage = compact_text (json_of (end_of run storage) run.plan run.history reasons) ++ codes "\n"
+abbrev pub json_line : RunOf → Notes → Storage → List ℕ
+json_line run notes storage = compact_text (json_of (end_of run storage) run.plan run.history notes) ++ codes "\n"
 
 -- the totals, the bad verdicts and the faults of a legal history, and whether it is complete
 pub record AreFindings (plan : Plan) (history : List Event) (counted : List Totals) (given : List Bad) (kept : Faults) (whole : Bool) : Type 0 where

@@ -1,6 +1,6 @@
 ghost use Rattle.std.specs.Prelude.{◌≡◌, IfOk, map, not};
 ghost use Rattle.jr_report_faults.specs.Faults.{AreFaultsOf};
-ghost use Rattle.jr_report_json.specs.Rows.{ending_of, texts_of};
+ghost use Rattle.jr_report_json.specs.Rows.{ending_of, notes_of};
 ghost use Rattle.jr_model.specs.Legal.{is_complete};
 ghost use Rattle.jr_model.specs.Report.{all_totals, in_order, miscompares};
 ghost use Rattle.jr_desk_totals.specs.Tallying.{miscompare_of};
@@ -12,14 +12,14 @@ use crate::ended::status_with;
 use crate::found::faults_found;
 use crate::runs::status_of;
 use crate::storage::Storage;
-use jr_cli_words::VERSION;
+use jr_cli_words::{LOGIC, RELEASE};
 use jr_desk::Desk;
 use jr_desk_totals::Bad;
 use jr_model::{Event, Memory, Totals};
 use jr_plan::Plan;
 use jr_replay_traces::Checked;
 use jr_report_faults::{Faults, faults_among};
-use jr_report_json::RunStatus;
+use jr_report_json::{RunNotes, RunStatus};
 use jr_report_maps::bads_of;
 use jr_stats::bads_in_order;
 use std::alloc::Global;
@@ -131,7 +131,8 @@ impl<'a> Findings<'a> {
         ensures { ending_of result ≡ end_of self.now storage.now }
     {
         RunStatus {
-            version: VERSION,
+            version: RELEASE,
+            logic: LOGIC,
             status: status_with(self.found(), self.is_interrupted(), storage.is_stored),
             is_interrupted: self.is_interrupted(),
             cached: storage.cached,
@@ -141,14 +142,14 @@ impl<'a> Findings<'a> {
     }
 }
 
-/// The report as a line of JSON, with what the system said: its reasons of the first faults, and of the files.
+/// The report as a line of JSON, with what else is known of the run, and what the system said of its files.
 pub fn json_text(
     alloc: Global,
     findings: &Findings<'_>,
-    reasons: &[Option<String>],
+    notes: &RunNotes<'_>,
     storage: &Storage,
 ) -> Result<Vec<u8>, Memory>
-    ensures { IfOk result (λ text. text.items ≡ json_line findings.now (texts_of reasons.now) storage.now) }
+    ensures { IfOk result (λ text. text.items ≡ json_line findings.now (notes_of notes.now) storage.now) }
 {
     let plan = findings.plan();
     let bads = sorted(alloc, findings)?;
@@ -159,7 +160,7 @@ pub fn json_text(
         findings.totals(),
         bads.as_slice(),
         findings.faults(),
-        reasons,
+        notes,
         &ending,
     )
 }

@@ -9,11 +9,12 @@ use jr_io_devices::FileNumbers;
 use jr_io_files::Reserved;
 use jr_model::{EngineKind, Memory};
 use jr_plan::Plan;
+use jr_report_json::RunNotes;
 use jr_report_maps::blocks_text;
 use jr_report_outputs::{Spot, Target, Unfit, Way, met_by};
 use jr_report_page::page;
 use jr_stats::trace;
-use jr_system::{Closed, Outlet, Stop};
+use jr_system::{Outlet, Stop};
 use std::alloc::Global;
 use std::fs;
 use std::io::{BufWriter, Write};
@@ -335,6 +336,7 @@ impl Outputs {
         desk: &Desk,
         findings: &Findings<'_>,
         blocks: &[u64],
+        notes: &RunNotes<'_>,
     ) -> Result<(), Stop> {
         let mut result = Ok(());
         for output in self.all.iter() {
@@ -343,7 +345,7 @@ impl Outputs {
                 Content::BadBlocks(_) | Content::WrongBlocks(_) => {
                     blocks_text(rt.alloc(), blocks)
                 }
-                Content::Page => page_text(rt.alloc(), findings),
+                Content::Page => page_text(rt.alloc(), findings, notes),
                 Content::Json => continue,
             };
             result = result.and(self.write_made(rt, output, text));
@@ -381,11 +383,12 @@ impl Outputs {
         &self,
         rt: &R,
         findings: &Findings<'_>,
-        closed: &Closed,
+        storage: &Storage,
+        notes: &RunNotes<'_>,
     ) -> Result<(), Stop> {
         let mut result = Ok(());
         for output in self.all.iter() {
-            let written = self.write_one(rt, output, findings, closed);
+            let written = self.write_one(rt, output, findings, storage, notes);
             result = result.and(written);
         }
         result
@@ -396,7 +399,8 @@ impl Outputs {
         rt: &R,
         output: &Output,
         findings: &Findings<'_>,
-        closed: &Closed,
+        storage: &Storage,
+        notes: &RunNotes<'_>,
     ) -> Result<(), Stop> {
         if matches!(&output.content, Content::Trace) {
             return Ok(());
@@ -404,7 +408,7 @@ impl Outputs {
         self.write_made(
             rt,
             output,
-            output.content.text(rt.alloc(), findings, closed),
+            output.content.text(rt.alloc(), findings, storage, notes),
         )
     }
 
@@ -536,34 +540,24 @@ impl Content {
         &self,
         alloc: Global,
         findings: &Findings<'_>,
-        closed: &Closed,
+        storage: &Storage,
+        notes: &RunNotes<'_>,
     ) -> Result<Vec<u8>, Memory> {
         match self {
             Content::Trace => Ok(Vec::new(alloc)),
             Content::BadBlocks(size) => list_text(alloc, findings, size),
             Content::WrongBlocks(size) => list_text_with_faults(alloc, findings, size),
-            Content::Json => {
-                json_text(
-                    alloc,
-                    findings,
-                    closed.reasons.as_slice(),
-                    &storage_of(closed),
-                )
-            }
-            Content::Page => page_text(alloc, findings),
+            Content::Json => json_text(alloc, findings, notes, storage),
+            Content::Page => page_text(alloc, findings, notes),
         }
     }
 }
 
-fn storage_of(closed: &Closed) -> Storage {
-    Storage {
-        cached: closed.cached,
-        direct: closed.direct,
-        is_stored: closed.unstored.is_none(),
-    }
-}
-
-fn page_text(alloc: Global, findings: &Findings<'_>) -> Result<Vec<u8>, Memory> {
+fn page_text(
+    alloc: Global,
+    findings: &Findings<'_>,
+    notes: &RunNotes<'_>,
+) -> Result<Vec<u8>, Memory> {
     page(
         alloc,
         &jr_report_page::PageFindings {
@@ -573,6 +567,9 @@ fn page_text(alloc: Global, findings: &Findings<'_>) -> Result<Vec<u8>, Memory> 
             bads: findings.bads(),
             faults: findings.faults(),
             is_interrupted: findings.is_interrupted(),
+            found: notes.found,
+            setting: notes.setting,
+            files: notes.files,
         },
     )
 }

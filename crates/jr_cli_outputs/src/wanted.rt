@@ -4,31 +4,48 @@ ghost use Rattle.jr_replay_traces.specs.Runs.{IsLegalRun};
 use crate::finished::Finished;
 use crate::maps::show_maps;
 use crate::outputs::Outputs;
-use jr_cli::{Findings, RunEnd};
+use jr_cli::{Findings, RunEnd, Storage};
+use jr_cli_notes::{Beginning, Surroundings, tell_found};
 use jr_cli_words::{Choice, CliFault};
 use jr_plan::Plan;
 use jr_replay_traces::Checked;
 use jr_system::{Closed, Outlet, Stop};
+use std::time::Clock;
 
-/// What is to be told of a run beside its report: its outputs, and whether maps are shown.
+/// What is to be told of a run beside its report: its outputs, whether maps are shown and notes are wanted; and what is known of the run from
+/// its beginning on.
 #[derive(Drop)]
 pub struct Wanted {
     pub outputs: Outputs,
     has_maps: bool,
+    has_notes: bool,
+    begun: Beginning,
+    job: Vec<u8>,
 }
 
 impl Wanted {
-    /// What the words ask for. An output that can't be is refused.
-    pub fn of<R: Outlet>(rt: &R, choice: &Choice<'_>, plan: &Plan) -> Result<Wanted, Stop> {
+    /// What the words ask for, of a run of the plan that this job text makes. An output that can't be is refused.
+    pub fn of<R: Outlet + Clock>(
+        rt: &R,
+        choice: &Choice<'_>,
+        plan: &Plan,
+        job: &[u8],
+    ) -> Result<Wanted, Stop> {
+        let Ok(job) = Vec::from_slice(rt.alloc(), job) else {
+            return Err(Stop::from(CliFault::Memory));
+        };
         Ok(Wanted {
             outputs: Outputs::of(rt, choice, plan)?,
             // (the check of a trace shows them where they are asked for)
             has_maps: choice.map || choice.check_trace.is_none() && rt.prints_to_terminal(),
+            has_notes: choice.notes || rt.is_shown(),
+            begun: Beginning::now(rt),
+            job,
         })
     }
 
     /// Tells it, of a run that has its report, with which what can't be told is kept.
-    pub fn tell<R: Outlet>(&self, rt: &R, ran: Finished) -> Finished {
+    pub fn tell<R: Outlet + Clock>(&self, rt: &R, ran: Finished) -> Finished {
         let traced = if ran.is_trace_cut {
             Ok(())
         } else {
@@ -39,7 +56,15 @@ impl Wanted {
         ran.and(traced).and(told)
     }
 
-    fn tell_run<R: Outlet>(&self, rt: &R, ran: &Finished) -> Result<(), Stop> {
+    /// Says what stands in the first bad blocks of a run of the plan, where notes are wanted.
+    pub fn tell_found<R: Outlet>(&self, rt: &R, plan: &Plan, closed: &Closed) {
+        if self.has_notes {
+            tell_found(rt, plan, closed.found.as_slice());
+        }
+    }
+
+    fn tell_run<R: Outlet + Clock>(&self, rt: &R, ran: &Finished) -> Result<(), Stop> {
+        self.tell_found(rt, ran.ended.desk.plan(), &ran.closed);
         if self.outputs.is_empty() && !self.has_maps {
             return Ok(());
         }
@@ -50,7 +75,12 @@ impl Wanted {
     }
 
     /// Tells it, of the run that a trace of the plan is of.
-    pub fn tell_trace<R: Outlet>(&self, rt: &R, plan: &Plan, run: &Checked) -> Result<(), Stop>
+    pub fn tell_trace<R: Outlet + Clock>(
+        &self,
+        rt: &R,
+        plan: &Plan,
+        run: &Checked,
+    ) -> Result<(), Stop>
         requires { IsLegalRun plan.now run.now }
     {
         if self.outputs.is_empty() && !self.has_maps {
@@ -63,24 +93,50 @@ impl Wanted {
     }
 
     /// Tells it at the end of several rounds, of the last of them, with the blocks that were bad in any.
-    pub fn tell_last<R: Outlet>(&self, rt: &R, last: &RunEnd, blocks: &[u64]) -> Result<(), Stop> {
+    pub fn tell_last<R: Outlet + Clock>(
+        &self,
+        rt: &R,
+        last: &RunEnd,
+        closed: &Closed,
+        blocks: &[u64],
+    ) -> Result<(), Stop> {
         let Ok(findings) = Findings::of_desk(rt.alloc(), &last.desk) else {
             return Err(Stop::from(CliFault::Memory));
         };
         let shown = self.show(rt, &findings);
-        let written = self.outputs.write_last(rt, &last.desk, &findings, blocks);
+        let about = self.surroundings(rt, findings.plan())?;
+        let notes = about.notes(closed.reasons.as_slice(), closed.found.as_slice());
+        let written = self
+            .outputs
+            .write_last(rt, &last.desk, &findings, blocks, &notes);
         shown?;
         written
     }
 
-    fn tell_findings<R: Outlet>(
+    /// What is known of a run that ends now, beside its history.
+    pub fn surroundings<R: Outlet + Clock>(
+        &self,
+        rt: &R,
+        plan: &Plan,
+    ) -> Result<Surroundings, Stop> {
+        match Surroundings::of(rt, plan, &self.begun, self.job.as_slice()) {
+            Ok(about) => Ok(about),
+            Err(_) => Err(Stop::from(CliFault::Memory)),
+        }
+    }
+
+    fn tell_findings<R: Outlet + Clock>(
         &self,
         rt: &R,
         findings: &Findings<'_>,
         closed: &Closed,
     ) -> Result<(), Stop> {
         let shown = self.show(rt, findings);
-        let written = self.outputs.write(rt, findings, closed);
+        let about = self.surroundings(rt, findings.plan())?;
+        let notes = about.notes(closed.reasons.as_slice(), closed.found.as_slice());
+        let written = self
+            .outputs
+            .write(rt, findings, &storage_of(closed), &notes);
         shown?;
         written
     }
@@ -92,5 +148,13 @@ impl Wanted {
         } else {
             Ok(())
         }
+    }
+}
+
+fn storage_of(closed: &Closed) -> Storage {
+    Storage {
+        cached: closed.cached,
+        direct: closed.direct,
+        is_stored: closed.unstored.is_none(),
     }
 }

@@ -14,5 +14,5 @@ pub use inputs::{memory_or, read_text, read_trace};
 pub use jobs::{print_plan, read_job, write_out};
 pub use sizes::{BlockSize, list_size};
 pub use wiping::{Wipe, Wiping};
-pub use words::{Choice, VERSION, answer_words, choose};
+pub use words::{Choice, LOGIC, RELEASE, VERSION, answer_words, choose};
 pub use workers::workers_of;

@@ -49,6 +49,12 @@ use std::convert::AsStr;
 /// The program's version, and the logic that it is proved in: several kits have the same.
 pub const VERSION: &str = "0.1.0\nlogic dac8208d650f15bf";
 
+/// The version alone.
+pub const RELEASE: &str = "0.1.0";
+
+/// The sum of the program logic in which fiorun is proved.
+pub const LOGIC: &str = "dac8208d650f15bf";
+
 /// What the words of the command line ask for.
 #[derive(Clone, Copy, Debug, PartialEq, Eq)]
 pub struct Choice<'a> {

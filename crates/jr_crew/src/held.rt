@@ -9,8 +9,8 @@ ghost use Rattle.jr_crew.specs.Working.{CanBeServed, CanStart};
 
 use crate::outcomes::{CarriedOut, TakenIn};
 use jr_crew_threads::{
-    Crowd, Halt, MOST_BYTES, MOST_IOS, Naming, Shares, Turns, Watch, asked_at, note_start,
-    note_verdict, push,
+    Crowd, Halt, MOST_BYTES, MOST_IOS, Naming, Shares, Turns, Watch, asked_at, note_bad,
+    note_start, note_verdict, push,
 };
 use jr_desk::{Desk, DeskFault, Take};
 use jr_header::{Ruling, Served};
@@ -268,6 +268,15 @@ impl<'p, P: Naming> Shared<'p, P> {
     // Whether the workers are too many.
     pub fn crowd(&self) -> &Crowd {
         &self.crowd
+    }
+
+    // Looks into the bad blocks among these, while the lock is free.
+    pub fn note_bad<R: Wait>(&self, rt: &R, settled: &[CarriedOut<'_>]) {
+        for one in settled {
+            if let Some(ruling) = &one.ruling {
+                note_bad(rt, self.watch.diagnoses, ruling);
+            }
+        }
     }
 
     // Takes the lock. Who doesn't get it at once comes until it has it: nobody is counted who has the lock.

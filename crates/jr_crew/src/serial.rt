@@ -9,7 +9,8 @@ ghost use Rattle.jr_crew.specs.Turns.{IsBetweenTurns, IsOpen, IsNext, IsCarriedO
 ghost use Rattle.jr_crew.specs.Whole.{IsRun, IsEndedRun};
 
 use jr_crew_threads::{
-    Progress, RunFault, StopFlag, StopRequest, Watch, asked_at, make_room, note_start, note_verdict,
+    RunFault, StopFlag, StopRequest, Watch, asked_at, make_room, note_alone, note_start,
+    note_verdict,
 };
 use jr_desk::{Desk, Take};
 use jr_engines::Engine;
@@ -85,7 +86,7 @@ pub fn run_serial_asked<'w>(
                 asked: Some(request),
             });
         }
-        if !turn(alloc, &mut desk, engine, &mut buffer, watch.progress)? {
+        if !turn(alloc, &mut desk, engine, &mut buffer, &watch)? {
             return Ok(SerialRun { desk, asked: None });
         }
     }
@@ -109,7 +110,7 @@ fn turn(
     desk: &mut Desk,
     engine: &mut dyn Engine,
     buffer: &mut Vec<u8>,
-    progress: Option<&Progress>,
+    watch: &Watch<'_>,
 ) -> Result<bool, RunFault>
     requires between { IsBetweenTurns desk.old }
     requires calls { (state engine.old).calls < 2 ^ 64 - 1 }
@@ -120,9 +121,9 @@ fn turn(
     ensures stop { desk.new.is_stopped ≡ desk.old.is_stopped }
     ensures memory { IfErr result (λ fault. fault ≡ RunFault.Memory) }
 {
-    match next_ticket(desk, progress) {
+    match next_ticket(desk, watch) {
         Ok(Some(ticket)) => {
-            carry_out(alloc, desk, engine, ticket, buffer, progress)?;
+            carry_out(alloc, desk, engine, ticket, buffer, watch)?;
             Ok(true)
         }
         Ok(None) => Ok(false),
@@ -131,7 +132,7 @@ fn turn(
 }
 
 // The ticket of what is started next; none where the run is complete.
-fn next_ticket(desk: &mut Desk, progress: Option<&Progress>) -> Result<Option<Ticket>, RunFault>
+fn next_ticket(desk: &mut Desk, watch: &Watch<'_>) -> Result<Option<Ticket>, RunFault>
     requires { IsBetweenTurns desk.old }
     ensures next { IfOk result (IsNext desk.old.plan desk.old.history desk.new.history) }
     ensures open { IfOk result (λ ticket. IfSome ticket (IsOpen desk.new)) }
@@ -141,7 +142,7 @@ fn next_ticket(desk: &mut Desk, progress: Option<&Progress>) -> Result<Option<Ti
 {
     match desk.take(0) {
         Ok(Take::Io(ticket)) => {
-            note_start(progress, &ticket);
+            note_start(watch.progress, &ticket);
             Ok(Some(ticket))
         }
         Ok(Take::Probe(ticket)) => Ok(Some(ticket)),
@@ -158,7 +159,7 @@ fn carry_out(
     engine: &mut dyn Engine,
     ticket: Ticket,
     buffer: &mut Vec<u8>,
-    progress: Option<&Progress>,
+    watch: &Watch<'_>,
 ) -> Result<(), RunFault>
     requires open { IsOpen desk.old ticket }
     requires calls { (state engine.old).calls < 2 ^ 64 - 1 }
@@ -169,13 +170,13 @@ fn carry_out(
 {
     make_room(buffer, &ticket)?;
     let served = serve_own(engine, ticket, mem::replace(buffer, Vec::new(alloc)));
-    settle(desk, &served, progress)?;
+    settle(desk, &served, watch)?;
     *buffer = served.into_buf();
     Ok(())
 }
 
 // Takes in how a ticket ended, with the verdict where it is a check that ended whole.
-fn settle(desk: &mut Desk, served: &Served, progress: Option<&Progress>) -> Result<(), RunFault>
+fn settle(desk: &mut Desk, served: &Served, watch: &Watch<'_>) -> Result<(), RunFault>
     requires { IsOpen desk.old served.now.ticket }
     ensures ok { OnOk result (desk.new ≡ record desk.old { history = desk.old.history ++ ended_by served.now }) }
     ensures plan { desk.new.plan ≡ desk.old.plan }
@@ -186,7 +187,7 @@ fn settle(desk: &mut Desk, served: &Served, progress: Option<&Progress>) -> Resu
         end(desk, served)?;
         return Ok(());
     }
-    end_judged(desk, served, progress)?;
+    end_judged(desk, served, watch)?;
     Ok(())
 }
 
@@ -205,7 +206,7 @@ fn end(desk: &mut Desk, served: &Served) -> Result<(), RunFault>
 }
 
 // The same for a check that ended whole, which it judges.
-fn end_judged(desk: &mut Desk, served: &Served, progress: Option<&Progress>) -> Result<(), RunFault>
+fn end_judged(desk: &mut Desk, served: &Served, watch: &Watch<'_>) -> Result<(), RunFault>
     requires open { IsOpen desk.old served.now.ticket }
     requires whole { is_to_judge served.now ≡ true }
     ensures ok { OnOk result (desk.new ≡ record desk.old { history = desk.old.history ++ ended_by served.now }) }
@@ -216,7 +217,8 @@ fn end_judged(desk: &mut Desk, served: &Served, progress: Option<&Progress>) -> 
     let ruling = rule(served);
     match desk.end_judged(0, &ruling) {
         Ok(_) => {
-            note_verdict(progress, served.ticket().piece.len, ruling.verdict());
+            note_verdict(watch.progress, served.ticket().piece.len, ruling.verdict());
+            note_alone(watch.diagnoses, &ruling);
             Ok(())
         }
         Err(_) => Err(RunFault::Memory),

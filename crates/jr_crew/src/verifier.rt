@@ -121,6 +121,7 @@ fn judge<P: Naming, R: Wait>(
     }
     let mut settled = Vec::new(alloc);
     rule_all(true, served, &mut settled)?;
+    shared.note_bad(rt, &settled);
     let mut told = Vec::with_capacity(alloc, settled.len())?;
     shared.judge(rt, number, &settled, &mut told)?;
     note_said(&told, book)

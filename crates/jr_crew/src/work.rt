@@ -179,6 +179,7 @@ fn exchange<P: Naming, R: Wait + Clock>(
 {
     let mut settled = Vec::with_capacity(post.alloc, served.len())?;
     rule_all(post.inline, served, &mut settled)?;
+    post.shared.note_bad(rt, &settled);
     let mut told = Vec::with_capacity(post.alloc, settled.len())?;
     let step = post.shared.hand_in(
         rt,

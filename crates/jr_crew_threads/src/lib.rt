@@ -5,6 +5,7 @@
 mod brought;
 mod channels;
 mod crowd;
+mod diagnoses;
 mod faults;
 mod halts;
 mod naming;
@@ -18,6 +19,7 @@ mod watch;
 pub use brought::{Books, Judged, Judgements, Judges, Worked, WorkerEnd, books_of};
 pub use channels::{ChannelEnd, ChannelPart};
 pub use crowd::Crowd;
+pub use diagnoses::{Diagnoses, MOST_DIAGNOSED, note_alone, note_bad};
 pub use faults::RunFault;
 pub use halts::Halt;
 pub use naming::Naming;

@@ -1,6 +1,7 @@
 ghost use Rattle.std.specs.Prelude.{◌≡◌, None, IfSome};
 ghost use Rattle.jr_crew_threads.specs.Stops.{WasAsked};
 
+use crate::diagnoses::Diagnoses;
 use crate::progress::Progress;
 use std::fmt;
 use std::sync::{OnceLock, OnceToken};
@@ -53,15 +54,17 @@ impl StopFlag {
     }
 }
 
-/// What another thread has of a run while it goes on: how far it is, and a flag that asks it to stop.
+/// What another thread has of a run while it goes on: how far it is, and a flag that asks it to stop; and where what stands in bad blocks is
+/// kept.
 #[derive(Clone, Copy, Drop)]
 pub struct Watch<'a> {
     pub progress: Option<&'a Progress>,
     pub stop: Option<&'a StopFlag>,
+    pub diagnoses: Option<&'a Diagnoses>,
 }
 
 impl<'a> Watch<'a> {
-    /// Nobody wants to know how far the run is, and nobody can stop it.
+    /// Nobody wants to know how far the run is, nor what stands in bad blocks, and nobody can stop it.
     pub fn none() -> Watch<'a>
         ensures progress { result.progress ≡ None }
         ensures stop { result.stop ≡ None }
@@ -69,6 +72,7 @@ impl<'a> Watch<'a> {
         Watch {
             progress: None,
             stop: None,
+            diagnoses: None,
         }
     }
 }

@@ -1,7 +1,8 @@
 -- Believed: in which bits bytes differ from those that were written (of this project).
-use Rattle.std.specs.Prelude.{ℕ, List, count_ones, length, map, sum_by, slice_index}
+use Rattle.std.specs.Prelude.{ℕ, List, count_ones, length, map, sum_by, slice_index, unwrap_or}
 use Rattle.std.specs.Int.Bits.{bit_and, bit_xor}
 use Rattle.std.specs.List.{range_with_len}
+use Rattle.jr_model.specs.Judgement.{first_difference}
 
 -- how many bits are 1 in a byte as it was read that were 0 as it was written, and how many the other way round
 abbrev pub raised_in : ℕ → ℕ → ℕ
@@ -21,3 +22,7 @@ raised_between written read = counted raised_in written read (length read)
 
 abbrev pub cleared_between : List ℕ → List ℕ → ℕ
 cleared_between written read = counted cleared_in written read (length read)
+
+-- the place of the first byte that isn't the one that was written; 0 where there is none
+abbrev pub first_wrong : List ℕ → List ℕ → ℕ
+first_wrong written read = unwrap_or (first_difference read written) 0

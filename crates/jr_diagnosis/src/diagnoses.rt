@@ -2,13 +2,13 @@
 ghost use Rattle.std.specs.Prelude.{◌≡◌, ◌==◌, ◌≤◌, ◌^◌, ℕ, length};
 ghost use Rattle.std.specs.List.{list_all};
 ghost use Rattle.jr_model.specs.Content.{kind_code};
-ghost use Rattle.jr_diagnosis.specs.Diagnoses.{diagnosis_of, header_diagnosis, repeated_byte, said_by_header, sector_diagnosis, uneven_diagnosis};
-ghost use Rattle.jr_diagnosis.specs.Headers.{header_in};
+ghost use Rattle.jr_diagnosis.specs.Diagnoses.{diagnosis_of, even_diagnosis, here_diagnosis, own_diagnosis_of, own_uneven_diagnosis, place_diagnosis};
+ghost use Rattle.jr_diagnosis.specs.Diagnoses.{repeated_byte, said_by, sector_diagnosis, uneven_diagnosis, write_diagnosis};
 
 use crate::bits::{Flips, flips_between};
 use crate::headers::{BlockHeader, header_in};
 use crate::sectors::right_sectors;
-use jr_model::{Piece, VerifyKind, WriteId};
+use jr_model::{Method, Piece, VerifyKind, WriteId};
 
 /// What stands in a block, or a chunk of one, in place of what its write put there.
 #[derive(Clone, Copy, Debug, PartialEq, Eq)]
@@ -31,13 +31,15 @@ pub enum Diagnosis {
     OtherPass(u16),
     /// So many 512 bytes of it are right, and the others aren't.
     Torn(u32),
+    /// A block of this place, with a header that is right, whose bytes aren't those that it was written with.
+    Damaged,
     /// Nothing that is known.
     Foreign,
 }
 
 /// What stands at this place, where a write put other bytes: it is a block, or a chunk of one.
 pub fn diagnosis_of(
-    kind: VerifyKind,
+    method: &Method,
     write: &WriteId,
     place: &Piece,
     written: &[u8],
@@ -45,12 +47,21 @@ pub fn diagnosis_of(
 ) -> Diagnosis
     requires same { length written.now ≡ length read.now }
     requires most { length read.now ≤ 2 ^ 24 }
-    ensures { result ≡ diagnosis_of kind write.now place.now written.now read.now }
+    ensures { result ≡ diagnosis_of method.now write.now place.now written.now read.now }
 {
     match repeated_byte(read) {
-        Some(0) => Diagnosis::Zeros,
-        Some(byte) => Diagnosis::Repeated(byte),
-        None => uneven_diagnosis(kind, write, place, written, read),
+        Some(byte) => even_diagnosis(byte),
+        None => uneven_diagnosis(method, write, place, written, read),
+    }
+}
+
+/// What stands at this place, where it isn't known which write's bytes should: by its own header.
+pub fn own_diagnosis_of(kind: VerifyKind, place: &Piece, read: &[u8]) -> Diagnosis
+    ensures { result ≡ own_diagnosis_of kind place.now read.now }
+{
+    match repeated_byte(read) {
+        Some(byte) => even_diagnosis(byte),
+        None => own_uneven_diagnosis(kind, place, header_in(read)),
     }
 }
 
@@ -70,9 +81,20 @@ fn all_are(byte: u8, bytes: &[u8]) -> bool
     bytes.iter().all(|other| *other == byte)
 }
 
+// What stands there where all bytes are this one.
+fn even_diagnosis(byte: u8) -> Diagnosis
+    ensures { result ≡ even_diagnosis byte }
+{
+    if byte == 0 {
+        Diagnosis::Zeros
+    } else {
+        Diagnosis::Repeated(byte)
+    }
+}
+
 // What stands there where the bytes aren't all one.
 fn uneven_diagnosis(
-    kind: VerifyKind,
+    method: &Method,
     write: &WriteId,
     place: &Piece,
     written: &[u8],
@@ -80,29 +102,66 @@ fn uneven_diagnosis(
 ) -> Diagnosis
     requires same { length written.now ≡ length read.now }
     requires most { length read.now ≤ 2 ^ 24 }
-    ensures { result ≡ uneven_diagnosis kind write.now place.now written.now read.now }
+    ensures { result ≡ uneven_diagnosis method.now write.now place.now written.now read.now }
 {
     let flips = flips_between(written, read);
     if flips.raised + flips.cleared < 17 {
         return Diagnosis::Flipped(flips);
     }
-    match said_by_header(kind, write, place, read) {
+    let header = header_in(read);
+    match said_of_place(method.kind, place, header) {
         Some(said) => said,
-        None => sector_diagnosis(right_sectors(written, read)),
+        None => here_diagnosis(method, write, right_sectors(written, read), header),
     }
 }
 
-// What is said by a header that the bytes begin with.
-fn said_by_header(
-    kind: VerifyKind,
-    write: &WriteId,
-    place: &Piece,
-    read: &[u8],
-) -> Option<Diagnosis>
-    ensures { result ≡ said_by_header kind write.now place.now (header_in read.now) }
+// What stands there by its own header, where the bytes aren't all one.
+fn own_uneven_diagnosis(kind: VerifyKind, place: &Piece, header: Option<BlockHeader>) -> Diagnosis
+    ensures { result ≡ own_uneven_diagnosis kind place.now header }
 {
-    match header_in(read) {
-        Some(header) => header_diagnosis(kind, write, place, &header),
+    match header {
+        None => Diagnosis::Foreign,
+        Some(header) => match place_diagnosis(kind, place, &header) {
+            Some(said) => said,
+            None => Diagnosis::Damaged,
+        },
+    }
+}
+
+// What stands there where a block is in its place, of which so many sectors are right.
+fn here_diagnosis(
+    method: &Method,
+    write: &WriteId,
+    right: u32,
+    header: Option<BlockHeader>,
+) -> Diagnosis
+    ensures { result ≡ here_diagnosis method.now write.now right header }
+{
+    if right > 0 && !method.pattern.is_some() {
+        return Diagnosis::Torn(right);
+    }
+    match said_of_write(write, header) {
+        Some(said) => said,
+        None => sector_diagnosis(right),
+    }
+}
+
+// What a header says of the place, where there is one.
+fn said_of_place(kind: VerifyKind, place: &Piece, header: Option<BlockHeader>) -> Option<Diagnosis>
+    ensures { result ≡ said_by (place_diagnosis kind place.now) header }
+{
+    match header {
+        Some(header) => place_diagnosis(kind, place, &header),
+        None => None,
+    }
+}
+
+// What a header says of the write, where there is one.
+fn said_of_write(write: &WriteId, header: Option<BlockHeader>) -> Option<Diagnosis>
+    ensures { result ≡ said_by (write_diagnosis write.now) header }
+{
+    match header {
+        Some(header) => write_diagnosis(write, &header),
         None => None,
     }
 }
@@ -118,14 +177,9 @@ fn sector_diagnosis(right: u32) -> Diagnosis
     }
 }
 
-// The first thing that a header says otherwise than that of this write would.
-fn header_diagnosis(
-    kind: VerifyKind,
-    write: &WriteId,
-    place: &Piece,
-    header: &BlockHeader,
-) -> Option<Diagnosis>
-    ensures { result ≡ header_diagnosis kind write.now place.now header.now }
+// The first thing that a header says otherwise of how a block is made and where it belongs.
+fn place_diagnosis(kind: VerifyKind, place: &Piece, header: &BlockHeader) -> Option<Diagnosis>
+    ensures { result ≡ place_diagnosis kind place.now header.now }
 {
     if header.kind != kind_code(kind) {
         Some(Diagnosis::OtherKind(header.kind))
@@ -133,7 +187,16 @@ fn header_diagnosis(
         Some(Diagnosis::OtherLength(header.len))
     } else if header.offset != place.offset {
         Some(Diagnosis::Elsewhere(header.offset))
-    } else if header.clone != write.clone || header.number != u64::from(write.number) {
+    } else {
+        None
+    }
+}
+
+// The first thing that it says otherwise of which write it is.
+fn write_diagnosis(write: &WriteId, header: &BlockHeader) -> Option<Diagnosis>
+    ensures { result ≡ write_diagnosis write.now header.now }
+{
+    if header.clone != write.clone || header.number != u64::from(write.number) {
         Some(Diagnosis::OtherWrite(header.clone, header.number))
     } else if u32::from(header.pass) != write.pass {
         Some(Diagnosis::OtherPass(header.pass))

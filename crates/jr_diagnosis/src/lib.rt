@@ -4,8 +4,12 @@
 mod bits;
 mod diagnoses;
 mod headers;
+mod rulings;
 mod sectors;
+mod texts;
 
 pub use bits::{Flips, flips_between};
-pub use diagnoses::{Diagnosis, diagnosis_of};
+pub use diagnoses::{Diagnosis, diagnosis_of, own_diagnosis_of};
 pub use headers::{BlockHeader, header_in};
+pub use rulings::{Diagnosed, diagnose};
+pub use texts::{found_of, text_of};

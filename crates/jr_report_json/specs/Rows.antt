@@ -11,9 +11,13 @@ use Rattle.serde_json.specs.Written.{comma_if, compact_text, items_text}
 use Rattle.jr_model.specs.declared.totals.Totals.{Totals}
 use Rattle.jr_model.specs.Plan.{Plan}
 use Rattle.jr_model.specs.Report.{Miscompare}
+use Rattle.jr_diagnosis.specs.Rulings.{Told, told}
 use Rattle.jr_report_faults.specs.Faults.{NamedFault}
+use Rattle.jr_report_json.specs.declared.endings.KnownFile.{KnownFile}
+use Rattle.jr_report_json.specs.declared.endings.RunNotes.{RunNotes}
+use Rattle.jr_report_json.specs.declared.endings.RunSetting.{RunSetting}
 use Rattle.jr_report_json.specs.declared.endings.RunStatus.{RunStatus}
-use Rattle.jr_report_json.specs.Json.{RunEnd, asked_json, clones_json, count_json, faults_json, flag_json, is_bad_read, miscompare_json, natural}
+use Rattle.jr_report_json.specs.Json.{FileFacts, Notes, RunEnd, Setting, asked_json, clones_json, count_json, faults_json, file_json, flag_json, is_bad_read, miscompare_json, natural, setting_json}
 
 abbrev pub text_of : Option (Bor (String Global)) → Option (List ℕ)
 text_of None = None
@@ -58,8 +62,8 @@ is_wanted plan true m = is_bad_read plan m
 is_wanted plan false m = not (is_bad_read plan m)
 
 -- the bad reads, or the other bad verdicts
-abbrev pub bads_json : Plan → Bool → List Miscompare → List Data
-bads_json plan of_reads found = map (miscompare_json plan) (filter (is_wanted plan of_reads) found)
+abbrev pub bads_json : Plan → List Told → Bool → List Miscompare → List Data
+bads_json plan told of_reads found = map (miscompare_json plan told) (filter (is_wanted plan of_reads) found)
 
 -- a member of this name, with what stands before it
 abbrev pub member_text : List ℕ → List ℕ → Data → List ℕ
@@ -69,6 +73,7 @@ member_text before name d = before ++ (quoted name ++ 58 ∷ compact_text d)
 abbrev pub ending_of : RunStatus → RunEnd
 ending_of ending = record {
   version = ending.version.now;
+  logic = ending.logic.now;
   status = ending.status;
   is_interrupted = ending.is_interrupted;
   cached = ending.cached;
@@ -76,30 +81,59 @@ ending_of ending = record {
   is_stored = ending.is_stored;
 }
 
-abbrev pub reads_text : Plan → List Miscompare → List ℕ
-reads_text plan found = member_text (codes "{") (codes "badreads") (array (items_of (bads_json plan true found)))
+abbrev pub facts_of : KnownFile → FileFacts
+facts_of file = record {
+  name = string_bytes file.name;
+  model = option_map string_bytes file.model;
+  serial = option_map string_bytes file.serial;
+  size = file.size;
+}
+
+abbrev pub setting_of : RunSetting → Setting
+setting_of setting = record {
+  began = option_map string_bytes setting.began;
+  ended = option_map string_bytes setting.ended;
+  milliseconds = setting.milliseconds;
+  host = option_map string_bytes setting.host;
+  job = option_map string_bytes setting.job;
+}
+
+-- what is known of a run beside its history
+abbrev pub notes_of : RunNotes → Notes
+notes_of notes = record {
+  reasons = texts_of notes.reasons.now;
+  told = map told notes.found.now;
+  setting = setting_of notes.setting.now;
+  files = map facts_of notes.files.now;
+}
+
+abbrev pub reads_text : Plan → List Told → List Miscompare → List ℕ
+reads_text plan told found = member_text (codes "{") (codes "badreads") (array (items_of (bads_json plan told true found)))
 
 abbrev pub cache_text : RunEnd → List ℕ
 cache_text ending =
     member_text (codes ",") (codes "cached") (count_json ending.cached)
     ++ member_text (codes ",") (codes "direct") (flag_json ending.direct)
 
-abbrev pub head_text : RunEnd → List NamedFault → List (Option (List ℕ)) → List ℕ
-head_text ending faults reasons =
+abbrev pub head_text : RunEnd → List NamedFault → Notes → List ℕ
+head_text ending faults notes =
     cache_text ending
-    ++ member_text (codes ",") (codes "faults") (array (items_of (faults_json faults reasons)))
+    ++ member_text (codes ",") (codes "faults") (array (items_of (faults_json faults notes.reasons)))
+    ++ member_text (codes ",") (codes "files") (array (items_of (map file_json notes.files)))
     ++ member_text (codes ",") (codes "fiorun") (string ending.version)
     ++ member_text (codes ",") (codes "interrupted") (boolean ending.is_interrupted)
 
-abbrev pub found_text : Plan → List Totals → List Miscompare → List ℕ
-found_text plan totals found =
+abbrev pub found_text : RunEnd → Plan → List Totals → List Told → List Miscompare → List ℕ
+found_text ending plan totals told found =
     member_text (codes ",") (codes "jobs") (array (items_of (clones_json plan.clones totals)))
-    ++ member_text (codes ",") (codes "miscompares") (array (items_of (bads_json plan false found)))
+    ++ member_text (codes ",") (codes "logic") (string ending.logic)
+    ++ member_text (codes ",") (codes "miscompares") (array (items_of (bads_json plan told false found)))
 
-abbrev pub plan_text : Plan → ℕ → List ℕ
-plan_text plan more =
+abbrev pub plan_text : Plan → Setting → ℕ → List ℕ
+plan_text plan setting more =
     member_text (codes ",") (codes "more_faults") (natural more)
     ++ member_text (codes ",") (codes "plan") (array (items_of (map (asked_json plan) plan.clones)))
+    ++ member_text (codes ",") (codes "run") (setting_json setting)
 
 abbrev pub end_text : RunEnd → List ℕ
 end_text ending =

@@ -6,5 +6,5 @@ mod endings;
 mod rows;
 mod texts;
 
-pub use endings::RunStatus;
+pub use endings::{KnownFile, RunNotes, RunSetting, RunStatus};
 pub use texts::{json_text, push_clones};

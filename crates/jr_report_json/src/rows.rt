@@ -4,12 +4,17 @@ ghost use Rattle.std.specs.Option.{option_map};
 ghost use Rattle.jr_model.specs.Plan.{clone_of};
 ghost use Rattle.jr_model.specs.Report.{file_name, found_word, part_text, what_text};
 ghost use Rattle.jr_report_faults.specs.Faults.{named};
-ghost use Rattle.jr_report_json.specs.Json.{clone_json, fault_json, is_bad_read, miscompare_json, moved_json, outcome_word, reason_json, unchecked};
-ghost use Rattle.jr_report_json.specs.Rows.{text_of};
+ghost use Rattle.jr_diagnosis.specs.Rulings.{told};
+ghost use Rattle.jr_diagnosis.specs.Texts.{told_of_write, told_text};
+ghost use Rattle.jr_report_json.specs.Json.{clone_json, count_json, fault_json, file_json, is_bad_read, miscompare_json, moved_json, outcome_word, setting_json};
+ghost use Rattle.jr_report_json.specs.Json.{text_json, unchecked};
+ghost use Rattle.jr_report_json.specs.Rows.{facts_of, setting_of, text_of};
 ghost use Rattle.jr_desk_totals.specs.Tallying.{miscompare_of};
 ghost use Rattle.serde_json.specs.View.{view};
 
+use crate::endings::{KnownFile, RunSetting};
 use jr_desk_totals::Bad;
+use jr_diagnosis::{Diagnosed, found_of, text_of};
 use jr_model::{Outcome, Part, Totals, What};
 use jr_plan::{Plan, SubJob};
 use jr_report_faults::{FaultNote, kind_word};
@@ -58,19 +63,39 @@ pub(crate) fn is_bad_read(plan: &Plan, bad: &Bad) -> bool
 }
 
 // The object of a bad verdict.
-pub(crate) fn miscompare_row(alloc: Global, plan: &Plan, bad: &Bad) -> Result<Value, AllocError>
-    ensures { IfOk result (λ value. view value ≡ miscompare_json plan.now (miscompare_of bad.now)) }
+pub(crate) fn miscompare_row(
+    alloc: Global,
+    plan: &Plan,
+    found: &[Diagnosed],
+    bad: &Bad,
+) -> Result<Value, AllocError>
+    ensures { IfOk result (λ value. view value ≡ miscompare_json plan.now (map told found.now) (miscompare_of bad.now)) }
 {
     let what = what_string(alloc, bad.what)?;
+    let stands = found_value(alloc, found_of(found, &bad.write))?;
     json!(in alloc; {
         "clone": bad.write.clone,
         "file": file_name(plan, bad.piece.file),
+        "found": stands,
         "length": bad.piece.len,
         "number": bad.write.number,
         "offset": bad.piece.offset,
         "pass": bad.write.pass,
         "what": what
     })
+}
+
+// What stands in a bad block, where that was looked into.
+fn found_value(alloc: Global, found: Option<&Diagnosed>) -> Result<Value, AllocError>
+    ensures { IfOk result (λ value. view value ≡ text_json (option_map told_text (option_map (λ one. told one.now) found.entry))) }
+{
+    match found {
+        None => Ok(Value::Null),
+        Some(found) => {
+            let text = text_of(alloc, found)?;
+            Value::try_from_str(alloc, text.as_str())
+        }
+    }
 }
 
 pub(crate) fn file_name(plan: &Plan, file: u32) -> &str
@@ -116,7 +141,7 @@ pub(crate) fn fault_row(
     ensures { IfOk result (λ value. view value ≡ fault_json (named note.now) (text_of reason.entry)) }
 {
     let fault = &note.fault;
-    let reason = reason_value(alloc, reason)?;
+    let reason = text_value(alloc, reason)?;
     json!(in alloc; {
         "clone": fault.write.clone,
         "file": &note.name,
@@ -131,13 +156,63 @@ pub(crate) fn fault_row(
     })
 }
 
-fn reason_value(alloc: Global, reason: Option<&String>) -> Result<Value, AllocError>
-    ensures { IfOk result (λ value. view value ≡ reason_json (text_of reason.entry)) }
+fn text_value(alloc: Global, text: Option<&String>) -> Result<Value, AllocError>
+    ensures { IfOk result (λ value. view value ≡ text_json (text_of text.entry)) }
 {
-    match reason {
+    match text {
         None => Ok(Value::Null),
         Some(text) => Value::try_from_str(alloc, text.as_str()),
     }
+}
+
+// A text that may not be there.
+fn own_text_value(alloc: Global, text: &Option<String>) -> Result<Value, AllocError>
+    ensures { IfOk result (λ value. view value ≡ text_json (option_map string_bytes text.now)) }
+{
+    match text {
+        None => Ok(Value::Null),
+        Some(text) => Value::try_from_str(alloc, text.as_str()),
+    }
+}
+
+fn count_value(count: Option<u64>) -> Value
+    ensures { view result ≡ count_json count }
+{
+    match count {
+        None => Value::Null,
+        Some(count) => Value::from(count),
+    }
+}
+
+// The object of a file.
+pub(crate) fn file_row(alloc: Global, file: &KnownFile) -> Result<Value, AllocError>
+    ensures { IfOk result (λ value. view value ≡ file_json (facts_of file.now)) }
+{
+    let model = own_text_value(alloc, &file.model)?;
+    let serial = own_text_value(alloc, &file.serial)?;
+    json!(in alloc; {
+        "device_size": count_value(file.size),
+        "model": model,
+        "name": &file.name,
+        "serial": serial
+    })
+}
+
+// The object of a run's setting.
+pub(crate) fn setting_row(alloc: Global, setting: &RunSetting) -> Result<Value, AllocError>
+    ensures { IfOk result (λ value. view value ≡ setting_json (setting_of setting.now)) }
+{
+    let began = own_text_value(alloc, &setting.began)?;
+    let ended = own_text_value(alloc, &setting.ended)?;
+    let host = own_text_value(alloc, &setting.host)?;
+    let job = own_text_value(alloc, &setting.job)?;
+    json!(in alloc; {
+        "began": began,
+        "ended": ended,
+        "host": host,
+        "job": job,
+        "milliseconds": count_value(setting.milliseconds)
+    })
 }
 
 fn moved_value(outcome: Outcome) -> Value

@@ -1,54 +1,63 @@
 // The text of a report, row by row.
 ghost use Rattle.std.specs.Prelude.{◌≡◌, ◌++◌, IfOk, OnOk, codes, false, map, slice_get};
 ghost use Rattle.jr_report_faults.specs.Faults.{named};
-ghost use Rattle.jr_report_json.specs.Json.{asked_json, clone_json, clones_json, count_json, fault_json, faults_json, flag_json, miscompare_json, report_json};
-ghost use Rattle.jr_report_json.specs.Rows.{array_text, bads_json, cache_text, end_text, ending_of, found_text, head_text, is_wanted, item_text, plan_text, reads_text};
-ghost use Rattle.jr_report_json.specs.Rows.{text_of, texts_of, told_by};
+ghost use Rattle.jr_diagnosis.specs.Rulings.{told};
+ghost use Rattle.jr_report_json.specs.Json.{asked_json, clone_json, clones_json, count_json, fault_json, faults_json, file_json, flag_json, miscompare_json, report_json};
+ghost use Rattle.jr_report_json.specs.Json.{setting_json};
+ghost use Rattle.jr_report_json.specs.Rows.{array_text, bads_json, cache_text, end_text, ending_of, facts_of, found_text, head_text, is_wanted, item_text, notes_of};
+ghost use Rattle.jr_report_json.specs.Rows.{plan_text, reads_text, setting_of, text_of, texts_of, told_by};
 ghost use Rattle.jr_desk_totals.specs.Tallying.{miscompare_of};
 ghost use Rattle.serde_json.specs.Data.{boolean, string};
 ghost use Rattle.serde_json.specs.View.{view};
 ghost use Rattle.serde_json.specs.Written.{compact_text, has_float};
 
 use crate::asked::asked_row;
-use crate::endings::RunStatus;
-use crate::rows::{clone_row, fault_row, is_bad_read, miscompare_row};
+use crate::endings::{KnownFile, RunNotes, RunSetting, RunStatus};
+use crate::rows::{clone_row, fault_row, file_row, is_bad_read, miscompare_row, setting_row};
 use jr_desk_totals::Bad;
+use jr_diagnosis::Diagnosed;
 use jr_model::{Memory, Totals, push_number, push_text};
 use jr_plan::{Plan, SubJob};
 use jr_report_faults::{FaultNote, Faults};
 use serde_json::Value;
 use std::alloc::Global;
 
-/// The report as one line of JSON: of these totals, one for each clone, these bad verdicts, and these faults, of which the first have
-/// these reasons of the system.
+/// The report as one line of JSON: of these totals, one for each clone, these bad verdicts, and these faults, with what else is known of
+/// the run.
 pub fn json_text(
     alloc: Global,
     plan: &Plan,
     totals: &[Totals],
     bads: &[Bad],
     faults: &Faults,
-    reasons: &[Option<String>],
+    notes: &RunNotes<'_>,
     ending: &RunStatus<'_>,
 ) -> Result<Vec<u8>, Memory>
     ensures { IfOk result (λ text. text.items ≡ compact_text (report_json (ending_of ending.now) plan.now totals.now
-        (map miscompare_of bads.now) (map named faults.now.first.items) (texts_of reasons.now) faults.now.more) ++ codes "\n") }
+        (map miscompare_of bads.now) (map named faults.now.first.items) (notes_of notes.now) faults.now.more) ++ codes "\n") }
 {
     let mut text = Vec::new(alloc);
-    push_reads(&mut text, alloc, plan, bads)?;
-    push_head(&mut text, alloc, faults.first.as_slice(), reasons, ending)?;
-    push_found(&mut text, alloc, plan, totals, bads)?;
-    push_planned(&mut text, alloc, plan, faults.more)?;
+    push_reads(&mut text, alloc, plan, notes.found, bads)?;
+    push_head(&mut text, alloc, faults.first.as_slice(), notes, ending)?;
+    push_found(&mut text, alloc, plan, totals, notes.found, bads, ending)?;
+    push_planned(&mut text, alloc, plan, notes.setting, faults.more)?;
     push_end(&mut text, ending)?;
     push_text(&mut text, "\n")?;
     Ok(text)
 }
 
 // The first member: the bad reads.
-fn push_reads(text: &mut Vec<u8>, alloc: Global, plan: &Plan, bads: &[Bad]) -> Result<(), Memory>
-    ensures { OnOk result (text.new.items ≡ text.old.items ++ reads_text plan.now (map miscompare_of bads.now)) }
+fn push_reads(
+    text: &mut Vec<u8>,
+    alloc: Global,
+    plan: &Plan,
+    found: &[Diagnosed],
+    bads: &[Bad],
+) -> Result<(), Memory>
+    ensures { OnOk result (text.new.items ≡ text.old.items ++ reads_text plan.now (map told found.now) (map miscompare_of bads.now)) }
 {
     push_text(text, "{\"badreads\":")?;
-    push_bads(text, alloc, plan, bads, true)?;
+    push_bads(text, alloc, plan, found, bads, true)?;
     Ok(())
 }
 
@@ -57,15 +66,17 @@ fn push_head(
     text: &mut Vec<u8>,
     alloc: Global,
     faults: &[FaultNote],
-    reasons: &[Option<String>],
+    notes: &RunNotes<'_>,
     ending: &RunStatus<'_>,
 ) -> Result<(), Memory>
     ensures { OnOk result (text.new.items ≡ text.old.items
-        ++ head_text (ending_of ending.now) (map named faults.now) (texts_of reasons.now)) }
+        ++ head_text (ending_of ending.now) (map named faults.now) (notes_of notes.now)) }
 {
     push_cache(text, ending)?;
     push_text(text, ",\"faults\":")?;
-    push_faults(text, alloc, faults, reasons)?;
+    push_faults(text, alloc, faults, notes.reasons)?;
+    push_text(text, ",\"files\":")?;
+    push_files(text, alloc, notes.files)?;
     push_text(text, ",\"fiorun\":")?;
     push_version(text, alloc, ending.version)?;
     push_text(text, ",\"interrupted\":")?;
@@ -116,26 +127,71 @@ fn push_found(
     alloc: Global,
     plan: &Plan,
     totals: &[Totals],
+    found: &[Diagnosed],
     bads: &[Bad],
+    ending: &RunStatus<'_>,
 ) -> Result<(), Memory>
-    ensures { OnOk result (text.new.items ≡ text.old.items ++ found_text plan.now totals.now (map miscompare_of bads.now)) }
+    ensures { OnOk result (text.new.items ≡ text.old.items
+        ++ found_text (ending_of ending.now) plan.now totals.now (map told found.now) (map miscompare_of bads.now)) }
 {
     push_text(text, ",\"jobs\":")?;
     push_clones(text, alloc, plan, totals)?;
+    push_text(text, ",\"logic\":")?;
+    push_version(text, alloc, ending.logic)?;
     push_text(text, ",\"miscompares\":")?;
-    push_bads(text, alloc, plan, bads, false)?;
+    push_bads(text, alloc, plan, found, bads, false)?;
     Ok(())
 }
 
-// How many faults there are more, and the plan.
-fn push_planned(text: &mut Vec<u8>, alloc: Global, plan: &Plan, more: u64) -> Result<(), Memory>
-    ensures { OnOk result (text.new.items ≡ text.old.items ++ plan_text plan.now more) }
+// How many faults there are more, the plan, and the run's setting.
+fn push_planned(
+    text: &mut Vec<u8>,
+    alloc: Global,
+    plan: &Plan,
+    setting: &RunSetting,
+    more: u64,
+) -> Result<(), Memory>
+    ensures { OnOk result (text.new.items ≡ text.old.items ++ plan_text plan.now (setting_of setting.now) more) }
 {
     push_text(text, ",\"more_faults\":")?;
     push_number(text, more)?;
     push_text(text, ",\"plan\":")?;
     push_asked(text, alloc, plan)?;
+    push_text(text, ",\"run\":")?;
+    push_setting(text, alloc, setting)?;
     Ok(())
+}
+
+// The run's setting.
+fn push_setting(text: &mut Vec<u8>, alloc: Global, setting: &RunSetting) -> Result<(), Memory>
+    ensures { OnOk result (text.new.items ≡ text.old.items ++ compact_text (setting_json (setting_of setting.now))) }
+{
+    let row = setting_row(alloc, setting)?;
+    push_item(text, alloc, 0, &row)
+}
+
+// The array of the files.
+fn push_files(text: &mut Vec<u8>, alloc: Global, files: &[KnownFile]) -> Result<(), Memory>
+    ensures { OnOk result (text.new.items ≡ text.old.items ++ array_text (map file_json (map facts_of files.now))) }
+{
+    push_text(text, "[")?;
+    for (i, file) in files.iter().enumerate() {
+        push_file(text, alloc, i, file)?;
+    }
+    push_text(text, "]")?;
+    Ok(())
+}
+
+fn push_file(
+    text: &mut Vec<u8>,
+    alloc: Global,
+    place: usize,
+    file: &KnownFile,
+) -> Result<(), Memory>
+    ensures { OnOk result (text.new.items ≡ text.old.items ++ item_text place (file_json (facts_of file.now))) }
+{
+    let row = file_row(alloc, file)?;
+    push_item(text, alloc, place, &row)
 }
 
 // The array of what the clones are to do.
@@ -211,16 +267,18 @@ fn push_bads(
     text: &mut Vec<u8>,
     alloc: Global,
     plan: &Plan,
+    found: &[Diagnosed],
     bads: &[Bad],
     of_reads: bool,
 ) -> Result<(), Memory>
-    ensures { OnOk result (text.new.items ≡ text.old.items ++ array_text (bads_json plan.now of_reads (map miscompare_of bads.now))) }
+    ensures { OnOk result (text.new.items ≡ text.old.items
+        ++ array_text (bads_json plan.now (map told found.now) of_reads (map miscompare_of bads.now))) }
 {
     push_text(text, "[")?;
     let mut place = 0;
     for bad in bads {
         if is_wanted(plan, bad, of_reads) {
-            push_bad(text, alloc, place, plan, bad)?;
+            push_bad(text, alloc, place, plan, found, bad)?;
             place += 1;
         }
     }
@@ -240,12 +298,13 @@ fn push_bad(
     alloc: Global,
     place: usize,
     plan: &Plan,
+    found: &[Diagnosed],
     bad: &Bad,
 ) -> Result<(), Memory>
     ensures { OnOk result (text.new.items ≡ text.old.items
-        ++ item_text place (miscompare_json plan.now (miscompare_of bad.now))) }
+        ++ item_text place (miscompare_json plan.now (map told found.now) (miscompare_of bad.now))) }
 {
-    let row = miscompare_row(alloc, plan, bad)?;
+    let row = miscompare_row(alloc, plan, found, bad)?;
     push_item(text, alloc, place, &row)
 }
 

@@ -1,5 +1,5 @@
 -- Believed: the rows of a page's tables. What is of a job file is escaped in them (of this project).
-use Rattle.std.specs.Prelude.{ℕ, ◌*◌, ◌==◌, List, [], ◌∷◌, ◌++◌, codes, decimal, slice_get, if◌then◌else◌}
+use Rattle.std.specs.Prelude.{ℕ, ◌*◌, ◌==◌, List, [], ◌∷◌, ◌++◌, Option, Some, None, codes, decimal, slice_get, if◌then◌else◌}
 use Rattle.jr_model.specs.declared.blocks.Piece.{Piece}
 use Rattle.jr_model.specs.declared.events.Outcome.{Outcome}
 use Rattle.jr_model.specs.declared.events.What.{What}
@@ -8,6 +8,8 @@ use Rattle.jr_model.specs.declared.tickets.TicketKind.{TicketKind}
 use Rattle.jr_model.specs.declared.totals.Totals.{Totals}
 use Rattle.jr_model.specs.Plan.{FileSpec, Plan, SubJob}
 use Rattle.jr_model.specs.Report.{file_name, what_text}
+use Rattle.jr_diagnosis.specs.Rulings.{Told}
+use Rattle.jr_diagnosis.specs.Texts.{told_of_write, told_text}
 use Rattle.jr_report_faults.specs.Faults.{NamedFault, end_words, kind_word}
 use Rattle.jr_plan.specs.PlanText.{io_type_word, name_of, verify_word}
 use Rattle.jr_report_page.specs.Escapes.{escaped}
@@ -48,11 +50,16 @@ piece_cells piece = number_cell piece.offset ++ number_cell piece.len
 abbrev pub what_cell : What → List ℕ
 what_cell what = codes "<td>" ++ what_text what ++ codes "</td>"
 
+-- what stands in the block of a write, where that was looked into
+abbrev pub found_cell : Option Told → List ℕ
+found_cell None = text_cell []
+found_cell (Some t) = text_cell (told_text t)
+
 -- a bad verdict
-abbrev pub bad_row : Plan → Bad → List ℕ
-bad_row plan bad =
+abbrev pub bad_row : Plan → List Told → Bad → List ℕ
+bad_row plan told bad =
     codes "<tr>" ++ write_cells bad.write ++ text_cell (file_name plan bad.piece.file) ++ piece_cells bad.piece
-    ++ what_cell bad.what ++ codes "</tr>\n"
+    ++ what_cell bad.what ++ found_cell (told_of_write told bad.write) ++ codes "</tr>\n"
 
 abbrev pub end_cell : TicketKind → Outcome → List ℕ
 end_cell kind outcome = codes "<td>" ++ kind_word kind ++ end_words outcome ++ codes "</td>"

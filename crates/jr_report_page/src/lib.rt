@@ -8,6 +8,7 @@ mod maps;
 mod pages;
 mod plans;
 mod rows;
+mod settings;
 mod status;
 mod styles;
 mod tables;

@@ -4,13 +4,16 @@ use crate::cells::cells_of;
 use crate::escapes::push_escaped;
 use crate::maps::{push_legend, push_map};
 use crate::plans::push_clones;
+use crate::settings::{push_setting, push_surroundings};
 use crate::status::{Status, push_status};
 use crate::styles::STYLE;
 use crate::tables::{push_all_totals, push_faults, push_first, push_more, rest_of};
 use jr_desk_totals::Bad;
+use jr_diagnosis::Diagnosed;
 use jr_model::{Event, LARGEST_END, Memory, Totals};
 use jr_plan::{FileSpec, Plan};
 use jr_report_faults::Faults;
+use jr_report_json::{KnownFile, RunSetting};
 use jr_report_maps::{FileMarks, marks_of};
 use std::alloc::{AllocError, Global};
 
@@ -20,7 +23,7 @@ const MOST_CELLS: u32 = 4096;
 const LEAST_CELLS: u32 = 64;
 
 /// What came of a run.
-#[derive(Clone, Copy, Debug)]
+#[derive(Clone, Copy)]
 pub struct PageFindings<'a> {
     /// What was run.
     pub plan: &'a Plan,
@@ -34,6 +37,10 @@ pub struct PageFindings<'a> {
     pub faults: &'a Faults,
     /// It was stopped before it was complete.
     pub is_interrupted: bool,
+    /// What stands in its first bad blocks.
+    pub found: &'a [Diagnosed],
+    pub setting: &'a RunSetting,
+    pub files: &'a [KnownFile],
 }
 
 /// A page that shows a run. Of its text no more is said than its parts' contracts say.
@@ -41,8 +48,10 @@ pub fn page(alloc: Global, found: &PageFindings<'_>) -> Result<Vec<u8>, Memory> 
     let mut page = String::new(alloc);
     let bads = by_write(alloc, found.bads)?;
     push_head(&mut page, &Status::of(found.totals, found.is_interrupted))?;
+    push_setting(&mut page, found.setting)?;
     push_maps(alloc, &mut page, found, bads.as_slice())?;
-    push_tables(&mut page, found, bads.as_slice())?;
+    push_tables(alloc, &mut page, found, bads.as_slice())?;
+    push_surroundings(&mut page, found.files, found.setting)?;
     page.push_str("</body>\n</html>\n")?;
     Ok(page.into_bytes())
 }
@@ -141,13 +150,14 @@ fn push_file(
 }
 
 fn push_tables(
+    alloc: Global,
     page: &mut String,
     found: &PageFindings<'_>,
     bads: &[Bad],
 ) -> Result<(), AllocError> {
     push_totals_table(page, found)?;
     if !bads.is_empty() {
-        push_bads_table(page, found.plan, bads)?;
+        push_bads_table(alloc, page, found, bads)?;
     }
     if !found.faults.first.is_empty() {
         push_faults_table(page, found.faults)?;
@@ -167,14 +177,19 @@ fn push_totals_table(page: &mut String, found: &PageFindings<'_>) -> Result<(), 
     page.push_str("</table></div>\n")
 }
 
-fn push_bads_table(page: &mut String, plan: &Plan, bads: &[Bad]) -> Result<(), AllocError> {
+fn push_bads_table(
+    alloc: Global,
+    page: &mut String,
+    found: &PageFindings<'_>,
+    bads: &[Bad],
+) -> Result<(), AllocError> {
     page.push_str(
         "<h2>Miscompares and bad reads</h2>\n<div class=\"table\"><table class=\"miscompares\">\n<tr><th>clone</th><th>pass</th>",
     )?;
     page.push_str(
-        "<th>number</th><th>file</th><th>offset</th><th>length</th><th>what</th></tr>\n",
+        "<th>number</th><th>file</th><th>offset</th><th>length</th><th>what</th><th>found</th></tr>\n",
     )?;
-    push_first(page, plan, bads)?;
+    push_first(alloc, page, found.plan, found.found, bads)?;
     page.push_str("</table></div>\n")?;
     push_more(page, rest_of(bads))
 }

@@ -1,15 +1,18 @@
-ghost use Rattle.std.specs.Prelude.{◌≡◌, ◌++◌, OnOk, string_bytes};
+ghost use Rattle.std.specs.Prelude.{◌≡◌, ◌++◌, OnOk, map, string_bytes};
+ghost use Rattle.jr_diagnosis.specs.Rulings.{told};
+ghost use Rattle.jr_diagnosis.specs.Texts.{told_of_write};
 ghost use Rattle.jr_model.specs.Report.{file_name, part_text, what_text};
-ghost use Rattle.jr_report_page.specs.Rows.{bad_row, end_cell, fault_row, judged_cells, moved_cells};
+ghost use Rattle.jr_report_page.specs.Rows.{bad_row, end_cell, fault_row, found_cell, judged_cells, moved_cells};
 ghost use Rattle.jr_report_page.specs.Rows.{number_cell, piece_cells, text_cell, totals_row, what_cell, write_cells};
 ghost use Rattle.jr_report_faults.specs.Faults.{named};
 
 use crate::escapes::push_escaped;
 use jr_desk_totals::Bad;
+use jr_diagnosis::{Diagnosed, found_of, text_of};
 use jr_model::{Outcome, Part, Piece, TicketKind, Totals, What, WriteId};
 use jr_plan::{Plan, SubJob};
 use jr_report_faults::{FaultNote, kind_word};
-use std::alloc::AllocError;
+use std::alloc::{AllocError, Global};
 
 // The row of a clone's totals.
 pub(crate) fn push_totals(
@@ -48,15 +51,40 @@ fn push_judged(page: &mut String, totals: &Totals) -> Result<(), AllocError>
 }
 
 // The row of a bad verdict.
-pub(crate) fn push_bad(page: &mut String, plan: &Plan, bad: &Bad) -> Result<(), AllocError>
-    ensures { OnOk result (string_bytes page.new ≡ string_bytes page.old ++ bad_row plan.now bad.now) }
+pub(crate) fn push_bad(
+    alloc: Global,
+    page: &mut String,
+    plan: &Plan,
+    found: &[Diagnosed],
+    bad: &Bad,
+) -> Result<(), AllocError>
+    ensures { OnOk result (string_bytes page.new ≡ string_bytes page.old ++ bad_row plan.now (map told found.now) bad.now) }
 {
     page.push_str("<tr>")?;
     push_write(page, &bad.write)?;
     push_file(page, plan, bad.piece.file)?;
     push_piece(page, &bad.piece)?;
     push_what_cell(page, bad.what)?;
+    push_found(alloc, page, found, &bad.write)?;
     page.push_str("</tr>\n")
+}
+
+// What stands in the block of this write, where that was looked into.
+fn push_found(
+    alloc: Global,
+    page: &mut String,
+    found: &[Diagnosed],
+    write: &WriteId,
+) -> Result<(), AllocError>
+    ensures { OnOk result (string_bytes page.new ≡ string_bytes page.old ++ found_cell (told_of_write (map told found.now) write.now)) }
+{
+    match found_of(found, write) {
+        None => push_text(page, ""),
+        Some(one) => {
+            let text = text_of(alloc, one)?;
+            push_text(page, text.as_str())
+        }
+    }
 }
 
 // The row of an I/O or check that failed or ended short.

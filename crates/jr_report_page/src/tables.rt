@@ -1,13 +1,15 @@
 ghost use Rattle.std.specs.Prelude.{◌≡◌, ◌++◌, ◌-◌, flat_map, length, map, take, OnOk, string_bytes};
+ghost use Rattle.jr_diagnosis.specs.Rulings.{told};
 ghost use Rattle.jr_report_page.specs.Rows.{bad_row, fault_row, more_text, totals_rows};
 ghost use Rattle.jr_report_faults.specs.Faults.{named};
 
 use crate::rows::{push_bad, push_fault, push_totals};
 use jr_desk_totals::Bad;
+use jr_diagnosis::Diagnosed;
 use jr_model::Totals;
 use jr_plan::Plan;
 use jr_report_faults::FaultNote;
-use std::alloc::AllocError;
+use std::alloc::{AllocError, Global};
 
 /// So many bad verdicts have a row of their own in a page at most. Of the others it is said how many they are.
 pub const MOST_ROWS: usize = 1000;
@@ -28,20 +30,33 @@ pub(crate) fn push_all_totals(
 }
 
 // The rows of the first of these bad verdicts.
-pub(crate) fn push_first(page: &mut String, plan: &Plan, bads: &[Bad]) -> Result<(), AllocError>
-    ensures { OnOk result (string_bytes page.new ≡ string_bytes page.old ++ flat_map (bad_row plan.now) (take MOST_ROWS bads.now)) }
+pub(crate) fn push_first(
+    alloc: Global,
+    page: &mut String,
+    plan: &Plan,
+    found: &[Diagnosed],
+    bads: &[Bad],
+) -> Result<(), AllocError>
+    ensures { OnOk result (string_bytes page.new ≡ string_bytes page.old
+        ++ flat_map (bad_row plan.now (map told found.now)) (take MOST_ROWS bads.now)) }
 {
     if bads.len() <= MOST_ROWS {
-        return push_bads(page, plan, bads);
+        return push_bads(alloc, page, plan, found, bads);
     }
-    push_bads(page, plan, &bads[..MOST_ROWS])
+    push_bads(alloc, page, plan, found, &bads[..MOST_ROWS])
 }
 
-fn push_bads(page: &mut String, plan: &Plan, bads: &[Bad]) -> Result<(), AllocError>
-    ensures { OnOk result (string_bytes page.new ≡ string_bytes page.old ++ flat_map (bad_row plan.now) bads.now) }
+fn push_bads(
+    alloc: Global,
+    page: &mut String,
+    plan: &Plan,
+    found: &[Diagnosed],
+    bads: &[Bad],
+) -> Result<(), AllocError>
+    ensures { OnOk result (string_bytes page.new ≡ string_bytes page.old ++ flat_map (bad_row plan.now (map told found.now)) bads.now) }
 {
     for bad in bads {
-        push_bad(page, plan, bad)?;
+        push_bad(alloc, page, plan, found, bad)?;
     }
     Ok(())
 }

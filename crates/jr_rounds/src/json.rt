@@ -1,5 +1,5 @@
 ghost use Rattle.std.specs.Prelude.{◌≡◌, IfOk};
-ghost use Rattle.jr_report_json.specs.Rows.{texts_of};
+ghost use Rattle.jr_report_json.specs.Rows.{notes_of};
 ghost use Rattle.jr_rounds.specs.Json.{round_line, sums_line};
 
 use crate::seeds::seed_offset;
@@ -7,7 +7,7 @@ use crate::sums::Sums;
 use jr_cli::{Findings, Storage, json_text};
 use jr_model::{Memory, push_number, push_text};
 use jr_plan::Plan;
-use jr_report_json::push_clones;
+use jr_report_json::{RunNotes, push_clones};
 use std::alloc::Global;
 
 /// A round as a line of JSON: its number, how far its seeds are from those of the plan, and the report as `json_text` has it.
@@ -15,12 +15,12 @@ pub fn round_json(
     alloc: Global,
     round: u32,
     findings: &Findings<'_>,
-    reasons: &[Option<String>],
+    notes: &RunNotes<'_>,
     storage: &Storage,
 ) -> Result<Vec<u8>, Memory>
-    ensures { IfOk result (λ text. text.items ≡ round_line round findings.now (texts_of reasons.now) storage.now) }
+    ensures { IfOk result (λ text. text.items ≡ round_line round findings.now (notes_of notes.now) storage.now) }
 {
-    let mut report = json_text(alloc, findings, reasons, storage)?;
+    let mut report = json_text(alloc, findings, notes, storage)?;
     // Its line feed.
     let _ = report.pop();
     let mut text = Vec::new(alloc);

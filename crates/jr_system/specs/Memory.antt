@@ -22,10 +22,10 @@ reserve = 16777216
 abbrev pub is_short_of_pages : ℕ → ℕ → Bool
 is_short_of_pages used free = nat_lt free (used / 4 + reserve)
 
--- less than a half of it is left of the addresses that it may have: a list that grows takes twice as many
+-- less is left of the addresses that it may have than it has: lists that grow at once take as many more
 abbrev pub is_short_of_addresses : ℕ → Option ℕ → Bool
 is_short_of_addresses used None = false
-is_short_of_addresses used (Some left) = nat_lt left (used / 2 + reserve)
+is_short_of_addresses used (Some left) = nat_lt left (used + reserve)
 
 -- a run is to stop
 abbrev pub is_short : ℕ → ℕ → Option ℕ → Bool

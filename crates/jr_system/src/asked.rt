@@ -10,7 +10,7 @@ use crate::meminfo::MemoryFiles;
 use crate::show::Pace;
 use crate::stops::Stop;
 use jr_cli_words::CliFault;
-use jr_crew_threads::{RunFault, StopFlag};
+use jr_crew_threads::{Diagnoses, RunFault, StopFlag};
 use std::alloc::{AllocError, Global};
 use std::fs::{File, Files};
 use std::io::{ErrorKind, Read};
@@ -26,7 +26,7 @@ const LINE: u8 = b'p';
 // So many milliseconds lie between two looks at the memory that is left.
 const LOOK: u64 = 100;
 
-/// What is asked of a run: by its words, when to say how far it is, and how long it may take; and by the pipe.
+/// What is asked of a run: by its words, when to say how far it is, and how long it may take; and by the pipe. And what it found in bad blocks.
 #[derive(Drop)]
 pub struct Asked {
     pace: Pace,
@@ -39,10 +39,11 @@ pub struct Asked {
     sleeper: Parker,
     // Whether a thread sleeps here, or shows what it was woken for.
     has_sleeper: AtomicBool,
+    diagnoses: Diagnoses,
 }
 
 impl Asked {
-    fn new(pace: Pace, has_pipe: bool, has_limit: bool) -> Asked
+    fn new(alloc: Global, pace: Pace, has_pipe: bool, has_limit: bool) -> Asked
         ensures pace { pace_of result ≡ pace }
         ensures pipe { can_be_asked result ≡ has_pipe }
         ensures limit { can_be_stopped result ≡ has_pipe || has_limit }
@@ -57,6 +58,7 @@ impl Asked {
             lines: AtomicU64::new(0),
             sleeper: Parker::new(),
             has_sleeper: AtomicBool::new(false),
+            diagnoses: Diagnoses::new(alloc),
         }
     }
 
@@ -93,6 +95,11 @@ impl Asked {
         } else {
             None
         }
+    }
+
+    /// Where what stands in bad blocks is kept while the run goes on.
+    pub fn diagnoses(&self) -> &Diagnoses {
+        &self.diagnoses
     }
 
     /// How many lines were asked for since this was last called.
@@ -152,7 +159,10 @@ pub fn asked_by<R: Files<File = File> + AllocGlobal + Threads>(
     ensures unasked { pipe.entry ≡ None → IfErr result (λ fault. fault ≡ CliFault.Memory) }
     ensures failed { IfErr result (λ fault. (fault ≡ CliFault.Open) ⊎ (fault ≡ CliFault.Memory)) }
 {
-    let Ok(asked) = Arc::new(rt.alloc(), Asked::new(pace, pipe.is_some(), has_limit)) else {
+    let Ok(asked) = Arc::new(
+        rt.alloc(),
+        Asked::new(rt.alloc(), pace, pipe.is_some(), has_limit),
+    ) else {
         return Err(Stop::from(CliFault::Memory));
     };
     let Some(number) = pipe else {

@@ -1,9 +1,10 @@
 ghost use Rattle.std.specs.Prelude.{◌≡◌, None, vec_len};
 
 use crate::stops::Stop;
+use jr_diagnosis::Diagnosed;
 use std::alloc::Global;
 
-/// What the system said of the files of a run that has ended.
+/// What the system said of the files of a run that has ended, and what stood in its bad blocks.
 #[derive(Drop)]
 pub struct Closed {
     /// Why it refused each of the run's first faults, where that is known.
@@ -14,6 +15,8 @@ pub struct Closed {
     pub direct: Option<bool>,
     /// Why the run's last sync failed, where it did: not all that the run wrote is stored.
     pub unstored: Option<Stop>,
+    /// What stood in its first bad blocks.
+    pub found: Vec<Diagnosed>,
 }
 
 impl Closed {
@@ -29,6 +32,7 @@ impl Closed {
             cached: None,
             direct: None,
             unstored: None,
+            found: Vec::new(alloc),
         }
     }
 }

@@ -315,6 +315,7 @@ impl<'a> Taken<'a> {
             cached: self.cached(),
             direct: self.direct,
             unstored,
+            found: Vec::new(rt.alloc()),
         })
     }
 }

@@ -68,7 +68,7 @@ impl MemoryState {
         ensures { result ≡ is_short_of_addresses self.now.used self.now.addresses }
     {
         match self.addresses {
-            Some(left) => left < (self.used / 2).saturating_add(RESERVE),
+            Some(left) => left < RESERVE || left - RESERVE < self.used,
             None => false,
         }
     }

@@ -95,15 +95,24 @@ pub fn shown<R: Machine, T, F: for<'p> FnOnce(Watch<'p>, &'p Meter) -> T>(
     requires { F.IsAlwaysCallable f }
 {
     let stop = asked.stop();
+    let diagnoses = Some(asked.diagnoses());
     let is_shown = asked.pace().seconds().is_some() || asked.has_pipe();
     // (a run that can't be shown goes on)
     let Some(meter) = is_shown.then(|| Meter::shared(rt, extent)).flatten() else {
-        let progress = None;
-        return f(Watch { progress, stop }, &Meter::new(rt, extent));
+        let watch = Watch {
+            progress: None,
+            stop,
+            diagnoses,
+        };
+        return f(watch, &Meter::new(rt, extent));
     };
     begin_to_show(rt, &meter, asked);
-    let progress = Some(&meter.progress);
-    let ended = f(Watch { progress, stop }, &meter);
+    let watch = Watch {
+        progress: Some(&meter.progress),
+        stop,
+        diagnoses,
+    };
+    let ended = f(watch, &meter);
     meter.end(rt);
     end_showing(rt, asked);
     ended

@@ -23,6 +23,7 @@ fn one_worker_is_asked_before_it_begins(rt: HostRuntime) -> Result<(), Fail> {
     let watch = Watch {
         progress: None,
         stop: Some(&stop),
+        diagnoses: None,
     };
     let plan = plan_of(rt.alloc(), &checked(4, 0), 1, EngineKind::Null, 0)?;
     let desk = run_serial(rt.alloc(), plan, &mut NullEngine::new(), watch)?;
@@ -47,6 +48,7 @@ fn one_worker_whom_nobody_asks_to_stop_goes_on_to_the_end(rt: HostRuntime) -> Re
     let watch = Watch {
         progress: None,
         stop: Some(&stop),
+        diagnoses: None,
     };
     let plan = plan_of(rt.alloc(), &checked(4, 0), 1, EngineKind::Null, 0)?;
     let desk = run_serial(rt.alloc(), plan, &mut NullEngine::new(), watch)?;
@@ -60,6 +62,7 @@ fn workers_whom_nobody_asks_to_stop_go_on_to_the_end(rt: HostRuntime) -> Result<
         let watch = Watch {
             progress: None,
             stop: Some(&stop),
+            diagnoses: None,
         };
         let plan = plan_of(rt.alloc(), &checked(4, 0), 1, EngineKind::Null, verifiers)?;
         let ran = run(&rt, rt.alloc(), plan, two_nulls(rt.alloc())?, watch)?;
@@ -84,6 +87,7 @@ fn workers_and_verifiers_are_asked_before_they_begin(rt: HostRuntime) -> Result<
         let watch = Watch {
             progress: None,
             stop: Some(&stop),
+            diagnoses: None,
         };
         let plan = plan_of(rt.alloc(), &checked(4, 0), 1, EngineKind::Null, verifiers)?;
         let ran = run(&rt, rt.alloc(), plan, two_nulls(rt.alloc())?, watch)?;
@@ -109,6 +113,7 @@ fn one_worker_shows_whether_it_was_asked(rt: HostRuntime) -> Result<(), Fail> {
         let watch = Watch {
             progress: None,
             stop: Some(&stop),
+            diagnoses: None,
         };
         let plan = plan_of(rt.alloc(), &checked(4, 0), 1, EngineKind::Null, 0)?;
         let ran = run_serial_asked(rt.alloc(), plan, &mut NullEngine::new(), watch)?;
@@ -124,6 +129,7 @@ fn workers_show_whether_they_were_asked(rt: HostRuntime) -> Result<(), Fail> {
         let watch = Watch {
             progress: None,
             stop: Some(&stop),
+            diagnoses: None,
         };
         let plan = plan_of(rt.alloc(), &checked(4, 0), 1, EngineKind::Null, 1)?;
         let ran = run_booked(&rt, rt.alloc(), plan, two_nulls(rt.alloc())?, watch)?;

@@ -1,4 +1,4 @@
-use Rattle.std.proofs.Common.{◌≡◌, ◌+◌, ℕ, arith, zero-add, slice_index}
+use Rattle.std.proofs.Common.{ℕ, arith, zero-add, slice_index}
 use Rattle.std.proofs.lemmas.List.FromFn.{sum_by-map-range_with_len_more}
 use Rattle.jr_diagnosis.specs.Bits.{cleared_in, raised_in}
 use Rattle.jr_diagnosis.proofs.bits.flips_between.Goals as goal

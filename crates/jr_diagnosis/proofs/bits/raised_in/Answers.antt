@@ -1,4 +1,4 @@
-use Rattle.std.proofs.Common.{◌≤◌, arith, bit_and}
+use Rattle.std.proofs.Common.{arith, bit_and}
 use Rattle.std.specs.Int.Bits.{and_le_l, bit_xor}
 use Rattle.std.proofs.lemmas.Nat.{ones-le}
 use Rattle.jr_diagnosis.proofs.bits.raised_in.Goals as goal

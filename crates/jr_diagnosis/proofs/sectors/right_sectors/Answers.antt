@@ -1,4 +1,4 @@
-use Rattle.std.proofs.Common.{◌≡◌, ◌+◌, ℕ, arith, zero-add}
+use Rattle.std.proofs.Common.{ℕ, arith, zero-add}
 use Rattle.std.proofs.lemmas.List.FromFn.{sum_by-map-range_with_len_more}
 use Rattle.jr_diagnosis.specs.Sectors.{right_at}
 use Rattle.jr_diagnosis.proofs.sectors.right_sectors.Goals as goal

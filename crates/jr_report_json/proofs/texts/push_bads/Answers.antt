@@ -3,6 +3,7 @@ use Rattle.serde_json.specs.Data.{Data}
 use Rattle.jr_model.specs.declared.events.What.TheVariants.{Header}
 use Rattle.jr_desk_totals.specs.Tallying.{miscompare_of}
 use Rattle.jr_desk_totals.specs.declared.tallies.Bad.{Bad}
+use Rattle.jr_diagnosis.specs.Rulings.{told}
 use Rattle.jr_report_json.specs.Json.{miscompare_json}
 use Rattle.jr_report_json.specs.Rows.{bads_json, is_wanted, rest_text}
 use Rattle.jr_report_json.proofs.Items.{kept_less, kept_more, none_past, written_more}
@@ -24,7 +25,7 @@ loop-bad-preserved c =
       | then-is_wanted+in_ok-push_bad w ↦
           rw (w.text-is, w.place-is) (
             written_more c.loop-bad.text.items w.push_bad.new.text.items _ _ _ _ c.loop-bad.invariant.0
-                (kept_more (miscompare_json plan) test miscompare_of bads i place none c.loop-bad-test.true
+                (kept_more (miscompare_json plan (map told c.args.found.now)) test miscompare_of bads i place none c.loop-bad-test.true
                 (sym c.is_wanted.ensures ∙ w.if-is_wanted.true))
                 w.in_ok-push_bad.ensures,
             omega (arith, c.loop-bad.invariant.1),
@@ -32,7 +33,7 @@ loop-bad-preserved c =
       | else-is_wanted w ↦
           rw (w.text-is, w.place-is) (
             ap (λ (ds : List Data). c.loop-bad.text.items ++ rest_text place ds)
-                (sym (kept_less (miscompare_json plan) test miscompare_of bads i none c.loop-bad-test.true
+                (sym (kept_less (miscompare_json plan (map told c.args.found.now)) test miscompare_of bads i none c.loop-bad-test.true
                 (sym c.is_wanted.ensures ∙ w.if-is_wanted.false)))
                 ∙ c.loop-bad.invariant.0,
             omega (arith, c.loop-bad.invariant.1),
@@ -45,6 +46,6 @@ returns c =
     let of_reads = c.args.of_reads in
     let past : length c.args.bads.now ≤ c.loop-bad.bad-index = omega arith in
     c.in_ok-push_text-2.ensures
-    ∙ ap (λ (left : List Bad). c.loop-bad.text.items ++ rest_text c.loop-bad.place (bads_json plan of_reads (map miscompare_of left)))
+    ∙ ap (λ (left : List Bad). c.loop-bad.text.items ++ rest_text c.loop-bad.place (bads_json plan (map told c.args.found.now) of_reads (map miscompare_of left)))
     (sym (none_past c.args.bads.now c.loop-bad.bad-index past))
     ∙ c.loop-bad.invariant.0

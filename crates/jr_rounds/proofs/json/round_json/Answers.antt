@@ -2,7 +2,7 @@ use Rattle.std.proofs.Common.{◌≡◌, ℕ, ◌-◌, List, ◌++◌, length, t
 use Rattle.std.specs.Prelude.{codes, decimal}
 use Rattle.serde_json.specs.Written.{compact_text}
 use Rattle.jr_report_json.specs.Json.{json_of}
-use Rattle.jr_report_json.specs.Rows.{texts_of}
+use Rattle.jr_report_json.specs.Rows.{notes_of}
 use Rattle.jr_cli.specs.Findings.{end_of}
 use Rattle.jr_rounds.specs.Seeds.{seed_offset}
 use Rattle.jr_rounds.proofs.JsonLemmas.{five_pieces, two_more, without_last}
@@ -11,7 +11,7 @@ use Rattle.jr_rounds.proofs.json.round_json.Goals as goal
 pub returns : goal.returns
 returns c =
     let run = c.args.findings.now in
-    let value : List ℕ = compact_text (json_of (end_of run c.args.storage.now) run.plan run.history (texts_of c.args.reasons.now)) in
+    let value : List ℕ = compact_text (json_of (end_of run c.args.storage.now) run.plan run.history (notes_of c.args.notes.now)) in
     let report = c.in_ok-report.report in
     let line : report.items ≡ value ++ codes "\n" = c.in_ok-report.ensures in
     let count = ap (λ (text : List ℕ). length text) line in
