@@ -7,8 +7,9 @@ use jr_cli_outputs::{Outputs, Unfailing, Wanted};
 use jr_cli_words::{BlockSize, Choice, CliFault, workers_of};
 use jr_desk::Desk;
 use jr_job_direct::Wish;
-use jr_model::Totals;
+use jr_model::{Memory, Totals};
 use jr_plan::Plan;
+use jr_report_json::RunNotes;
 use jr_report_maps::{bad_blocks, wrong_blocks};
 use jr_rounds::{
     Sums, duration_seconds, is_bad, plan_of_round, round_json, sums_json, tell_round, tell_sums,
@@ -164,7 +165,7 @@ pub fn tell_line<R: Outlet + Machine>(
     }
 }
 
-// Says what stood in the round's bad blocks, writes its line of the JSON, and keeps its bad blocks, where these are wanted.
+// Says what stood in the round's bad blocks, keeps these, and writes its line of the JSON, where these are wanted.
 pub fn tell_outputs<R: Outlet + Machine>(
     rt: &R,
     wanted: &Wanted,
@@ -172,30 +173,70 @@ pub fn tell_outputs<R: Outlet + Machine>(
     round: u32,
     ended: &RunEnd,
 ) -> Result<(), Stop> {
-    let alloc = rt.alloc();
-    let outputs = &wanted.outputs;
     wanted.tell_found(rt, ended.desk.plan(), &course.closed);
-    let size = outputs.list_size();
-    if !outputs.has_json() && (size.is_none() || ended.found == 0) {
-        return Ok(());
-    }
-    let Ok(findings) = Findings::of_desk(alloc, &ended.desk) else {
-        return Err(Stop::from(CliFault::Memory));
-    };
-    if let Some(size) = size {
-        let more = blocks_of(alloc, &findings, size, outputs.lists_faults())?;
-        add_blocks(&mut course.blocks, more.as_slice())?;
-    }
-    if outputs.has_json() {
-        let about = wanted.surroundings(rt, findings.plan())?;
-        let closed = &course.closed;
-        let notes = about.notes(closed.reasons.as_slice(), closed.found.as_slice());
-        let Ok(text) = round_json(alloc, round, &findings, &notes, &course.storage()) else {
-            return Err(Stop::from(CliFault::Memory));
-        };
-        outputs.add_json(rt, text.as_slice(), round == 0)?;
+    keep_blocks(rt.alloc(), &wanted.outputs, course, ended)?;
+    if wanted.outputs.has_json() {
+        let text = round_text(rt, wanted, course, round, &ended.desk)?;
+        wanted.outputs.add_json(rt, text.as_slice(), round == 0)?;
     }
     Ok(())
+}
+
+// Keeps the bad blocks of a round, where a list of them is wanted.
+fn keep_blocks(
+    alloc: Global,
+    outputs: &Outputs,
+    course: &mut Course,
+    ended: &RunEnd,
+) -> Result<(), Stop> {
+    let Some(size) = outputs.list_size() else {
+        return Ok(());
+    };
+    if ended.found == 0 {
+        return Ok(());
+    }
+    let more = blocks_in(alloc, &ended.desk, size, outputs.lists_faults())?;
+    add_blocks(&mut course.blocks, more.as_slice())?;
+    Ok(())
+}
+
+// The blocks that were bad in the desk's run, with those of faults where these are wanted.
+fn blocks_in(
+    alloc: Global,
+    desk: &Desk,
+    size: &BlockSize,
+    has_faults: bool,
+) -> Result<Vec<u64>, CliFault> {
+    let findings = Findings::of_desk(alloc, desk)?;
+    blocks_of(alloc, &findings, size, has_faults)
+}
+
+// A round's line of the JSON.
+fn round_text<R: Outlet + Machine>(
+    rt: &R,
+    wanted: &Wanted,
+    course: &Course,
+    round: u32,
+    desk: &Desk,
+) -> Result<Vec<u8>, Stop> {
+    let about = wanted.surroundings(rt, desk.plan())?;
+    let closed = &course.closed;
+    let notes = about.notes(closed.reasons.as_slice(), closed.found.as_slice());
+    match line_of_round(rt.alloc(), round, desk, &notes, &course.storage()) {
+        Ok(text) => Ok(text),
+        Err(_) => Err(Stop::from(CliFault::Memory)),
+    }
+}
+
+fn line_of_round(
+    alloc: Global,
+    round: u32,
+    desk: &Desk,
+    notes: &RunNotes<'_>,
+    storage: &Storage,
+) -> Result<Vec<u8>, Memory> {
+    let findings = Findings::of_desk(alloc, desk)?;
+    round_json(alloc, round, &findings, notes, storage)
 }
 
 // The blocks that were bad in a run, with those of faults where these are wanted.
