@@ -78,6 +78,21 @@ impl Flight {
         ensures at_each { IsTrue result
             ↔ ((id : ℕ) → IfSome (flying_io id self.now) (λ ended. waits_for declines dir piece.now ended.io ≡ false)) }
     {
+        if self.ids.is_empty() {
+            return true;
+        }
+        self.is_clear_near(piece, dir, declines)
+    }
+
+    // The same, by what stands near the piece.
+    fn is_clear_near(&self, piece: &Piece, dir: Dir, declines: bool) -> bool
+        requires some { 1 ≤ piece.now.len }
+        requires largest { piece.now.len ≤ LARGEST_BLOCK }
+        requires within { piece_end piece.now ≤ LARGEST_END }
+        ensures value { result ≡ is_clear declines dir piece.now self.now }
+        ensures at_each { IsTrue result
+            ↔ ((id : ℕ) → IfSome (flying_io id self.now) (λ ended. waits_for declines dir piece.now ended.io ≡ false)) }
+    {
         let (first, end) = near(piece, self.longest);
         !self
             .places

@@ -11,7 +11,7 @@ use Rattle.jr_flight.specs.declared.ios.Io.{Io}
 use Rattle.jr_flight.specs.Flights.{writes, conflicts, waits_for}
 use Rattle.jr_flight.specs.Places.{Place, near_piece}
 use Rattle.jr_flight.proofs.PlaceLemmas.{any_near, none_passes}
-use Rattle.jr_flight.proofs.flights.Flight.clear.Goals as goal
+use Rattle.jr_flight.proofs.flights.Flight.is_clear_near.Goals as goal
 
 -- what stands near the piece has it wait exactly if something in flight does
 found_near : (c : goal.After-any)
