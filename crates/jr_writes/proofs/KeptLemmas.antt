@@ -1,26 +1,30 @@
 -- The entries that are kept, through a step of the log.
-use Rattle.std.proofs.Common.{◌≡◌, ℕ, Bor, Result, Ok, Err, ◌<◌, ◌≤◌, Bool, true, false, cond, List, [], ◌∷◌, Option, Some, None, arith, refl, sym, ap, subst, ◌∙◌, filter, length, map}
+use Rattle.std.proofs.Common.{◌≡◌, ℕ, Result, Ok, Err, Bool, true, false, cond, List, [], ◌∷◌, Option, Some, None, arith, refl, sym, ap, subst, ◌∙◌, filter, map}
 use Rattle.std.proofs.lemmas.List.Elements.{All-cons, All-filter, All-head, All-nil, All-tail, All-weaker}
 use Rattle.std.proofs.lemmas.Map.Made.{keys_of-map_values, lookup-map_values}
 use Rattle.std.proofs.lemmas.Option.{none-some, same_Some}
 use Rattle.std.specs.BTreeMap.{insert_entry, is_at}
 use Rattle.std.specs.declared.cmp.Ordering.{Ordering}
 use Rattle.std.specs.declared.cmp.Ordering.TheVariants.{Less, Equal, Greater}
-use Rattle.std.specs.List.{All, SameBelow}
+use Rattle.std.specs.List.{All}
 use Rattle.std.specs.List.Sorted.{IsStrictlySortedBy}
 use Rattle.std.specs.Map.{keys_of, lookup}
-use Rattle.std.specs.Option.{IsSome, is_some, option_copied, option_map, unwrap_or}
+use Rattle.std.specs.Option.{is_some, option_map}
 use Rattle.std.specs.Ordering.{match_ordering}
 use Rattle.std.specs.Result.{OnErr}
 use Rattle.jr_model.specs.declared.blocks.Piece.{Piece}
 use Rattle.jr_model.specs.declared.contents.Expected.{Expected}
-use Rattle.jr_model.specs.declared.contents.Expected.TheVariants.{Nothing}
+use Rattle.jr_model.specs.declared.contents.Expected.TheVariants.{Nothing, Header, Seed}
 use Rattle.jr_model.specs.declared.events.WriteId.{WriteId}
 use Rattle.jr_model.specs.History.{write_order}
+use Rattle.jr_writes.specs.declared.kept.Head.{Head}
 use Rattle.jr_writes.specs.declared.kept.Kept.{Kept}
+use Rattle.jr_writes.specs.declared.kept.Known.{Known}
+use Rattle.jr_writes.specs.declared.kept.Place.{Place}
+use Rattle.jr_writes.specs.declared.kept.Place.TheVariants as place
 use Rattle.jr_writes.specs.declared.logs.Logged.{Logged}
 use Rattle.jr_writes.specs.Index.{kept_of, stays}
-use Rattle.jr_writes.specs.KeptEntries.{ArePlaced, entries_of, expected_at, logged_as}
+use Rattle.jr_writes.specs.KeptEntries.{ArePlaced, IsMore, IsPlaced, entries_of, head_bytes, logged_as, made_at, no_head}
 use Rattle.jr_writes.specs.LoggedWrites.{lies_apart, logged, settled, unsettled}
 
 -- the values of entries are mapped before or after a filter of the values, or an insertion
@@ -63,15 +67,15 @@ All-insert_entry {K} {X} cmp k v P (e ∷ es) all new = by (cmp k e.0) (All-inse
     by Greater rest = All-cons Holds e (insert_entry cmp es k v) (All-head Holds e es all) rest
 
 -- a look-up finds the entry of what is kept
-pub logged-entries_of : (known : List Expected) (es : List (WriteId × Kept)) (write : WriteId) → logged (entries_of known es) write ≡ option_map (logged_as known) (kept_of es write)
+pub logged-entries_of : (known : Known) (es : List (WriteId × Kept)) (write : WriteId) → logged (entries_of known es) write ≡ option_map (logged_as known) (kept_of es write)
 logged-entries_of known es write = lookup-map_values (logged_as known) (is_at (write_order write)) es
 
 -- what is kept of a write, or nothing, says what is logged of it
-pub logged-kept : (known : List Expected) (es : List (WriteId × Kept)) (write : WriteId) (o : Option Kept) → kept_of es write ≡ o → logged (entries_of known es) write ≡ option_map (logged_as known) o
+pub logged-kept : (known : Known) (es : List (WriteId × Kept)) (write : WriteId) (o : Option Kept) → kept_of es write ≡ o → logged (entries_of known es) write ≡ option_map (logged_as known) o
 logged-kept known es write o at = logged-entries_of known es write ∙ ap (option_map (logged_as known)) at
 
 -- a write is logged where it is kept
-pub is_logged : (known : List Expected) (es : List (WriteId × Kept)) (write : WriteId) → is_some (kept_of es write) ≡ is_some (logged (entries_of known es) write)
+pub is_logged : (known : Known) (es : List (WriteId × Kept)) (write : WriteId) → is_some (kept_of es write) ≡ is_some (logged (entries_of known es) write)
 is_logged known es write = by (kept_of es write) ∙ ap is_some (sym (logged-entries_of known es write))
   where
     by : (o : Option Kept) → is_some o ≡ is_some (option_map (logged_as known) o)
@@ -79,7 +83,7 @@ is_logged known es write = by (kept_of es write) ∙ ap is_some (sym (logged-ent
     by (Some kept) = refl
 
 -- a write that is not logged is not kept
-pub kept_of-none : (known : List Expected) (es : List (WriteId × Kept)) (write : WriteId) → logged (entries_of known es) write ≡ None → kept_of es write ≡ None
+pub kept_of-none : (known : Known) (es : List (WriteId × Kept)) (write : WriteId) → logged (entries_of known es) write ≡ None → kept_of es write ≡ None
 kept_of-none known es write none = by (kept_of es write) (sym (logged-entries_of known es write) ∙ none)
   where
     by : (o : Option Kept) → option_map (logged_as known) o ≡ None → o ≡ None
@@ -87,75 +91,79 @@ kept_of-none known es write none = by (kept_of es write) (sym (logged-entries_of
     by (Some kept) h = cc
 
 -- the entries are in the order of what is kept
-pub sorted-entries_of : (known : List Expected) (es : List (WriteId × Kept)) → IsStrictlySortedBy write_order (keys_of es) → IsStrictlySortedBy write_order (keys_of (entries_of known es))
+pub sorted-entries_of : (known : Known) (es : List (WriteId × Kept)) → IsStrictlySortedBy write_order (keys_of es) → IsStrictlySortedBy write_order (keys_of (entries_of known es))
 sorted-entries_of known es sorted =
     subst (λ (names : List WriteId). IsStrictlySortedBy write_order names) (sym (keys_of-map_values (logged_as known) es)) sorted
 
 -- what stays where a piece is unsettled
-pub entries_of-unsettled : (known : List Expected) (piece : Piece) (es : List (WriteId × Kept)) → entries_of known (filter (stays None piece) es) ≡ unsettled (entries_of known es) piece
+pub entries_of-unsettled : (known : Known) (piece : Piece) (es : List (WriteId × Kept)) → entries_of known (filter (stays None piece) es) ≡ unsettled (entries_of known es) piece
 entries_of-unsettled known piece es = filter-mapped (logged_as known) (λ (e : WriteId × Logged). lies_apart piece e.1) es
 
 -- and their places are known still
-pub ArePlaced-unsettled : (known : List Expected) (piece : Piece) (es : List (WriteId × Kept)) → ArePlaced known es → ArePlaced known (filter (stays None piece) es)
-ArePlaced-unsettled known piece es placed = All-filter (stays None piece) (λ (e : WriteId × Kept). e.1.place < length known) es placed
+pub ArePlaced-unsettled : (known : Known) (piece : Piece) (es : List (WriteId × Kept)) → ArePlaced known es → ArePlaced known (filter (stays None piece) es)
+ArePlaced-unsettled known piece es placed = All-filter (stays None piece) (λ (e : WriteId × Kept). IsPlaced known e.1.place) es placed
 
--- where more is known, the entries are the same
-pub entries_of-more : (known more : List Expected) (es : List (WriteId × Kept)) → SameBelow known more (length known) → ArePlaced known es → entries_of more es ≡ entries_of known es
-entries_of-more known more [] same placed = refl
-entries_of-more known more (e ∷ es) same placed =
-    let here = same e.1.place Nothing (All-head (λ (f : WriteId × Kept). f.1.place < length known) e es placed) in
-    let rest = entries_of-more known more es same (All-tail (λ (f : WriteId × Kept). f.1.place < length known) e es placed) in
+-- where more is known, what is made at a place that was known is the same
+pub made_more : (known more : Known) (piece : Piece) → IsMore known more → (p : Place) → IsPlaced known p → made_at more p piece ≡ made_at known p piece
+made_more known more piece grown place.Nothing placed = refl
+made_more known more piece grown (place.Whole i) placed = grown.whole i Nothing placed
+made_more known more piece grown (place.Head i) placed = ap (λ (head : Head). Header (head_bytes head piece)) (grown.heads i no_head placed)
+made_more known more piece grown (place.Seed i) placed = ap (λ (seed : ℕ). Seed seed) (grown.seeds i 0 placed)
+
+-- and the place is known still
+pub placed_more : (known more : Known) → IsMore known more → (p : Place) → IsPlaced known p → IsPlaced more p
+placed_more known more grown place.Nothing placed = placed
+placed_more known more grown (place.Whole i) placed = omega (arith, placed, grown.more_whole)
+placed_more known more grown (place.Head i) placed = omega (arith, placed, grown.more_heads)
+placed_more known more grown (place.Seed i) placed = omega (arith, placed, grown.more_seeds)
+
+-- so are the entries
+pub entries_of-more : (known more : Known) (es : List (WriteId × Kept)) → IsMore known more → ArePlaced known es → entries_of more es ≡ entries_of known es
+entries_of-more known more [] grown placed = refl
+entries_of-more known more (e ∷ es) grown placed =
+    let here = made_more known more e.1.piece grown e.1.place (All-head (λ (f : WriteId × Kept). IsPlaced known f.1.place) e es placed) in
+    let rest = entries_of-more known more es grown (All-tail (λ (f : WriteId × Kept). IsPlaced known f.1.place) e es placed) in
     λ i. (e.0, record { piece = e.1.piece; expected = here i }) ∷ rest i
 
--- and their places are known still
-pub ArePlaced-more : (known more : List Expected) (es : List (WriteId × Kept)) → length known ≤ length more → ArePlaced known es → ArePlaced more es
-ArePlaced-more known more es longer placed =
-    All-weaker (λ (e : WriteId × Kept). e.1.place < length known) (λ (e : WriteId × Kept). e.1.place < length more) (λ e h. omega arith) es placed
+-- and their places
+pub ArePlaced-more : (known more : Known) (es : List (WriteId × Kept)) → IsMore known more → ArePlaced known es → ArePlaced more es
+ArePlaced-more known more es grown placed =
+    All-weaker (λ (e : WriteId × Kept). IsPlaced known e.1.place) (λ (e : WriteId × Kept). IsPlaced more e.1.place)
+    (λ e h. placed_more known more grown e.1.place h) es placed
 
 -- the entries where a write is settled
-entries_of-settled : (known : List Expected) (es : List (WriteId × Kept)) (write : WriteId) (entry : Kept) (expected : Expected) → expected_at known entry.place ≡ expected → entries_of known (insert_entry write_order (filter (stays None entry.piece) es) write entry) ≡ settled (entries_of known es) write entry.piece expected
+entries_of-settled : (known : Known) (es : List (WriteId × Kept)) (write : WriteId) (entry : Kept) (expected : Expected) → made_at known entry.place entry.piece ≡ expected → entries_of known (insert_entry write_order (filter (stays None entry.piece) es) write entry) ≡ settled (entries_of known es) write entry.piece expected
 entries_of-settled known es write entry expected found =
     insert_entry-mapped (logged_as known) write_order write entry (filter (stays None entry.piece) es)
     ∙ (λ i. insert_entry write_order (entries_of-unsettled known entry.piece es i) write (record { piece = entry.piece; expected = found i }))
 
 -- a write is settled, where more may be known
-module _ (known more : List Expected) (es new : List (WriteId × Kept)) (write : WriteId) (entry : Kept) (expected : Expected) (same : SameBelow known more (length known)) (longer : length known ≤ length more)
+module _ (known more : Known) (es new : List (WriteId × Kept)) (write : WriteId) (entry : Kept) (expected : Expected) (grown : IsMore known more)
     (placed : ArePlaced known es) (settling : new ≡ insert_entry write_order (filter (stays None entry.piece) es) write entry) where
-  pub entries_of-step : expected_at more entry.place ≡ expected → entries_of more new ≡ settled (entries_of known es) write entry.piece expected
+  pub entries_of-step : made_at more entry.place entry.piece ≡ expected → entries_of more new ≡ settled (entries_of known es) write entry.piece expected
   entries_of-step found =
       ap (entries_of more) settling
       ∙ entries_of-settled more es write entry expected found
-      ∙ ap (λ (old : List (WriteId × Logged)). settled old write entry.piece expected) (entries_of-more known more es same placed)
+      ∙ ap (λ (old : List (WriteId × Logged)). settled old write entry.piece expected) (entries_of-more known more es grown placed)
 
-  pub ArePlaced-step : entry.place < length more → ArePlaced more new
+  pub ArePlaced-step : IsPlaced more entry.place → ArePlaced more new
   ArePlaced-step within =
       subst (ArePlaced more) (sym settling)
-      (All-insert_entry write_order write entry (λ (k : Kept). k.place < length more) (filter (stays None entry.piece) es)
-      (ArePlaced-unsettled more entry.piece es (ArePlaced-more known more es longer placed))
+      (All-insert_entry write_order write entry (λ (k : Kept). IsPlaced more k.place) (filter (stays None entry.piece) es)
+      (ArePlaced-unsettled more entry.piece es (ArePlaced-more known more es grown placed))
       within)
 
 -- the place of what is found
-placed-kept : (n : ℕ) (test : WriteId → Bool) (es : List (WriteId × Kept)) (kept : Kept) → All (λ e. e.1.place < n) es → lookup test es ≡ Some kept → kept.place < n
-placed-kept n test [] kept placed here = absurd (none-some kept here)
-placed-kept n test (e ∷ es) kept placed here = by (placed-kept n test es kept (All-tail (λ (f : WriteId × Kept). f.1.place < n) e es placed)) (test e.0) here
+placed-found : (known : Known) (test : WriteId → Bool) (es : List (WriteId × Kept)) (kept : Kept) → ArePlaced known es → lookup test es ≡ Some kept → IsPlaced known kept.place
+placed-found known test [] kept placed here = absurd (none-some kept here)
+placed-found known test (e ∷ es) kept placed here = by (placed-found known test es kept (All-tail (λ (f : WriteId × Kept). IsPlaced known f.1.place) e es placed)) (test e.0) here
   where
-    by : (lookup test es ≡ Some kept → kept.place < n) → (b : Bool) → cond b (Some e.1) (lookup test es) ≡ Some kept → kept.place < n
-    by rest true found = subst (λ (k : Kept). k.place < n) (same_Some e.1 kept found) (All-head (λ (f : WriteId × Kept). f.1.place < n) e es placed)
+    by : (lookup test es ≡ Some kept → IsPlaced known kept.place) → (b : Bool) → cond b (Some e.1) (lookup test es) ≡ Some kept → IsPlaced known kept.place
+    by rest true found = subst (λ (k : Kept). IsPlaced known k.place) (same_Some e.1 kept found) (All-head (λ (f : WriteId × Kept). IsPlaced known f.1.place) e es placed)
     by rest false found = rest found
 
--- what is expected of a write that is kept
-pub expected-kept : (known : List Expected) (es : List (WriteId × Kept)) (write : WriteId) (kept : Kept) → kept_of es write ≡ Some kept → ArePlaced known es → (at : Option (Bor Expected)) → (kept.place < length known → IsSome at) → unwrap_or (option_copied at) Nothing ≡ expected_at known kept.place → option_copied at ≡ option_map (λ entry. entry.expected) (logged (entries_of known es) write)
-expected-kept known es write kept here placed at within found =
-    some_default at (within place_within)
-    ∙ ap Some found
-    ∙ sym (ap (option_map (λ (entry : Logged). entry.expected)) (logged-kept known es write (Some kept) here))
-  where
-    place_within : kept.place < length known
-    place_within = placed-kept (length known) (is_at (write_order write)) es kept placed here
-
-    some_default : (o : Option (Bor Expected)) → IsSome o → option_copied o ≡ Some (unwrap_or (option_copied o) Nothing)
-    some_default None h = cc
-    some_default (Some x) h = refl
+pub placed-kept : (known : Known) (es : List (WriteId × Kept)) (write : WriteId) (kept : Kept) → kept_of es write ≡ Some kept → ArePlaced known es → IsPlaced known kept.place
+placed-kept known es write kept here placed = placed-found known (is_at (write_order write)) es kept placed here
 
 -- what holds anyway holds of an error
 pub on_error : {T E : Type 0} (r : Result T E) (P : Type 0) → P → OnErr r P

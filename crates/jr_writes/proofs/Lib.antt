@@ -1,4 +1,5 @@
 pub mod EntryLemmas
+pub mod Halves
 pub mod IndexLemmas
 pub mod KeptLemmas
 pub mod LastFacts

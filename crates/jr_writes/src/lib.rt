@@ -2,6 +2,7 @@
 // what their checks compare with.
 #![tactic(auto)]
 
+mod fronts;
 mod kept;
 mod logs;
 mod names;
@@ -11,4 +12,6 @@ mod sheets;
 mod spot;
 mod spots;
 
-pub use logs::{Logged, WriteLog};
+pub use fronts::{header_front, header_of_halves};
+pub use kept::{Head, Known, Place};
+pub use logs::{Found, Logged, WriteLog};

@@ -1,4 +1,4 @@
-use crate::kept::{Kept, place_expected};
+use crate::kept::{Kept, Known};
 use crate::names::Names;
 use crate::places::Places;
 use crate::spots::{put, take_out};
@@ -20,8 +20,8 @@ pub struct Logged {
 pub struct WriteLog {
     names: Names,
     places: Places,
-    // What checks compare with: each that differs from the one before it, once.
-    expected: Vec<Expected>,
+    // What checks compare with.
+    known: Known,
 }
 
 impl fmt::Debug for WriteLog {
@@ -44,16 +44,16 @@ impl Model for WriteLog {
     ghost use Rattle.jr_writes.specs.Names.{name_at};
     ghost use Rattle.jr_writes.specs.Places.{spot_at};
 
-    ghost view = { λ log. entries_of log.expected.items (all_kept (name_at log.names.sheets.entries)) };
+    ghost view = { λ log. entries_of log.known (all_kept (name_at log.names.sheets.entries)) };
 
     // The pieces of the places are disjoint, and what the checks of each write compare with is known.
     ghost invariant = { λ log. IsIndexed None (name_at log.names.sheets.entries) (spot_at log.places.sheets.entries)
-        × ArePlaced log.expected.items (all_kept (name_at log.names.sheets.entries)) };
+        × ArePlaced log.known (all_kept (name_at log.names.sheets.entries)) };
 }
 
 impl WriteLog {
     ghost use Rattle.std.specs.Prelude.{◌≡◌, [], Some, None, IsTrue, OnOk, OnErr, is_some, if◌then◌else◌};
-    ghost use Rattle.std.specs.Option.{option_copied, option_map};
+    ghost use Rattle.std.specs.Option.{option_map};
     ghost use Rattle.jr_model.specs.declared.events.WriteId.{WriteId as Name};
     ghost use Rattle.jr_model.specs.History.{same_write};
     ghost use Rattle.jr_model.specs.Tickets.{piece_fits};
@@ -66,7 +66,7 @@ impl WriteLog {
         WriteLog {
             names: Names::new(alloc),
             places: Places::new(alloc),
-            expected: Vec::new(alloc),
+            known: Known::new(alloc),
         }
     }
 
@@ -81,7 +81,7 @@ impl WriteLog {
             else if_apart piece (logged self.old other))) }
         ensures err { OnErr result (self.new ≡ self.old) }
     {
-        let place = place_expected(&mut self.expected, expected)?;
+        let place = self.known.place(&piece, &expected)?;
         let entry = Kept { piece, place };
         put(&mut self.names, &mut self.places, write, entry)?;
         take_out(&mut self.names, &mut self.places, &piece, Some(write));
@@ -104,13 +104,56 @@ impl WriteLog {
         self.names.get(write).is_some()
     }
 
-    /// What the checks of an intact write compare with.
-    pub fn expected(&self, write: &WriteId) -> Option<&Expected>
-        ensures { option_copied result ≡ option_map (λ entry. entry.expected) (logged self.now write.now) }
+    /// What the checks of an intact write compare with: found, and made once it is asked for.
+    pub fn found(&self, write: &WriteId) -> Option<Found<'_>>
+        ensures { result ≡ option_map (λ entry. entry.expected) (logged self.now write.now) }
     {
         match self.names.get(write) {
-            Some(kept) => self.expected.get(kept.place),
+            Some(kept) => Some(Found {
+                known: &self.known,
+                kept,
+            }),
             None => None,
         }
+    }
+
+    /// What the checks of an intact write compare with.
+    pub fn expected(&self, write: &WriteId) -> Option<Expected>
+        ensures { result ≡ option_map (λ entry. entry.expected) (logged self.now write.now) }
+    {
+        match self.found(write) {
+            Some(found) => Some(found.expected()),
+            None => None,
+        }
+    }
+}
+
+/// What the checks of an intact write compare with, before it is made. Contracts see the value.
+#[derive(Drop)]
+pub struct Found<'a> {
+    known: &'a Known,
+    kept: &'a Kept,
+}
+
+impl<'a> Model for Found<'a> {
+    ghost use Rattle.jr_model.specs.declared.contents.Expected.{Expected as Compared};
+    ghost use Rattle.jr_writes.specs.KeptEntries.{IsPlaced, made_at};
+
+    ghost Value = { Compared };
+
+    ghost view = { λ found. made_at found.known.now found.kept.now.place found.kept.now.piece };
+
+    // Its place is known.
+    ghost invariant = { λ found. IsPlaced found.known.now found.kept.now.place };
+}
+
+impl<'a> Found<'a> {
+    ghost use Rattle.std.specs.Prelude.{◌≡◌};
+
+    /// The value.
+    pub fn expected(&self) -> Expected
+        ensures { result ≡ self.now }
+    {
+        self.known.made(self.kept.place, &self.kept.piece)
     }
 }

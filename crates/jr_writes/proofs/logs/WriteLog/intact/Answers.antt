@@ -18,5 +18,5 @@ returns c =
     c.is_some.ensures
     ∙ same_some c.get.result
     ∙ ap is_some (c.get.ensures.value ∙ sym (lookup_all old c.args.write.now c.get.ensures.fits))
-    ∙ is_logged c.self.inside.expected.items (all_kept old) c.args.write.now
+    ∙ is_logged c.self.inside.known (all_kept old) c.args.write.now
     ∙ ap (λ es. is_some (logged es c.args.write.now)) c.self.view_is

@@ -17,13 +17,13 @@ put-requires-clause-fresh c =
     let old = name_at c.self.inside.names.sheets.entries in
     let fits : IsWrite c.args.write = record { clone = omega arith; pass = omega arith; number = omega arith } in
     sym (lookup_all old c.args.write fits)
-    ∙ kept_of-none c.self.inside.expected.items (all_kept old) c.args.write (ap (λ es. logged es c.args.write) c.self.view_is ∙ c.requires.fresh)
+    ∙ kept_of-none c.self.inside.known (all_kept old) c.args.write (ap (λ es. logged es c.args.write) c.self.view_is ∙ c.requires.fresh)
 
 pub invariant_of-self-2 : goal.invariant_of-self-2
 invariant_of-self-2 c =
     let fits : IsWrite c.args.write = record { clone = omega arith; pass = omega arith; number = omega arith } in
-    let known = c.self.inside.expected.items in
-    let more = c.place_expected.new.known.items in
+    let known = c.self.inside.known in
+    let more = c.place.new.self in
     let old = name_at c.self.inside.names.sheets.entries in
     let mid = name_at c.put.new.names.sheets.entries in
     let new = name_at c.take_out.new.names.sheets.entries in
@@ -32,15 +32,15 @@ invariant_of-self-2 c =
     ∙ kept_of-none known (all_kept old) c.args.write (ap (λ es. logged es c.args.write) c.self.view_is ∙ c.requires.fresh) in (
       c.take_out.ensures.indexed,
       ArePlaced-step known more (all_kept old) (all_kept new) c.args.write entry c.args.expected
-          c.in_ok-place.ensures.others c.in_ok-place.ensures.longer c.self.invariant.1
-          (settled_list old mid new c.args.write entry fits free c.in_ok-put.ensures.entries c.take_out.ensures.entries) c.in_ok-place.ensures.within,
+          c.in_ok-place.ensures.more c.self.invariant.1
+          (settled_list old mid new c.args.write entry fits free c.in_ok-put.ensures.entries c.take_out.ensures.entries) c.in_ok-place.ensures.placed,
     )
 
 pub returns-clause-ok : goal.returns-clause-ok
 returns-clause-ok c =
     let fits : IsWrite c.args.write = record { clone = omega arith; pass = omega arith; number = omega arith } in
-    let known = c.self.inside.expected.items in
-    let more = c.place_expected.new.known.items in
+    let known = c.self.inside.known in
+    let more = c.place.new.self in
     let old = name_at c.self.inside.names.sheets.entries in
     let mid = name_at c.put.new.names.sheets.entries in
     let new = name_at c.take_out.new.names.sheets.entries in
@@ -48,7 +48,7 @@ returns-clause-ok c =
     let free = sym (lookup_all old c.args.write fits)
     ∙ kept_of-none known (all_kept old) c.args.write (ap (λ es. logged es c.args.write) c.self.view_is ∙ c.requires.fresh) in
     entries_of-step known more (all_kept old) (all_kept new) c.args.write entry c.args.expected
-    c.in_ok-place.ensures.others c.in_ok-place.ensures.longer c.self.invariant.1
+    c.in_ok-place.ensures.more c.self.invariant.1
     (settled_list old mid new c.args.write entry fits free c.in_ok-put.ensures.entries c.take_out.ensures.entries) c.in_ok-place.ensures.found
     ∙ ap (λ es. settled es c.args.write c.args.piece c.args.expected) c.self.view_is
 
@@ -58,24 +58,24 @@ returns-clause-look_up c = λ other.
     ap (λ es. logged es other) (returns-clause-ok c)
     ∙ logged-settled c.args.self.now
     (subst (λ es. IsStrictlySortedBy write_order (keys_of es)) c.self.view_is
-    (sorted-entries_of c.self.inside.expected.items (all_kept old) (sorted_all old)))
+    (sorted-entries_of c.self.inside.known (all_kept old) (sorted_all old)))
     c.args.write c.args.piece c.args.expected c.requires.fresh other
 
 pub returns-in_err-place-clause-err : goal.returns-in_err-place-clause-err
 returns-in_err-place-clause-err c =
-    let known = c.self.inside.expected.items in
-    let more = c.place_expected.new.known.items in
+    let known = c.self.inside.known in
+    let more = c.place.new.self in
     let old = name_at c.self.inside.names.sheets.entries in
     on_error c.from_residual.result _
-    (entries_of-more known more (all_kept old) c.in_err-place.ensures.others c.self.invariant.1
+    (entries_of-more known more (all_kept old) c.in_err-place.ensures.more c.self.invariant.1
     ∙ c.self.view_is)
 
 pub returns-in_err-put-clause-err : goal.returns-in_err-put-clause-err
 returns-in_err-put-clause-err c =
-    let known = c.self.inside.expected.items in
-    let more = c.place_expected.new.known.items in
+    let known = c.self.inside.known in
+    let more = c.place.new.self in
     let old = name_at c.self.inside.names.sheets.entries in
     on_error c.from_residual-in_err-put.result _
     (ap (entries_of more) (same_all_kept old (name_at c.put.new.names.sheets.entries) c.in_err-put.ensures.names_err)
-    ∙ entries_of-more known more (all_kept old) c.in_ok-place.ensures.others c.self.invariant.1
+    ∙ entries_of-more known more (all_kept old) c.in_ok-place.ensures.more c.self.invariant.1
     ∙ c.self.view_is)

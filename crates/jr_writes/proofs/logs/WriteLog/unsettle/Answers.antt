@@ -13,7 +13,7 @@ use Rattle.jr_writes.proofs.logs.WriteLog.unsettle.Goals as goal
 
 pub invariant_of-self : goal.invariant_of-self
 invariant_of-self c =
-    let known = c.self.inside.expected.items in
+    let known = c.self.inside.known in
     let old = name_at c.self.inside.names.sheets.entries in (
       c.take_out.ensures.indexed,
       subst (ArePlaced known) (sym (unsettled_list old (name_at c.take_out.new.names.sheets.entries) c.args.piece.now c.take_out.ensures.entries))
@@ -22,7 +22,7 @@ invariant_of-self c =
 
 pub returns-clause-entries : goal.returns-clause-entries
 returns-clause-entries c =
-    let known = c.self.inside.expected.items in
+    let known = c.self.inside.known in
     let old = name_at c.self.inside.names.sheets.entries in
     ap (entries_of known) (unsettled_list old (name_at c.take_out.new.names.sheets.entries) c.args.piece.now c.take_out.ensures.entries)
     ∙ entries_of-unsettled known c.args.piece.now (all_kept old)
@@ -30,7 +30,7 @@ returns-clause-entries c =
 
 pub returns-clause-look_up : goal.returns-clause-look_up
 returns-clause-look_up c = λ other.
-    let known = c.self.inside.expected.items in
+    let known = c.self.inside.known in
     let old = name_at c.self.inside.names.sheets.entries in
     ap (λ es. logged es other) (returns-clause-entries c)
     ∙ logged-unsettled c.args.self.now
