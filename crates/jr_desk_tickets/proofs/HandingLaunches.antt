@@ -1,8 +1,9 @@
 -- What is kept of tickets, and the tickets made again of it.
-use Rattle.std.proofs.Common.{◌≡◌, ℕ, zero, suc, ◌+◌, ◌≤◌, List, [], ◌∷◌, ◌++◌, length, refl, sym, ◌∙◌, ap, arith}
+use Rattle.std.proofs.Common.{◌≡◌, ℕ, zero, suc, ◌+◌, ◌≤◌, List, [], ◌∷◌, ◌++◌, drop, length, refl, sym, ◌∙◌, ap, arith}
 use Rattle.std.specs.Prelude.{◌==◌, Bool, true, false, cond, Option, Some, None, slice_get}
 use Rattle.std.specs.List.{cons_option, filter_map}
 use Rattle.std.specs.Option.{option_map, option_to_list}
+use Rattle.std.proofs.lemmas.List.{drop_at}
 use Rattle.std.proofs.lemmas.Option.{same_Some}
 use Rattle.jr_model.specs.declared.blocks.Piece.{Piece}
 use Rattle.jr_model.specs.declared.contents.Expected.{Expected}
@@ -16,11 +17,11 @@ use Rattle.jr_model.specs.declared.events.WriteId.{WriteId}
 use Rattle.jr_model.specs.declared.tickets.Ticket.{Ticket}
 use Rattle.jr_model.specs.declared.tickets.TicketKind.{TicketKind}
 use Rattle.jr_model.specs.declared.tickets.TicketKind.TheVariants as ticket
-use Rattle.jr_model.specs.Content.{block_version, expected_of, header_of}
+use Rattle.jr_model.specs.Content.{block_version, data_area, expected_headers, expected_of, header_back, header_front}
 use Rattle.jr_model.specs.History.{started}
 use Rattle.jr_model.specs.Plan.{Plan, clone_of}
 use Rattle.jr_desk_tickets.specs.declared.launches.Launch.{Launch}
-use Rattle.jr_desk_tickets.specs.Handing.{check_again, expected_again, header_expected, header_in, header_wanted, launch_of, launches_from, ticket_again}
+use Rattle.jr_desk_tickets.specs.Handing.{check_again, expected_again, header_expected, header_in, header_wanted, headers_again, launch_of, launched_piece, launches_from, ticket_again}
 use Rattle.jr_desk_tickets.specs.Kept.{tickets_of}
 use Rattle.jr_desk_tickets.specs.Tickets.{expected_by, method_of, seed_of, ticket_of}
 use Rattle.jr_desk_tickets.proofs.HandingLists.{got_numbered}
@@ -115,28 +116,46 @@ launched n (x ∷ tickets) (suc k) t at =
 
 -- the ticket made again
 
-headers_same : (one : Bool) (header : List ℕ) (seed : ℕ) (found : Option (List ℕ))
-    → ((h : List ℕ) → header_in (cond one (expected.Header header) (expected.Seed seed)) ≡ Some h → found ≡ Some h)
-    → cond one (header_expected found) (expected.Seed seed) ≡ cond one (expected.Header header) (expected.Seed seed)
-headers_same true header seed found has = ap header_expected (has header refl)
-headers_same false header seed found has = refl
+length-front : (kind : VerifyKind) (write : WriteId) (piece : Piece) → length (header_front block_version kind write piece) ≡ 32
+unfolding header_front
+length-front kind write piece = refl
 
-check_same : (kind : VerifyKind) (method : Method) (write : WriteId) (piece : Piece) (seed : ℕ) (found : Option (List ℕ))
-    → ((h : List ℕ) → header_in (expected_of kind method write piece seed) ≡ Some h → found ≡ Some h)
-    → check_again kind method seed found ≡ expected_of kind method write piece seed
-check_same verify.Plain method write piece seed found has = refl
-check_same verify.Pattern method write piece seed found has = refl
-check_same verify.Md5 method write piece seed found has = headers_same (method.interval == 0) (header_of block_version method write piece seed) seed found has
-check_same verify.Sha1 method write piece seed found has = headers_same (method.interval == 0) (header_of block_version method write piece seed) seed found has
-check_same verify.Sha256 method write piece seed found has = headers_same (method.interval == 0) (header_of block_version method write piece seed) seed found has
+headers_same : (one : Bool) (front back : List ℕ) (seed : ℕ) (found : Option (List ℕ)) → length front ≡ 32
+    → ((h : List ℕ) → header_in (cond one (expected.Header (front ++ back)) (expected.Seed seed)) ≡ Some h → found ≡ Some h)
+    → cond one (header_expected front found) (expected.Seed seed) ≡ cond one (expected.Header (front ++ back)) (expected.Seed seed)
+headers_same true front back seed found whole has =
+    ap (header_expected front) (has (drop 32 (front ++ back)) refl)
+    ∙ ap (λ (half : List ℕ). expected.Header (front ++ half)) (drop_at front back 32 whole)
+headers_same false front back seed found whole has = refl
 
-expected_same : (kind : TicketKind) (method : Method) (io : Started) (seed : ℕ) (found : Option (List ℕ))
-    → ((h : List ℕ) → header_in (expected_by kind method io seed) ≡ Some h → found ≡ Some h)
-    → expected_again kind method seed found ≡ expected_by kind method io seed
-expected_same ticket.Read method io seed found has = refl
-expected_same ticket.Write method io seed found has = refl
-expected_same ticket.ReadCheck method io seed found has = refl
-expected_same ticket.Probe method io seed found has = check_same method.kind method io.write io.piece seed found has
+digest_same : (method : Method) (launch : Launch) (found : Option (List ℕ))
+    → ((h : List ℕ) → header_in (expected_headers method launch.write (launched_piece launch) launch.seed) ≡ Some h → found ≡ Some h)
+    → headers_again method launch found ≡ expected_headers method launch.write (launched_piece launch) launch.seed
+digest_same method launch found has =
+    headers_same (method.interval == 0) (header_front block_version method.kind launch.write (launched_piece launch))
+    (header_back method.kind (data_area method (launched_piece launch) launch.seed)) launch.seed found
+    (length-front method.kind launch.write (launched_piece launch)) has
+
+check_same : (kind : VerifyKind) (method : Method) (launch : Launch) (found : Option (List ℕ))
+    → ((h : List ℕ) → header_in (expected_of kind method launch.write (launched_piece launch) launch.seed) ≡ Some h → found ≡ Some h)
+    → check_again kind method launch found ≡ expected_of kind method launch.write (launched_piece launch) launch.seed
+check_same verify.Plain method launch found has = refl
+check_same verify.Pattern method launch found has = refl
+check_same verify.Md5 method launch found has = digest_same method launch found has
+check_same verify.Sha1 method launch found has = digest_same method launch found has
+check_same verify.Sha256 method launch found has = digest_same method launch found has
+
+-- the I/O of which this is kept
+abbrev io_of : TicketKind → Launch → Started
+io_of kind launch = record { worker = launch.worker; kind = kind; write = launch.write; piece = launched_piece launch }
+
+expected_same : (kind own : TicketKind) (method : Method) (launch : Launch) (found : Option (List ℕ))
+    → ((h : List ℕ) → header_in (expected_by kind method (io_of own launch) launch.seed) ≡ Some h → found ≡ Some h)
+    → expected_again kind method launch found ≡ expected_by kind method (io_of own launch) launch.seed
+expected_same ticket.Read own method launch found has = refl
+expected_same ticket.Write own method launch found has = refl
+expected_same ticket.ReadCheck own method launch found has = refl
+expected_same ticket.Probe own method launch found has = check_same method.kind method launch found has
 
 made_again : (plan : Plan) (headers : List (List ℕ)) (id m : ℕ) (io : Started)
     → ((h : List ℕ) → header_wanted (ticket_of plan (id, io)) ≡ Some h → slice_get headers m ≡ Some h)
@@ -154,7 +173,7 @@ made_again plan headers id m io has =
       method = method;
       expected = e;
     })
-    (expected_same io.kind method io seed (slice_get headers m) has)
+    (expected_same io.kind io.kind method (launch_of m (ticket_of plan (id, io))) (slice_get headers m) has)
 
 found_again : (plan : Plan) (history : List Event) (id : ℕ) (t : Ticket) → slice_get (tickets_of plan history) id ≡ Some t
     → option_map (ticket_again plan (filter_map header_wanted (tickets_of plan history)) id)

@@ -1,5 +1,5 @@
 -- Internal: what is kept of the tickets of a run by number, and how far each of them has come.
-use Rattle.std.specs.Prelude.{◌≡◌, ◌+◌, ◌==◌, ℕ, Bool, List, [], ◌∷◌, length, map, slice_get, Option, Some, None, if◌then◌else◌}
+use Rattle.std.specs.Prelude.{◌≡◌, ◌+◌, ◌==◌, ℕ, Bool, List, [], ◌∷◌, ◌++◌, drop, length, map, slice_get, Option, Some, None, if◌then◌else◌}
 use Rattle.std.specs.List.{filter_map, range_with_len}
 use Rattle.std.specs.Option.{option_to_list}
 use Rattle.jr_model.specs.declared.blocks.Piece.{Piece}
@@ -14,7 +14,7 @@ use Rattle.jr_model.specs.declared.events.Outcome.TheVariants.{Whole, Failed, Sh
 use Rattle.jr_model.specs.declared.tickets.Ticket.{Ticket}
 use Rattle.jr_model.specs.declared.tickets.TicketKind.{TicketKind}
 use Rattle.jr_model.specs.declared.tickets.TicketKind.TheVariants as ticket
-use Rattle.jr_model.specs.Content.{expected_pattern}
+use Rattle.jr_model.specs.Content.{block_version, expected_pattern, header_front}
 use Rattle.jr_model.specs.History.{started, outcome_of, is_judged}
 use Rattle.jr_model.specs.Plan.{Plan, clone_of}
 use Rattle.jr_model.specs.Races.{has_raced}
@@ -25,14 +25,14 @@ use Rattle.jr_desk_tickets.specs.declared.launches.Launch.{Launch}
 use Rattle.jr_desk_tickets.specs.Kept.{tickets_of}
 use Rattle.jr_desk_tickets.specs.Tickets.{method_of}
 
--- the header that bytes are judged by, if they are by one
+-- the second half of the header that bytes are judged by, if they are by one
 abbrev pub header_in : Expected → Option (List ℕ)
 header_in expected.Nothing = None
 header_in (expected.Pattern pattern) = None
-header_in (expected.Header header) = Some header
+header_in (expected.Header header) = Some (drop 32 header)
 header_in (expected.Seed seed) = None
 
--- the header that is kept of a ticket: that of a check whose write has a digest
+-- what is kept of a ticket's header: of that of a check whose write has a digest. The first half follows from the ticket
 abbrev pub header_wanted : Ticket → Option (List ℕ)
 header_wanted t = header_in t.expected
 
@@ -59,29 +59,32 @@ launches_from headers (t ∷ tickets) =
 abbrev pub launched_piece : Launch → Piece
 launched_piece launch = record { file = launch.file; offset = launch.offset; len = launch.len }
 
--- bytes that are judged by this header, if there is one
-abbrev pub header_expected : Option (List ℕ) → Expected
-header_expected None = expected.Nothing
-header_expected (Some header) = expected.Header header
+-- bytes that are judged by the header of these halves, if the second is there
+abbrev pub header_expected : List ℕ → Option (List ℕ) → Expected
+header_expected front None = expected.Nothing
+header_expected front (Some back) = expected.Header (front ++ back)
 
--- bytes that are judged by headers: by the one that was kept, or by those that are made again of the seed
-abbrev pub headers_again : Method → ℕ → Option (List ℕ) → Expected
-headers_again method seed header = if method.interval == 0 then header_expected header else expected.Seed seed
+-- bytes that are judged by headers: by the one of which the second half was kept, or by those that are made again of the seed
+abbrev pub headers_again : Method → Launch → Option (List ℕ) → Expected
+headers_again method launch back =
+    if method.interval == 0
+    then header_expected (header_front block_version method.kind launch.write (launched_piece launch)) back
+    else expected.Seed launch.seed
 
--- what the bytes of a check of this method are judged by, with its seed and the header that was kept
-abbrev pub check_again : VerifyKind → Method → ℕ → Option (List ℕ) → Expected
-check_again verify.Plain method seed header = expected.Nothing
-check_again verify.Pattern method seed header = expected_pattern method.pattern
-check_again verify.Md5 method seed header = headers_again method seed header
-check_again verify.Sha1 method seed header = headers_again method seed header
-check_again verify.Sha256 method seed header = headers_again method seed header
+-- what the bytes of a check of this method are judged by, with what is kept of it and the second half of its header
+abbrev pub check_again : VerifyKind → Method → Launch → Option (List ℕ) → Expected
+check_again verify.Plain method launch back = expected.Nothing
+check_again verify.Pattern method launch back = expected_pattern method.pattern
+check_again verify.Md5 method launch back = headers_again method launch back
+check_again verify.Sha1 method launch back = headers_again method launch back
+check_again verify.Sha256 method launch back = headers_again method launch back
 
 -- what those of an I/O of this kind are
-abbrev pub expected_again : TicketKind → Method → ℕ → Option (List ℕ) → Expected
-expected_again ticket.Read method seed header = expected.Nothing
-expected_again ticket.Write method seed header = expected.Nothing
-expected_again ticket.ReadCheck method seed header = expected.Nothing
-expected_again ticket.Probe method seed header = check_again method.kind method seed header
+abbrev pub expected_again : TicketKind → Method → Launch → Option (List ℕ) → Expected
+expected_again ticket.Read method launch back = expected.Nothing
+expected_again ticket.Write method launch back = expected.Nothing
+expected_again ticket.ReadCheck method launch back = expected.Nothing
+expected_again ticket.Probe method launch back = check_again method.kind method launch back
 
 -- the ticket of this number, made again of what is kept of it
 abbrev pub ticket_again : Plan → List (List ℕ) → ℕ → Launch → Ticket
@@ -95,7 +98,7 @@ ticket_again plan headers id launch =
       piece = launched_piece launch;
       seed = launch.seed;
       method = method;
-      expected = expected_again launch.kind method launch.seed (slice_get headers launch.headers);
+      expected = expected_again launch.kind method launch (slice_get headers launch.headers);
     }
 
 -- in flight, or how it ended, and where it ended whole whether it raced
@@ -114,7 +117,7 @@ state_of history id =
 abbrev pub all_states : List Event → List IoState
 all_states history = map (state_of history) (range_with_len 0 (length (started history)))
 
--- what is kept of the tickets of the history, the headers of its checks, and how far all have come
+-- what is kept of the tickets of the history, the second halves of the headers of its checks, and how far all have come
 pub record IsHanded (plan : Plan) (history : List Event) (handed : TicketTable) : Type 0 where
   pub launches : handed.launches.items ≡ launches_from 0 (tickets_of plan history)
   pub headers : handed.headers.items ≡ filter_map header_wanted (tickets_of plan history)

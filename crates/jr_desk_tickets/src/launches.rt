@@ -1,5 +1,6 @@
 ghost use Rattle.std.specs.Prelude.{◌≡◌, IsTrue, IsFalse, slice_get};
-ghost use Rattle.jr_model.specs.Content.{expected_pattern};
+ghost use Rattle.jr_model.specs.declared.contents.Expected.TheVariants.{Nothing};
+ghost use Rattle.jr_model.specs.Content.{block_version, expected_pattern, header_front};
 ghost use Rattle.jr_model.specs.Plan.{clone_of};
 ghost use Rattle.jr_desk_tickets.specs.Handing.{expected_again, header_expected, headers_again, launch_of, launched_piece, ticket_again};
 ghost use Rattle.jr_desk_tickets.specs.Tickets.{method_of};
@@ -9,6 +10,7 @@ use jr_model::{
     is_same_kind, is_same_method, same_piece, same_write,
 };
 use jr_plan::Plan;
+use jr_writes::{header_front, header_of_halves};
 
 /// What is kept of the ticket of an I/O or check: all that the plan doesn't say.
 #[derive(Clone, Copy, Debug, PartialEq, Eq)]
@@ -53,7 +55,7 @@ impl Launch {
     }
 
     // The ticket of this number, made again with the plan and the headers of all checks.
-    pub(crate) fn ticket(&self, plan: &Plan, headers: &[[u8; 64]], id: IoId) -> Ticket
+    pub(crate) fn ticket(&self, plan: &Plan, headers: &[[u8; 32]], id: IoId) -> Ticket
         ensures { result ≡ ticket_again plan.now headers.now id self.now }
     {
         let method = method_in(plan, self.write.clone);
@@ -70,7 +72,7 @@ impl Launch {
     }
 
     // Whether this ticket is the one of its number, as it would be made again. Nothing is made but what its bytes are judged by.
-    pub(crate) fn is_of(&self, plan: &Plan, headers: &[[u8; 64]], ticket: &Ticket) -> bool
+    pub(crate) fn is_of(&self, plan: &Plan, headers: &[[u8; 32]], ticket: &Ticket) -> bool
         ensures yes { IsTrue result → ticket_again plan.now headers.now ticket.now.id self.now ≡ ticket.now }
         ensures no { IsFalse result → ¬ ticket_again plan.now headers.now ticket.now.id self.now ≡ ticket.now }
     {
@@ -80,12 +82,25 @@ impl Launch {
             && same_write(&self.write, &ticket.write)
             && same_piece(&self.piece(), &ticket.piece)
             && is_same_method(&method_in(plan, self.write.clone), &ticket.method)
-            && is_same_expected(&self.expected(&ticket.method, headers), &ticket.expected)
+            && self.is_expected(&ticket.method, headers, &ticket.expected)
+    }
+
+    // Whether its bytes are judged by this. Where nothing is expected, nothing is made to compare it with.
+    fn is_expected(&self, method: &Method, headers: &[[u8; 32]], expected: &Expected) -> bool
+        ensures yes { IsTrue result → expected_again self.now.kind method.now self.now (slice_get headers.now self.now.headers) ≡ expected.now }
+        ensures no { IsFalse result → ¬ expected_again self.now.kind method.now self.now (slice_get headers.now self.now.headers) ≡ expected.now }
+    {
+        match self.kind {
+            TicketKind::Read => is_nothing(expected),
+            TicketKind::Write => is_nothing(expected),
+            TicketKind::ReadCheck => is_nothing(expected),
+            TicketKind::Probe => is_same_expected(&self.expected(method, headers), expected),
+        }
     }
 
     // What its bytes are judged by.
-    fn expected(&self, method: &Method, headers: &[[u8; 64]]) -> Expected
-        ensures { result ≡ expected_again self.now.kind method.now self.now.seed (slice_get headers.now self.now.headers) }
+    fn expected(&self, method: &Method, headers: &[[u8; 32]]) -> Expected
+        ensures { result ≡ expected_again self.now.kind method.now self.now (slice_get headers.now self.now.headers) }
     {
         match self.kind {
             TicketKind::Read => Expected::Nothing,
@@ -101,14 +116,28 @@ impl Launch {
         }
     }
 
-    // What the bytes of a digest's check are judged by: the header that was kept, or those that its seed gives.
-    fn headers_expected(&self, method: &Method, headers: &[[u8; 64]]) -> Expected
-        ensures { result ≡ headers_again method.now self.now.seed (slice_get headers.now self.now.headers) }
+    // What the bytes of a digest's check are judged by: the header whose second half was kept, or those that its seed gives.
+    fn headers_expected(&self, method: &Method, headers: &[[u8; 32]]) -> Expected
+        ensures { result ≡ headers_again method.now self.now (slice_get headers.now self.now.headers) }
     {
         if method.interval == 0 {
-            header_at(headers, self.headers)
+            self.header_expected(method.kind, headers)
         } else {
             Expected::Seed(self.seed)
+        }
+    }
+
+    // What bytes are judged by of whose header this second half was kept.
+    fn header_expected(&self, kind: VerifyKind, headers: &[[u8; 32]]) -> Expected
+        ensures { result ≡ header_expected (header_front block_version kind self.now.write (launched_piece self.now))
+            (slice_get headers.now self.now.headers) }
+    {
+        match headers.get(self.headers as usize).copied() {
+            None => Expected::Nothing,
+            Some(back) => {
+                let front = header_front(kind, &self.write, &self.piece());
+                Expected::Header(header_of_halves(&front, &back))
+            }
         }
     }
 }
@@ -123,13 +152,16 @@ fn pattern_expected(method: &Method) -> Expected
     }
 }
 
-// What bytes are judged by for which this header was kept.
-fn header_at(headers: &[[u8; 64]], place: u32) -> Expected
-    ensures { result ≡ header_expected (slice_get headers.now place) }
+// Whether bytes are judged by nothing.
+fn is_nothing(expected: &Expected) -> bool
+    ensures yes { IsTrue result → Nothing ≡ expected.now }
+    ensures no { IsFalse result → ¬ Nothing ≡ expected.now }
 {
-    match headers.get(place as usize).copied() {
-        None => Expected::Nothing,
-        Some(header) => Expected::Header(header),
+    match expected {
+        Expected::Nothing => true,
+        Expected::Pattern(_) => false,
+        Expected::Header(_) => false,
+        Expected::Seed(_) => false,
     }
 }
 

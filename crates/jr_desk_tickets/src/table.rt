@@ -1,5 +1,5 @@
-ghost use Rattle.std.specs.Prelude.{◌≡◌, ◌<◌, ◌^◌, ◌++◌, ℕ, true, false, List, [], length, slice_get, is_some, Some, OnOk, IsTrue, IsFalse, vec_len, vec_capacity};
-ghost use Rattle.std.specs.Option.{option_map, option_to_list};
+ghost use Rattle.std.specs.Prelude.{◌≡◌, ◌<◌, ◌^◌, ◌++◌, ℕ, true, false, List, [], drop, length, slice_get, is_some, Some, OnOk, IsTrue, IsFalse, vec_len, vec_capacity};
+ghost use Rattle.std.specs.Option.{option_copied, option_map, option_to_list};
 ghost use Rattle.jr_model.specs.declared.events.Event.{Event};
 ghost use Rattle.jr_model.specs.declared.events.Event.TheVariants.{End, Verdict};
 ghost use Rattle.jr_model.specs.declared.events.Started.{Started};
@@ -39,8 +39,8 @@ pub enum IoState {
 #[derive(Debug, Drop)]
 pub struct TicketTable {
     pub launches: Vec<Launch>,
-    /// The headers that checks are judged by, in the order of the checks that are.
-    pub headers: Vec<[u8; 64]>,
+    /// Of the headers that checks are judged by, the second halves, in the order of the checks that are.
+    pub headers: Vec<[u8; 32]>,
     pub states: Vec<IoState>,
 }
 
@@ -144,10 +144,10 @@ impl TicketTable {
     }
 
     // What is kept of it.
-    fn launch(&self, id: IoId) -> Option<Launch>
-        ensures { result ≡ slice_get self.now.launches.items id }
+    fn launch(&self, id: IoId) -> Option<&Launch>
+        ensures { option_copied result ≡ slice_get self.now.launches.items id }
     {
-        self.launches.get(id as usize).copied()
+        self.launches.get(id as usize)
     }
 
     /// Whether the I/O of this number has ended.
@@ -239,8 +239,8 @@ impl TicketTable {
     }
 }
 
-// Keeps the header that bytes are judged by, if they are by one. There is room for it.
-fn keep_header(headers: &mut Vec<[u8; 64]>, expected: &Expected)
+// Keeps the second half of the header that bytes are judged by, if they are by one. There is room for it.
+fn keep_header(headers: &mut Vec<[u8; 32]>, expected: &Expected)
     requires { vec_len headers.old < vec_capacity headers.old }
     ensures { headers.new.items ≡ headers.old.items ++ option_to_list (header_in expected.now) }
 {
@@ -248,6 +248,14 @@ fn keep_header(headers: &mut Vec<[u8; 64]>, expected: &Expected)
         Expected::Nothing => {}
         Expected::Pattern(_) => {}
         Expected::Seed(_) => {}
-        Expected::Header(header) => headers.push_reserved(*header),
+        Expected::Header(header) => headers.push_reserved(second_half(header)),
     }
+}
+
+fn second_half(header: &[u8; 64]) -> [u8; 32]
+    ensures { result ≡ drop 32 header.now }
+{
+    let mut back = [0; 32];
+    back.copy_from_slice(&header[32..]);
+    back
 }

@@ -23,19 +23,19 @@ made_again plan history handed id kept is found =
 pub returns-in-None-clause-no : goal.returns-in-None-clause-no
 returns-in-None-clause-no c history is is_false own =
     none_own c.args.ticket.now
-    (made_again c.args.plan.now history c.args.self.now c.args.ticket.now.id None is (sym c.in-None.is ∙ c.launch.ensures) ∙ own)
+    (made_again c.args.plan.now history c.args.self.now c.args.ticket.now.id None is c.in-None.ensures ∙ own)
 
 pub returns-in-Some-clause-yes : goal.returns-in-Some-clause-yes
 returns-in-Some-clause-yes c history is is_true =
-    sym (made_again c.args.plan.now history c.args.self.now c.args.ticket.now.id (Some c.in-Some.launch) is (sym c.in-Some.is ∙ c.launch.ensures))
+    sym (made_again c.args.plan.now history c.args.self.now c.args.ticket.now.id (Some c.in-Some.launch.now) is c.in-Some.ensures)
     ∙ ap {B = Option Ticket} Some
-    (sym (ap (λ (hs : List (List ℕ)). ticket_again c.args.plan.now hs c.args.ticket.now.id c.in-Some.launch) c.deref.ensures.value)
+    (sym (ap (λ (hs : List (List ℕ)). ticket_again c.args.plan.now hs c.args.ticket.now.id c.in-Some.launch.now) c.deref.ensures.value)
     ∙ c.is_of.ensures.yes is_true)
 
 pub returns-in-Some-clause-no : goal.returns-in-Some-clause-no
 returns-in-Some-clause-no c history is is_false own =
     c.is_of.ensures.no is_false
-    (ap (λ (hs : List (List ℕ)). ticket_again c.args.plan.now hs c.args.ticket.now.id c.in-Some.launch) c.deref.ensures.value
-    ∙ same_some (ticket_again c.args.plan.now c.args.self.now.headers.items c.args.ticket.now.id c.in-Some.launch) c.args.ticket.now
-    (made_again c.args.plan.now history c.args.self.now c.args.ticket.now.id (Some c.in-Some.launch) is (sym c.in-Some.is ∙ c.launch.ensures)
+    (ap (λ (hs : List (List ℕ)). ticket_again c.args.plan.now hs c.args.ticket.now.id c.in-Some.launch.now) c.deref.ensures.value
+    ∙ same_some (ticket_again c.args.plan.now c.args.self.now.headers.items c.args.ticket.now.id c.in-Some.launch.now) c.args.ticket.now
+    (made_again c.args.plan.now history c.args.self.now c.args.ticket.now.id (Some c.in-Some.launch.now) is c.in-Some.ensures
     ∙ own))

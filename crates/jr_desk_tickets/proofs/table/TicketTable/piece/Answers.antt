@@ -8,11 +8,11 @@ use Rattle.jr_desk_tickets.proofs.table.TicketTable.piece.Goals as goal
 
 pub returns-in-None : goal.returns-in-None
 returns-in-None c plan history is =
-    ap (option_map launched_piece) (sym c.in-None.is ∙ c.launch.ensures)
+    ap (option_map launched_piece) c.in-None.ensures
     ∙ piece_found plan history c.args.self.now c.args.id is
 
 pub returns-in-Some : goal.returns-in-Some
 returns-in-Some c plan history is =
     ap {B = Option Piece} Some c.piece.ensures
-    ∙ ap (option_map launched_piece) (sym c.in-Some.is ∙ c.launch.ensures)
+    ∙ ap (option_map launched_piece) c.in-Some.ensures
     ∙ piece_found plan history c.args.self.now c.args.id is
