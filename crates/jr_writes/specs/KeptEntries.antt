@@ -1,5 +1,5 @@
 -- Internal: the entries that the kept pieces and places stand for.
-use Rattle.std.specs.Prelude.{◌≡◌, ⊤, ℕ, ◌<◌, ◌≤◌, ◌++◌, List, [], All, length, map, slice_index_or}
+use Rattle.std.specs.Prelude.{⊤, ℕ, ◌<◌, ◌≤◌, ◌++◌, List, [], All, length, map, slice_index_or}
 use Rattle.std.specs.List.{SameBelow}
 use Rattle.jr_model.specs.declared.blocks.Piece.{Piece}
 use Rattle.jr_model.specs.declared.contents.Expected.{Expected}

@@ -1,4 +1,4 @@
-use Rattle.std.proofs.Common.{arith, length, ◌∙◌, drop}
+use Rattle.std.proofs.Common.{arith, ◌∙◌, drop}
 use Rattle.std.proofs.lemmas.List.{length-drop, take_all}
 use Rattle.jr_desk_tickets.proofs.table.second_half.Goals as goal
 

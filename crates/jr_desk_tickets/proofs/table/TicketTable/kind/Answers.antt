@@ -1,4 +1,4 @@
-use Rattle.std.proofs.Common.{sym, ◌∙◌, ap}
+use Rattle.std.proofs.Common.{◌∙◌, ap}
 use Rattle.std.specs.Option.{option_map}
 use Rattle.jr_desk_tickets.specs.declared.launches.Launch.{Launch}
 use Rattle.jr_desk_tickets.proofs.HandingMoves.{kind_found}

@@ -1,4 +1,4 @@
-use Rattle.std.proofs.Common.{List, ℕ, sym, ◌∙◌, ap}
+use Rattle.std.proofs.Common.{List, ℕ, ◌∙◌, ap}
 use Rattle.std.specs.Prelude.{Option, Some}
 use Rattle.std.specs.Option.{option_map}
 use Rattle.jr_model.specs.declared.tickets.Ticket.{Ticket}
