@@ -21,7 +21,7 @@ use Rattle.jr_model.specs.declared.contents.Expected.{Expected}
 use Rattle.jr_model.specs.declared.contents.Method.{Method}
 use Rattle.jr_model.specs.declared.events.Verdict.{Verdict as GivenVerdict}
 use Rattle.std.proofs.lemmas.List.Elements.{filter_map-append}
-use Rattle.jr_model.specs.Plan.{Plan, SubJob, IsNumbered, clone_of}
+use Rattle.jr_model.specs.Plan.{Plan, SubJob, IsNumbered}
 use Rattle.jr_model.proofs.LegalLaws.{is_legal-more, choice_may_happen}
 use Rattle.jr_model.proofs.MachineLaws.{job_says_fits, is_said, said_fits}
 use Rattle.jr_model.specs.PlanFacts.{IsPlanned}

@@ -1,9 +1,8 @@
 -- The ticket of what a board starts: its seed, its method and what its bytes are judged by are those of the plan.
-use Rattle.std.proofs.Common.{◌≡◌, ◌<◌, ℕ, List, length, get_or, Bool, true, false, cond, ltb, refl, sym, ◌∙◌, ap, subst}
+use Rattle.std.proofs.Common.{◌≡◌, ◌<◌, ℕ, List, Bool, true, false, cond, refl, sym, ◌∙◌, ap, subst}
 use Rattle.std.specs.Prelude.{Option, Some, None, slice_get, unwrap_or}
 use Rattle.std.specs.Option.{option_map}
-use Rattle.std.proofs.lemmas.Bool.{ltb-true, false≢true}
-use Rattle.std.proofs.lemmas.Option.{slice_get_read}
+use Rattle.std.proofs.lemmas.Bool.{false≢true}
 use Rattle.jr_model.specs.declared.blocks.Dir.{Dir}
 use Rattle.jr_model.specs.declared.blocks.Piece.{Piece}
 use Rattle.jr_model.specs.declared.contents.Expected.{Expected}
@@ -41,14 +40,6 @@ use Rattle.jr_desk_state.specs.Boards.{IsBoard}
 use Rattle.jr_desk_state.specs.WriteLogs.{checked_by}
 use Rattle.jr_desk_state.proofs.LogMoves.{log_intact}
 
--- what is read at a place is the item there
-got_there : {X : Type 0} (items all : List X) (i : ℕ) (x : X) → items ≡ all → true ≡ ltb i (length items) → x ≡ get_or items i x
-    → slice_get all i ≡ Some x
-got_there {X = X} items all i x same within read =
-    let count : length items ≡ length items = refl in
-    subst (λ (xs : List X). slice_get xs i ≡ Some x) same
-    (slice_get_read items (length items) i x count (ltb-true i (length items) (sym within)) read)
-
 -- what was issued in the pass that its clone is in has its ticket, with its draw's seed
 pub record HasTicket (plan : Plan) (history : List Event) (write : WriteId) (id : ℕ) : Type 0 where
   pub ticket : Ticket
@@ -74,38 +65,24 @@ has_ticket plan board write job standing issued is planned at here got =
       seed = ap (λ (w : WriteId). seed_of_draw (slice_get (draws_of plan w.clone w.pass) w.number)) named;
     }
 
--- the same where the standing and its draw are read
-pub has_read : (plan : Plan) (board : Board) (write : WriteId) (job : SubJob) (standing found : Standing) (issued : Issued)
-    (standings : List Standing) (draws : List Issued)
+got_issued : (o : Option Issued) (id : ℕ) → option_map (λ (issued : Issued). issued.id) o ≡ Some id
+    → (issued : Issued) × (o ≡ Some issued) × (issued.id ≡ id)
+got_issued None id found = cc
+got_issued (Some issued) id found = (issued, refl, same_some issued.id id found)
+
+-- the seed that is read of the ticket of the number under which it was issued
+pub seed_kept : (plan : Plan) (board : Board) (write : WriteId) (job : SubJob) (standing : Standing) (id seed : ℕ)
     → IsBoard plan board
     → clone_of plan write.clone ≡ Some job
     → slice_get board.standings.items write.clone ≡ Some standing
     → standing.pass ≡ write.pass
-    → standings ≡ board.standings.items
-    → true ≡ ltb write.clone (length standings)
-    → found ≡ get_or standings write.clone found
-    → draws ≡ found.issued.items
-    → true ≡ ltb write.number (length draws)
-    → issued ≡ get_or draws write.number issued
-    → HasTicket plan board.history.items write issued.id
-has_read plan board write job standing found issued standings draws is planned at here items within read drawn below got =
-    let there = got_there standings board.standings.items write.clone found items within read in
-    let same = same_some standing found (sym at ∙ there) in
-    has_ticket plan board write job found issued is planned there (ap (λ (s : Standing). s.pass) (sym same) ∙ here)
-    (got_there draws found.issued.items write.number issued drawn below got)
-
--- the seed read there
-pub seed_read : (plan : Plan) (history : List Event) (write : WriteId) (id seed : ℕ) → HasTicket plan history write id
-    → Some seed ≡ option_map (λ (t : Ticket). t.seed) (slice_get (tickets_of plan history) id)
+    → option_map (λ (issued : Issued). issued.id) (slice_get standing.issued.items write.number) ≡ Some id
+    → ((t : Ticket) → slice_get (tickets_of plan board.history.items) id ≡ Some t → seed ≡ t.seed)
     → seed ≡ seed_of_draw (slice_get (draws_of plan write.clone write.pass) write.number)
-seed_read plan history write id seed has read =
-    same_some seed has.ticket.seed (read ∙ ap (option_map (λ (t : Ticket). t.seed)) has.at) ∙ has.seed
-
-pub ticket_missing : (plan : Plan) (history : List Event) (write : WriteId) (id : ℕ) → HasTicket plan history write id
-    → None ≡ option_map (λ (t : Ticket). t.seed) (slice_get (tickets_of plan history) id) → ⊥
-ticket_missing plan history write id has read =
-    let wrong : None ≡ Some has.ticket.seed = read ∙ ap (option_map (λ (t : Ticket). t.seed)) has.at in
-    cc
+seed_kept plan board write job standing id seed is planned at here found read =
+    let got = got_issued (slice_get standing.issued.items write.number) id found in
+    let has = has_ticket plan board write job standing got.0 is planned at here got.1 in
+    read has.ticket (ap (slice_get (tickets_of plan board.history.items)) (sym got.2) ∙ has.at) ∙ has.seed
 
 -- the ticket of an issue
 

@@ -1,5 +1,7 @@
 ghost use Rattle.std.specs.Prelude.{◌≡◌, ◌+◌, ◌<◌, ◌≤◌, ℕ, suc, true, false, List, [], length, slice_get, Some, None, IfOk, OnOk};
 ghost use Rattle.std.specs.Prelude.{unwrap_or, vec_capacity};
+ghost use Rattle.std.specs.Option.{option_map};
+ghost use Rattle.jr_desk_state.specs.declared.standings.Issued.{Issued as Drawn};
 ghost use Rattle.jr_model.specs.declared.events.IssueKind.TheVariants as issue;
 ghost use Rattle.jr_model.specs.declared.blocks.Piece.{Piece as Place};
 ghost use Rattle.jr_model.specs.declared.events.Event.{Event};
@@ -135,16 +137,19 @@ impl Standing {
         self.issued.clear();
     }
 
-    // A draw of this number in its pass is being checked.
-    pub fn take_up(&mut self, number: u32)
+    // A draw of this number in its pass is being checked. Says under which number it was issued.
+    pub fn take_up(&mut self, number: u32) -> IoId
         requires { number < length self.old.issued.items }
+        ensures id { option_map (λ (issued : Drawn). issued.id) (slice_get self.old.issued.items number) ≡ Some result }
         ensures kept { (plan : Planned) (history : List Event) (job : Clone) (worker : ℕ) (write : Name) (piece : Place)
             → IsNext plan history (Probe worker write piece) → clone_of plan write.clone ≡ Some job → write.number ≡ number
             → IsStanding history job self.old → IsStanding (grown history (Probe worker write piece)) job self.new }
         ensures prepared { (job : Clone) → IsPrepared job self.old → IsPrepared job self.new }
         ensures left { left_in self.new ≡ left_in self.old }
     {
-        self.issued[number as usize].is_taken_up = true;
+        let issued = &mut self.issued[number as usize];
+        issued.is_taken_up = true;
+        issued.id
     }
 
     // A write is skipped.

@@ -1,21 +1,23 @@
-ghost use Rattle.std.specs.Prelude.{◌≡◌, ◌<◌, ◌++◌, ◌∷◌, [], true, length, slice_get, Some};
+ghost use Rattle.std.specs.Prelude.{◌≡◌, ◌<◌, ◌++◌, ◌∷◌, List, [], true, length, slice_get, Some};
+ghost use Rattle.jr_model.specs.declared.events.Event.{Event as Happening};
 ghost use Rattle.jr_model.specs.declared.events.Event.TheVariants.{Issue, Probe, Skip};
 ghost use Rattle.jr_model.specs.declared.tickets.TicketKind.TheVariants as ticket;
-ghost use Rattle.jr_model.specs.Draws.{draws_of};
+ghost use Rattle.jr_model.specs.declared.tickets.Ticket.{Ticket as Handed};
 ghost use Rattle.jr_model.specs.History.{kind_for, started};
 ghost use Rattle.jr_model.specs.Legal.{may_happen};
-ghost use Rattle.jr_model.specs.Machine.{seed_of_draw};
-ghost use Rattle.jr_model.specs.Plan.{Plan as Planned, SubJob as Clone, clone_of};
+ghost use Rattle.jr_model.specs.Plan.{Plan as Planned};
 ghost use Rattle.jr_laws_log.specs.Flying.{dir_of};
 ghost use Rattle.jr_desk_state.specs.Boards.{IsBoard, IsReady, left_of};
 ghost use Rattle.jr_desk_state.specs.WriteLogs.{judged_by};
+ghost use Rattle.jr_desk_tickets.specs.Handing.{IsHanded};
+ghost use Rattle.jr_desk_tickets.specs.Kept.{tickets_of};
 ghost use Rattle.jr_desk_tickets.specs.Tickets.{ticket_of};
-ghost use Rattle.jr_desk_state.specs.declared.standings.Standing.{Standing as Stood};
 
 use crate::board::Board;
 use crate::standings::added_by;
+use jr_desk_tickets::TicketTable;
 use jr_flight::Io;
-use jr_model::{Dir, Event, Expected, IssueKind, Piece, Ticket, TicketKind, WriteId};
+use jr_model::{Dir, Event, Expected, IoId, IssueKind, Piece, Ticket, TicketKind, WriteId};
 use jr_plan::Plan;
 
 // Skips a write.
@@ -113,13 +115,14 @@ pub(crate) fn probe(
     let clone = write.clone as usize;
     let job = plan.clone_at(clone);
     let id = board.tickets.count() as u32;
+    let io = board.standings[clone].take_up(write.number);
     let ticket = Ticket {
         id,
         worker,
         kind: TicketKind::Probe,
         write,
         piece,
-        seed: seed_of(board, write),
+        seed: seed_of(&board.tickets, io),
         method: job.method(),
         expected,
     };
@@ -137,24 +140,15 @@ pub(crate) fn probe(
         declines: job.declines(),
     });
     board.tallies.probed(clone);
-    board.standings[clone].take_up(write.number);
     ticket
 }
 
-// The seed of a write that was issued in the pass that its clone is in.
-fn seed_of(board: &Board, write: WriteId) -> u64
-    ensures { (plan : Planned) (job : Clone) (standing : Stood) → IsBoard plan board.now → clone_of plan write.clone ≡ Some job
-        → slice_get board.now.standings.items write.clone ≡ Some standing → standing.pass ≡ write.pass
-        → write.number < length standing.issued.items
-        → result ≡ seed_of_draw (slice_get (draws_of plan write.clone write.pass) write.number) }
+// The seed of what was handed out under this number.
+fn seed_of(tickets: &TicketTable, id: IoId) -> u64
+    ensures { (plan : Planned) (history : List Happening) (ticket : Handed) → IsHanded plan history tickets.now
+        → slice_get (tickets_of plan history) id ≡ Some ticket → result ≡ ticket.seed }
 {
-    let Some(standing) = board.standings.get(write.clone as usize) else {
-        return 0;
-    };
-    let Some(issued) = standing.issued.get(write.number as usize) else {
-        return 0;
-    };
-    match board.tickets.seed(issued.id) {
+    match tickets.seed(id) {
         None => 0,
         Some(seed) => seed,
     }

@@ -20,9 +20,9 @@ pub enum Take {
 pub(crate) fn answer_with(is_complete: bool, ticket: &Option<Ticket>) -> Take
     ensures { result ≡ answer_with is_complete ticket.now }
 {
-    match *ticket {
-        Some(ticket) if ticket.kind == TicketKind::Probe => Take::Probe(ticket),
-        Some(ticket) => Take::Io(ticket),
+    match ticket {
+        Some(ticket) if ticket.kind == TicketKind::Probe => Take::Probe(*ticket),
+        Some(ticket) => Take::Io(*ticket),
         None if is_complete => Take::Finished,
         None => Take::Wait,
     }

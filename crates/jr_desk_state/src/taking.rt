@@ -10,7 +10,7 @@ ghost use Rattle.jr_model.specs.Legal.{is_complete};
 ghost use Rattle.jr_desk_state.specs.Takes.{IsChosen, answer_with, ticket_for};
 
 use crate::board::Board;
-use crate::choosing::choose;
+use crate::choosing::{choose, expected_of};
 use crate::flying::Flying;
 use crate::resting::{Rested, is_complete, pass_rested};
 use crate::standings::Standing;
@@ -88,7 +88,8 @@ pub fn start_next(plan: &Plan, board: &mut Board, worker: u32) -> Option<Ticket>
                 ..
             } => return Some(issue(plan, board, worker, kind, write, piece)),
             Event::Probe { write, piece, .. } => {
-                return Some(probe(plan, board, worker, write, piece, chosen.expected));
+                let expected = expected_of(&chosen.found);
+                return Some(probe(plan, board, worker, write, piece, expected));
             }
             // These two are no choice.
             Event::End { .. } => return None,

@@ -22,7 +22,7 @@ use Rattle.jr_desk_state.proofs.LogMoves.{log_probe}
 use Rattle.jr_desk_state.proofs.StandingMoves.{clone_is, clone_there, taken_up_here, stays_other_probe}
 use Rattle.jr_desk_state.proofs.StartingBoards.{board_grows, clone_stands, next_of, stands_at, stands_now}
 use Rattle.jr_desk_state.proofs.StartingStandings.{left_same, others_moved, standing_moves}
-use Rattle.jr_desk_state.proofs.StartingTickets.{declines_planned, issue_io, method_planned, probe_expects, ticket_made}
+use Rattle.jr_desk_state.proofs.StartingTickets.{declines_planned, issue_io, method_planned, probe_expects, seed_kept, ticket_made}
 use Rattle.jr_desk_state.proofs.starting.probe.Goals as goal
 
 pub overflow_cast-id : goal.overflow_cast-id
@@ -56,8 +56,8 @@ index_mut-requires c =
     let step = (may_probe_of plan board.history.items c.args.worker write c.args.piece c.requires.may).0 in
     omega (arith, clone_stands plan board write.clone step.job c.requires.board step.named.planned, board.standings.ok.0)
 
-pub take_up-requires : goal.take_up-requires
-take_up-requires c =
+pub take_up-io-requires : goal.take_up-io-requires
+take_up-io-requires c =
     let plan = c.args.plan.now in
     let board = c.args.board.now in
     let worker = c.args.worker in
@@ -96,7 +96,8 @@ returns-clause-ticket c =
     let at = stands_at plan board write.clone job standing is planned c.index_mut.ensures.value in
     ticket_made plan (length (started history)) worker kind.Probe write piece c.count-id.result c.seed_of.result c.method.result
     c.args.expected (c.count-id.ensures plan history is.tickets)
-    (c.seed_of.ensures plan job standing is planned at (sym here.0) here.1)
+    (seed_kept plan board write job standing c.take_up-io.result c.seed_of.result is planned at (sym here.0) c.take_up-io.ensures.id
+    (λ t there. c.seed_of.ensures plan history t is.tickets there))
     (method_planned plan write.clone job c.method.result planned (c.method.ensures ∙ ap (λ (j : SubJob). j.method) read))
     (sym (ap (λ (o : Option Expected). unwrap_or o expected.Nothing) c.requires.judged)
     ∙ probe_expects plan board worker write piece job probed.0.draw standing.pass is probed.0.named
@@ -129,19 +130,19 @@ returns-clause-board c =
     is.flying)
     (log_probe plan history worker write piece next board.log is.log)
     (c.probed.ensures plan history worker write piece refl next is.tallies)
-    (standing_moves plan history (grown history e) board.standings.items write.clone job c.take_up.new.self is.standings planned
-    (c.take_up.ensures.kept plan history job worker write piece next planned refl
+    (standing_moves plan history (grown history e) board.standings.items write.clone job c.take_up-io.new.self is.standings planned
+    (c.take_up-io.ensures.kept plan history job worker write piece next planned refl
     (stands_now plan board write.clone job standing is planned c.index_mut.ensures.value))
     (λ k other one there apart stands.
     stays_other_probe plan history other one stands worker write piece next (clone_there plan k other is.planned there)
     (λ (same : write.clone ≡ other.clone). apart (same ∙ sym (clone_is plan k other is.planned there))))) refl
-    (others_moved plan board.last_issued write.clone board.standings.items standing c.take_up.new.self job is.others planned
-    (stands_at plan board write.clone job standing is planned c.index_mut.ensures.value) (c.take_up.ensures.prepared job))
+    (others_moved plan board.last_issued write.clone board.standings.items standing c.take_up-io.new.self job is.others planned
+    (stands_at plan board write.clone job standing is planned c.index_mut.ensures.value) (c.take_up-io.ensures.prepared job))
     (omega (
       arith,
       is.left,
-      left_same board.standings.items write.clone standing c.take_up.new.self
-          (stands_at plan board write.clone job standing is planned c.index_mut.ensures.value) c.take_up.ensures.left,
+      left_same board.standings.items write.clone standing c.take_up-io.new.self
+          (stands_at plan board write.clone job standing is planned c.index_mut.ensures.value) c.take_up-io.ensures.left,
     ))
     (omega (arith, is.few))
 
