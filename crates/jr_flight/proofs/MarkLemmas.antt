@@ -23,7 +23,7 @@ use Rattle.jr_model.specs.Pieces.{pieces_overlap}
 use Rattle.jr_flight.specs.declared.ios.Ended.{Ended}
 use Rattle.jr_flight.specs.declared.ios.Io.{Io}
 use Rattle.jr_flight.specs.Flights.{flying_io, writes, writes_over, marked}
-use Rattle.jr_flight.specs.Places.{Place, near_piece, if_standing, IsMeasured, IsIndexed, raced_if, raced_under, hits, hits_under, raced_at}
+use Rattle.jr_flight.specs.Places.{Place, near_piece, if_standing, IsMeasured, IsIndexed, IsWrote, raced_if, raced_under, hits, hits_under, raced_at}
 use Rattle.jr_flight.proofs.PlaceLemmas.{any_near, one_passes, overlap_turned}
 
 or_assoc : (a b c : Bool) → ((a || b) || c) ≡ (a || (b || c))
@@ -302,3 +302,20 @@ indexed-changed change old new places longest same is kept =
           (if_measured longest id (change id) (get nat_cmp old id) (same id) (kept.measured id));
       placed = λ at. kept.placed at ∙ sym (ap (if_standing at) (found at.2) ∙ if_stood at (change at.2) (get nat_cmp old at.2) (same at.2));
     }
+
+if_wrote : (wrote : Bool) (change : Ended → Ended) (o : Option Ended) → ((ended : Ended) → (change ended).io ≡ ended.io)
+    → IfSome o (λ ended. wrote ≡ false → writes ended.io.dir ≡ false)
+    → IfSome (option_map change o) (λ ended. wrote ≡ false → writes ended.io.dir ≡ false)
+if_wrote wrote change None same kept = kept
+if_wrote wrote change (Some ended) same kept = λ none. ap (λ (io : Io). writes io.dir) (same ended) ∙ kept none
+
+-- what writes is the same
+pub wrote-changed : (change : ℕ → Ended → Ended) (old new : BTreeMap ℕ Ended) (wrote : Bool)
+    → ((id : ℕ) (ended : Ended) → (change id ended).io ≡ ended.io)
+    → new.entries ≡ changed change old.entries
+    → IsWrote old wrote
+    → IsWrote new wrote
+wrote-changed change old new wrote same is kept = λ id.
+    subst (λ (o : Option Ended). IfSome o (λ ended. wrote ≡ false → writes ended.io.dir ≡ false))
+    (sym (ap (flying_io id) is ∙ flying-changed change id old.entries))
+    (if_wrote wrote (change id) (get nat_cmp old id) (same id) (kept id))

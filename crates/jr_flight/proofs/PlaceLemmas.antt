@@ -16,11 +16,13 @@ use Rattle.std.proofs.lemmas.List.Folds.{Any-from_list_any, list_any-from_Any}
 use Rattle.std.proofs.lemmas.Map.Lookups.{CmpEqualImpliesEq, exact_unsigned}
 use Rattle.std.proofs.lemmas.Map.Views.{All-found, Contains-from_lookup, tells_apart}
 use Rattle.std.proofs.lemmas.Option.{cond_some, same_Some}
+use Rattle.jr_model.specs.declared.blocks.Dir.{Dir}
 use Rattle.jr_model.specs.declared.blocks.Piece.{Piece}
 use Rattle.jr_model.specs.Pieces.{piece_end, pieces_overlap}
 use Rattle.jr_flight.specs.declared.ios.Ended.{Ended}
 use Rattle.jr_flight.specs.declared.ios.Io.{Io}
-use Rattle.jr_flight.specs.Places.{Place, place_of, place_cmp, near_from, near_end, near_piece, if_standing, IsMeasured, IsIndexed}
+use Rattle.jr_flight.specs.Flights.{is_clear, is_raced, waits_for, writes, writes_over}
+use Rattle.jr_flight.specs.Places.{Place, place_of, place_cmp, near_from, near_end, near_piece, if_standing, IsMeasured, IsIndexed, IsWrote}
 
 pub place_cmp_total : IsTotalOrder place_cmp
 place_cmp_total =
@@ -189,6 +191,36 @@ none_passes {X} p ids ordered =
           let f = finds_entry nat_cmp_total ids ordered test found in
           both_ways (p f.value) (subst (λ (o : Option X). IfSome o (λ x. p x ≡ false)) f.there (below f.key)) f.pass))),
     )
+
+-- a read waits for nothing where no write flies
+if_waits : (declines : Bool) (dir : Dir) (piece : Piece) (o : Option Ended) → writes dir ≡ false
+    → IfSome o (λ ended. false ≡ false → writes ended.io.dir ≡ false)
+    → IfSome o (λ ended. waits_for declines dir piece ended.io ≡ false)
+if_waits declines dir piece None reads none = tt
+if_waits declines dir piece (Some ended) reads none = rw (reads, none refl) (by (not (declines || ended.io.declines)))
+  where
+    by : (b : Bool) → (b && false) ≡ false
+    by true = refl
+    by false = refl
+
+pub none_waits : (declines wrote : Bool) (dir : Dir) (piece : Piece) (ids : BTreeMap ℕ Ended) → IsOrdered nat_cmp ids → IsWrote ids wrote
+    → writes dir ≡ false → wrote ≡ false → is_clear declines dir piece ids.entries ≡ true
+none_waits declines wrote dir piece ids ordered told reads none =
+    (none_passes (λ (ended : Ended). waits_for declines dir piece ended.io) ids ordered).1
+    (λ id. if_waits declines dir piece (get nat_cmp ids id) reads (subst (IsWrote ids) none told id))
+
+-- and nothing races there
+pub none_races : (wrote : Bool) (io : Io) (ids : BTreeMap ℕ Ended) → IsOrdered nat_cmp ids → IsWrote ids wrote → wrote ≡ false
+    → is_raced io ids.entries ≡ false
+none_races wrote io ids ordered told none =
+    let test : ℕ × Ended → Bool = λ (e : ℕ × Ended). not (e.0 == io.id) && writes_over io.piece e.1.io in
+    false_from_ne_true (list_any test ids.entries) (λ found.
+    let f = finds_entry nat_cmp_total ids ordered test found in
+    let over = (and_parts (not (f.key == io.id)) (writes_over io.piece f.value.io) f.pass).1 in
+    let written = (and_parts (writes f.value.io.dir) (pieces_overlap f.value.io.piece io.piece) over).0 in
+    let read = subst (λ (o : Option Ended). IfSome o (λ ended. false ≡ false → writes ended.io.dir ≡ false)) f.there
+    (subst (IsWrote ids) none told f.key) in
+    both_ways (writes f.value.io.dir) (read refl) written)
 
 -- the one entry of a number passes exactly if it is found to
 pub one_passes : {X : Type 0} (p : ℕ × X → Bool) (ids : BTreeMap ℕ X) → IsOrdered nat_cmp ids

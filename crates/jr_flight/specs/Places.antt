@@ -1,5 +1,5 @@
 -- Internal: what is in flight is kept twice, by number and by place, and the two agree.
-use Rattle.std.specs.Prelude.{ℕ, ◌≡◌, ◌≤◌, ◌-◌, ◌==◌, ◌&&◌, ◌||◌, Bool, not, List, map, Option, Some, None, IfSome, if◌then◌else◌}
+use Rattle.std.specs.Prelude.{ℕ, ◌≡◌, ◌≤◌, ◌-◌, ◌==◌, ◌&&◌, ◌||◌, Bool, false, not, List, map, Option, Some, None, IfSome, if◌then◌else◌}
 use Rattle.std.specs.List.{list_any}
 use Rattle.std.specs.Ordering.{nat_cmp, ordering_then}
 use Rattle.std.specs.declared.cmp.Ordering.{Ordering}
@@ -10,7 +10,7 @@ use Rattle.jr_model.specs.declared.blocks.Piece.{Piece}
 use Rattle.jr_model.specs.Pieces.{piece_end}
 use Rattle.jr_flight.specs.declared.ios.Ended.{Ended}
 use Rattle.jr_flight.specs.declared.ios.Io.{Io}
-use Rattle.jr_flight.specs.Flights.{writes_over}
+use Rattle.jr_flight.specs.Flights.{writes, writes_over}
 
 -- a file, an offset and a number
 abbrev pub Place : Type 0
@@ -53,6 +53,10 @@ pub record IsIndexed (ids : BTreeMap ℕ Ended) (places : BTreeMap Place Io) (lo
   pub sorted : IsOrdered place_cmp places
   pub measured : (id : ℕ) → IfSome (get nat_cmp ids id) (IsMeasured longest id)
   pub placed : (at : Place) → get place_cmp places at ≡ if_standing at (get nat_cmp ids at.2)
+
+-- a write flies only where one was put in
+abbrev pub IsWrote : BTreeMap ℕ Ended → Bool → Type 0
+IsWrote ids wrote = (id : ℕ) → IfSome (get nat_cmp ids id) (λ ended. wrote ≡ false → writes ended.io.dir ≡ false)
 
 -- an I/O that raced before or races now
 abbrev pub raced_if : Bool → Ended → Ended

@@ -25,18 +25,20 @@ pub struct Flight {
     places: BTreeMap<Place, Io>,
     // No piece in flight is longer: that of the longest I/O put in so far.
     longest: u32,
+    // Whether a write was put in since nothing flew. Where none was, none flies.
+    wrote: bool,
 }
 
 impl Model for Flight {
     ghost use Rattle.std.specs.Prelude.{ℕ, List};
     ghost use Rattle.jr_flight.specs.declared.ios.Ended.{Ended};
-    ghost use Rattle.jr_flight.specs.Places.{IsIndexed};
+    ghost use Rattle.jr_flight.specs.Places.{IsIndexed, IsWrote};
 
     ghost Value = { List (ℕ × Ended) };
 
     ghost view = { λ f. f.ids.entries };
 
-    ghost invariant = { λ f. IsIndexed f.ids f.places f.longest };
+    ghost invariant = { λ f. IsIndexed f.ids f.places f.longest × IsWrote f.ids f.wrote };
 }
 
 impl Flight {
@@ -48,6 +50,7 @@ impl Flight {
             ids: BTreeMap::new(alloc),
             places: BTreeMap::new(alloc),
             longest: 0,
+            wrote: false,
         })
     }
 
@@ -78,6 +81,9 @@ impl Flight {
         ensures at_each { IsTrue result
             ↔ ((id : ℕ) → IfSome (flying_io id self.now) (λ ended. waits_for declines dir piece.now ended.io ≡ false)) }
     {
+        if dir == Dir::Read && !self.wrote {
+            return true;
+        }
         if self.ids.is_empty() {
             return true;
         }
@@ -136,6 +142,7 @@ impl Flight {
             }
             Ok(_) => {
                 self.longest = self.longest.max(ended.io.piece.len);
+                self.wrote = self.wrote || ended.io.dir == Dir::Write;
                 Ok(())
             }
         }
@@ -172,11 +179,27 @@ impl Flight {
             return Err(FlightFault::Stranger);
         };
         self.places.remove(&place_of(&ended.io));
+        if self.ids.is_empty() {
+            self.wrote = false;
+        }
         Ok(ended)
     }
 
     // Whether another one in flight writes over the I/O.
     fn is_raced(&self, io: &Io) -> bool
+        requires some { 1 ≤ io.now.piece.len }
+        requires largest { io.now.piece.len ≤ LARGEST_BLOCK }
+        requires within { piece_end io.now.piece ≤ LARGEST_END }
+        ensures { result ≡ is_raced io.now self.now }
+    {
+        if !self.wrote {
+            return false;
+        }
+        self.is_raced_near(io)
+    }
+
+    // The same, by what stands near the I/O.
+    fn is_raced_near(&self, io: &Io) -> bool
         requires some { 1 ≤ io.now.piece.len }
         requires largest { io.now.piece.len ≤ LARGEST_BLOCK }
         requires within { piece_end io.now.piece ≤ LARGEST_END }

@@ -31,7 +31,7 @@ found_near c =
     (λ id io pass.
     let both = (and_parts (not (c.args.declines || io.declines)) (conflicts c.args.dir piece io) pass).1 in
     (and_parts (writes c.args.dir || writes io.dir) (pieces_overlap io.piece piece) both).1)
-    longest ids places c.self.invariant
+    longest ids places c.self.invariant.0
 
 pub returns-clause-value : goal.returns-clause-value
 returns-clause-value c =
@@ -41,5 +41,5 @@ returns-clause-value c =
 pub returns-clause-at_each : goal.returns-clause-at_each
 returns-clause-at_each c =
     let waits : Ended → Bool = λ (ended : Ended). waits_for c.args.declines c.args.dir c.args.piece.now ended.io in
-    let none = none_passes waits c.self.inside.ids c.self.invariant.ordered in
+    let none = none_passes waits c.self.inside.ids c.self.invariant.0.ordered in
     rw (found_near c, ← c.self.view_is) none
