@@ -7,12 +7,12 @@ use Rattle.std.specs.Result.{OnErr}
 use Rattle.std.proofs.lemmas.List.{length-append, map-append, take_more}
 use Rattle.std.proofs.lemmas.Option.{slice_get-get_or}
 use Rattle.std.proofs.lemmas.List.Elements.{All-head, All-push, All-same, All-tail, All-weaker}
-use Rattle.jr_model.specs.declared.contents.Expected.TheVariants.{Nothing}
 use Rattle.jr_model.specs.declared.contents.Method.{Method}
+use Rattle.jr_writes.proofs.KeptLemmas.{made_more, placed_more}
 use Rattle.jr_crew_books.specs.declared.books.Done.{Done}
 use Rattle.jr_crew_books.specs.declared.entries.BookEntry.{BookEntry}
 use Rattle.jr_crew_books.specs.declared.entries.BookValues.{BookValues}
-use Rattle.jr_crew_books.specs.BookEntries.{IsEntryOf, IsGrown, IsKnown, IsLonger, done_as, done_with_last, dones_as, last_of, no_method}
+use Rattle.jr_crew_books.specs.BookEntries.{IsEntryOf, IsGrown, IsKnown, IsLonger, done_as, done_with_last, dones_as, entry_piece, last_of, no_method}
 
 -- what stands in a list stands there with more behind
 got_before : {X : Type 0} (known more : List X) (i : ℕ) → i < length known → slice_get (known ++ more) i ≡ slice_get known i
@@ -54,15 +54,15 @@ module _ (old new : BookValues) (grown : IsGrown old new) (entry : BookEntry) (k
   known_on : IsKnown new entry
   known_on = record {
     method = subst (λ (o : Option Method). IsSome o) (sym method_stays) known.method;
-    expected = let more = no_fewer old.expected.items new.expected.items grown.expected in let was = known.expected in omega (arith, more, was);
+    expected = placed_more old.expected new.expected grown.expected entry.expected known.expected;
     verdict = let more = no_fewer old.verdicts.items new.verdicts.items grown.verdicts in let was = known.verdict in omega (arith, more, was);
   }
 
   stands_on : done_as new entry ≡ done_as old entry
   stands_on =
-      let expected = last_stays old.expected.items new.expected.items entry.expected grown.expected known.expected in
+      let expected = made_more old.expected new.expected (entry_piece entry) grown.expected entry.expected known.expected in
       let verdict = last_stays old.verdicts.items new.verdicts.items entry.verdict grown.verdicts known.verdict in
-      λ i. done_with_last entry (unwrap_or (method_stays i) no_method) (unwrap_or (expected i) Nothing) (verdict i)
+      λ i. done_with_last entry (unwrap_or (method_stays i) no_method) (expected i) (verdict i)
 
 -- and all of them
 module _ (old new : BookValues) (grown : IsGrown old new) where

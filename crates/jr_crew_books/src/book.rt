@@ -2,7 +2,8 @@ ghost use Rattle.std.specs.Prelude.{◌≡◌, [], ◌∷◌, ◌++◌, OnOk};
 
 use crate::books::Done;
 use crate::entries::{BookEntry, BookValues};
-use jr_model::Memory;
+use jr_model::{Memory, Outcome, Ticket, Verdict};
+use jr_writes::Known;
 use std::alloc::Global;
 use std::fmt;
 use std::marker::Model;
@@ -45,7 +46,7 @@ impl Book {
     {
         let known = BookValues {
             methods: Vec::new(alloc),
-            expected: Vec::new(alloc),
+            expected: Known::new(alloc),
             verdicts: Vec::new(alloc),
         };
         Book {
@@ -54,12 +55,18 @@ impl Book {
         }
     }
 
-    /// Writes it behind all others.
-    pub fn push(&mut self, done: &Done) -> Result<(), Memory>
-        ensures ok { OnOk result (self.new ≡ self.old ++ done.now ∷ []) }
+    /// Writes behind all others what was completed by this ticket, how it ended and what was said of it.
+    pub fn push(
+        &mut self,
+        ticket: &Ticket,
+        outcome: Outcome,
+        verdict: Option<Verdict>,
+    ) -> Result<(), Memory>
+        ensures ok { OnOk result
+            (self.new ≡ self.old ++ record { ticket = ticket.now; outcome = outcome; verdict = verdict } ∷ []) }
         ensures err { OnErr result (self.new ≡ self.old) }
     {
-        let entry = self.known.note(done)?;
+        let entry = self.known.note(ticket, outcome, verdict)?;
         self.entries.push(entry)?;
         Ok(())
     }

@@ -1,17 +1,18 @@
-ghost use Rattle.std.specs.Prelude.{◌≡◌, ◌≤◌, Some, length, IfOk, OnOk};
-ghost use Rattle.std.specs.Option.{unwrap_or};
-ghost use Rattle.jr_model.specs.declared.contents.Expected.TheVariants.{Nothing};
-ghost use Rattle.jr_crew_books.specs.BookEntries.{IsEntryOf, IsGrown, IsKnown, IsLonger, done_as, done_with_last, last_of};
+ghost use Rattle.std.specs.Prelude.{◌≡◌, ◌≤◌, Option, Some, length, IfOk};
+ghost use Rattle.jr_model.specs.declared.events.Verdict.{Verdict as Saying};
+ghost use Rattle.jr_crew_books.specs.BookEntries.{IsEntryOf, IsGrown, IsKnown, IsLonger, done_as, done_with_last, entry_piece, last_of};
 
 use crate::books::Done;
 use crate::said::is_same_verdict;
 use jr_model::{
     Expected, IoId, Memory, Method, Outcome, Piece, Ticket, TicketKind, Verdict, WriteId,
-    is_same_expected, is_same_method,
+    is_same_method,
 };
+use jr_writes::{Known, Place};
 
-// What a book keeps of what a worker completed: all of it but its method, what its check compares with and its verdict. Of these
-// it has how many its book knew: its own is the last of so many, and 0 stands for none.
+// What a book keeps of what a worker completed: all of it but its method, what its check compares with and its verdict. Of its method
+// and its verdict it has how many its book knew: its own is the last of so many, and 0 stands for none. Of what its check compares
+// with it has the place.
 #[derive(Clone, Copy)]
 pub struct BookEntry {
     pub seed: u64,
@@ -22,7 +23,7 @@ pub struct BookEntry {
     pub file: u32,
     pub len: u32,
     pub method: u32,
-    pub expected: u32,
+    pub expected: Place,
     pub verdict: u32,
     pub outcome: Outcome,
     pub kind: TicketKind,
@@ -34,20 +35,25 @@ const _: () = prove!(size_of::<BookEntry>() <= 72);
 #[derive(Drop)]
 pub struct BookValues {
     pub methods: Vec<Method>,
-    pub expected: Vec<Expected>,
+    pub expected: Known,
     pub verdicts: Vec<Verdict>,
 }
 
 impl BookValues {
     // The entry of what was completed. What it speaks of is known from now on.
-    pub(crate) fn note(&mut self, done: &Done) -> Result<BookEntry, Memory>
+    pub(crate) fn note(
+        &mut self,
+        ticket: &Ticket,
+        outcome: Outcome,
+        verdict: Option<Verdict>,
+    ) -> Result<BookEntry, Memory>
         ensures grown { IsGrown self.old self.new }
-        ensures entry { IfOk result (IsEntryOf self.new done.now) }
+        ensures entry { IfOk result (IsEntryOf self.new (record { ticket = ticket.now; outcome = outcome; verdict = verdict })) }
     {
-        let method = note_method(&mut self.methods, &done.ticket.method)?;
-        let expected = note_expected(&mut self.expected, &done.ticket.expected)?;
-        let verdict = note_verdict(&mut self.verdicts, done.verdict)?;
-        Ok(entry_of(done, method, expected, verdict))
+        let method = note_method(&mut self.methods, &ticket.method)?;
+        let expected = self.expected.place(&ticket.piece, &ticket.expected)?;
+        let said = note_verdict(&mut self.verdicts, verdict)?;
+        Ok(entry_of(ticket, outcome, method, expected, said))
     }
 
     // What was completed, by its entry.
@@ -56,9 +62,20 @@ impl BookValues {
         ensures { result ≡ Some (done_as self.now entry.now) }
     {
         let method = last_of(&self.methods, entry.method)?;
-        let expected = last_of(&self.expected, entry.expected).unwrap_or(Expected::Nothing);
+        let expected = self.expected.made(entry.expected, &piece_of(entry));
         let verdict = last_of(&self.verdicts, entry.verdict);
         Some(done_with(entry, method, expected, verdict))
+    }
+}
+
+// Where it read or wrote.
+fn piece_of(entry: &BookEntry) -> Piece
+    ensures { result ≡ entry_piece entry.now }
+{
+    Piece {
+        file: entry.file,
+        offset: entry.offset,
+        len: entry.len,
     }
 }
 
@@ -82,22 +99,6 @@ fn note_method(methods: &mut Vec<Method>, method: &Method) -> Result<u32, Memory
         _ => methods.push(*method)?,
     }
     narrow(methods.len())
-}
-
-// How much is known that checks compare with, once this is the last of it; 0 where there is nothing to compare with.
-fn note_expected(known: &mut Vec<Expected>, expected: &Expected) -> Result<u32, Memory>
-    ensures longer { IsLonger known.old.items known.new.items }
-    ensures last { IfOk result (λ count. unwrap_or (last_of known.new.items count) Nothing ≡ expected.now) }
-    ensures within { IfOk result (λ count. count ≤ length known.new.items) }
-{
-    if is_same_expected(expected, &Expected::Nothing) {
-        return Ok(0);
-    }
-    match known.last() {
-        Some(last) if is_same_expected(last, expected) => {}
-        _ => known.push(*expected)?,
-    }
-    narrow(known.len())
 }
 
 // How many verdicts are known once this one is the last; 0 where there is none.
@@ -127,13 +128,19 @@ fn narrow(number: usize) -> Result<u32, Memory>
 }
 
 // The entry of what was completed, where these are its places.
-fn entry_of(done: &Done, method: u32, expected: u32, verdict: u32) -> BookEntry
+fn entry_of(
+    ticket: &Ticket,
+    outcome: Outcome,
+    method: u32,
+    expected: Place,
+    verdict: u32,
+) -> BookEntry
     ensures method { result.method ≡ method }
     ensures expected { result.expected ≡ expected }
     ensures verdict { result.verdict ≡ verdict }
-    ensures rest { done_with_last result done.now.ticket.method done.now.ticket.expected done.now.verdict ≡ done.now }
+    ensures rest { (said : Option Saying) → done_with_last result ticket.now.method ticket.now.expected said
+        ≡ record { ticket = ticket.now; outcome = outcome; verdict = said } }
 {
-    let ticket = &done.ticket;
     BookEntry {
         seed: ticket.seed,
         offset: ticket.piece.offset,
@@ -145,7 +152,7 @@ fn entry_of(done: &Done, method: u32, expected: u32, verdict: u32) -> BookEntry
         method,
         expected,
         verdict,
-        outcome: done.outcome,
+        outcome,
         kind: ticket.kind,
     }
 }
@@ -159,17 +166,12 @@ fn done_with(
 ) -> Done
     ensures { result ≡ done_with_last entry.now method expected verdict }
 {
-    let piece = Piece {
-        file: entry.file,
-        offset: entry.offset,
-        len: entry.len,
-    };
     let ticket = Ticket {
         id: entry.id,
         worker: entry.worker,
         kind: entry.kind,
         write: entry.write,
-        piece,
+        piece: piece_of(entry),
         seed: entry.seed,
         method,
         expected,

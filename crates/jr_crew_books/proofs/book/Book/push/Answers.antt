@@ -1,5 +1,6 @@
 use Rattle.std.proofs.Common.{ap, ◌∙◌, ◌++◌, ◌∷◌, []}
 use Rattle.std.proofs.lemmas.List.Elements.{All-same}
+use Rattle.jr_crew_books.specs.declared.books.Done.{Done}
 use Rattle.jr_crew_books.specs.BookEntries.{IsKnown, dones_as}
 use Rattle.jr_crew_books.proofs.BookLemmas.{dones_next, dones_stay, known_more, known_next, on_error}
 use Rattle.jr_crew_books.proofs.book.Book.push.Goals as goal
@@ -27,12 +28,14 @@ returns-in_err-push-clause-err c =
 pub invariant_of-self-2 : goal.invariant_of-self-2
 invariant_of-self-2 c =
     let old = c.self.inside in
+    let done : Done = record { ticket = c.args.ticket.now; outcome = c.args.outcome; verdict = c.args.verdict } in
     known_next old.known c.note.new.self c.in_ok-entry.ensures.grown old.entries.items c.push.new.self.items c.in_ok-entry.entry
-    c.in_ok-push.ensures.items c.self.invariant c.args.done.now c.in_ok-entry.ensures.entry
+    c.in_ok-push.ensures.items c.self.invariant done c.in_ok-entry.ensures.entry
 
 pub returns-clause-ok : goal.returns-clause-ok
 returns-clause-ok c =
     let old = c.self.inside in
+    let done : Done = record { ticket = c.args.ticket.now; outcome = c.args.outcome; verdict = c.args.verdict } in
     dones_next old.known c.note.new.self c.in_ok-entry.ensures.grown old.entries.items c.push.new.self.items c.in_ok-entry.entry
-    c.in_ok-push.ensures.items c.self.invariant c.args.done.now c.in_ok-entry.ensures.entry
-    ∙ ap (λ dones. dones ++ c.args.done.now ∷ []) c.self.view_is
+    c.in_ok-push.ensures.items c.self.invariant done c.in_ok-entry.ensures.entry
+    ∙ ap (λ dones. dones ++ done ∷ []) c.self.view_is
