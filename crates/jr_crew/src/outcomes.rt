@@ -6,7 +6,7 @@ ghost use Rattle.jr_header.specs.Served.{answer_verdict, is_to_judge};
 ghost use Rattle.jr_crew_threads.specs.Judging.{AreChecksOf, IsSaidOfOne};
 ghost use Rattle.jr_crew.specs.Working.{AreDone};
 
-use jr_crew_books::{Book, Done, Said};
+use jr_crew_books::{Book, Said};
 use jr_crew_threads::{Halt, push};
 use jr_header::{Ruling, Served, rule};
 use jr_model::Verdict;
@@ -74,12 +74,7 @@ pub(crate) fn note_all(inline: bool, told: &[TakenIn<'_>], book: &mut Book) -> R
         if !is_same_flag(one.inline, inline) {
             return Err(Halt::Books);
         }
-        let done = Done {
-            ticket: *one.served.ticket(),
-            outcome: one.served.outcome(),
-            verdict: one.said,
-        };
-        book.push(&done)?;
+        book.push(one.served.ticket(), one.served.outcome(), one.said)?;
     }
     Ok(())
 }
