@@ -65,7 +65,7 @@ fn assert_kept(rt: &impl Abort, log: &WriteLog, number: u32, kept: bool) {
 // The log has what was expected of this write exactly where it is to be there.
 fn is_expected(log: &WriteLog, number: u32, kept: bool) -> bool {
     match log.expected(&write(number)) {
-        Some(found) => kept && *found == header(number),
+        Some(found) => kept && found == header(number),
         None => !kept,
     }
 }
