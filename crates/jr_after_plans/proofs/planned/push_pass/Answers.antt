@@ -1,9 +1,8 @@
-use Rattle.std.proofs.Common.{◌≡◌, ◌-◌, ◌<◌, ◌≤◌, ◌++◌, length, List, filter_map, [], ap, sym, ◌∙◌, refl, arith}
+use Rattle.std.proofs.Common.{◌≡◌, ◌-◌, ◌<◌, ◌++◌, List, filter_map, ap, ◌∙◌, arith}
 use Rattle.jr_draw.specs.Drawing.{draws_left}
 use Rattle.jr_model.specs.declared.workloads.Draw.{Draw}
-use Rattle.jr_model.specs.Draws.{draws_of_job}
 use Rattle.jr_model.specs.Words.{words_from}
-use Rattle.jr_after.specs.Writes.{write_of_draw, writes_of_pass}
+use Rattle.jr_after.specs.Writes.{write_of_draw}
 use Rattle.jr_after_plans.proofs.WritesFurther.{given_all, given_more, none_left, none_of_no_words}
 use Rattle.jr_after_plans.proofs.planned.push_pass.Goals as goal
 

@@ -1,6 +1,6 @@
 use Rattle.std.proofs.Common.{◌≡◌, ap, sym, ◌∙◌}
 use Rattle.std.specs.Prelude.{Some, None}
-use Rattle.jr_after_plans.specs.Taken.{after_fault, fault_at, refusal_of}
+use Rattle.jr_after_plans.specs.Taken.{refusal_of}
 use Rattle.jr_after_plans.proofs.Finding.{fault_here, fault_later}
 use Rattle.jr_after_plans.proofs.taken.after_fault.Goals as goal
 
