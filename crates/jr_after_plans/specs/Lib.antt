@@ -1,2 +1,3 @@
 pub mod FaultTexts
+pub mod Fits
 pub mod Taken

@@ -7,4 +7,4 @@ mod taken;
 
 pub use faults::{AfterFault, Refusal, after_fault_text};
 pub use planned::planned_writes;
-pub use taken::after_fault;
+pub use taken::{after_fault, chunk_len, writes_to};

@@ -1,7 +1,8 @@
-ghost use Rattle.std.specs.Prelude.{◌≡◌, ◌∷◌, [], ◌++◌, Some, IfOk, OnOk};
+ghost use Rattle.std.specs.Prelude.{◌≡◌, ◌∷◌, [], ◌++◌, All, Some, IfOk, OnOk};
 ghost use Rattle.std.specs.Option.{option_to_list};
 ghost use Rattle.jr_model.specs.declared.blocks.Dir.TheVariants as direction;
 ghost use Rattle.jr_after.specs.Writes.{write_in, write_of_draw, writes_of, writes_of_clone, writes_of_pass};
+ghost use Rattle.jr_after_plans.specs.Fits.{CanBeWritten};
 
 use jr_after::PlannedWrite;
 use jr_draw::Drawer;
@@ -11,6 +12,15 @@ use std::alloc::Global;
 
 /// All writes of a plan, by clone, pass and number.
 pub fn planned_writes(alloc: Global, plan: &Plan) -> Result<Vec<PlannedWrite>, Memory>
+    ensures value { IfOk result (λ writes. writes.items ≡ writes_of plan.now) }
+    ensures fit { IfOk result (λ writes. All CanBeWritten writes.items) }
+{
+    // Its contract says what holds of every plan.
+    plan.facts();
+    all_writes(alloc, plan)
+}
+
+fn all_writes(alloc: Global, plan: &Plan) -> Result<Vec<PlannedWrite>, Memory>
     ensures { IfOk result (λ writes. writes.items ≡ writes_of plan.now) }
 {
     let mut writes = Vec::new(alloc);

@@ -52,8 +52,8 @@ fn has_digest(kind: VerifyKind) -> bool
     !matches!(kind, VerifyKind::Plain | VerifyKind::Pattern)
 }
 
-// How long each chunk of the clone's writes is; 0 if they have several lengths.
-pub(crate) fn chunk_len(job: &SubJob) -> u32
+/// How long each chunk of the clone's writes is; 0 if its blocks have several sizes and no interval.
+pub fn chunk_len(job: &SubJob) -> u32
     ensures { result ≡ chunk_len job.now }
 {
     let interval = job.method().interval;
@@ -88,7 +88,8 @@ fn is_on_grid(plan: &Plan, job: &SubJob) -> bool
     true
 }
 
-pub(crate) fn writes_to(file: u32, job: &SubJob) -> bool
+/// Whether the clone writes to this file.
+pub fn writes_to(file: u32, job: &SubJob) -> bool
     ensures { result ≡ writes_to file job.now }
 {
     job.file() == file && job.io_type().has_writes()

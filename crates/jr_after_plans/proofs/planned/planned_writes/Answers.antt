@@ -1,7 +1,9 @@
-use Rattle.jr_plan.proofs.ListLemmas.{flat_map-further}
-use Rattle.jr_after.specs.Writes.{writes_of, writes_of_clone}
+use Rattle.std.proofs.lemmas.Result.{IfOk-weaker}
+use Rattle.std.proofs.lemmas.List.Elements.{All-same}
+use Rattle.jr_after.specs.Writes.{writes_of}
+use Rattle.jr_after_plans.specs.Fits.{CanBeWritten}
+use Rattle.jr_after_plans.proofs.Fitting.{writes_fit}
 use Rattle.jr_after_plans.proofs.planned.planned_writes.Goals as goal
 
-pub loop-i-preserved : goal.loop-i-preserved
-loop-i-preserved c =
-    flat_map-further writes_of_clone c.args.plan.now.clones c.loop-i.i c.clone_at.result.now c.loop-i.writes.items c.push_clone.new.writes.items (writes_of c.args.plan.now) c.clone_at.ensures.value c.loop-i.invariant c.in_ok-push_clone.ensures
+pub returns-clause-fit : goal.returns-clause-fit
+returns-clause-fit c = IfOk-weaker c.all_writes.result _ _ (λ writes is. All-same CanBeWritten writes.items (writes_of c.args.plan.now) is (writes_fit c.args.plan.now c.facts.ensures)) c.all_writes.ensures

@@ -1,6 +1,6 @@
 use Rattle.std.proofs.Common.{◌≡◌, ◌++◌, drop, flat_map}
 use Rattle.jr_after.specs.Writes.{writes_of, writes_of_clone}
-use Rattle.jr_after_plans.proofs.planned.planned_writes.Given as goal
+use Rattle.jr_after_plans.proofs.planned.all_writes.Given as goal
 
 -- the writes so far, and those of the other clones
 abbrev pub invariant-loop-i : goal.invariant-loop-i
