@@ -1,2 +1,6 @@
-pub mod Over
+pub mod DrawnPlaces
+pub mod Grids
+pub mod GridLaws
 pub mod NextLemmas
+pub mod Over
+pub mod TakenClones

@@ -2,7 +2,9 @@
 #![tactic(auto)]
 
 mod judging;
+mod laws;
 mod next;
 
 pub use judging::{judged, named_writes};
+pub use laws::{each_chunk_comes, no_chunk_is_parts};
 pub use next::next_chunk;
