@@ -1,8 +1,9 @@
-ghost use Rattle.std.specs.Prelude.{◌≡◌, ◌≤◌, ◌<◌, ◌^◌, ◌+◌, ◌++◌, ◌∷◌, [], All, List, map, length, IfOk, OnOk};
+ghost use Rattle.std.specs.Prelude.{◌≡◌, ◌≤◌, ◌<◌, ◌^◌, ◌+◌, ◌++◌, ◌∷◌, ◌==◌, ◌&&◌, nat_lt, [], All, List, map, length, IfOk, OnOk};
+ghost use Rattle.jr_model.specs.Pieces.{piece_end};
 ghost use Rattle.jr_after.specs.Findings.{finding_on, named_by};
 ghost use Rattle.jr_after.specs.Ledgers.{kept_lines};
 ghost use Rattle.jr_after.specs.declared.writes.PlannedWrite.{PlannedWrite as WriteRecord};
-ghost use Rattle.jr_after_chunks.specs.Judging.{CanBeNamed, finding_among, named_over};
+ghost use Rattle.jr_after_chunks.specs.Judging.{CanBeNamed, GiveTheSame, finding_among, named_in, named_over};
 ghost use Rattle.jr_ledger.specs.declared.lines.LedgerLine.{LedgerLine as Line};
 
 use jr_after::{Finding, Named, PlannedWrite, finding_of, has_chunk, named_by};
@@ -46,6 +47,47 @@ pub fn judged(
 {
     let over = named_over(alloc, named, chunk)?;
     Ok(finding_of(kept, over.as_slice(), chunk, bytes, room))
+}
+
+/// Those of the writes that have a byte of a part of a file: each chunk in it can be judged by them alone.
+pub fn named_in(
+    alloc: Global,
+    named: &[Named],
+    file: u32,
+    from: u64,
+    till: u64,
+) -> Result<Vec<Named>, Memory>
+    ensures value { IfOk result (λ some. some.items ≡ named_in file from till named.now) }
+    ensures same { IfOk result (λ some. GiveTheSame file from till some.items named.now) }
+    ensures fit { All CanBeNamed named.now → IfOk result (λ some. All CanBeNamed some.items) }
+{
+    those_in(alloc, named, file, from, till)
+}
+
+fn those_in(
+    alloc: Global,
+    named: &[Named],
+    file: u32,
+    from: u64,
+    till: u64,
+) -> Result<Vec<Named>, Memory>
+    ensures { IfOk result (λ some. some.items ≡ named_in file from till named.now) }
+{
+    let mut some = Vec::new(alloc);
+    for one in named {
+        if is_in(file, from, till, &one.planned.piece) {
+            push(&mut some, *one)?;
+        }
+    }
+    Ok(some)
+}
+
+// Whether a piece has a byte of a part of a file.
+fn is_in(file: u32, from: u64, till: u64, piece: &Piece) -> bool
+    ensures { result ≡ ((piece.now.file == file) && nat_lt piece.now.offset till && nat_lt from (piece_end piece.now)) }
+{
+    let end = u128::from(piece.offset) + u128::from(piece.len);
+    piece.file == file && piece.offset < till && u128::from(from) < end
 }
 
 // Those of the writes that are over a chunk.

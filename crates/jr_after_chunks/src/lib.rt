@@ -5,6 +5,6 @@ mod judging;
 mod laws;
 mod next;
 
-pub use judging::{judged, named_writes};
+pub use judging::{judged, named_in, named_writes};
 pub use laws::{each_chunk_comes, no_chunk_is_parts};
 pub use next::next_chunk;
