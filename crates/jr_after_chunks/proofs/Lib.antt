@@ -1,6 +1,7 @@
 pub mod DrawnPlaces
 pub mod Grids
 pub mod GridLaws
+pub mod IndexLemmas
 pub mod NextLemmas
 pub mod Over
 pub mod TakenClones

@@ -1,7 +1,7 @@
 -- The writes over a chunk: each can be carried out, and the chunk lies within its piece.
-use Rattle.std.proofs.Common.{◌≡◌, ℕ, ◌+◌, ◌-◌, ◌%◌, ◌≤◌, List, [], ◌∷◌, map, Bool, true, false, filter, refl, ap, sym, ◌∙◌, inl, inr, arith}
+use Rattle.std.proofs.Common.{◌≡◌, ℕ, ◌+◌, ◌-◌, ◌%◌, ◌≤◌, List, [], ◌∷◌, map, Bool, true, false, refl, arith}
 use Rattle.std.specs.Prelude.{None, All, cond, nat_lt, nat_le, ◌==◌, ◌&&◌}
-use Rattle.std.proofs.lemmas.Bool.{and_parts, and_from, cases_Bool, cond-true, cond-false, eq-eqb, eqb-true, false≢true, leb-true, lt-ltb}
+use Rattle.std.proofs.lemmas.Bool.{and_parts, eqb-true, leb-true}
 use Rattle.std.proofs.lemmas.List.Elements.{All-nil, All-cons, All-head, All-tail, All-filter, filter_passes}
 use Rattle.jr_model.specs.declared.blocks.Piece.{Piece}
 use Rattle.jr_model.specs.declared.limits.TheConstants.{LARGEST_BLOCK, LARGEST_END, SECTOR, MOST_PASSES}
@@ -10,22 +10,22 @@ use Rattle.jr_model.specs.Tickets.{piece_fits, has_pattern, interval_fits}
 use Rattle.jr_ledger.specs.declared.lines.LedgerLine.{LedgerLine}
 use Rattle.jr_after.specs.declared.writes.Named.{Named}
 use Rattle.jr_after.specs.declared.writes.PlannedWrite.{PlannedWrite}
-use Rattle.jr_after.specs.Findings.{finding_of, named_by}
+use Rattle.jr_after.specs.Findings.{named_by}
 use Rattle.jr_after.specs.Parts.{CanHold}
 use Rattle.jr_after.specs.Writes.{has_chunk, is_chunk, writes_over}
-use Rattle.jr_after_chunks.specs.Judging.{CanBeNamed, GiveTheSame, LiesIn, is_in, is_over, named_in, named_over}
+use Rattle.jr_after_chunks.specs.Judging.{CanBeNamed, is_over, named_over}
 
 -- what holds of each element by two facts of it
 pub all_both : {X : Type 0} (A B P : X → Type 0) → ((x : X) → A x → B x → P x) → (xs : List X) → All A xs → All B xs → All P xs
 all_both A B P each [] a b = All-nil P
 all_both A B P each (x ∷ xs) a b = All-cons P x xs (each x (All-head A x xs a) (All-head B x xs b)) (all_both A B P each xs (All-tail A x xs a) (All-tail B x xs b))
 
-record Lies (piece chunk : Piece) : Type 0 where
-  from_there : piece.offset ≤ chunk.offset
-  till : chunk.offset + chunk.len ≤ piece.offset + piece.len
+pub record Lies (piece chunk : Piece) : Type 0 where
+  pub from_there : piece.offset ≤ chunk.offset
+  pub till : chunk.offset + chunk.len ≤ piece.offset + piece.len
 
 -- a chunk lies within its piece
-lies : (interval : ℕ) (piece chunk : Piece) → is_chunk interval piece chunk ≡ true → Lies piece chunk
+pub lies : (interval : ℕ) (piece chunk : Piece) → is_chunk interval piece chunk ≡ true → Lies piece chunk
 lies interval piece chunk is = by (interval == 0) is
   where
     by : (b : Bool) → cond b ((chunk.offset == piece.offset) && (chunk.len == piece.len)) ((chunk.len == interval) && nat_le piece.offset chunk.offset && ((chunk.offset - piece.offset) % interval == 0) && nat_le (piece_end chunk) (piece_end piece)) ≡ true → Lies piece chunk
@@ -83,36 +83,3 @@ pub over_named : (chunk : Piece) (lines : List LedgerLine) (writes : List Planne
 over_named chunk lines [] = refl
 over_named chunk lines (planned ∷ writes) =
     named_step (has_chunk chunk planned) (named_by lines planned) planned lines (named_over chunk (map (named_by lines) writes)) (writes_over chunk writes) refl (over_named chunk lines writes)
-
--- what passes one test of those that pass another
-filtered : {X : Type 0} (p q : X → Bool) → ((x : X) → p x ≡ true → q x ≡ true) → (xs : List X) → filter p (filter q xs) ≡ filter p xs
-filtered p q weaker [] = refl
-filtered {X = X} p q weaker (x ∷ xs) =
-    elim (cases_Bool (q x)) [
-      | inl passes ↦
-          ap (filter p) (cond-true (q x) (x ∷ filter q xs) (filter q xs) passes)
-          ∙ ap (λ (rest : List X). cond (p x) (x ∷ rest) rest) (filtered p q weaker xs)
-      | inr fails ↦
-          let not : p x ≡ false = elim (cases_Bool (p x)) [
-            | inl own ↦ absurd (false≢true (sym fails ∙ weaker x own))
-            | inr not_own ↦ not_own
-          ] in
-          ap (filter p) (cond-false (q x) (x ∷ filter q xs) (filter q xs) fails) ∙ filtered p q weaker xs
-          ∙ sym (cond-false (p x) (x ∷ filter p xs) (filter p xs) not)
-    ]
-
-over_is_in : (file from till : ℕ) (chunk : Piece) (named : Named) → LiesIn file from till chunk → is_over chunk named ≡ true → is_in file from till named ≡ true
-over_is_in file from till chunk named within over =
-    let piece = named.planned.piece in
-    let parts = and_parts (piece.file == chunk.file) (is_chunk named.planned.method.interval piece chunk) over in
-    let there = lies named.planned.method.interval piece chunk parts.1 in
-    and_from ((piece.file == file) && nat_lt piece.offset till) (nat_lt from (piece_end piece))
-    (and_from (piece.file == file) (nat_lt piece.offset till)
-    (eq-eqb piece.file file (eqb-true piece.file chunk.file parts.0 ∙ within.file_is))
-    (lt-ltb piece.offset till (omega (arith, there.from_there, within.high, within.some))))
-    (lt-ltb from (piece_end piece) (omega (arith, there.till, within.low, within.some)))
-
-pub give_the_same : (file from till : ℕ) (named : List Named) → GiveTheSame file from till (named_in file from till named) named
-give_the_same file from till named kept chunk bytes within =
-    ap (λ (over : List Named). finding_of kept over chunk bytes)
-    (filtered (is_over chunk) (is_in file from till) (λ one over. over_is_in file from till chunk one within over) named)

@@ -1,7 +1,6 @@
 -- Believed: the finding on the bytes of a chunk, by all writes of a plan with their lines (of this project).
-use Rattle.std.specs.Prelude.{◌≡◌, ℕ, ◌+◌, ◌<◌, ◌≤◌, nat_lt, ◌==◌, Bool, ◌&&◌, List, filter}
+use Rattle.std.specs.Prelude.{ℕ, Bool, List, [], ◌∷◌, filter, slice_get, Option, Some, None, if◌then◌else◌}
 use Rattle.jr_model.specs.declared.blocks.Piece.{Piece}
-use Rattle.jr_model.specs.Pieces.{piece_end}
 use Rattle.jr_after.specs.declared.findings.Finding.{Finding}
 use Rattle.jr_after.specs.declared.writes.Named.{Named}
 use Rattle.jr_after.specs.Findings.{finding_of}
@@ -23,23 +22,10 @@ finding_among kept named chunk bytes = finding_of kept (named_over chunk named) 
 abbrev pub CanBeNamed : Named → Type 0
 CanBeNamed named = CanBeWritten named.planned
 
--- the write has a byte of this part of a file
-abbrev pub is_in : ℕ → ℕ → ℕ → Named → Bool
-is_in file from till named =
-    (named.planned.piece.file == file) && nat_lt named.planned.piece.offset till && nat_lt from (piece_end named.planned.piece)
+-- the write at a place, if it is over the chunk
+abbrev pub over_one : Piece → Option Named → List Named
+over_one chunk None = []
+over_one chunk (Some named) = if is_over chunk named then named ∷ [] else []
 
--- those of them that have
-abbrev pub named_in : ℕ → ℕ → ℕ → List Named → List Named
-named_in file from till named = filter (is_in file from till) named
-
--- the chunk lies in this part of a file
-pub record LiesIn (file from till : ℕ) (chunk : Piece) : Type 0 where
-  pub file_is : chunk.file ≡ file
-  pub some : 0 < chunk.len
-  pub low : from ≤ chunk.offset
-  pub high : chunk.offset + chunk.len ≤ till
-
--- these writes give the same finding on each such chunk as those do
-abbrev pub GiveTheSame : ℕ → ℕ → ℕ → List Named → List Named → Type 0
-GiveTheSame file from till some all =
-    (kept : ℕ) (chunk : Piece) (bytes : List ℕ) → LiesIn file from till chunk → finding_among kept some chunk bytes ≡ finding_among kept all chunk bytes
+abbrev pub over_at : Piece → List Named → ℕ → List Named
+over_at chunk named place = over_one chunk (slice_get named place)

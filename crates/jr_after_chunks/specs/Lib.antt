@@ -1,3 +1,4 @@
+pub mod Index
 pub mod Judging
 pub mod Laws
 pub mod Next

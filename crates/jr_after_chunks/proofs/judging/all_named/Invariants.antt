@@ -1,6 +1,6 @@
 use Rattle.std.proofs.Common.{◌≡◌, take, map}
 use Rattle.jr_after.specs.Findings.{named_by}
-use Rattle.jr_after_chunks.proofs.judging.named_writes.Given as goal
+use Rattle.jr_after_chunks.proofs.judging.all_named.Given as goal
 
 -- those so far
 abbrev pub invariant-loop-planned : goal.invariant-loop-planned
