@@ -1,5 +1,6 @@
 -- Internal: the writes by the parts of files that they lie over, so that few are looked at for one chunk.
-use Rattle.std.specs.Prelude.{◌≡◌, ℕ, suc, ◌+◌, ◌/◌, ◌%◌, nat_lt, nat_le, Bool, ◌&&◌, nat_eq, List, [], ◌∷◌, Option, Some, None, if◌then◌else◌}
+use Rattle.std.specs.Prelude.{◌≡◌, ℕ, suc, ◌+◌, ◌/◌, ◌%◌, nat_lt, nat_le, Bool, ◌&&◌, nat_eq}
+use Rattle.std.specs.Prelude.{List, [], ◌∷◌, Option, Some, None, if◌then◌else◌}
 use Rattle.std.specs.HashMap.{get}
 use Rattle.std.specs.Int.{div_ceil}
 use Rattle.std.specs.Global.{Vec}

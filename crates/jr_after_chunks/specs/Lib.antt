@@ -1,4 +1,5 @@
 pub mod Index
 pub mod Judging
 pub mod Laws
+pub mod LinesFound
 pub mod Next

@@ -8,7 +8,8 @@ ghost use Rattle.jr_after_chunks.specs.Judging.{CanBeNamed, finding_among, named
 ghost use Rattle.jr_ledger.specs.declared.lines.LedgerLine.{LedgerLine as Line};
 
 use crate::index::{Index, part_of, places_over};
-use jr_after::{Finding, Named, PlannedWrite, finding_of, has_chunk, named_by};
+use crate::places::{named_at, places_in};
+use jr_after::{Finding, Named, PlannedWrite, finding_of, has_chunk};
 use jr_ledger::LedgerLine;
 use jr_model::{LARGEST_BLOCK, Memory, Piece};
 use std::alloc::Global;
@@ -32,9 +33,10 @@ fn all_named(
 ) -> Result<Vec<Named>, Memory>
     ensures { IfOk result (λ named. named.items ≡ map (named_by lines.now) writes.now) }
 {
+    let places = places_in(alloc, lines)?;
     let mut named = Vec::new(alloc);
     for planned in writes {
-        push(&mut named, named_by(lines, planned))?;
+        push(&mut named, named_at(&places, planned))?;
     }
     Ok(named)
 }

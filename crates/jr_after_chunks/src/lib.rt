@@ -5,6 +5,7 @@ mod index;
 mod judging;
 mod laws;
 mod next;
+mod places;
 
 pub use index::{Index, index_of};
 pub use judging::{judged, named_writes};
