@@ -1,13 +1,15 @@
 -- The first chunk of a file from an offset on.
 use Rattle.std.proofs.Common.{◌≡◌, ◌⊎◌, ℕ, zero, suc, ◌+◌, ◌-◌, ◌*◌, ◌/◌, ◌%◌, ◌<◌, ◌≤◌, List, [], ◌∷◌, slice_get, Bool, true, false, refl, ap, sym, ◌∙◌, subst, inl, inr, arith}
-use Rattle.std.specs.Prelude.{Option, Some, None, MatchOption, cond, nat_lt, nat_le, ◌&&◌}
+use Rattle.std.specs.Prelude.{Option, Some, None, IfSome, MatchOption, ◌==◌, cond, nat_lt, nat_le, ◌&&◌}
 use Rattle.std.proofs.Math.Nat.{mul-le-mul_right, mul-mod_left, suc-mul}
-use Rattle.std.proofs.lemmas.Bool.{and_parts, and_from, cond-true, cond-false, cases_lt, false≢true, leb-true, leb-false, le-leb, lt-ltb, ltb-true}
+use Rattle.std.proofs.lemmas.Bool.{and_parts, and_from, cond-true, cond-false, cases_lt, false≢true, leb-true, leb-false, le-leb, lt-ltb, ltb-true, eqb-true}
 use Rattle.std.proofs.lemmas.Nat.{div-add-mod', mod_below}
 use Rattle.jr_model.specs.declared.blocks.Piece.{Piece}
-use Rattle.jr_model.specs.Plan.{SubJob}
+use Rattle.jr_model.specs.Directions.{has_writes}
+use Rattle.jr_model.specs.Plan.{SubJob, Plan}
+use Rattle.jr_model.specs.PlanFacts.{IsPlanned}
 use Rattle.jr_after_plans.specs.Taken.{chunk_len, writes_to}
-use Rattle.jr_after_chunks.specs.Next.{IsChunkOf, IsChunkIn, IsNext, chunk_at, chunk_from, earlier, next_chunk, own_chunk, place_from, region_end, rounded_up}
+use Rattle.jr_after_chunks.specs.Next.{IsChunkOf, IsChunkIn, IsNext, IsReadable, chunk_at, chunk_from, earlier, next_chunk, own_chunk, place_from, region_end, rounded_up}
 
 assoc_some : (a b c : Piece) (ab bc ac : Bool) → nat_le a.offset b.offset ≡ ab → nat_le b.offset c.offset ≡ bc → nat_le a.offset c.offset ≡ ac → earlier (cond ab (Some a) (Some b)) (Some c) ≡ earlier (Some a) (cond bc (Some b) (Some c))
 assoc_some a b c true true true x y z =
@@ -161,3 +163,19 @@ combine job jobs file from (Some a) (Some b) own rest = by (nat_le a.offset b.of
 pub next_is_next : (clones : List SubJob) (file from : ℕ) → IsNext clones file from (next_chunk clones file from)
 next_is_next [] file from = λ other found. let at = found.at in absurd (cc)
 next_is_next (job ∷ jobs) file from = combine job jobs file from (own_chunk job file from) (next_chunk jobs file from) (own_first job file from) (next_is_next jobs file from)
+
+readable : (plan : Plan) (file from : ℕ) (found : Option Piece) → IsPlanned plan → IsNext plan.clones file from found → IfSome found (IsReadable file)
+readable plan file from None facts next = tt
+readable plan file from (Some chunk) facts next =
+    let job = next.is.job in
+    let of = next.is.chunk_of in
+    let limits = facts.drafted.limited next.is.place job next.is.at in
+    let own = and_parts (job.file == file) (has_writes job.io_type) next.is.writes in
+    record {
+      file_is = of.file ∙ eqb-true job.file file own.0;
+      some = omega (arith, of.some, of.len);
+      high = omega (arith, of.high, of.len, limits.region);
+    }
+
+pub next_is_readable : (plan : Plan) (file from : ℕ) → IsPlanned plan → IfSome (next_chunk plan.clones file from) (IsReadable file)
+next_is_readable plan file from facts = readable plan file from (next_chunk plan.clones file from) facts (next_is_next plan.clones file from)

@@ -2,6 +2,7 @@
 use Rattle.std.specs.Prelude.{◌≡◌, ℕ, ◌+◌, ◌-◌, ◌*◌, ◌/◌, ◌%◌, ◌<◌, ◌≤◌, nat_lt, nat_le, true, ◌&&◌, List, [], ◌∷◌, slice_get}
 use Rattle.std.specs.Prelude.{Option, Some, None, MatchOption, if◌then◌else◌}
 use Rattle.jr_model.specs.declared.blocks.Piece.{Piece}
+use Rattle.jr_model.specs.declared.limits.TheConstants.{LARGEST_END}
 use Rattle.jr_model.specs.Plan.{SubJob}
 use Rattle.jr_after_plans.specs.Taken.{chunk_len, writes_to}
 
@@ -69,3 +70,9 @@ pub record IsFirst (clones : List SubJob) (file from : ℕ) (chunk : Piece) : Ty
 abbrev pub IsNext : List SubJob → ℕ → ℕ → Option Piece → Type 0
 IsNext clones file from found =
     MatchOption found ((other : Piece) → IsChunkIn clones file other → other.offset < from) (IsFirst clones file from)
+
+-- the chunk has bytes, and they are in the file up to the furthest end
+pub record IsReadable (file : ℕ) (chunk : Piece) : Type 0 where
+  pub file_is : chunk.file ≡ file
+  pub some : 0 < chunk.len
+  pub high : chunk.offset + chunk.len ≤ LARGEST_END

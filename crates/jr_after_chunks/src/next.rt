@@ -1,5 +1,5 @@
-ghost use Rattle.std.specs.Prelude.{◌≡◌, ◌≤◌, ◌<◌, ◌+◌, Some};
-ghost use Rattle.jr_after_chunks.specs.Next.{IsNext, chunk_from, earlier, next_chunk, own_chunk, rounded_up};
+ghost use Rattle.std.specs.Prelude.{◌≡◌, ◌≤◌, ◌<◌, ◌+◌, IfSome, Some};
+ghost use Rattle.jr_after_chunks.specs.Next.{IsNext, IsReadable, chunk_from, earlier, next_chunk, own_chunk, rounded_up};
 
 use jr_after_plans::{chunk_len, writes_to};
 use jr_model::{LARGEST_END, Piece};
@@ -10,7 +10,10 @@ pub fn next_chunk(plan: &Plan, file: u32, from: u64) -> Option<Piece>
     requires { from ≤ LARGEST_END }
     ensures value { result ≡ next_chunk plan.now.clones file from }
     ensures next { IsNext plan.now.clones file from result }
+    ensures readable { IfSome result (IsReadable file) }
 {
+    // Its contract says what holds of every plan.
+    plan.facts();
     first_chunk(plan, file, from)
 }
 
