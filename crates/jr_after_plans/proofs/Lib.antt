@@ -1,3 +1,4 @@
+pub mod Advised
 pub mod Finding
 pub mod Fitting
 pub mod WritesFurther

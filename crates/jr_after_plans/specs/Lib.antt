@@ -1,3 +1,4 @@
+pub mod Advice
 pub mod FaultTexts
 pub mod Fits
 pub mod Taken
