@@ -31,6 +31,16 @@ fn two_clones(alloc: Global) -> Result<Plan, Fail> {
     plan_of(alloc, &[(pattern, "f", 0), (digest, "g", 0)])
 }
 
+// The header of the digest's clone: of draw 2 of clone 1 in pass 0, 4096 bytes at 8192 by MD5. Its second half is this byte.
+fn header(back: u8) -> Expected {
+    let mut header = [back; 64];
+    header[..32].copy_from_slice(&[
+        b'J', b'R', b'V', b'1', 1, 16, 0, 0, 0, 16, 0, 0, 1, 0, 0, 0, 0, 32, 0, 0, 0, 0, 0, 0, 2,
+        0, 0, 0, 0, 0, 0, 0,
+    ]);
+    Expected::Header(header)
+}
+
 // The ticket of a clone's draw of this number.
 fn ticket_of(
     plan: &Plan,
@@ -110,10 +120,10 @@ fn tickets_come_back_as_they_were_handed_out(rt: HostRuntime) -> Result<(), Fail
     let pattern = Pattern::new(&[1, 2]).ok_or("no pattern")?;
     let tickets = [
         ticket_of(&plan, 0, TicketKind::Write, 1, Expected::Nothing)?,
-        ticket_of(&plan, 1, TicketKind::Probe, 1, Expected::Header([7; 64]))?,
+        ticket_of(&plan, 1, TicketKind::Probe, 1, header(7))?,
         ticket_of(&plan, 2, TicketKind::Read, 0, Expected::Nothing)?,
         ticket_of(&plan, 3, TicketKind::Probe, 0, Expected::Pattern(pattern))?,
-        ticket_of(&plan, 4, TicketKind::Probe, 1, Expected::Header([9; 64]))?,
+        ticket_of(&plan, 4, TicketKind::Probe, 1, header(9))?,
     ];
     let mut table = TicketTable::new(rt.alloc());
     for id in 0..5u32 {
@@ -126,7 +136,7 @@ fn tickets_come_back_as_they_were_handed_out(rt: HostRuntime) -> Result<(), Fail
 
 // A ticket that differs from this one in one part is a stranger's.
 fn assert_strangers(rt: &impl Abort, plan: &Plan, table: &TicketTable, own: &Ticket) {
-    let expected = Expected::Header([8; 64]);
+    let expected = header(8);
     let other_worker = Ticket { worker: 9, ..*own };
     let other_seed = Ticket { seed: 9, ..*own };
     let other_header = Ticket { expected, ..*own };
@@ -150,7 +160,7 @@ fn is_at(table: &TicketTable, id: u32, ended: bool, whole: bool, judged: bool) -
 
 // Hands out a check.
 fn hand_check(rt: &impl Abort, plan: &Plan, table: &mut TicketTable, id: u32) -> Result<(), Fail> {
-    let ticket = ticket_of(plan, id, TicketKind::Probe, 1, Expected::Header([7; 64]))?;
+    let ticket = ticket_of(plan, id, TicketKind::Probe, 1, header(7))?;
     table.reserve()?;
     assert!(rt; table.headers.len() < 9);
     table.hand(&ticket);
