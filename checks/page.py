@@ -122,7 +122,8 @@ def compare(page, report, interval, is_interrupted=False):
     counted = [dict(zip(FIELDS, map(int, counts))) for _, _, counts in clones]
     expect(page.head == status_of(counted, is_interrupted), "title", page.head, "and not", status_of(counted, is_interrupted))
     wanted = [[*it[:6], it[6] + (f":{it[7]}" if it[7] else "")] for it in bads]
-    expect(page.rows.get("miscompares", [[]])[1:] == wanted[:1000], "the rows of miscompares differ")
+    # (the last cell says what stands there: checks/findings.py)
+    expect([it[:-1] for it in page.rows.get("miscompares", [[]])[1:]] == wanted[:1000], "the rows of miscompares differ")
     signs = {sign for _, cells in page.maps for sign, *_ in cells}
     expect("#v" not in signs or any(it["void"] for it in counted), "cells are void, and no verdict is")
     more = f"and {len(bads) - 1000} more"

@@ -20,7 +20,8 @@ from program import FIELDS, SystemCalls, Wrong, expect, find_program, needed_lib
 SECONDS = 60
 LINE = re.compile(r"clone=(\d+) pass=(\d+) number=(\d+) file=(.*) offset=(\d+) length=(\d+) what=(\S+)")
 NUMBERS = ("clone", "pass", "number", "offset", "length")
-MEMBERS = "badreads cached direct faults fiorun interrupted jobs miscompares more_faults plan status stored".split()
+MEMBERS = "badreads cached direct faults files fiorun interrupted jobs logic miscompares more_faults plan run status stored".split()
+SETTING = "began ended host job milliseconds".split()
 FAULT = {*NUMBERS, "file", "kind", "outcome", "moved", "reason"}
 # Names of jobs and files that a writer of JSON may trip over: quotes, backslashes, tags, control characters, bytes above 0x7f.
 NAMES = ['<script>"\\', "a\tb", "\x01\x1f\x7f", "\u009b\u2028\u202e", "é ✓ \U0001f600", "</script>", "\\u0041", "'", "a: clone=1"]
@@ -52,13 +53,19 @@ def told(report):
     return jobs, bad
 
 
+def lines(bads):
+    """What the report's lines say of bad verdicts, without what stands there (checks/findings.py)."""
+    return [{key: value for key, value in it.items() if key != "found"} for it in bads]
+
+
 def agrees(report, status, found, interrupted=False, stored=True):
     """Whether an object is that of a report and a status."""
     jobs, bad = told(report)
     expect(list(found) == MEMBERS, "members", list(found))
     expect(found["jobs"] == jobs and all(set(it) == {"job", "clone", "unchecked", *FIELDS} for it in jobs), "jobs", found["jobs"], jobs)
-    expect(found["badreads"] == bad["badread"], "badreads", found["badreads"], bad["badread"])
-    expect(found["miscompares"] == bad["miscompare"], "miscompares", found["miscompares"], bad["miscompare"])
+    expect(lines(found["badreads"]) == bad["badread"], "badreads", found["badreads"], bad["badread"])
+    expect(lines(found["miscompares"]) == bad["miscompare"], "miscompares", found["miscompares"], bad["miscompare"])
+    expect(list(found["run"]) == SETTING, "the setting", found["run"])
     expect([it["clone"] for it in found["plan"]] == [it["clone"] for it in jobs], "plan", found["plan"])
     expect((found["status"], found["interrupted"]) == (status, interrupted), "end", found["status"], found["interrupted"])
     expect(found["stored"] is stored, "stored", found["stored"])
@@ -105,7 +112,7 @@ def clean(place):
     expect(status == 0 and len(found["jobs"]) == 3, "a clean run", status, found["jobs"])
     expect(found["cached"] is None and found["direct"] is None, "a run over no files", found["cached"], found["direct"])
     version = subprocess.run([place.program, "--version"], capture_output=True, text=True, check=True).stdout
-    expect(f"fiorun {found['fiorun']}\n" == version, "version", found["fiorun"], version)
+    expect(f"fiorun {found['fiorun']}\nlogic {found['logic']}\n" == version, "version", found["fiorun"], version)
 
 
 def planned(place):

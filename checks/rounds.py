@@ -143,6 +143,8 @@ class Rounds(Case):
             single = place.run("--json=one", "--workers=2", text=of_round(OVER_FILES, number))
             expect(single.status == 0, "the single run", single)
             wanted = json.loads(place.get("one"))
+            # (when they were differs)
+            del wanted["run"], found["report"]["run"]
             expect(found == {"round": number, "randseed_offset": number * STEP, "report": wanted}, "round", number, found, wanted)
             reports.append(report_of(found["report"]))
         expect(len(rounds) == 4 and sums["rounds"] == 4, "rounds", len(rounds), sums)
