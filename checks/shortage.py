@@ -2,9 +2,8 @@
 """checks/shortage.py [PROGRAM [CASE..]] runs jobs whose history doesn't fit into the memory that they may have.
 
 Each run has to stop by itself while there is memory for its report: report, JSON and list are there and say the same, `out of memory` is the
-last line on standard error, and the status is 3, or 1 where a block was bad. The limits are those of a control group, which needs root and is
-left out otherwise. SIZES says how many are tried (3). Under a limit of addresses (`ulimit -v`) a list that grows may be refused first: then
-nothing is left of the run, and `out of memory` is all that is said. PROGRAM is the built program
+last line on standard error, and the status is 3, or 1 where a block was bad. The limits are those of addresses (`ulimit -v`) and those of a
+control group, which needs root and is left out otherwise. SIZES says how many are tried (3). PROGRAM is the built program
 (crates/fiorun/out/fiorun, built where it has to be). The last line has the numbers; the status is 1 where a case fails.
 """
 
@@ -80,16 +79,10 @@ class Shortage(Case):
         expect(all(jobs[0][name] == said[name] for name in FIELDS), "the JSON", jobs, "and the report", said)
 
     def test_limit_of_addresses(self):
-        """A run under `ulimit -v` ends for lack of memory, and what is left of it is whole."""
-        place = self.place
+        """Under `ulimit -v` it stops as well."""
         for mib in limits(300, 600):
-            place.put("json", b"")
-            ran = place.run("--workers=2", "--json=json", text=LONG, shell=f"ulimit -v {mib * 1024}")
-            expect(ran.status == 3 and ran.err in (SAID, SAID.split(b"\n", 1)[1]), mib, "MiB:", ran.status, ran.err)
-            if ran.err == SAID:
-                self.same({name: int(value) for name, value in re.findall(r"(\w+)=(\d+)", ran.out.decode())})
-            else:
-                expect(not ran.out and not place.get("json"), "a part of a report:", ran.out)
+            _, said = self.stops(f"ulimit -v {mib * 1024}")
+            self.same(said)
 
     def test_limit_of_a_group(self):
         for mib in limits(48, 200):

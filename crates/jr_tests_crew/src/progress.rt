@@ -23,6 +23,7 @@ fn one_worker_is_watched(rt: HostRuntime) -> Result<(), Fail> {
         let watch = Watch {
             progress: Some(&progress),
             stop: None,
+            diagnoses: None,
         };
         same(&rt, told(&progress), (0, 0, 0, 0));
         let plan = plan_of(rt.alloc(), &checked(4, byte), 1, EngineKind::Null, 0)?;
@@ -39,6 +40,7 @@ fn workers_and_verifiers_are_watched(rt: HostRuntime) -> Result<(), Fail> {
         let watch = Watch {
             progress: Some(&progress),
             stop: None,
+            diagnoses: None,
         };
         let plan = plan_of(rt.alloc(), &checked(4, 1), 1, EngineKind::Null, verifiers)?;
         let mut engines: Vec<Box<dyn Engine + Send>> = Vec::new(rt.alloc());

@@ -318,6 +318,7 @@ fn stopped(alloc: Global) -> Result<(RunEnd, u8), Fail> {
     let watch = Watch {
         progress: None,
         stop: Some(&stop),
+        diagnoses: None,
     };
     let plan = read_job(alloc, CHECKED.as_bytes(), None)?;
     let mut engine = MemoryEngine::new(alloc, &plan)?;
