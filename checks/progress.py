@@ -36,6 +36,8 @@ FAULTY = "[global]\nioengine=psync\nrw=write\nbs=4k\nsize=64m\nloops={loops}\n[a
 # The lines that a report, its notes and its maps have.
 DRAWN = re.compile(r"\r\x1b\[Kfiorun: \d+\.\d % done, ")
 REPORT = re.compile(r"\S+: clone=\d+( \w+=\S+)+|fiorun: (note:|map of) .*|fiorun: interrupted|[BFvusgr.]+|fiorun: B bad, F fault, .*")
+# What a note says of a bad block, or of how many more there are.
+FOUND = re.compile(r"fiorun: note: (\S+ at \d+, \d+ bytes: .*|\d+ more bad blocks were looked into: .*)")
 
 
 def said_at(end):
@@ -104,7 +106,8 @@ def the_line(program, workers, folder):
     expect((plain.stdout, plain.returncode) == (shown, status), "another report or status at a terminal:", shown, status, plain)
     first, *lines = said.split(WIPED)
     is_noted = re.fullmatch(r"fiorun: note: line 1: \[w\]: verify over ioengine=null: .*\r\n", first)
-    expect(is_noted and lines and not lines.pop() and lines, "no line, or one that isn't wiped:", said[:100], said[-100:])
+    is_wiped = lines and all(FOUND.fullmatch(it) for it in lines.pop().splitlines())
+    expect(is_noted and is_wiped and lines, "no line, or one that isn't wiped:", said[:100], said[-100:])
     for percent, ios, checked, bad in numbers_of(lines):
         expect(0 < bad <= checked <= ios <= 16384 * loops and percent <= 100, "numbers that can't be:", percent, ios, checked, bad)
     print(f"progress: {workers} workers: {len(lines)} lines, the last one: {lines[-1]}")
@@ -208,6 +211,7 @@ def faults_on_one_terminal(program, workers, folder):
     # (the job's bad blocks are what the status tells first)
     noted = rows.pop(0)
     expect(noted.startswith("fiorun: note: line 7: [bad]: verify over ioengine=null: "), "no note of the job:", noted)
+    rows = [it for it in rows if not FOUND.fullmatch(it)]
     expect((rows, status) == (["fiorun: cannot write", ""], 1), f"a report that can't be written: status {status}", rows)
 
 
