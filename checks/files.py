@@ -24,6 +24,8 @@ SECONDS = 60
 REFUSED = Ended(3, b"", b"fiorun: cannot open the files\n")
 MIB = 1 << 20
 FULL_DEVICE = threading.Lock()
+# What a note says of a bad block.
+FOUND = re.compile(r"fiorun: note: \S+ at \d+, \d+ bytes: ")
 
 
 def same(what, got, wanted):
@@ -255,10 +257,11 @@ def held_run(place, jobs, fault, wanted, meanwhile=None, more=()):
 
 
 def lines_of(text):
-    """The lines that a terminal showed, each a text and its four numbers; it was wiped before each of them, and at the end. Only a note
-    may come behind that."""
+    """The lines that a terminal showed, each a text and its four numbers; it was wiped before each of them, and at the end. Only notes
+    may come behind that: of the cache, and of what stands in bad blocks."""
     first, *lines = text.split(WIPED)
-    if first or not lines or lines.pop() not in ("", UNDROPPED.replace("\n", "\r\n")) or not all(LINE.fullmatch(it) for it in lines):
+    noted = [it for it in lines.pop().splitlines(keepends=True) if not FOUND.match(it)] if lines else []
+    if first or "".join(noted) not in ("", UNDROPPED.replace("\n", "\r\n")) or not lines or not all(LINE.fullmatch(it) for it in lines):
         raise Wrong(f"not the line and its end: {text[:200]!r} .. {text[-200:]!r}")
     return [(it, tuple(int(number) for number in LINE.fullmatch(it).groups())) for it in lines]
 

@@ -136,7 +136,8 @@ def in_a_page(program, room, _calls):
     with open(os.path.join(room, "page"), encoding="utf-8") as it:
         page = it.read()
     expect(not HIDDEN.search(page), "the page has", HIDDEN.findall(page))
-    expect(page.count(NAME_SHOWN) == 6, "it has the names", page.count(NAME_SHOWN), "times")
+    # (the text of the job has both once more)
+    expect(page.count(NAME_SHOWN) == 8, "it has the names", page.count(NAME_SHOWN), "times")
 
 
 def as_they_stand(program, room, _calls):

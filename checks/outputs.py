@@ -276,7 +276,7 @@ def pipes_and_devices_stay(room):
     ended = room.run("--json=/dev/null", "--page=/dev/null", text=job(), ends=">/dev/null 2>/dev/null")
     expect(ended.returncode == 0, "all to /dev/null:", ended)
     ended = room.run("--json=/dev/full", "--page=page", text=job("null"))
-    expect(ended.returncode == 1 and ended.stderr.startswith(WRITE.encode()), "a full device:", ended)
+    expect(ended.returncode == 1 and WRITE.encode() in ended.stderr, "a full device:", ended)
     expect(room.get("page").startswith(FRONTS["--page"]), "the other output is lost")
 
 
