@@ -160,17 +160,15 @@ def waits_for(is_so):
         time.sleep(0.001)
 
 
-def held_back(device, folder, wanted, start):
-    """Starts a run, has the writes of its device wait from an early one on, and looks how many calls are in the device then."""
-    before = requests_of(device)["write_sectors"]
+def held_back(folder, device, wanted, start):
+    """Starts a run whose writes of its device all wait, and looks how many calls are in the device then."""
     with concurrent.futures.ThreadPoolExecutor(1) as pool:
-        ran = pool.submit(start)
-        waits_for(lambda: requests_of(device)["write_sectors"] > before or ran.done())
         with frozen(folder):
-            expect(not ran.done(), "the run ended too soon")
-            waits_for(lambda: in_flight(device) >= wanted)
+            ran = pool.submit(start)
+            waits_for(lambda: in_flight(device) >= wanted or ran.done())
             time.sleep(0.2)
             found = in_flight(device)
+            expect(not ran.done(), "the run ended too soon")
         return ran.result(), found
 
 
@@ -180,7 +178,7 @@ def as_many_are_in_the_device_as_depth_and_workers_let(program, room):
         for depth, workers in ((1, 16), (16, 1), (4, 16), (16, 16)):
             job = device_job(device, "16m", [f"loops={LOOPS}", f"iodepth={depth}", "rw=randwrite"], verify="0")
             words, wanted = [f"--workers={workers}", "--notes"], min(depth, workers)
-            ran, found = held_back(device, folder, wanted, lambda job=job, words=words: launched(program, room, job, *words))
+            ran, found = held_back(folder, device, wanted, lambda job=job, words=words: launched(program, room, job, *words))
             went_well(ran, f"iodepth={depth}, {workers} workers")
             expect(found == wanted, f"iodepth={depth}, {workers} workers: {found} were in the device at once")
 
