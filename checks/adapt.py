@@ -7,11 +7,17 @@ what came out changes nothing more; and what came out with status 0 makes a plan
 
 --fio=FOLDER looks at fio's own job files too, which stand in the folder of its sources (examples, t/jobs), and says how many came out as
 they are, adapted whole, with a part left out, and with all left to a person. What is small enough is run as well. --fetch fetches Debian's
-source package of fio for that. Without either they are skipped with a word. The status is 1 where something is wrong."""
+source package of fio for that. Without either they are skipped with a word. --beside-fio also runs 20 of those that came out whole,
+chosen at random, in fio and in fiorun, and says of each whether both made as many I/Os over as many bytes. (Random sizes and mixes are
+drawn otherwise, and fio stops at blocks that it can't verify: so such jobs differ.) The status is 1 where something is wrong."""
 
+import contextlib
 import glob
+import json
 import os
+import random
 import re
+import shutil
 import subprocess
 import sys
 import tempfile
@@ -312,12 +318,77 @@ def of_fio(program, room, folder):
     return counts
 
 
+def counted(reports):
+    """How many I/Os and bytes these jobs of a report of fiorun or fio made, checks of writes among them, and their names."""
+    ios = size = 0
+    for it in reports:
+        if "jobname" in it:
+            ios += it["read"]["total_ios"] + it["write"]["total_ios"]
+            size += it["read"]["io_bytes"] + it["write"]["io_bytes"]
+        else:
+            checks = it["checks"] if it["writes"] else 0
+            ios += it["reads"] + it["writes"] + checks
+            size += it["rbytes"] + it["wbytes"] + (checks * it["wbytes"] // it["writes"] if checks else 0)
+    return ios, size, {it.get("jobname") or it["job"] for it in reports}
+
+
+def in_both(program, room, made):
+    """What both count of a job whose places are moved into the room, and nothing where one of them can't run it there."""
+    moved = re.compile(r"^(filename|directory)=/\S*?([^/\s]+)$", re.M)
+    text = moved.sub(lambda it: it[1] + "=" + (it[2] if it[1] == "filename" else "."), made.decode())
+    with open(os.path.join(room, "job"), "w", encoding="utf-8") as it:
+        it.write(text)
+    words = [[program, "--cached", "--json=ours", "job"], ["fio", "--output-format=json", "--output=theirs", "job"]]
+    with contextlib.suppress(OSError, ValueError, KeyError, subprocess.TimeoutExpired):
+        for it in words:
+            subprocess.run(it, cwd=room, capture_output=True, timeout=120, check=False)
+            for name in set(os.listdir(room)) - {"job", "ours", "theirs"}:
+                os.unlink(os.path.join(room, name))
+        found = []
+        for name in ("ours", "theirs"):
+            with open(os.path.join(room, name), encoding="utf-8") as it:
+                found.append(counted(json.loads(re.sub(r"^[^{]*", "", it.read()))["jobs"]))
+        return found
+    return None
+
+
+def beside_fio(program, room, folder):
+    """Runs 20 of fio's job files in both."""
+    if not shutil.which("fio"):
+        raise Skipped("there is no fio to run beside")
+    paths = sorted(glob.glob(os.path.join(folder, "examples", "*.fio")) + glob.glob(os.path.join(folder, "t", "jobs", "*.fio")))
+    random.Random(1).shuffle(paths)
+    tried = same = 0
+    for path in paths:
+        with open(path, "rb") as it:
+            status, made, _ = run(program, room, it.read(), "--adapt", "--size=16m")
+        total = bytes_in(run(program, room, made, "--parse-only")[1].decode())
+        if status != 0 or tried == 20 or not 0 < total <= 2048 * MIB:
+            continue
+        with tempfile.TemporaryDirectory() as place:
+            found = in_both(program, place, made)
+        if found is None:
+            continue
+        tried += 1
+        ours, theirs = found
+        # (with group_reporting fio names the first job of a group alone)
+        is_same = ours[:2] == theirs[:2] and theirs[2] <= ours[2]
+        same += is_same
+        said = "as fio" if is_same else f"{ours[0]} I/Os of {ours[1]} bytes, fio {theirs[0]} of {theirs[1]}"
+        print(f"adapt: {os.path.basename(path)}: {said}", flush=True)
+    print(f"adapt: {same} of {tried} jobs make as many I/Os over as many bytes in both")
+
+
+def bytes_in(plan):
+    """How many bytes the jobs of a plan read and write."""
+    numbers = re.findall(r" cell=(\d+) cells=(\d+) .*? loops=(\d+)", plan)
+    return sum(int(cell) * int(cells) * int(loops) for cell, cells, loops in numbers)
+
+
 def is_small(plan):
     """Whether the jobs of a plan work on little in this folder."""
     names = re.findall(r" file=(\S+)", plan)
-    numbers = re.findall(r" cell=(\d+) cells=(\d+) .*? loops=(\d+)", plan)
-    total = sum(int(cell) * int(cells) * int(loops) for cell, cells, loops in numbers)
-    return bool(names) and not any("/" in it for it in names) and 0 < total <= 20 * MIB
+    return bool(names) and not any("/" in it for it in names) and 0 < bytes_in(plan) <= 20 * MIB
 
 
 def main():
@@ -339,7 +410,10 @@ def main():
                 raise Skipped("fio's own job files (--fio=FOLDER, --fetch)")
             files = os.path.join(room, "files")
             os.mkdir(files)
-            print("adapt: of fio's own job files", of_fio(program, files, folder or fetched(room)))
+            folder = folder or fetched(room)
+            print("adapt: of fio's own job files", of_fio(program, files, folder))
+            if "--beside-fio" in words:
+                beside_fio(program, files, folder)
         except Skipped as why:
             print(f"adapt: skipped: {why}")
         except Wrong as why:
