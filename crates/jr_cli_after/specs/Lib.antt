@@ -1,0 +1,5 @@
+pub mod FaultTexts
+pub mod Found
+pub mod Judges
+pub mod Reading
+pub mod Readings

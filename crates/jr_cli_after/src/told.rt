@@ -1,0 +1,116 @@
+ghost use Rattle.std.specs.Prelude.{◌≡◌, ◌≤◌, ◌++◌, ◌||◌, length, flat_map, List, IfOk, OnOk, if◌then◌else◌};
+ghost use Rattle.std.specs.List.{list_any};
+ghost use Rattle.jr_cli_after.specs.Found.{Asked, IsAfter, has_fault_counted, has_some, lines_in, report_after, status_after, told_of};
+ghost use Rattle.jr_cli_after.specs.Readings.{FileRead};
+
+use crate::faults::AfterFailure;
+use crate::files::Unread;
+use crate::judge::Judge;
+use crate::walk::judge_file;
+use jr_after_report::{FileReport, report};
+use jr_engines::Engine;
+use jr_ledger::LedgerLine;
+use jr_model::{LARGEST_BLOCK, Memory};
+use jr_plan::Plan;
+use std::alloc::Global;
+use std::marker::Model;
+
+/// What is found of a plan's files after the power was cut. Contracts see what of each file is told.
+#[derive(Drop)]
+pub struct After {
+    found: Vec<FileReport>,
+    unread: Vec<Unread>,
+}
+
+impl Model for After {
+    ghost use Rattle.jr_cli_after.specs.Found.{AfterState};
+
+    ghost Value = { AfterState };
+
+    ghost view = { λ a. record { found = a.found.items; unread = a.unread.items } };
+}
+
+/// Has the engine read each chunk of each file of the plan, one after another, and judges those that are read whole by the ledger of its run.
+pub fn judge_after(
+    alloc: Global,
+    plan: &Plan,
+    lines: &[LedgerLine],
+    engine: &mut dyn Engine,
+) -> Result<After, AfterFailure>
+    ensures { IfOk result (λ told. IsAfter (record { plan = plan.now; lines = lines.now }) (state engine.old) told (state engine.new)) }
+{
+    let judge = Judge::new(alloc, plan, lines)?;
+    let mut room = vec![in alloc; 0; LARGEST_BLOCK as usize]?;
+    judge_files(alloc, &judge, engine, room.as_mut_slice())
+}
+
+fn judge_files(
+    alloc: Global,
+    judge: &Judge<'_>,
+    engine: &mut dyn Engine,
+    room: &mut [u8],
+) -> Result<After, AfterFailure>
+    requires { LARGEST_BLOCK ≤ length room.old }
+    ensures { IfOk result (λ told. IsAfter judge.now (state engine.old) told (state engine.new)) }
+{
+    let mut found = Vec::new(alloc);
+    let mut unread = Vec::new(alloc);
+    for file in 0..judge.plan().files().len() {
+        let told = judge_file(alloc, judge, file as u32, engine, room)?;
+        found.push(told.report)?;
+        unread.push(told.unread)?;
+    }
+    Ok(After { found, unread })
+}
+
+impl After {
+    /// The report: that of the chunks that were judged, and then a line for each that couldn't be read.
+    pub fn report(&self, alloc: Global, plan: &Plan) -> Result<Vec<u8>, Memory>
+        ensures { IfOk result (λ text. (asked : Asked) (files : List FileRead) → asked.plan ≡ plan.now → self.now ≡ told_of asked files
+            → text.items ≡ report_after asked files) }
+    {
+        let mut text = report(alloc, plan, self.found.as_slice())?;
+        push_unread(&mut text, self.unread.as_slice())?;
+        Ok(text)
+    }
+
+    /// The status of the program: 1 if a chunk is lost or broken, or couldn't be read; else 0.
+    pub fn status(&self) -> u8
+        ensures { (asked : Asked) (files : List FileRead) → self.now ≡ told_of asked files → result ≡ status_after asked files }
+    {
+        status_by(
+            has_lost(self.found.as_slice()),
+            has_unread(self.unread.as_slice()),
+        )
+    }
+}
+
+fn status_by(lost: bool, unread: bool) -> u8
+    ensures { result ≡ (if lost || unread then 1 else 0) }
+{
+    if lost || unread { 1 } else { 0 }
+}
+
+// Appends the lines of all chunks that couldn't be read.
+fn push_unread(text: &mut Vec<u8>, unread: &[Unread]) -> Result<(), Memory>
+    ensures { OnOk result (text.new.items ≡ text.old.items ++ flat_map lines_in unread.now) }
+{
+    for one in unread {
+        text.extend_from_slice(one.lines.as_slice())?;
+    }
+    Ok(())
+}
+
+// Whether a chunk of these files is lost or broken.
+fn has_lost(found: &[FileReport]) -> bool
+    ensures { result ≡ list_any has_fault_counted found.now }
+{
+    found.iter().any(|one| one.counts().have_fault())
+}
+
+// Whether one couldn't be read.
+fn has_unread(unread: &[Unread]) -> bool
+    ensures { result ≡ list_any has_some unread.now }
+{
+    unread.iter().any(|one| one.count > 0)
+}
