@@ -1,5 +1,6 @@
 -- Believed: what is found by the chunks that an engine read, and what of it is told (of this project).
-use Rattle.std.specs.Prelude.{◌≡◌, ℕ, Bool, not, ◌==◌, ◌&&◌, ◌||◌, List, ◌++◌, Option, Some, None, codes, flat_map, map, length, if◌then◌else◌}
+use Rattle.std.specs.Prelude.{◌≡◌, ℕ, Bool, not, ◌==◌, ◌&&◌, ◌||◌, List, ◌++◌, Option, Some, None, codes, flat_map, map, length}
+use Rattle.std.specs.Prelude.{if◌then◌else◌}
 use Rattle.std.specs.List.{filter_map, list_any}
 use Rattle.jr_ledger.specs.declared.lines.LedgerLine.{LedgerLine}
 use Rattle.jr_model.specs.declared.blocks.Piece.{Piece}
@@ -29,7 +30,8 @@ abbrev pub unread_of : Reading → Option Piece
 unread_of reading = if is_whole reading then None else Some reading.chunk
 
 abbrev pub place_text : Plan → Piece → List ℕ
-place_text plan chunk = codes " file=" ++ file_name plan chunk.file ++ field (codes "offset") chunk.offset ++ field (codes "length") chunk.len
+place_text plan chunk =
+    codes " file=" ++ file_name plan chunk.file ++ field (codes "offset") chunk.offset ++ field (codes "length") chunk.len
 
 -- the line of a chunk that couldn't be read
 abbrev pub unread_line : Plan → Piece → List ℕ

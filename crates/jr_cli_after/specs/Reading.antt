@@ -34,7 +34,8 @@ pub record IsStep (asked : Asked) (chunk : Piece) (old : EngineState) (before af
   pub is : IsReading old reading
   pub engine_is : reading.engine ≡ new
   pub count : count_in after ≡ count_in before + 1
-  pub added : (file : ℕ) (readings : List Reading) → before ≡ after_state asked file readings → after ≡ after_state asked file (readings ++ reading ∷ [])
+  pub added : (file : ℕ) (readings : List Reading)
+      → before ≡ after_state asked file readings → after ≡ after_state asked file (readings ++ reading ∷ [])
 
 -- the chunks of a file were read up to an end, and what was found is told
 pub record IsWalk (asked : Asked) (file : ℕ) (old : EngineState) (end : ℕ) (state : FileAfterState) (new : EngineState) : Type 0 where
@@ -52,7 +53,8 @@ pub record IsFileAfter (asked : Asked) (file : ℕ) (old : EngineState) (state :
   pub engine_is : one.engine ≡ new
 
 -- so many files, from the first on, were read, and what was found is told
-pub record AreTold (asked : Asked) (old : EngineState) (count : ℕ) (found : List FileState) (unread : List UnreadState) (new : EngineState) : Type 0 where
+pub record AreTold (asked : Asked) (old : EngineState) (count : ℕ) (found : List FileState) (unread : List UnreadState)
+    (new : EngineState) : Type 0 where
   pub files : List FileRead
   pub each : length files ≡ count
   pub read : AreFilesRead asked.plan 0 old files new

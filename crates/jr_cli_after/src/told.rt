@@ -30,7 +30,8 @@ impl Model for After {
     ghost view = { λ a. record { found = a.found.items; unread = a.unread.items } };
 }
 
-/// Has the engine read each chunk of each file of the plan, one after another, and judges those that are read whole by the ledger of its run.
+/// Has the engine read each chunk of each file of the plan, one after another, and judges those that are read whole by the ledger of
+/// its run.
 pub fn judge_after(
     alloc: Global,
     plan: &Plan,
