@@ -4,10 +4,10 @@ ghost use Rattle.jr_model.specs.Pieces.{pieces_overlap, piece_end};
 /// Some adjacent bytes of a file: where an I/O reads or writes.
 #[derive(Clone, Copy, Debug, PartialEq, Eq)]
 pub struct Piece {
-    /// The file, by its place in the plan's list of files.
-    pub file: u32,
     /// Where the piece begins, in bytes from the start of the file.
     pub offset: u64,
+    /// The file, by its place in the plan's list of files.
+    pub file: u32,
     /// How many bytes it has.
     pub len: u32,
 }
