@@ -26,9 +26,9 @@ use std::marker::Model;
 
 /// The shared state of a run. Every I/O is handed out by it and ends in it.
 ///
-/// A refused call leaves it unchanged. A call costs a logarithm of what happened; a take also goes past the clones that have to wait,
-/// but not past those at the front that are at rest, and past the writes of a round whose checks fly or are barred. It does so again
-/// for each write that it skips.
+/// A refused call leaves it unchanged. A call costs a logarithm of what happened; a take also goes past the clones that wait for an
+/// overlap, their phase or their round, and past the writes of a round whose checks fly or are barred. It does so again for each write
+/// that it skips. It doesn't look at the clones at the front that are at rest, nor at those that have as much in flight as they may.
 #[derive(Drop)]
 pub struct Desk {
     alloc: Global,

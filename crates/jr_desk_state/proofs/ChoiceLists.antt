@@ -1,10 +1,11 @@
 -- The first that a search over a list gives.
-use Rattle.std.proofs.Common.{◌≡◌, ℕ, zero, suc, ◌<◌, List, [], ◌∷◌, length, drop, get_or, true, false, refl, ◌∙◌, arith}
+use Rattle.std.proofs.Common.{◌≡◌, ℕ, zero, suc, ◌+◌, ◌-◌, ◌<◌, ◌≤◌, List, [], ◌∷◌, length, drop, drop-drop, get_or, true, false, refl, ◌∙◌, arith}
 use Rattle.std.proofs.Common.{ap, subst}
 use Rattle.std.specs.Prelude.{Option, Some, None, slice_get, is_some}
 use Rattle.std.specs.Option.{option_or}
 use Rattle.std.proofs.lemmas.Option.{slice_get_read}
 use Rattle.jr_model.specs.History.{first_given}
+use Rattle.jr_laws_steps.proofs.PlaceLemmas.{got_dropped}
 
 -- what was read of a list is there
 pub read_at : {X : Type 0} (xs ys : List X) (i : ℕ) (x : X) → xs ≡ ys → i < length xs → x ≡ get_or xs i x → slice_get ys i ≡ Some x
@@ -58,3 +59,12 @@ given_past f [] (suc n) none = refl
 given_past {X = X} {Y = Y} f (x ∷ xs) (suc n) none =
     ap (λ (o : Option Y). option_or o (first_given f xs)) (none 0 x (omega arith) refl)
     ∙ given_past f xs n (λ k y below at. none (suc k) y (omega (arith, below)) at)
+
+-- so it is where those between two places give nothing
+pub given_between : {X Y : Type 0} (f : X → Option Y) (xs : List X) (m n : ℕ) → m ≤ n → first_given f xs ≡ first_given f (drop m xs)
+    → ((k : ℕ) (x : X) → m ≤ k → k < n → slice_get xs k ≡ Some x → f x ≡ None) → first_given f xs ≡ first_given f (drop n xs)
+given_between f xs m n le so_far none =
+    so_far
+    ∙ given_past f (drop m xs) (n - m)
+    (λ k x before at. none (m + k) x (omega arith) (omega (arith, le, before)) (got_dropped m xs k x at))
+    ∙ ap (first_given f) (drop-drop (n - m) m xs ∙ ap (λ (i : ℕ). drop i xs) (omega (arith, le)))

@@ -16,7 +16,9 @@ use Rattle.jr_desk_state.specs.Flyings.{IsFlying}
 use Rattle.jr_desk_state.specs.Rests.{AreRested}
 use Rattle.jr_desk_state.specs.Standings.{AreOthersPrepared, AreStanding}
 use Rattle.jr_desk_state.specs.declared.resting.Rested.{Rested}
+use Rattle.jr_desk_state.specs.declared.waiting.Waiting.{Waiting}
 use Rattle.jr_desk_state.specs.declared.written.CheckedLog.{CheckedLog}
+use Rattle.jr_desk_state.specs.Waitings.{AreWaiting}
 use Rattle.jr_desk_state.specs.WriteLogs.{IsLog}
 use Rattle.jr_desk_state.proofs.EndingParts.{OwnParts, own_parts}
 
@@ -30,11 +32,12 @@ pub board_stays : (plan : Plan) (before after : Board)
     → IsTallied plan before.history.items after.tallies
     → AreStanding plan before.history.items after.standings.items
     → after.rested ≡ before.rested
+    → after.waiting ≡ before.waiting
     → AreOthersPrepared plan after.last_issued after.standings.items
     → left_of after.standings.items ≡ left_of before.standings.items
     → after.left ≡ before.left
     → IsBoard plan after
-board_stays plan before after is history handed flying log tallies standings rested others left same_left =
+board_stays plan before after is history handed flying log tallies standings rested waiting others left same_left =
     let same = sym history in
     record {
       planned = is.planned;
@@ -47,6 +50,8 @@ board_stays plan before after is history handed flying log tallies standings res
       standings = subst (λ (h : List Event). AreStanding plan h after.standings.items) same standings;
       rested = subst (λ (r : Rested). AreRested plan after.history.items r) (sym rested)
           (subst (λ (h : List Event). AreRested plan h before.rested) same is.rested);
+      waiting = subst (λ (w : Waiting). AreWaiting plan after.history.items w) (sym waiting)
+          (subst (λ (h : List Event). AreWaiting plan h before.waiting) same is.waiting);
       others = others;
       left = omega (arith, left, same_left, is.left);
       few = omega (arith, same_left, ap length history, is.few);
@@ -74,11 +79,12 @@ pub board_begins : (plan : Plan) (board : Board) → board.history.items ≡ []
     → IsTallied plan [] board.tallies
     → AreStanding plan [] board.standings.items
     → AreRested plan [] board.rested
+    → AreWaiting plan [] board.waiting
     → AreOthersPrepared plan board.last_issued board.standings.items
     → left_of board.standings.items ≡ 0
     → board.left ≡ 0
     → IsBoard plan board
-board_begins plan board none planned handed flying log tallies standings rested others left same_left =
+board_begins plan board none planned handed flying log tallies standings rested waiting others left same_left =
     let same = sym none in
     record {
       planned = planned;
@@ -89,6 +95,7 @@ board_begins plan board none planned handed flying log tallies standings rested 
       tallies = subst (λ (h : List Event). IsTallied plan h board.tallies) same tallies;
       standings = subst (λ (h : List Event). AreStanding plan h board.standings.items) same standings;
       rested = subst (λ (h : List Event). AreRested plan h board.rested) same rested;
+      waiting = subst (λ (h : List Event). AreWaiting plan h board.waiting) same waiting;
       others = others;
       left = omega (arith, left, same_left);
       few = omega (arith, same_left);

@@ -24,3 +24,5 @@ pub mod StartingBoards
 pub mod StartingStandings
 pub mod StartingTickets
 pub mod Takings
+pub mod WaitingBits
+pub mod WaitingMoves

@@ -221,6 +221,7 @@ pub rested_grows : (plan : Plan) (h : List Event) (e : Event) (rested : Rested) 
 rested_grows plan h e rested next are = record {
   leading = λ c job there before. stays c job there (are.leading c job there before);
   earlier = λ c job first there at before. stays c job there (are.earlier c job first there at before);
+  last = are.last;
 }
   where
     stays : (c : ℕ) (job : SubJob) → clone_of plan c ≡ Some job → is_at_rest h job ≡ true → is_at_rest (grown h e) job ≡ true

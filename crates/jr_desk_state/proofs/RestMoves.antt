@@ -304,6 +304,20 @@ rests_next plan history i within one_rests sofar =
     all_next rest plan.clones i one.0 one.1
     ∙ and_from (list_all rest (take i plan.clones)) (rest one.0 && true) sofar (and_from (rest one.0) true (sym (one_rests one.0 one.1)) refl)
 
+-- the clones before one are at rest where each of them is
+first_all : {X : Type 0} (p : X → Bool) (xs : List X) (n : ℕ) → ((k : ℕ) (x : X) → slice_get xs k ≡ Some x → k < n → p x ≡ true)
+    → list_all p (take n xs) ≡ true
+first_all p xs zero each = refl
+first_all p [] (suc n) each = refl
+first_all p (x ∷ xs) (suc n) each =
+    and_from (p x) (list_all p (take n xs)) (each 0 x refl (omega arith))
+    (first_all p xs n (λ k y at below. each (suc k) y at (omega (arith, below))))
+
+pub rests_first : (plan : Plan) (history : List Event) (n : ℕ)
+    → ((c : ℕ) (job : SubJob) → clone_of plan c ≡ Some job → c < n → is_at_rest history job ≡ true)
+    → list_all (is_at_rest history) (take n plan.clones) ≡ true
+rests_first plan history n each = first_all (is_at_rest history) plan.clones n each
+
 pub complete : (plan : Plan) (history : List Event) (i : ℕ) → IsPlanned plan → is_legal plan history ≡ true → length plan.clones ≤ i → list_all (is_at_rest history) (take i plan.clones) ≡ true → true ≡ is_complete plan history
 complete plan history i planned legal all sofar =
     sym (complete_rests plan history planned legal ∙ ap (list_all (is_at_rest history)) (sym (take_all i plan.clones all)) ∙ sofar)
@@ -459,3 +473,19 @@ opens_by plan history e first there stirs rests job =
           | inr later ↦ or_left (nat_le job.phase other.phase) (is_at_rest history other)
               (le-leb job.phase other.phase (omega (arith, leb-true job.phase first.phase below, later)))
         ])
+
+-- where all of earlier phases than the last are at rest, all phases up to it are open
+pub opens_last : (plan : Plan) (history : List Event) (first : SubJob) (last : ℕ)
+    → ((c : ℕ) (job : SubJob) → clone_of plan c ≡ Some job → job.phase < first.phase → is_at_rest history job ≡ true)
+    → last ≤ first.phase
+    → (job : SubJob) → job.phase ≤ last
+    → phase_is_open plan history job ≡ nat_le job.phase last
+opens_last plan history first last rests none_later job below =
+    all_from (λ (other : SubJob). nat_le job.phase other.phase || is_at_rest history other) plan.clones
+    (λ c other at.
+    elim (cases_lt other.phase job.phase) [
+      | inl earlier ↦ or_right (nat_le job.phase other.phase) (is_at_rest history other)
+          (rests c other at (omega (arith, earlier, below, none_later)))
+      | inr later ↦ or_left (nat_le job.phase other.phase) (is_at_rest history other) (le-leb job.phase other.phase later)
+    ])
+    ∙ sym (le-leb job.phase last below)

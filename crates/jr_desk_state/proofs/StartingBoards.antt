@@ -16,6 +16,7 @@ use Rattle.jr_desk_state.specs.Boards.{IsBoard, left_of}
 use Rattle.jr_desk_state.specs.Flyings.{IsFlying}
 use Rattle.jr_desk_state.specs.Rests.{AreRested}
 use Rattle.jr_desk_state.specs.Standings.{AreOthersPrepared, AreStanding, IsStanding}
+use Rattle.jr_desk_state.specs.Waitings.{AreWaiting}
 use Rattle.jr_desk_state.specs.WriteLogs.{IsLog}
 use Rattle.jr_desk_state.proofs.RestKept.{rested_grows}
 
@@ -54,11 +55,12 @@ pub board_grows : (plan : Plan) (before after : Board) (event : Event)
     → IsTallied plan (grown before.history.items event) after.tallies
     → AreStanding plan (grown before.history.items event) after.standings.items
     → after.rested ≡ before.rested
+    → AreWaiting plan (grown before.history.items event) after.waiting
     → AreOthersPrepared plan after.last_issued after.standings.items
     → left_of after.standings.items ≤ after.left
     → after.left ≤ suc (length before.history.items)
     → IsBoard plan after
-board_grows plan before after event is may history handed flying log tallies standings rested others left few =
+board_grows plan before after event is may history handed flying log tallies standings rested waiting others left few =
     let same = sym history in
     record {
       planned = is.planned;
@@ -73,6 +75,7 @@ board_grows plan before after event is may history handed flying log tallies sta
           subst (λ (h : List Event). AreRested plan h after.rested) same
           (subst (λ (r : Rested). AreRested plan (grown before.history.items event) r) (sym rested)
           (rested_grows plan before.history.items event before.rested (next_of plan before event is may) is.rested));
+      waiting = subst (λ (h : List Event). AreWaiting plan h after.waiting) same waiting;
       others = others;
       left = left;
       few = omega (arith, few, ap length history, length-append before.history.items (event ∷ []));

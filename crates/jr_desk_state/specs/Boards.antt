@@ -10,6 +10,7 @@ use Rattle.jr_desk_state.specs.declared.standings.Standing.{Standing}
 use Rattle.jr_desk_state.specs.Flyings.{IsFlying}
 use Rattle.jr_desk_state.specs.Rests.{AreRested}
 use Rattle.jr_desk_state.specs.Standings.{AreOthersPrepared, ArePrepared, AreStanding, left_in}
+use Rattle.jr_desk_state.specs.Waitings.{AreWaiting}
 use Rattle.jr_desk_state.specs.WriteLogs.{IsLog}
 
 -- the writes that are still to check, of all clones: no more of them can be skipped
@@ -26,6 +27,7 @@ pub record IsBoard (plan : Plan) (board : Board) : Type 0 where
   pub tallies : IsTallied plan board.history.items board.tallies
   pub standings : AreStanding plan board.history.items board.standings.items
   pub rested : AreRested plan board.history.items board.rested
+  pub waiting : AreWaiting plan board.history.items board.waiting
   pub others : AreOthersPrepared plan board.last_issued board.standings.items
   pub left : left_of board.standings.items ≤ board.left
   pub few : board.left ≤ length board.history.items

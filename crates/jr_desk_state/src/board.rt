@@ -1,6 +1,7 @@
 use crate::flying::Flying;
 use crate::resting::Rested;
 use crate::standings::Standing;
+use crate::waiting::Waiting;
 use crate::written::CheckedLog;
 use jr_desk_tickets::TicketTable;
 use jr_desk_totals::Tallies;
@@ -17,6 +18,7 @@ pub struct Board {
     pub tallies: Tallies,
     pub standings: Vec<Standing>,
     pub rested: Rested,
+    pub waiting: Waiting,
     /// The clone that issued a draw last. All others are prepared for their next one.
     pub last_issued: usize,
     /// No fewer than the writes that are still to check.

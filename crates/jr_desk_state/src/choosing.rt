@@ -48,12 +48,14 @@ pub(crate) fn choose<'a>(plan: &Plan, board: &'a Board, worker: u32) -> Option<C
     ensures judged { IfSome result (λ chosen. judged_by board.now.log.writes chosen.event ≡ Some (unwrap_or chosen.found Nothing)) }
 {
     let phase = open_phase(plan, board);
-    // Those before are at rest, and do nothing more.
-    for clone in board.rested.leading..plan.clones() {
+    // Those before are at rest, and do nothing more. Those that are known to wait are gone past.
+    let mut clone = board.waiting.next(board.rested.leading);
+    while clone < plan.clones() {
         let step = step_of_clone(plan, board, phase, clone, worker);
         if step.is_some() {
             return step;
         }
+        clone = board.waiting.next(clone + 1);
     }
     None
 }

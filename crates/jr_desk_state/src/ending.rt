@@ -13,9 +13,11 @@ ghost use Rattle.jr_desk_state.specs.Boards.{IsBoard};
 ghost use Rattle.jr_desk_tickets.specs.Kept.{IsOwn};
 ghost use Rattle.jr_laws_steps.specs.Nexts.{IsNext, grown};
 ghost use Rattle.jr_desk_state.specs.Standings.{IsPrepared, IsStanding, left_in};
+ghost use Rattle.jr_desk_state.specs.Waitings.{is_marked};
 
 use crate::board::Board;
 use crate::standings::Standing;
+use crate::waiting::{mark_rested, release};
 use crate::written::log_end;
 use jr_model::{Event, Expected, Memory, Outcome, Ticket, TicketKind, Verdict};
 use jr_plan::Plan;
@@ -31,6 +33,30 @@ pub fn end(
     requires board { IsBoard plan.now board.old }
     requires own { IsOwn plan.now board.old.history.items ticket.now }
     requires may { may_happen plan.now board.old.history.items (End ticket.now.worker ticket.now.id outcome) ≡ true }
+    requires expected { is_write ticket.now.kind ≡ true → expected.now ≡ ticket_expected ticket.now }
+    ensures board { IsBoard plan.now board.new }
+    ensures ok { OnOk result (board.new.history.items ≡ board.old.history.items ++ End ticket.now.worker ticket.now.id outcome ∷ []) }
+    ensures err { OnErr result (board.new.history.items ≡ board.old.history.items) }
+{
+    let clone = ticket.write.clone as usize;
+    release(plan, board, clone);
+    end_released(plan, board, ticket, outcome, expected)?;
+    mark_rested(plan, board, clone);
+    Ok(())
+}
+
+// The same, where its clone isn't known to wait for an end.
+fn end_released(
+    plan: &Plan,
+    board: &mut Board,
+    ticket: &Ticket,
+    outcome: Outcome,
+    expected: &Expected,
+) -> Result<(), Memory>
+    requires board { IsBoard plan.now board.old }
+    requires own { IsOwn plan.now board.old.history.items ticket.now }
+    requires may { may_happen plan.now board.old.history.items (End ticket.now.worker ticket.now.id outcome) ≡ true }
+    requires free { is_marked board.old.waiting.words.items ticket.now.write.clone ≡ false }
     requires expected { is_write ticket.now.kind ≡ true → expected.now ≡ ticket_expected ticket.now }
     ensures board { IsBoard plan.now board.new }
     ensures ok { OnOk result (board.new.history.items ≡ board.old.history.items ++ End ticket.now.worker ticket.now.id outcome ∷ []) }
@@ -60,6 +86,26 @@ pub fn end(
 
 /// Takes in the verdict on a check that ended whole.
 pub fn judge(
+    plan: &Plan,
+    board: &mut Board,
+    by: u32,
+    ticket: &Ticket,
+    verdict: Verdict,
+) -> Result<(), Memory>
+    requires board { IsBoard plan.now board.old }
+    requires own { IsOwn plan.now board.old.history.items ticket.now }
+    requires may { may_happen plan.now board.old.history.items (Judged by ticket.now.id verdict) ≡ true }
+    ensures board { IsBoard plan.now board.new }
+    ensures ok { OnOk result (board.new.history.items ≡ board.old.history.items ++ Judged by ticket.now.id verdict ∷ []) }
+    ensures err { OnErr result (board.new.history.items ≡ board.old.history.items) }
+{
+    judge_one(plan, board, by, ticket, verdict)?;
+    mark_rested(plan, board, ticket.write.clone as usize);
+    Ok(())
+}
+
+// The same, where no clone is marked for it.
+fn judge_one(
     plan: &Plan,
     board: &mut Board,
     by: u32,

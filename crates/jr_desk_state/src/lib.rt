@@ -11,6 +11,7 @@ mod standings;
 mod starting;
 mod takes;
 mod taking;
+mod waiting;
 mod written;
 
 pub use board::Board;

@@ -1,4 +1,4 @@
-ghost use Rattle.std.specs.Prelude.{◌≡◌, ◌<◌, ℕ, true, false, nat_le, slice_get, Some};
+ghost use Rattle.std.specs.Prelude.{◌≡◌, ◌<◌, ◌≤◌, ℕ, true, false, nat_le, slice_get, Some};
 ghost use Rattle.jr_model.specs.Legal.{is_at_rest, is_complete, is_halted, phase_is_open};
 ghost use Rattle.jr_model.specs.Plan.{SubJob as Clone, clone_of};
 ghost use Rattle.jr_model.specs.Rounds.{pass_finished, pass_of};
@@ -65,6 +65,8 @@ pub struct Rested {
     pub leading: usize,
     /// And so are those of earlier phases than this one's, where there is such a clone.
     pub earliest: usize,
+    /// No clone is of a later phase.
+    pub last_phase: u32,
 }
 
 // Looks at all clones again, where the one of the earliest phase has come to rest, once another has gone on. That is once a clone at
@@ -74,7 +76,11 @@ pub(crate) fn pass_rested(plan: &Plan, board: &mut Board)
     ensures board { IsBoard plan.now board.new }
     ensures history { board.new.history.items ≡ board.old.history.items }
 {
-    let Rested { leading, earliest } = board.rested;
+    let Rested {
+        leading,
+        earliest,
+        last_phase,
+    } = board.rested;
     // It is most often this one that goes on.
     if leading == board.last_issued && earliest == board.last_issued {
         return;
@@ -83,6 +89,7 @@ pub(crate) fn pass_rested(plan: &Plan, board: &mut Board)
         board.rested = Rested {
             leading: first_busy(plan, board),
             earliest: earliest_busy(plan, board),
+            last_phase,
         };
     }
 }
@@ -126,11 +133,33 @@ pub(crate) fn open_phase(plan: &Plan, board: &Board) -> u32
     ensures { (clone : ℕ) (job : Clone) → clone_of plan.now clone ≡ Some job
         → phase_is_open plan.now board.now.history.items job ≡ nat_le job.phase result }
 {
-    let earliest = board.rested.earliest;
-    if earliest < plan.clones() && !is_at_rest(plan, board, earliest) {
-        return plan.clone_at(earliest).phase();
+    let Rested {
+        earliest,
+        last_phase,
+        ..
+    } = board.rested;
+    if earliest >= plan.clones() {
+        return phase_of_all(plan, board);
+    }
+    let phase = plan.clone_at(earliest).phase();
+    if phase >= last_phase {
+        return last_phase;
+    }
+    if !is_at_rest(plan, board, earliest) {
+        return phase;
     }
     phase_of_all(plan, board)
+}
+
+// A phase that no clone's is later than.
+pub(crate) fn last_phase(plan: &Plan) -> u32
+    ensures { (clone : ℕ) (job : Clone) → clone_of plan.now clone ≡ Some job → job.phase ≤ result }
+{
+    let mut last = 0;
+    for clone in 0..plan.clones() {
+        last = plan.clone_at(clone).phase().max(last);
+    }
+    last
 }
 
 // The same, found by a look at all clones.
@@ -154,7 +183,8 @@ pub fn is_complete(plan: &Plan, board: &Board) -> bool
     requires { IsBoard plan.now board.now }
     ensures { result ≡ is_complete plan.now board.now.history.items }
 {
-    for clone in 0..plan.clones() {
+    // Those before the leading one are at rest.
+    for clone in board.rested.leading..plan.clones() {
         if !is_at_rest(plan, board, clone) {
             return false;
         }

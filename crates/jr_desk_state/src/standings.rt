@@ -1,5 +1,5 @@
 ghost use Rattle.std.specs.Prelude.{◌≡◌, ◌+◌, ◌<◌, ◌≤◌, ℕ, suc, true, false, List, [], length, slice_get, Some, None, IfOk, OnOk};
-ghost use Rattle.std.specs.Prelude.{unwrap_or, vec_capacity};
+ghost use Rattle.std.specs.Prelude.{unwrap_or, vec_capacity, is_some, IfSome, OnErr};
 ghost use Rattle.std.specs.Option.{option_map};
 ghost use Rattle.jr_desk_state.specs.declared.standings.Issued.{Issued as Drawn};
 ghost use Rattle.jr_model.specs.declared.events.IssueKind.TheVariants as issue;
@@ -75,8 +75,24 @@ impl Standing {
         self.rounds.commit()?;
         self.issued.reserve(1)?;
         if self.draws.is_over() && self.later.is_none() && self.pass + 1 < job.passes() {
-            self.later = Some(DrawsLeft::of_pass(alloc, job, self.pass + 1)?);
+            self.make_later(alloc, job)?;
         }
+        Ok(())
+    }
+
+    // Makes the draws of the next pass.
+    fn make_later(&mut self, alloc: Global, job: &SubJob) -> Result<(), Memory>
+        requires { self.old.pass + 1 < job.now.passes }
+        ensures ok { OnOk result (IfSome self.new.later (λ draws. draws ≡ draws_of_job job.now (suc self.old.pass))) }
+        ensures there { OnOk result (is_some self.new.later ≡ true) }
+        ensures err { OnErr result (self.new.later ≡ self.old.later) }
+        ensures pass { self.new.pass ≡ self.old.pass }
+        ensures draws { self.new.draws ≡ self.old.draws }
+        ensures issued { self.new.issued ≡ self.old.issued }
+        ensures rounds { self.new.rounds ≡ self.old.rounds }
+    {
+        job.facts();
+        self.later = Some(DrawsLeft::of_pass(alloc, job, self.pass + 1)?);
         Ok(())
     }
 

@@ -12,10 +12,11 @@ ghost use Rattle.jr_desk_state.specs.Takes.{IsChosen, answer_with, ticket_for};
 use crate::board::Board;
 use crate::choosing::{choose, expected_of};
 use crate::flying::Flying;
-use crate::resting::{Rested, is_complete, pass_rested};
+use crate::resting::{Rested, is_complete, last_phase, pass_rested};
 use crate::standings::Standing;
 use crate::starting::{issue, probe, skip};
 use crate::takes::{Take, answer_with};
+use crate::waiting::{Waiting, mark_full};
 use crate::written::CheckedLog;
 use jr_desk_tickets::TicketTable;
 use jr_desk_totals::Tallies;
@@ -45,7 +46,9 @@ pub fn new_board(alloc: Global, plan: &Plan) -> Result<Board, Memory>
         rested: Rested {
             leading: 0,
             earliest: plan.clones(),
+            last_phase: last_phase(plan),
         },
+        waiting: Waiting::new(alloc, plan.clones())?,
         last_issued: 0,
         left: 0,
     })
@@ -86,10 +89,16 @@ pub fn start_next(plan: &Plan, board: &mut Board, worker: u32) -> Option<Ticket>
                 write,
                 piece,
                 ..
-            } => return Some(issue(plan, board, worker, kind, write, piece)),
+            } => {
+                let ticket = issue(plan, board, worker, kind, write, piece);
+                mark_full(plan, board, write.clone as usize);
+                return Some(ticket);
+            }
             Event::Probe { write, piece, .. } => {
                 let expected = expected_of(&chosen.found);
-                return Some(probe(plan, board, worker, write, piece, expected));
+                let ticket = probe(plan, board, worker, write, piece, expected);
+                mark_full(plan, board, write.clone as usize);
+                return Some(ticket);
             }
             // These two are no choice.
             Event::End { .. } => return None,

@@ -1,4 +1,4 @@
-ghost use Rattle.std.specs.Prelude.{◌≡◌, ◌-◌, ◌^◌, ◌<◌, ◌≤◌, true, vec_len, IfOk};
+ghost use Rattle.std.specs.Prelude.{◌≡◌, ◌-◌, ◌^◌, ◌<◌, ◌≤◌, true, length, vec_len, IfOk};
 ghost use Rattle.jr_model.specs.Legal.{outcome_fits};
 ghost use Rattle.std.specs.Result.{result_ok};
 ghost use Rattle.jr_model.specs.Replies.{asked_read, asked_write, next_reply, outcome_for};
@@ -66,26 +66,13 @@ pub fn ask(engine: &mut dyn Engine, ticket: Ticket, buffer: Vec<u8>) -> Answer
     requires calls { (state engine.old).calls < 2 ^ 64 - 1 }
     ensures { Answers (state engine.old) ticket buffer.items result (state engine.new) }
 {
-    match ticket.kind {
-        TicketKind::Read | TicketKind::Probe | TicketKind::ReadCheck => {
-            ask_read(engine, ticket, buffer)
-        }
-        TicketKind::Write => ask_write(engine, ticket, buffer),
-    }
-}
-
-// Reads the ticket's piece into the buffer.
-fn ask_read(engine: &mut dyn Engine, ticket: Ticket, buffer: Vec<u8>) -> Answer
-    requires room { vec_len buffer ≡ ticket.piece.len }
-    requires calls { (state engine.old).calls < 2 ^ 64 - 1 }
-    ensures { let old = state engine.old in
-        let left = asked_read (next_reply old) old.memory ticket.piece buffer.items in
-        AnswersBy left old ticket buffer.items result (state engine.new) }
-{
     let mut bytes = buffer;
-    let piece = ticket.piece;
-    let moved = engine.read(piece.file, piece.offset, bytes.as_mut_slice());
-    let outcome = ended(&moved, piece.len);
+    let outcome = match ticket.kind {
+        TicketKind::Read | TicketKind::Probe | TicketKind::ReadCheck => {
+            read_piece(engine, &ticket, bytes.as_mut_slice())
+        }
+        TicketKind::Write => write_piece(engine, &ticket, bytes.as_slice()),
+    };
     Answer {
         ticket,
         bytes,
@@ -93,22 +80,30 @@ fn ask_read(engine: &mut dyn Engine, ticket: Ticket, buffer: Vec<u8>) -> Answer
     }
 }
 
-// Writes the buffer over the ticket's piece.
-fn ask_write(engine: &mut dyn Engine, ticket: Ticket, buffer: Vec<u8>) -> Answer
-    requires room { vec_len buffer ≡ ticket.piece.len }
+// Reads the ticket's piece into the buffer, and says how that ended.
+fn read_piece(engine: &mut dyn Engine, ticket: &Ticket, bytes: &mut [u8]) -> Outcome
+    requires room { length bytes.old ≡ ticket.now.piece.len }
     requires calls { (state engine.old).calls < 2 ^ 64 - 1 }
     ensures { let old = state engine.old in
-        let left = asked_write (next_reply old) old.memory ticket.piece buffer.items in
-        AnswersBy left old ticket buffer.items result (state engine.new) }
+        let left = asked_read (next_reply old) old.memory ticket.now.piece bytes.old in
+        AnswersBy left old ticket.now bytes.old (record { ticket = ticket.now; bytes = bytes.new; outcome = result }) (state engine.new) }
 {
     let piece = ticket.piece;
-    let moved = engine.write(piece.file, piece.offset, buffer.as_slice());
-    let outcome = ended(&moved, piece.len);
-    Answer {
-        ticket,
-        bytes: buffer,
-        outcome,
-    }
+    let moved = engine.read(piece.file, piece.offset, bytes);
+    ended(&moved, piece.len)
+}
+
+// Writes the buffer over the ticket's piece, and says how that ended.
+fn write_piece(engine: &mut dyn Engine, ticket: &Ticket, bytes: &[u8]) -> Outcome
+    requires room { length bytes.now ≡ ticket.now.piece.len }
+    requires calls { (state engine.old).calls < 2 ^ 64 - 1 }
+    ensures { let old = state engine.old in
+        let left = asked_write (next_reply old) old.memory ticket.now.piece bytes.now in
+        AnswersBy left old ticket.now bytes.now (record { ticket = ticket.now; bytes = bytes.now; outcome = result }) (state engine.new) }
+{
+    let piece = ticket.piece;
+    let moved = engine.write(piece.file, piece.offset, bytes);
+    ended(&moved, piece.len)
 }
 
 // How a call over so many bytes ended.

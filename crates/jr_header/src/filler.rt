@@ -1,4 +1,4 @@
-ghost use Rattle.std.specs.Prelude.{◌≡◌, ◌≤◌, ◌+◌, ◌-◌, ◌%◌, ◌++◌, length, take, min};
+ghost use Rattle.std.specs.Prelude.{◌≡◌, ◌≤◌, ◌+◌, ◌-◌, ◌%◌, ◌++◌, length, replicate, take, min};
 ghost use Rattle.jr_model.specs.Content.{pattern_bytes, filler_of};
 
 use jr_model::Pattern;
@@ -21,11 +21,29 @@ pub(crate) fn repeat_pattern(pattern: &[u8], buffer: &mut [u8])
     requires { 1 ≤ length pattern.now }
     ensures { buffer.new ≡ pattern_bytes pattern.now (length buffer.old) }
 {
+    if pattern.len() == 1 {
+        repeat_byte(pattern, buffer);
+        return;
+    }
     let mut done = pattern.len().min(buffer.len());
     buffer[..done].copy_from_slice(&pattern[..done]);
     while done < buffer.len() {
         done = copy_behind(buffer, done);
     }
+}
+
+// Writes a pattern of one byte again and again.
+fn repeat_byte(pattern: &[u8], buffer: &mut [u8])
+    requires { length pattern.now ≡ 1 }
+    ensures { buffer.new ≡ pattern_bytes pattern.now (length buffer.old) }
+{
+    fill_with(pattern[0], buffer);
+}
+
+fn fill_with(byte: u8, buffer: &mut [u8])
+    ensures { buffer.new ≡ replicate (length buffer.old) byte }
+{
+    buffer.fill(byte);
 }
 
 // Copies the first bytes, as many as fit, behind the first `done` ones, and says how many are done then.

@@ -9,7 +9,7 @@ use jr_engines::{Answer, Engine, ask};
 use jr_model::{Expected, Outcome, Ticket, TicketKind};
 use std::marker::Model;
 
-/// A ticket that was carried out. Only `Ready::ask` makes it, and `serve` and `serve_own` by it. Contracts see the engine's answer.
+/// A ticket that was carried out. Only `Ready::ask`, `serve` and `serve_own` make it. Contracts see the engine's answer.
 #[derive(Debug, Drop)]
 pub struct Served {
     answer: Answer,
@@ -141,7 +141,7 @@ pub fn serve(engine: &mut dyn Engine, ticket: Ticket, buffer: Vec<u8>) -> Served
     requires calls { (state engine.old).calls < 2 ^ 64 - 1 }
     ensures { Answers (state engine.old) ticket (asked_with ticket.kind ticket buffer.items) result (state engine.new) }
 {
-    made_ready(ticket, buffer, false).ask(engine)
+    served_at_once(engine, ticket, buffer, false)
 }
 
 /// The same for a ticket whose check expects what its own write put there, as those of a desk do. To judge a good check then takes no
@@ -153,7 +153,25 @@ pub fn serve_own(engine: &mut dyn Engine, ticket: Ticket, buffer: Vec<u8>) -> Se
     requires calls { (state engine.old).calls < 2 ^ 64 - 1 }
     ensures { Answers (state engine.old) ticket (asked_with ticket.kind ticket buffer.items) result (state engine.new) }
 {
-    ready_own(ticket, buffer).ask(engine)
+    served_at_once(engine, ticket, buffer, true)
+}
+
+// Does the same at once, where no one asks in between: the ticket is moved once.
+fn served_at_once(engine: &mut dyn Engine, ticket: Ticket, buffer: Vec<u8>, is_own: bool) -> Served
+    requires fits { ticket_fits ticket ≡ true }
+    requires own { is_own ≡ true → ExpectsOwn ticket }
+    requires room { vec_len buffer ≡ ticket.piece.len }
+    requires calls { (state engine.old).calls < 2 ^ 64 - 1 }
+    ensures { Answers (state engine.old) ticket (asked_with ticket.kind ticket buffer.items) result (state engine.new) }
+{
+    let mut buffer = buffer;
+    let expected = prepared(&ticket, buffer.as_mut_slice());
+    let given = ask(engine, ticket, buffer);
+    Served {
+        answer: given,
+        expected,
+        is_own,
+    }
 }
 
 /// What `serve_own` does before it asks the engine: fills the buffer for a write.

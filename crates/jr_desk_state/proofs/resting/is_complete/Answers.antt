@@ -1,6 +1,10 @@
 use Rattle.std.proofs.Common.{arith}
-use Rattle.jr_desk_state.proofs.RestMoves.{complete, incomplete, rests_next}
+use Rattle.jr_desk_state.proofs.RestMoves.{complete, incomplete, rests_first, rests_next}
 use Rattle.jr_desk_state.proofs.resting.is_complete.Goals as goal
+
+pub loop-clone-init : goal.loop-clone-init
+loop-clone-init c =
+    rests_first c.args.plan.now c.args.board.now.history.items c.args.board.now.rested.leading c.requires.rested.leading
 
 pub returns-then-not-is_at_rest : goal.returns-then-not-is_at_rest
 returns-then-not-is_at_rest c =

@@ -12,7 +12,8 @@ returns-then-earliest-clones-clause-board c =
       log = is.log;
       tallies = is.tallies;
       standings = is.standings;
-      rested = record { leading = c.first_busy.ensures; earlier = c.earliest_busy.ensures };
+      rested = record { leading = c.first_busy.ensures; earlier = c.earliest_busy.ensures; last = is.rested.last };
+      waiting = is.waiting;
       others = is.others;
       left = is.left;
       few = is.few;

@@ -17,6 +17,7 @@ use Rattle.jr_desk_state.proofs.StandingMoves.{clone_is, clone_there, stays_othe
 use Rattle.jr_desk_state.proofs.StartingBoards.{board_grows, clone_stands, next_of, stands_at, stands_now}
 use Rattle.jr_desk_state.proofs.StartingStandings.{added_few, left_set, others_kept, others_prepared, standing_moves}
 use Rattle.jr_desk_state.proofs.StartingTickets.{declines_planned, issue_io, issue_ticket}
+use Rattle.jr_desk_state.proofs.WaitingMoves.{waiting_grows}
 use Rattle.jr_desk_state.proofs.starting.issue.Goals as goal
 
 pub overflow_cast-id : goal.overflow_cast-id
@@ -137,6 +138,7 @@ returns-clause-board c =
     (λ k other standing there apart stands.
     stays_other_issue plan history other standing stands worker dir write piece next (clone_there plan k other is.planned there)
     (λ (same : write.clone ≡ other.clone). apart (same ∙ sym (clone_is plan k other is.planned there))))) refl
+    (waiting_grows plan history e board.waiting next (λ other marked. tt) is.waiting)
     (others_kept plan write.clone board.standings.items c.issue.new.self
     (others_prepared plan write.clone board.standings.items c.requires.ready.standings))
     (omega (

@@ -23,6 +23,7 @@ use Rattle.jr_desk_state.proofs.StandingMoves.{clone_is, clone_there, taken_up_h
 use Rattle.jr_desk_state.proofs.StartingBoards.{board_grows, clone_stands, next_of, stands_at, stands_now}
 use Rattle.jr_desk_state.proofs.StartingStandings.{left_same, others_moved, standing_moves}
 use Rattle.jr_desk_state.proofs.StartingTickets.{declines_planned, issue_io, method_planned, probe_expects, seed_kept, ticket_made}
+use Rattle.jr_desk_state.proofs.WaitingMoves.{waiting_grows}
 use Rattle.jr_desk_state.proofs.starting.probe.Goals as goal
 
 pub overflow_cast-id : goal.overflow_cast-id
@@ -136,6 +137,7 @@ returns-clause-board c =
     (λ k other one there apart stands.
     stays_other_probe plan history other one stands worker write piece next (clone_there plan k other is.planned there)
     (λ (same : write.clone ≡ other.clone). apart (same ∙ sym (clone_is plan k other is.planned there))))) refl
+    (waiting_grows plan history e board.waiting next (λ other marked. tt) is.waiting)
     (others_moved plan board.last_issued write.clone board.standings.items standing c.take_up-io.new.self job is.others planned
     (stands_at plan board write.clone job standing is planned c.index_mut.ensures.value) (c.take_up-io.ensures.prepared job))
     (omega (

@@ -9,6 +9,7 @@ use Rattle.jr_desk_state.proofs.LogMoves.{log_skip}
 use Rattle.jr_desk_state.proofs.StandingMoves.{clone_is, clone_there, skip_left, skipped_here, stays_other_skip}
 use Rattle.jr_desk_state.proofs.StartingBoards.{board_grows, clone_stands, next_of, stands_at, stands_now}
 use Rattle.jr_desk_state.proofs.StartingStandings.{left_falls, others_prepared, prepared_moves, standing_moves}
+use Rattle.jr_desk_state.proofs.WaitingMoves.{waiting_grows}
 use Rattle.jr_desk_state.proofs.starting.skip.Goals as goal
 
 pub skipped-requires : goal.skipped-requires
@@ -127,5 +128,6 @@ returns-clause-board c =
     (λ k other standing there apart stands.
     stays_other_skip plan history other standing stands worker write next (clone_there plan k other is.planned there)
     (λ (same : write.clone ≡ other.clone). apart (same ∙ sym (clone_is plan k other is.planned there))))) refl
+    (waiting_grows plan history (Skip worker write) board.waiting next (λ other marked. tt) is.waiting)
     (others_prepared plan board.last_issued _ (returns-clause-ready c).standings)
     (let fewer = returns-clause-fewer c in omega (arith, fewer, is.left)) (omega (arith, is.few))

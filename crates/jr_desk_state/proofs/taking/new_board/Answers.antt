@@ -5,6 +5,7 @@ use Rattle.jr_model.specs.Plan.{clone_of}
 use Rattle.jr_desk_state.proofs.EndingBoards.{board_begins}
 use Rattle.jr_desk_state.proofs.Preparing.{stand_more, stand_none}
 use Rattle.jr_desk_state.proofs.StartingStandings.{others_prepared}
+use Rattle.jr_desk_state.proofs.WaitingMoves.{waiting_none}
 use Rattle.jr_desk_state.proofs.taking.new_board.Goals as goal
 
 pub loop-clone-init : goal.loop-clone-init
@@ -40,5 +41,7 @@ returns-clause-board c =
       leading = λ clone job there before. absurd (omega (arith, before));
       earlier = λ clone job first there at before.
           absurd (omega (arith, slice_get_within plan.clones _ first at, c.clones.ensures.value));
+      last = c.last_phase.ensures;
     })
+    (waiting_none plan [] _ c.in_ok-new-4.ensures.few c.in_ok-new-4.ensures.none)
     (others_prepared plan 0 _ c.loop-clone.invariant.prepared) c.loop-clone.invariant.left refl

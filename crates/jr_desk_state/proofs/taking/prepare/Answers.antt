@@ -19,7 +19,7 @@ returns-in_err-prepare_last-clause-board c =
       states = c.reserve.ensures.states ∙ is.tickets.states;
     })
     (c.in_ok-commit.ensures.kept c.args.plan.now history is.flying) refl is.tallies
-    (c.prepare_last.ensures.kept history is.standings) refl c.prepare_last.ensures.others
+    (c.prepare_last.ensures.kept history is.standings) refl refl c.prepare_last.ensures.others
     c.prepare_last.ensures.left refl
 
 pub returns-in_err-reserve-2-clause-board : goal.returns-in_err-reserve-2-clause-board
@@ -34,7 +34,7 @@ returns-in_err-reserve-2-clause-board c =
       states = c.reserve.ensures.states ∙ is.tickets.states;
     })
     (c.in_ok-commit.ensures.kept c.args.plan.now history is.flying) refl is.tallies
-    (c.prepare_last.ensures.kept history is.standings) refl c.prepare_last.ensures.others
+    (c.prepare_last.ensures.kept history is.standings) refl refl c.prepare_last.ensures.others
     c.prepare_last.ensures.left refl
 
 pub returns-clause-board : goal.returns-clause-board
@@ -49,5 +49,5 @@ returns-clause-board c =
       states = c.reserve.ensures.states ∙ is.tickets.states;
     })
     (c.in_ok-commit.ensures.kept c.args.plan.now history is.flying) refl is.tallies
-    (c.prepare_last.ensures.kept history is.standings) refl c.prepare_last.ensures.others
+    (c.prepare_last.ensures.kept history is.standings) refl refl c.prepare_last.ensures.others
     c.prepare_last.ensures.left refl

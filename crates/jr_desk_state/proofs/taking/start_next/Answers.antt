@@ -24,8 +24,8 @@ choices-preserved c =
     (sym c.in-Some.ensures.step ∙ ap Some c.in-Skip.is))
     c.skip.ensures.board c.skip.ensures.ready c.skip.ensures.history
 
-pub issue-requires-clause-may : goal.issue-requires-clause-may
-issue-requires-clause-may c =
+pub issue-ticket-requires-clause-may : goal.issue-ticket-requires-clause-may
+issue-ticket-requires-clause-may c =
     let planned = c.choices.invariant.index.planned in
     let history = c.choices.board.history.items in
     chosen_may c.args.plan.now history c.args.worker (Issue c.args.worker c.in-Issue.kind c.in-Issue.write c.in-Issue.piece) planned
@@ -36,14 +36,14 @@ pub returns-in-Issue-clause-taken : goal.returns-in-Issue-clause-taken
 returns-in-Issue-clause-taken c =
     let planned = c.choices.invariant.index.planned in
     let history = c.choices.board.history.items in
-    taken_one c.args.plan.now c.args.worker c.args.board.now.history.items c.choices.board c.issue.new.board
-    (Issue c.args.worker c.in-Issue.kind c.in-Issue.write c.in-Issue.piece) _ c.issue.result c.choices.invariant
+    taken_one c.args.plan.now c.args.worker c.args.board.now.history.items c.choices.board c.mark_full.new.board
+    (Issue c.args.worker c.in-Issue.kind c.in-Issue.write c.in-Issue.piece) _ c.issue-ticket.result c.choices.invariant
     (chosen_issue c.args.plan.now history c.args.worker c.in-Issue.worker c.in-Issue.kind c.in-Issue.write c.in-Issue.piece planned
     (sym c.in-Some.ensures.step ∙ ap Some c.in-Issue.is))
-    refl refl c.issue.ensures.history c.issue.ensures.ticket
+    refl refl (c.mark_full.ensures.history ∙ c.issue-ticket.ensures.history) c.issue-ticket.ensures.ticket
 
-pub probe-requires-clause-may : goal.probe-requires-clause-may
-probe-requires-clause-may c =
+pub probe-ticket-requires-clause-may : goal.probe-ticket-requires-clause-may
+probe-ticket-requires-clause-may c =
     let planned = c.choices.invariant.index.planned in
     let history = c.choices.board.history.items in
     chosen_may c.args.plan.now history c.args.worker (Probe c.args.worker c.in-Probe.write c.in-Probe.piece) planned
@@ -54,11 +54,11 @@ pub returns-in-Probe-clause-taken : goal.returns-in-Probe-clause-taken
 returns-in-Probe-clause-taken c =
     let planned = c.choices.invariant.index.planned in
     let history = c.choices.board.history.items in
-    taken_one c.args.plan.now c.args.worker c.args.board.now.history.items c.choices.board c.probe.new.board
-    (Probe c.args.worker c.in-Probe.write c.in-Probe.piece) _ c.probe.result c.choices.invariant
+    taken_one c.args.plan.now c.args.worker c.args.board.now.history.items c.choices.board c.mark_full-in-Probe.new.board
+    (Probe c.args.worker c.in-Probe.write c.in-Probe.piece) _ c.probe-ticket.result c.choices.invariant
     (chosen_probe c.args.plan.now history c.args.worker c.in-Probe.worker c.in-Probe.write c.in-Probe.piece planned
     (sym c.in-Some.ensures.step ∙ ap Some c.in-Probe.is))
-    refl refl c.probe.ensures.history c.probe.ensures.ticket
+    refl refl (c.mark_full-in-Probe.ensures.history ∙ c.probe-ticket.ensures.history) c.probe-ticket.ensures.ticket
 
 pub returns-in-End-clause-taken : goal.returns-in-End-clause-taken
 returns-in-End-clause-taken c =

@@ -30,7 +30,8 @@ use Rattle.jr_desk_state.proofs.StandingSets.{standing_resettled, standings_set}
 use Rattle.jr_desk_state.proofs.StandingStays.{standings_ended}
 use Rattle.jr_desk_state.proofs.StartingBoards.{board_grows, clone_stands, next_of, stands_at, stands_now}
 use Rattle.jr_desk_state.proofs.StartingStandings.{left_same, others_moved}
-use Rattle.jr_desk_state.proofs.ending.end.Goals as goal
+use Rattle.jr_desk_state.proofs.WaitingMoves.{ends_free, waiting_grows}
+use Rattle.jr_desk_state.proofs.ending.end_released.Goals as goal
 
 -- what is read at a clone's place tells whether it is halted
 halted_read : (plan : Plan) (board : Board) (clone : ℕ) (job : SubJob) (counts : Counts) → IsBoard plan board
@@ -61,7 +62,7 @@ pub returns-in_err-reserve-clause-board : goal.returns-in_err-reserve-clause-boa
 returns-in_err-reserve-clause-board c =
     let is = c.requires.board in
     board_stays c.args.plan.now c.args.board.now _ is c.reserve.ensures.items is.tickets is.flying refl
-    is.tallies is.standings refl is.others refl refl
+    is.tallies is.standings refl refl is.others refl refl
 
 pub returns-in_err-commit-clause-board : goal.returns-in_err-commit-clause-board
 returns-in_err-commit-clause-board c =
@@ -75,7 +76,7 @@ returns-in_err-commit-clause-board c =
     board_stays plan board _ is c.reserve.ensures.items is.tickets is.flying refl is.tallies
     (standings_set plan history clone parts.job board.standings.items (record old { rounds = c.commit.new.self }) parts.planned is.standings
     (standing_resettled history parts.job old c.commit.new.self (ap round_now c.in_err-commit.ensures.err)
-    (stands_now plan board clone parts.job old is parts.planned c.index_mut.ensures.value))) refl
+    (stands_now plan board clone parts.job old is parts.planned c.index_mut.ensures.value))) refl refl
     (others_moved plan board.last_issued clone board.standings.items old (record old { rounds = c.commit.new.self }) parts.job is.others
     parts.planned (stands_at plan board clone parts.job old is parts.planned c.index_mut.ensures.value)
     (prepared_same parts.job old c.commit.new.self c.in_err-commit.ensures.err))
@@ -115,7 +116,7 @@ returns-in_err-log_end-clause-board c =
     board_stays plan board _ is c.reserve.ensures.items is.tickets is.flying c.in_err-log_end.ensures.err is.tallies
     (standings_set plan history clone parts.job board.standings.items (record old { rounds = c.commit.new.self }) parts.planned is.standings
     (standing_resettled history parts.job old c.commit.new.self (ap round_now c.in_ok-commit.ensures.ok)
-    (stands_now plan board clone parts.job old is parts.planned c.index_mut.ensures.value))) refl
+    (stands_now plan board clone parts.job old is parts.planned c.index_mut.ensures.value))) refl refl
     (others_moved plan board.last_issued clone board.standings.items old (record old { rounds = c.commit.new.self }) parts.job is.others
     parts.planned (stands_at plan board clone parts.job old is parts.planned c.index_mut.ensures.value)
     (prepared_settled_now parts.job old c.commit.new.self (ap is_committed c.in_ok-commit.ensures.ok)))
@@ -256,6 +257,9 @@ returns-clause-board c =
     (standings_set plan history clone parts.job board.standings.items new parts.planned is.standings stands)
     (c.check_off-passed.ensures.kept plan history parts.job ticket.worker ticket.id parts.io next parts.at parts.kind parts.write
     parts.named halted found)) refl
+    (waiting_grows plan history event board.waiting next
+    (ends_free history ticket.worker ticket.id clone outcome parts.io board.waiting.words.items parts.at parts.clone c.requires.free)
+    is.waiting)
     (others_moved plan board.last_issued clone (set board.standings.items clone new) new c.check_off-passed.new.standing parts.job
     (others_moved plan board.last_issued clone board.standings.items old new parts.job is.others parts.planned
     (stands_at plan board clone parts.job old is parts.planned c.index_mut.ensures.value)

@@ -12,13 +12,14 @@ use Rattle.jr_desk_state.proofs.FlyingMoves.{flying_verdict}
 use Rattle.jr_desk_state.proofs.LogMoves.{log_verdict}
 use Rattle.jr_desk_state.proofs.StandingStays.{standings_judged}
 use Rattle.jr_desk_state.proofs.StartingBoards.{board_grows, next_of}
-use Rattle.jr_desk_state.proofs.ending.judge.Goals as goal
+use Rattle.jr_desk_state.proofs.WaitingMoves.{waiting_grows}
+use Rattle.jr_desk_state.proofs.ending.judge_one.Goals as goal
 
 pub returns-in_err-reserve-clause-board : goal.returns-in_err-reserve-clause-board
 returns-in_err-reserve-clause-board c =
     let is = c.requires.board in
     board_stays c.args.plan.now c.args.board.now _ is c.reserve.ensures.items is.tickets is.flying refl
-    is.tallies is.standings refl is.others refl refl
+    is.tallies is.standings refl refl is.others refl refl
 
 pub returns-in_err-reserve-2-clause-board : goal.returns-in_err-reserve-2-clause-board
 returns-in_err-reserve-2-clause-board c =
@@ -27,7 +28,7 @@ returns-in_err-reserve-2-clause-board c =
     let is = c.requires.board in
     board_stays plan board _ is c.reserve.ensures.items is.tickets is.flying refl
     (tallied_same plan board.history.items board.tallies c.reserve-2.new.self is.tallies c.reserve-2.ensures.counts
-    c.reserve-2.ensures.totals c.reserve-2.ensures.bads) is.standings refl is.others refl refl
+    c.reserve-2.ensures.totals c.reserve-2.ensures.bads) is.standings refl refl is.others refl refl
 
 pub clone_at-requires : goal.clone_at-requires
 clone_at-requires c =
@@ -83,4 +84,5 @@ returns-clause-board c =
     (tallied_same plan history board.tallies c.reserve-2.new.self is.tallies c.reserve-2.ensures.counts c.reserve-2.ensures.totals
     c.reserve-2.ensures.bads))
     (standings_judged plan history by ticket.id verdict board.standings.items next is.standings) refl
+    (waiting_grows plan history (Judged by ticket.id verdict) board.waiting next (λ other marked. tt) is.waiting)
     is.others is.left (omega (arith, is.few))
