@@ -77,7 +77,7 @@ fn run_wanted<R: Outlet + Machine>(
 ) -> Result<u8, Stop> {
     let pace = Pace::of(rt, choice.progress);
     let asked = asked_for(rt, choice, plan, false)?;
-    let ground = ground_of(rt, choice, wishes, wanted, plan)?;
+    let ground = ground_of(rt, choice, wishes, wanted, &asked, plan)?;
     let has_lines = has_notes || !matches!(pace, Pace::Never);
     let mut course = Course::new(rt.alloc(), plan, has_lines)?;
     let last = run_parts(

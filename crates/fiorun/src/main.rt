@@ -16,7 +16,10 @@ use jr_engines::Engine;
 use jr_job_notes::plan_notes;
 use jr_plan::Plan;
 use jr_replay_traces::Checked;
-use jr_system::{Machine, Outlet, Screen, Stop, job_plan, tell_all, tell_history, wishes};
+use jr_system::{
+    Machine, Outlet, Screen, Stop, job_plan, refuse_ledger, tell_all, tell_history, wishes,
+};
+use judging::judge;
 use rounds::{Limits, run_all};
 use running::{SharedRun, Turn, add, boxed, run_memory, run_plan, shares, to_output};
 use std::alloc::Global;
@@ -28,6 +31,7 @@ use traced::TraceReader;
 
 mod adapting;
 mod going_on;
+mod judging;
 mod rounds;
 mod running;
 mod traced;
@@ -127,10 +131,15 @@ fn perform<R: Input + Outlet + Machine>(
     let plan = job_plan(rt.alloc(), text.as_slice(), choice, has_notes)?;
     if has_notes {
         tell_notes(rt, text.as_slice(), choice.section);
-        if choice.check_trace.is_none() {
+        if choice.check_trace.is_none() && choice.after.is_none() {
             let workers = workers_of(&plan, choice.workers);
             tell_history(rt, &plan, workers, !choice.parse_only);
         }
+    }
+    if let Some(path) = choice.after
+        && !choice.parse_only
+    {
+        return Ok(Turn::Ended(judge(rt, choice, path, &plan)?));
     }
     if choice.parse_only || choice.check_trace.is_some() {
         show(rt, choice, text.as_slice(), &plan)?;
@@ -155,6 +164,7 @@ fn carry_out<R: Outlet + Machine>(
     has_notes: bool,
 ) -> Result<Turn, Stop> {
     let limits = Limits::of(choice)?;
+    refuse_ledger(rt.alloc(), choice, &plan)?;
     let Ok(wishes) = wishes(rt.alloc(), text, choice, &plan) else {
         return Err(Stop::from(CliFault::Memory));
     };

@@ -323,7 +323,7 @@ fn run_limited<R: Outlet + Machine>(
     if let Some(time) = limits.time {
         stop_after(rt, &asked, time)?;
     }
-    let ground = ground_of(rt, choice, wishes, wanted, plan)?;
+    let ground = ground_of(rt, choice, wishes, wanted, &asked, plan)?;
     let has_lines = has_notes || !matches!(pace, Pace::Never);
     let mut course = Course::new(rt.alloc(), plan, has_lines)?;
     let workers = workers_of(plan, choice.workers);

@@ -11,8 +11,8 @@ use jr_job_direct::Wish;
 use jr_plan::Plan;
 use jr_system::{
     Asked, Closed, Ground, Machine, MemoryFiles, OneEngine, Outlet, Pace, PlanBytes, Stop, Wiper,
-    asked_by, crew_engines, has_one_worker, history_bytes, is_watched, shares_memory, shown,
-    stop_when_short,
+    asked_by, crew_engines, has_one_worker, history_bytes, is_watched, ledger_cut, shares_memory,
+    shown, stop_when_short, unsynced_on_the_way,
 };
 use std::alloc::Global;
 use std::io;
@@ -53,12 +53,51 @@ pub fn ground_of<'a, R: Outlet + Machine>(
     choice: &Choice<'a>,
     wishes: &[Wish],
     wanted: &Wanted,
+    asked: &Asked,
     plan: &Plan,
 ) -> Result<Ground<'a>, Stop>
     ensures { IfOk result (IsGroundOf plan.now) }
 {
     let kept = wanted.outputs.kept(rt)?;
-    Ground::of(rt, plan, choice, wishes, kept.as_slice())
+    let ground = Ground::of(rt, plan, choice, wishes, kept.as_slice())?;
+    record(rt, choice, wanted, asked, plan, &ground)?;
+    Ok(ground)
+}
+
+// Has what is written to the run's files recorded, and the files synced on the way, as the words ask for it.
+fn record<R: Outlet>(
+    rt: &R,
+    choice: &Choice<'_>,
+    wanted: &Wanted,
+    asked: &Asked,
+    plan: &Plan,
+    ground: &Ground<'_>,
+) -> Result<(), Stop> {
+    let Ground::Files(files) = ground else {
+        return Ok(());
+    };
+    if choice.ledger.is_none() && choice.sync_every.is_none() {
+        return Ok(());
+    }
+    let out = wanted.outputs.ledger(rt)?;
+    files.record(rt, plan, out, choice.sync_every, asked)?;
+    match cut_of(rt.alloc(), choice, asked) {
+        Some(stop) => Err(stop),
+        None => wanted.outputs.finish_ledger(rt),
+    }
+}
+
+// Why the ledger that the words ask for couldn't be written to its end, if it couldn't.
+fn cut_of(alloc: Global, choice: &Choice<'_>, asked: &Asked) -> Option<Stop> {
+    ledger_cut(alloc, asked, choice.ledger?)
+}
+
+// A run that has ended, and why its ledger couldn't be written to its end, if it couldn't.
+fn with_ledger(alloc: Global, choice: &Choice<'_>, asked: &Asked, ran: Finished) -> Finished {
+    match cut_of(alloc, choice, asked) {
+        Some(stop) => ran.and(Err(stop)),
+        None => ran,
+    }
 }
 
 // A run that has ended, and why it is told as one that lacked memory, if it was asked to stop for that.
@@ -77,10 +116,13 @@ pub fn close<R: Outlet + Machine>(
     asked: &Asked,
     ran: Finished,
 ) -> Result<Finished, Stop> {
-    let closed = match ground {
+    let mut closed = match ground {
         Ground::Files(files) => files.close(rt, &ran.ended.faults)?,
         Ground::Memory | Ground::Nothing => Closed::of_no_files(rt.alloc()),
     };
+    if closed.unstored.is_none() {
+        closed.unstored = unsynced_on_the_way(rt.alloc(), ran.ended.desk.plan(), asked);
+    }
     Ok(ran.over(with_found(rt, asked, closed)))
 }
 
@@ -91,7 +133,7 @@ fn with_found<R: Wait>(rt: &R, asked: &Asked, mut closed: Closed) -> Closed {
 }
 
 // What is asked of a run of the plan, or of each of its rounds. If its history may take much of the memory that is left, it is asked to stop
-// while there is some for the report.
+// while there is some for the report; and if its ledger can't be written any more, it is asked too.
 pub fn asked_for<R: Outlet + Machine>(
     rt: &R,
     choice: &Choice<'_>,
@@ -100,7 +142,8 @@ pub fn asked_for<R: Outlet + Machine>(
 ) -> Result<Arc<Asked, Global>, Stop> {
     let watched = files_to_watch(rt, choice, plan);
     let pace = Pace::of(rt, choice.progress);
-    let asked = asked_by(rt, pace, choice.stop_fd, has_limit || watched.is_some())?;
+    let is_limited = has_limit || watched.is_some() || choice.ledger.is_some();
+    let asked = asked_by(rt, pace, choice.stop_fd, is_limited)?;
     if let Some(files) = watched {
         // (a run that can't be watched goes on)
         let _watches = stop_when_short(rt, &asked, files);
@@ -171,9 +214,10 @@ fn run_wanted<R: Outlet + Machine>(
     if shares_memory(&plan, workers) {
         return Ok(shared_run(asked, plan, workers));
     }
-    let ground = ground_of(rt, choice, wishes, wanted, &plan)?;
+    let ground = ground_of(rt, choice, wishes, wanted, &asked, &plan)?;
     let ran = run_traced(rt, wanted, &ground, &asked, plan, workers)?;
-    Ok(Turn::Ran(with_shortage(close(rt, &ground, &asked, ran)?, &asked)))
+    let ran = with_shortage(close(rt, &ground, &asked, ran)?, &asked);
+    Ok(Turn::Ran(with_ledger(rt.alloc(), choice, &asked, ran)))
 }
 
 // A run with this many workers over a memory that they share is still to come.

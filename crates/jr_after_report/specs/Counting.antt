@@ -40,6 +40,10 @@ is_open (finding.Lost kept found) = false
 is_open (finding.Torn kept) = false
 is_open (finding.Broken kept) = false
 
+-- something is told of the chunk
+abbrev pub is_told : Judged → Bool
+is_told one = is_lost one.finding || is_broken one.finding || is_torn one.finding
+
 -- how many of these chunks there are of each finding
 abbrev pub counts_of : List Judged → Counts
 counts_of found = record {

@@ -1,11 +1,11 @@
 -- Believed: the report of what is found after a cut: a line of totals for each file, and then the lines of the chunks (of this project).
-use Rattle.std.specs.Prelude.{ℕ, Bool, List, ◌++◌, codes, flat_map}
+use Rattle.std.specs.Prelude.{ℕ, Bool, List, ◌++◌, codes, filter, flat_map}
 use Rattle.std.specs.List.{list_any}
 use Rattle.jr_model.specs.Plan.{Plan}
 use Rattle.jr_model.specs.Report.{field, file_name}
 use Rattle.jr_after_report.specs.declared.counts.Counts.{Counts}
 use Rattle.jr_after_report.specs.declared.lines.Judged.{Judged}
-use Rattle.jr_after_report.specs.Counting.{counts_of, is_fault}
+use Rattle.jr_after_report.specs.Counting.{counts_of, is_fault, is_told}
 use Rattle.jr_after_report.specs.Lines.{line_of}
 
 -- what is found in a file: its chunks in their order, each with its finding
@@ -18,12 +18,14 @@ pub record FileState : Type 0 where
   pub file : ℕ
   pub counts : Counts
   pub lines : List ℕ
+  pub told : List Judged
 
 abbrev pub state_of : Plan → FileFound → FileState
 state_of plan found = record {
   file = found.file;
   counts = counts_of found.chunks;
   lines = flat_map (line_of plan) found.chunks;
+  told = filter is_told found.chunks;
 }
 
 abbrev pub totals_line : Plan → FileState → List ℕ

@@ -1,11 +1,12 @@
-ghost use Rattle.std.specs.Prelude.{◌≡◌, ◌+◌, ◌<◌, ◌^◌, ◌++◌, ◌∷◌, [], List, map, flat_map, IfOk, OnOk};
+ghost use Rattle.std.specs.Prelude.{◌≡◌, ◌+◌, ◌<◌, ◌^◌, ◌++◌, ◌∷◌, [], List, map, filter, flat_map, IfOk, OnOk};
 ghost use Rattle.jr_model.specs.Plan.{Plan as PlanRecord};
-ghost use Rattle.jr_after_report.specs.Counting.{total_of};
+ghost use Rattle.jr_after_report.specs.Counting.{is_told, total_of};
 ghost use Rattle.jr_after_report.specs.Reports.{FileFound, has_fault, lines_in, report_by, report_of, state_of, totals_line};
 ghost use Rattle.jr_after_report.specs.declared.lines.Judged.{Judged as JudgedRecord};
 
 use crate::counts::Counts;
 use crate::lines::{Judged, push_file_name, push_line};
+use jr_after::Finding;
 use jr_model::{Memory, push_field, push_text};
 use jr_plan::Plan;
 use std::alloc::Global;
@@ -17,6 +18,7 @@ pub struct FileReport {
     file: u32,
     counts: Counts,
     lines: Vec<u8>,
+    told: Vec<Judged>,
 }
 
 impl Model for FileReport {
@@ -24,7 +26,7 @@ impl Model for FileReport {
 
     ghost Value = { FileState };
 
-    ghost view = { λ r. record { file = r.file; counts = r.counts; lines = r.lines.items } };
+    ghost view = { λ r. record { file = r.file; counts = r.counts; lines = r.lines.items; told = r.told.items } };
 }
 
 impl FileReport {
@@ -36,6 +38,7 @@ impl FileReport {
             file,
             counts: Counts::none(),
             lines: Vec::new(alloc),
+            told: Vec::new(alloc),
         }
     }
 
@@ -47,6 +50,7 @@ impl FileReport {
         ensures total { OnOk result (total_of self.new.counts ≡ total_of self.old.counts + 1) }
     {
         push_line(&mut self.lines, plan, one)?;
+        push_told(&mut self.told, one)?;
         self.counts.add(&one.finding);
         Ok(())
     }
@@ -58,11 +62,44 @@ impl FileReport {
         self.counts
     }
 
+    /// Its place among the files of its plan.
+    pub fn file(&self) -> u32
+        ensures { result ≡ self.now.file }
+    {
+        self.file
+    }
+
+    /// The chunks of which something is told: those that are lost, broken or torn.
+    pub fn told(&self) -> &[Judged]
+        ensures { result.now ≡ self.now.told }
+    {
+        self.told.as_slice()
+    }
+
     /// Whether a chunk of the file isn't as the storage promised.
     pub fn has_fault(&self) -> bool
         ensures { (plan : PlanRecord) (found : FileFound) → self.now ≡ state_of plan found → result ≡ has_fault found }
     {
         self.counts.have_fault()
+    }
+}
+
+// Appends a chunk, if something is told of it.
+fn push_told(told: &mut Vec<Judged>, one: &Judged) -> Result<(), Memory>
+    ensures { OnOk result (told.new.items ≡ told.old.items ++ filter is_told (one.now ∷ [])) }
+{
+    if is_told(one) {
+        told.push(*one)?;
+    }
+    Ok(())
+}
+
+fn is_told(one: &Judged) -> bool
+    ensures { result ≡ is_told one.now }
+{
+    match one.finding {
+        Finding::Open | Finding::Kept => false,
+        Finding::Lost(_, _) | Finding::Torn(_) | Finding::Broken(_) => true,
     }
 }
 

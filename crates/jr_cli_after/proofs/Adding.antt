@@ -50,23 +50,25 @@ module _ (asked : Asked) (reading : Reading) (chunk : Piece) (at : reading.chunk
 abbrev both : FileState → UnreadState → FileAfterState
 both found unread = record { found = found; unread = unread }
 
-abbrev pair : ℕ → List ℕ → UnreadState
-pair count lines = record { count = count; lines = lines }
+abbrev as_unread : ℕ → List ℕ → List Piece → UnreadState
+as_unread count lines chunks = record { count = count; lines = lines; chunks = chunks }
 
 more_lines : (plan : Plan) (chunks : List Piece) (chunk : Piece) → flat_map (unread_line plan) (chunks ++ chunk ∷ []) ≡ flat_map (unread_line plan) chunks ++ unread_line plan chunk
 more_lines plan chunks chunk =
     flat_map-append (unread_line plan) chunks (chunk ∷ [])
     ∙ ap (λ (l : List ℕ). flat_map (unread_line plan) chunks ++ l) (append-nil (unread_line plan chunk))
 
-more_unread : (plan : Plan) (chunks : List Piece) (chunk : Piece) (before after : UnreadState) → before ≡ unread_state plan chunks → after.count ≡ before.count + 1 → after.lines ≡ before.lines ++ unread_line plan chunk → after ≡ unread_state plan (chunks ++ chunk ∷ [])
-more_unread plan chunks chunk before after is count lines =
-    ap (λ (n : ℕ). pair n after.lines)
+more_unread : (plan : Plan) (chunks : List Piece) (chunk : Piece) (before after : UnreadState) → before ≡ unread_state plan chunks → after.count ≡ before.count + 1 → after.lines ≡ before.lines ++ unread_line plan chunk → after.chunks ≡ before.chunks ++ chunk ∷ [] → after ≡ unread_state plan (chunks ++ chunk ∷ [])
+more_unread plan chunks chunk before after is count lines pieces =
+    ap (λ (n : ℕ). as_unread n after.lines after.chunks)
     (count ∙ ap (λ (u : UnreadState). u.count + 1) is ∙ sym (length-append chunks (chunk ∷ [])))
-    ∙ ap (λ (l : List ℕ). pair (length (chunks ++ chunk ∷ [])) l)
+    ∙ ap (λ (l : List ℕ). as_unread (length (chunks ++ chunk ∷ [])) l after.chunks)
     (lines ∙ ap (λ (u : UnreadState). u.lines ++ unread_line plan chunk) is ∙ sym (more_lines plan chunks chunk))
+    ∙ ap (λ (l : List Piece). as_unread (length (chunks ++ chunk ∷ [])) (flat_map (unread_line plan) (chunks ++ chunk ∷ [])) l)
+    (pieces ∙ ap (λ (u : UnreadState). u.chunks ++ chunk ∷ []) is)
 
-pub unread_added : (asked : Asked) (chunk : Piece) (bytes : List ℕ) (before after : FileAfterState) → after.found ≡ before.found → after.unread.count ≡ before.unread.count + 1 → after.unread.lines ≡ before.unread.lines ++ unread_line asked.plan chunk → IsAdded asked chunk false bytes before after
-unread_added asked chunk bytes before after found count lines = record {
+pub unread_added : (asked : Asked) (chunk : Piece) (bytes : List ℕ) (before after : FileAfterState) → after.found ≡ before.found → after.unread.count ≡ before.unread.count + 1 → after.unread.lines ≡ before.unread.lines ++ unread_line asked.plan chunk → after.unread.chunks ≡ before.unread.chunks ++ chunk ∷ [] → IsAdded asked chunk false bytes before after
+unread_added asked chunk bytes before after found count lines pieces = record {
   count = ap (λ (s : FileState). total_of s.counts + after.unread.count) found ∙ omega (arith, count);
   added = λ reading file readings at other are is.
       ap (λ (s : FileState). both s after.unread)
@@ -75,7 +77,7 @@ unread_added asked chunk bytes before after found count lines = record {
       ∙ ap (λ (l : List Judged). state_of asked.plan (record { file = file; chunks = l }))
       (sym (none_more (judged_of asked) readings reading (judged_other asked reading chunk at other))))
       ∙ ap (both (state_of asked.plan (found_by asked file (readings ++ reading ∷ []))))
-      (more_unread asked.plan (unread_by readings) chunk before.unread after.unread (ap (λ (s : FileAfterState). s.unread) is) count lines
+      (more_unread asked.plan (unread_by readings) chunk before.unread after.unread (ap (λ (s : FileAfterState). s.unread) is) count lines pieces
       ∙ ap (unread_state asked.plan) (sym (one_more unread_of readings reading chunk (unread_other asked reading chunk at other))));
 }
 
@@ -94,9 +96,9 @@ judged_added asked chunk bytes finding before after by adds total unread = recor
       ∙ ap (unread_state asked.plan) (sym (none_more unread_of readings reading (unread_whole asked reading chunk at whole))));
 }
 
-pub unread_when_ok : {X E : Type 0} (r : Result X E) (asked : Asked) (chunk : Piece) (bytes : List ℕ) (before after : FileAfterState) → after.found ≡ before.found → OnOk r (after.unread.count ≡ before.unread.count + 1) → OnOk r (after.unread.lines ≡ before.unread.lines ++ unread_line asked.plan chunk) → OnOk r (IsAdded asked chunk false bytes before after)
-unread_when_ok (Ok x) asked chunk bytes before after found count lines = unread_added asked chunk bytes before after found count lines
-unread_when_ok (Err e) asked chunk bytes before after found count lines = count
+pub unread_when_ok : {X E : Type 0} (r : Result X E) (asked : Asked) (chunk : Piece) (bytes : List ℕ) (before after : FileAfterState) → after.found ≡ before.found → OnOk r (after.unread.count ≡ before.unread.count + 1) → OnOk r (after.unread.lines ≡ before.unread.lines ++ unread_line asked.plan chunk) → OnOk r (after.unread.chunks ≡ before.unread.chunks ++ chunk ∷ []) → OnOk r (IsAdded asked chunk false bytes before after)
+unread_when_ok (Ok x) asked chunk bytes before after found count lines pieces = unread_added asked chunk bytes before after found count lines pieces
+unread_when_ok (Err e) asked chunk bytes before after found count lines pieces = count
 
 pub judged_when_ok : {X E : Type 0} (r : Result X E) (asked : Asked) (chunk : Piece) (bytes : List ℕ) (finding : Finding) (before after : FileAfterState) → finding ≡ finding_on (writes_of asked.plan) asked.lines chunk bytes → ((file : ℕ) (chunks : List Judged) → before.found ≡ state_of asked.plan (record { file = file; chunks = chunks }) → OnOk r (after.found ≡ state_of asked.plan (record { file = file; chunks = chunks ++ (record { chunk = chunk; finding = finding }) ∷ [] }))) → OnOk r (total_of after.found.counts ≡ total_of before.found.counts + 1) → after.unread ≡ before.unread → OnOk r (IsAdded asked chunk true bytes before after)
 judged_when_ok (Ok x) asked chunk bytes finding before after by adds total unread = judged_added asked chunk bytes finding before after by adds total unread

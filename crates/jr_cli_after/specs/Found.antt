@@ -44,13 +44,14 @@ found_by asked file readings = record { file = file; chunks = filter_map (judged
 abbrev pub unread_by : List Reading → List Piece
 unread_by readings = filter_map unread_of readings
 
--- the chunks of a file that couldn't be read: how many, and their lines
+-- the chunks of a file that couldn't be read: which and how many, and their lines
 pub record UnreadState : Type 0 where
   pub count : ℕ
   pub lines : List ℕ
+  pub chunks : List Piece
 
 abbrev pub unread_state : Plan → List Piece → UnreadState
-unread_state plan chunks = record { count = length chunks; lines = flat_map (unread_line plan) chunks }
+unread_state plan chunks = record { count = length chunks; lines = flat_map (unread_line plan) chunks; chunks = chunks }
 
 -- what of a file is told: of its chunks that were judged, and of the others
 pub record FileAfterState : Type 0 where
@@ -90,6 +91,9 @@ pub record IsAfter (asked : Asked) (old : EngineState) (told : AfterState) (new 
 
 abbrev pub lines_in : UnreadState → List ℕ
 lines_in state = state.lines
+
+abbrev pub chunks_in : UnreadState → List Piece
+chunks_in state = state.chunks
 
 abbrev pub has_some : UnreadState → Bool
 has_some state = not (state.count == 0)

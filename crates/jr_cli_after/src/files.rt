@@ -16,6 +16,7 @@ use std::marker::Model;
 pub(crate) struct Unread {
     pub(crate) count: u64,
     pub(crate) lines: Vec<u8>,
+    pub(crate) chunks: Vec<Piece>,
 }
 
 impl Model for Unread {
@@ -23,7 +24,7 @@ impl Model for Unread {
 
     ghost Value = { UnreadState };
 
-    ghost view = { λ u. record { count = u.count; lines = u.lines.items } };
+    ghost view = { λ u. record { count = u.count; lines = u.lines.items; chunks = u.chunks.items } };
 }
 
 // What of a file is told.
@@ -43,11 +44,12 @@ impl Model for FileAfter {
 
 impl Unread {
     fn none(alloc: Global) -> Unread
-        ensures { result ≡ record { count = 0; lines = [] } }
+        ensures { result ≡ record { count = 0; lines = []; chunks = [] } }
     {
         Unread {
             count: 0,
             lines: Vec::new(alloc),
+            chunks: Vec::new(alloc),
         }
     }
 
@@ -56,8 +58,10 @@ impl Unread {
         requires { self.old.count + 1 < 2 ^ 64 }
         ensures count { OnOk result (self.new.count ≡ self.old.count + 1) }
         ensures lines { OnOk result (self.new.lines ≡ self.old.lines ++ unread_line plan.now chunk.now) }
+        ensures chunks { OnOk result (self.new.chunks ≡ self.old.chunks ++ chunk.now ∷ []) }
     {
         push_line(&mut self.lines, plan, chunk)?;
+        self.chunks.push(*chunk)?;
         self.count += 1;
         Ok(())
     }
@@ -92,6 +96,7 @@ impl FileAfter {
         ensures found { self.new.found ≡ self.old.found }
         ensures count { OnOk result (self.new.unread.count ≡ self.old.unread.count + 1) }
         ensures lines { OnOk result (self.new.unread.lines ≡ self.old.unread.lines ++ unread_line plan.now chunk.now) }
+        ensures chunks { OnOk result (self.new.unread.chunks ≡ self.old.unread.chunks ++ chunk.now ∷ []) }
     {
         self.unread.add(plan, chunk)
     }

@@ -1,6 +1,6 @@
 ghost use Rattle.std.specs.Prelude.{◌≡◌, ◌≤◌, ◌++◌, ◌||◌, length, flat_map, List, IfOk, OnOk, if◌then◌else◌};
 ghost use Rattle.std.specs.List.{list_any};
-ghost use Rattle.jr_cli_after.specs.Found.{Asked, IsAfter, has_fault_counted, has_some, lines_in, report_after, status_after, told_of};
+ghost use Rattle.jr_cli_after.specs.Found.{Asked, IsAfter, chunks_in, has_fault_counted, has_some, lines_in, report_after, status_after, told_of};
 ghost use Rattle.jr_cli_after.specs.Readings.{FileRead};
 
 use crate::faults::AfterFailure;
@@ -10,7 +10,7 @@ use crate::walk::judge_file;
 use jr_after_report::{FileReport, report};
 use jr_engines::Engine;
 use jr_ledger::LedgerLine;
-use jr_model::{LARGEST_BLOCK, Memory};
+use jr_model::{LARGEST_BLOCK, Memory, Piece};
 use jr_plan::Plan;
 use std::alloc::Global;
 use std::marker::Model;
@@ -75,6 +75,22 @@ impl After {
         Ok(text)
     }
 
+    /// What is found in each file, in the order of the plan.
+    pub fn found(&self) -> &[FileReport]
+        ensures { result.now ≡ self.now.found }
+    {
+        self.found.as_slice()
+    }
+
+    /// The chunks that couldn't be read.
+    pub fn unread(&self, alloc: Global) -> Result<Vec<Piece>, Memory>
+        ensures { IfOk result (λ chunks. chunks.items ≡ flat_map chunks_in self.now.unread) }
+    {
+        let mut chunks = Vec::new(alloc);
+        push_chunks(&mut chunks, self.unread.as_slice())?;
+        Ok(chunks)
+    }
+
     /// The status of the program: 1 if a chunk is lost or broken, or couldn't be read; else 0.
     pub fn status(&self) -> u8
         ensures { (asked : Asked) (files : List FileRead) → self.now ≡ told_of asked files → result ≡ status_after asked files }
@@ -98,6 +114,16 @@ fn push_unread(text: &mut Vec<u8>, unread: &[Unread]) -> Result<(), Memory>
 {
     for one in unread {
         text.extend_from_slice(one.lines.as_slice())?;
+    }
+    Ok(())
+}
+
+// Appends the chunks themselves.
+fn push_chunks(chunks: &mut Vec<Piece>, unread: &[Unread]) -> Result<(), Memory>
+    ensures { OnOk result (chunks.new.items ≡ chunks.old.items ++ flat_map chunks_in unread.now) }
+{
+    for one in unread {
+        chunks.extend_from_slice(one.chunks.as_slice())?;
     }
     Ok(())
 }

@@ -1,6 +1,7 @@
 // Where a run is told beside its report: its trace, the list of bad blocks, the JSON and the page, and maps on the screen.
 #![tactic(auto)]
 
+mod afters;
 mod finished;
 mod maps;
 mod outputs;

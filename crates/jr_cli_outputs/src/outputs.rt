@@ -17,13 +17,16 @@ use jr_stats::trace;
 use jr_system::{Outlet, Stop};
 use std::alloc::Global;
 use std::fs;
+use std::fs::File;
 use std::io::{BufWriter, Write};
 
 // What an output says of a run.
 #[derive(Drop)]
-enum Content {
+pub(crate) enum Content {
     // Each of its events.
     Trace,
+    // Which writes ended and which syncs returned, as it happens.
+    Ledger,
     // The list of the bad blocks of the plan's only file, with blocks of this size.
     BadBlocks(BlockSize),
     // The same with the blocks of faults.
@@ -36,8 +39,8 @@ enum Content {
 
 // An output: the path that the words give it, where that leads, and how it is written.
 #[derive(Drop)]
-struct Output {
-    content: Content,
+pub(crate) struct Output {
+    pub(crate) content: Content,
     path: String,
     target: Target,
     way: Way,
@@ -48,7 +51,7 @@ struct Output {
 /// writes to otherwise, and standard input.
 #[derive(Drop)]
 pub struct Outputs {
-    all: Vec<Output>,
+    pub(crate) all: Vec<Output>,
     files: Vec<String>,
     streams: Vec<Spot>,
     input: Vec<Spot>,
@@ -93,6 +96,7 @@ impl Outputs {
         if choice.check_trace.is_none() && !choice.keep_traces {
             self.add(rt, choice.trace, Content::Trace)?;
         }
+        self.add(rt, choice.ledger, Content::Ledger)?;
         let has_faults = has_faults(choice)?;
         if choice.bad_blocks.is_some() {
             let content = list_content(plan, choice, has_faults)?;
@@ -203,7 +207,7 @@ impl Outputs {
             || met_by(spot, self.input.as_slice()).is_some()
     }
 
-    // What the run has otherwise: its job file, the trace that it checks, and the files of its jobs.
+    // What the program has otherwise: the job file, the trace that it checks, the ledger that it judges by, and the files of the jobs.
     fn known<R: Outlet>(&self, rt: &R, choice: &Choice<'_>) -> Result<TakenSpots, Stop> {
         let mut known = TakenSpots::new(rt.alloc());
         match choice.job {
@@ -212,6 +216,9 @@ impl Outputs {
         }
         if let Some(path) = choice.check_trace {
             known.add(spot_at(rt, path), Unfit::Trace)?;
+        }
+        if let Some(path) = choice.after {
+            known.add(spot_at(rt, path), Unfit::Ledger)?;
         }
         for name in self.files.as_slice() {
             known.add(spot_at(rt, name.as_str()), Unfit::File)?;
@@ -241,11 +248,9 @@ impl Outputs {
         }
     }
 
-    /// Whether none is asked for but a trace.
+    /// Whether none is asked for but what is written while the run goes on, or at its end from its events.
     pub fn is_empty(&self) -> bool {
-        self.all
-            .iter()
-            .all(|output| matches!(&output.content, Content::Trace))
+        self.all.iter().all(|output| matches!(&output.content, Content::Trace | Content::Ledger))
     }
 
     /// What no file of a job may be: an output, or a stream of the program.
@@ -293,6 +298,31 @@ impl Outputs {
         }
     }
 
+    /// The file that the ledger goes to, where one is asked for. What is written there stands in it at once.
+    pub fn ledger<R: Outlet>(&self, rt: &R) -> Result<Option<File>, Stop> {
+        let Some(output) = self.ledger_output() else {
+            return Ok(None);
+        };
+        match output.road.file(rt) {
+            Ok(file) => Ok(Some(file)),
+            Err(error) => Err(output.unmade(rt, error)),
+        }
+    }
+
+    /// Has the ledger take its name, whose first line is written.
+    pub fn finish_ledger<R: Outlet>(&self, rt: &R) -> Result<(), Stop> {
+        match self.ledger_output() {
+            Some(output) => self.finish(rt, output),
+            None => Ok(()),
+        }
+    }
+
+    fn ledger_output(&self) -> Option<&Output> {
+        self.all
+            .iter()
+            .find(|output| matches!(&output.content, Content::Ledger))
+    }
+
     /// Whether the JSON is asked for.
     pub fn has_json(&self) -> bool {
         self.all
@@ -305,7 +335,7 @@ impl Outputs {
         for output in self.all.iter() {
             match &output.content {
                 Content::BadBlocks(size) | Content::WrongBlocks(size) => return Some(size),
-                Content::Trace | Content::Json | Content::Page => {}
+                Content::Trace | Content::Ledger | Content::Json | Content::Page => {}
             }
         }
         None
@@ -346,7 +376,7 @@ impl Outputs {
                     blocks_text(rt.alloc(), blocks)
                 }
                 Content::Page => page_text(rt.alloc(), findings, notes),
-                Content::Json => continue,
+                Content::Json | Content::Ledger => continue,
             };
             result = result.and(self.write_made(rt, output, text));
         }
@@ -354,7 +384,7 @@ impl Outputs {
     }
 
     // Writes a text that was made for it, and has it take its name.
-    fn write_made<R: Outlet>(
+    pub(crate) fn write_made<R: Outlet>(
         &self,
         rt: &R,
         output: &Output,
@@ -402,7 +432,7 @@ impl Outputs {
         storage: &Storage,
         notes: &RunNotes<'_>,
     ) -> Result<(), Stop> {
-        if matches!(&output.content, Content::Trace) {
+        if matches!(&output.content, Content::Trace | Content::Ledger) {
             return Ok(());
         }
         self.write_made(
@@ -530,6 +560,7 @@ impl Content {
     fn word(&self) -> &'static str {
         match self {
             Content::Trace => "--trace",
+            Content::Ledger => "--ledger",
             Content::BadBlocks(_) | Content::WrongBlocks(_) => "--bad-blocks",
             Content::Json => "--json",
             Content::Page => "--page",
@@ -544,7 +575,7 @@ impl Content {
         notes: &RunNotes<'_>,
     ) -> Result<Vec<u8>, Memory> {
         match self {
-            Content::Trace => Ok(Vec::new(alloc)),
+            Content::Trace | Content::Ledger => Ok(Vec::new(alloc)),
             Content::BadBlocks(size) => list_text(alloc, findings, size),
             Content::WrongBlocks(size) => list_text_with_faults(alloc, findings, size),
             Content::Json => json_text(alloc, findings, notes, storage),

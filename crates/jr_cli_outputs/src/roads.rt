@@ -55,6 +55,17 @@ impl Road {
         }
     }
 
+    // The file that lies at its end. A stream of the program is opened once more, so that what is written goes behind what stands there.
+    pub fn file<R: Outlet>(&self, rt: &R) -> io::Result<File> {
+        match self {
+            Road::Unmade => Err(Error::from(ErrorKind::NotFound)),
+            Road::New(file) => file.writer(),
+            Road::Open(file) => file.try_clone(),
+            Road::Out => OpenOptions::new().append(true).open(rt, "/proc/self/fd/1"),
+            Road::Error => OpenOptions::new().append(true).open(rt, "/proc/self/fd/2"),
+        }
+    }
+
     // What writes there.
     pub fn sink<'a, R: Outlet>(&self, rt: &'a R) -> io::Result<Sink<'a, R>> {
         match self {

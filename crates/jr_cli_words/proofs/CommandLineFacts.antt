@@ -49,55 +49,59 @@ other_id e = absurd (true≢false (sym e))
 
 pub workers_parser : AllHaveParser (codes "workers") (parser.Signed (pos 1) (pos 16)) command_line.top.rules
 unfolding command_line
-workers_parser = (other_id, (other_id, (other_id, ((λ e. (refl, refl)), (other_id, (other_id, (other_id, (other_id, (other_id, (other_id, (other_id, (other_id, (other_id, (other_id, (other_id, (other_id, (other_id, (other_id, (other_id, (other_id, (other_id, (other_id, (other_id, (other_id, (other_id, (other_id, tt))))))))))))))))))))))))))
+workers_parser = (other_id, (other_id, (other_id, ((λ e. (refl, refl)), (other_id, (other_id, (other_id, (other_id, (other_id, (other_id, (other_id, (other_id, (other_id, (other_id, (other_id, (other_id, (other_id, (other_id, (other_id, (other_id, (other_id, (other_id, (other_id, (other_id, (other_id, (other_id, (other_id, (other_id, (other_id, tt)))))))))))))))))))))))))))))
 
 pub parse_only_parser : AllHaveParser (codes "parse-only") parser.Bool command_line.top.rules
 unfolding command_line
-parse_only_parser = (other_id, (other_id, ((λ e. (refl, refl)), (other_id, (other_id, (other_id, (other_id, (other_id, (other_id, (other_id, (other_id, (other_id, (other_id, (other_id, (other_id, (other_id, (other_id, (other_id, (other_id, (other_id, (other_id, (other_id, (other_id, (other_id, (other_id, (other_id, tt))))))))))))))))))))))))))
+parse_only_parser = (other_id, (other_id, ((λ e. (refl, refl)), (other_id, (other_id, (other_id, (other_id, (other_id, (other_id, (other_id, (other_id, (other_id, (other_id, (other_id, (other_id, (other_id, (other_id, (other_id, (other_id, (other_id, (other_id, (other_id, (other_id, (other_id, (other_id, (other_id, (other_id, (other_id, (other_id, tt)))))))))))))))))))))))))))))
 
 pub cached_parser : AllHaveParser (codes "cached") parser.Bool command_line.top.rules
 unfolding command_line
-cached_parser = (other_id, (other_id, (other_id, (other_id, (other_id, (other_id, ((λ e. (refl, refl)), (other_id, (other_id, (other_id, (other_id, (other_id, (other_id, (other_id, (other_id, (other_id, (other_id, (other_id, (other_id, (other_id, (other_id, (other_id, (other_id, (other_id, (other_id, (other_id, tt))))))))))))))))))))))))))
+cached_parser = (other_id, (other_id, (other_id, (other_id, (other_id, (other_id, ((λ e. (refl, refl)), (other_id, (other_id, (other_id, (other_id, (other_id, (other_id, (other_id, (other_id, (other_id, (other_id, (other_id, (other_id, (other_id, (other_id, (other_id, (other_id, (other_id, (other_id, (other_id, (other_id, (other_id, (other_id, tt)))))))))))))))))))))))))))))
 
 pub allow_mounted_write_parser : AllHaveParser (codes "allow-mounted-write") parser.Bool command_line.top.rules
 unfolding command_line
-allow_mounted_write_parser = (other_id, (other_id, (other_id, (other_id, (other_id, (other_id, (other_id, ((λ e. (refl, refl)), (other_id, (other_id, (other_id, (other_id, (other_id, (other_id, (other_id, (other_id, (other_id, (other_id, (other_id, (other_id, (other_id, (other_id, (other_id, (other_id, (other_id, (other_id, tt))))))))))))))))))))))))))
+allow_mounted_write_parser = (other_id, (other_id, (other_id, (other_id, (other_id, (other_id, (other_id, ((λ e. (refl, refl)), (other_id, (other_id, (other_id, (other_id, (other_id, (other_id, (other_id, (other_id, (other_id, (other_id, (other_id, (other_id, (other_id, (other_id, (other_id, (other_id, (other_id, (other_id, (other_id, (other_id, (other_id, tt)))))))))))))))))))))))))))))
 
 pub notes_parser : AllHaveParser (codes "notes") parser.Bool command_line.top.rules
 unfolding command_line
-notes_parser = (other_id, (other_id, (other_id, (other_id, (other_id, (other_id, (other_id, (other_id, ((λ e. (refl, refl)), (other_id, (other_id, (other_id, (other_id, (other_id, (other_id, (other_id, (other_id, (other_id, (other_id, (other_id, (other_id, (other_id, (other_id, (other_id, (other_id, (other_id, tt))))))))))))))))))))))))))
+notes_parser = (other_id, (other_id, (other_id, (other_id, (other_id, (other_id, (other_id, (other_id, ((λ e. (refl, refl)), (other_id, (other_id, (other_id, (other_id, (other_id, (other_id, (other_id, (other_id, (other_id, (other_id, (other_id, (other_id, (other_id, (other_id, (other_id, (other_id, (other_id, (other_id, (other_id, (other_id, tt)))))))))))))))))))))))))))))
 
 pub interrupted_parser : AllHaveParser (codes "interrupted") parser.Bool command_line.top.rules
 unfolding command_line
-interrupted_parser = (other_id, (other_id, (other_id, (other_id, (other_id, (other_id, (other_id, (other_id, (other_id, (other_id, ((λ e. (refl, refl)), (other_id, (other_id, (other_id, (other_id, (other_id, (other_id, (other_id, (other_id, (other_id, (other_id, (other_id, (other_id, (other_id, (other_id, (other_id, tt))))))))))))))))))))))))))
+interrupted_parser = (other_id, (other_id, (other_id, (other_id, (other_id, (other_id, (other_id, (other_id, (other_id, (other_id, ((λ e. (refl, refl)), (other_id, (other_id, (other_id, (other_id, (other_id, (other_id, (other_id, (other_id, (other_id, (other_id, (other_id, (other_id, (other_id, (other_id, (other_id, (other_id, (other_id, (other_id, tt)))))))))))))))))))))))))))))
 
 pub map_parser : AllHaveParser (codes "map") parser.Bool command_line.top.rules
 unfolding command_line
-map_parser = (other_id, (other_id, (other_id, (other_id, (other_id, (other_id, (other_id, (other_id, (other_id, (other_id, (other_id, (other_id, (other_id, (other_id, ((λ e. (refl, refl)), (other_id, (other_id, (other_id, (other_id, (other_id, (other_id, (other_id, (other_id, (other_id, (other_id, (other_id, tt))))))))))))))))))))))))))
+map_parser = (other_id, (other_id, (other_id, (other_id, (other_id, (other_id, (other_id, (other_id, (other_id, (other_id, (other_id, (other_id, (other_id, (other_id, ((λ e. (refl, refl)), (other_id, (other_id, (other_id, (other_id, (other_id, (other_id, (other_id, (other_id, (other_id, (other_id, (other_id, (other_id, (other_id, (other_id, tt)))))))))))))))))))))))))))))
 
 pub progress_parser : AllHaveParser (codes "progress") (parser.Signed (pos 1) (pos 86400)) command_line.top.rules
 unfolding command_line
-progress_parser = (other_id, (other_id, (other_id, (other_id, (other_id, (other_id, (other_id, (other_id, (other_id, (other_id, (other_id, (other_id, (other_id, (other_id, (other_id, ((λ e. (refl, refl)), (other_id, (other_id, (other_id, (other_id, (other_id, (other_id, (other_id, (other_id, (other_id, (other_id, tt))))))))))))))))))))))))))
+progress_parser = (other_id, (other_id, (other_id, (other_id, (other_id, (other_id, (other_id, (other_id, (other_id, (other_id, (other_id, (other_id, (other_id, (other_id, (other_id, ((λ e. (refl, refl)), (other_id, (other_id, (other_id, (other_id, (other_id, (other_id, (other_id, (other_id, (other_id, (other_id, (other_id, (other_id, (other_id, tt)))))))))))))))))))))))))))))
 
 pub repeat_parser : AllHaveParser (codes "repeat") (parser.Signed (pos 1) (pos 4294967295)) command_line.top.rules
 unfolding command_line
-repeat_parser = (other_id, (other_id, (other_id, (other_id, (other_id, (other_id, (other_id, (other_id, (other_id, (other_id, (other_id, (other_id, (other_id, (other_id, (other_id, (other_id, (other_id, (other_id, (other_id, ((λ e. (refl, refl)), (other_id, (other_id, (other_id, (other_id, (other_id, (other_id, tt))))))))))))))))))))))))))
+repeat_parser = (other_id, (other_id, (other_id, (other_id, (other_id, (other_id, (other_id, (other_id, (other_id, (other_id, (other_id, (other_id, (other_id, (other_id, (other_id, (other_id, (other_id, (other_id, (other_id, ((λ e. (refl, refl)), (other_id, (other_id, (other_id, (other_id, (other_id, (other_id, (other_id, (other_id, (other_id, tt)))))))))))))))))))))))))))))
 
 pub keep_going_parser : AllHaveParser (codes "keep-going") parser.Bool command_line.top.rules
 unfolding command_line
-keep_going_parser = (other_id, (other_id, (other_id, (other_id, (other_id, (other_id, (other_id, (other_id, (other_id, (other_id, (other_id, (other_id, (other_id, (other_id, (other_id, (other_id, (other_id, (other_id, (other_id, (other_id, ((λ e. (refl, refl)), (other_id, (other_id, (other_id, (other_id, (other_id, tt))))))))))))))))))))))))))
+keep_going_parser = (other_id, (other_id, (other_id, (other_id, (other_id, (other_id, (other_id, (other_id, (other_id, (other_id, (other_id, (other_id, (other_id, (other_id, (other_id, (other_id, (other_id, (other_id, (other_id, (other_id, ((λ e. (refl, refl)), (other_id, (other_id, (other_id, (other_id, (other_id, (other_id, (other_id, (other_id, tt)))))))))))))))))))))))))))))
 
 pub keep_traces_parser : AllHaveParser (codes "keep-traces") parser.Bool command_line.top.rules
 unfolding command_line
-keep_traces_parser = (other_id, (other_id, (other_id, (other_id, (other_id, (other_id, (other_id, (other_id, (other_id, (other_id, (other_id, (other_id, (other_id, (other_id, (other_id, (other_id, (other_id, (other_id, (other_id, (other_id, (other_id, ((λ e. (refl, refl)), (other_id, (other_id, (other_id, (other_id, tt))))))))))))))))))))))))))
+keep_traces_parser = (other_id, (other_id, (other_id, (other_id, (other_id, (other_id, (other_id, (other_id, (other_id, (other_id, (other_id, (other_id, (other_id, (other_id, (other_id, (other_id, (other_id, (other_id, (other_id, (other_id, (other_id, ((λ e. (refl, refl)), (other_id, (other_id, (other_id, (other_id, (other_id, (other_id, (other_id, tt)))))))))))))))))))))))))))))
 
 pub go_on_parser : AllHaveParser (codes "go-on") parser.Bool command_line.top.rules
 unfolding command_line
-go_on_parser = (other_id, (other_id, (other_id, (other_id, (other_id, (other_id, (other_id, (other_id, (other_id, (other_id, (other_id, (other_id, (other_id, (other_id, (other_id, (other_id, (other_id, (other_id, (other_id, (other_id, (other_id, (other_id, ((λ e. (refl, refl)), (other_id, (other_id, (other_id, tt))))))))))))))))))))))))))
+go_on_parser = (other_id, (other_id, (other_id, (other_id, (other_id, (other_id, (other_id, (other_id, (other_id, (other_id, (other_id, (other_id, (other_id, (other_id, (other_id, (other_id, (other_id, (other_id, (other_id, (other_id, (other_id, (other_id, ((λ e. (refl, refl)), (other_id, (other_id, (other_id, (other_id, (other_id, (other_id, tt)))))))))))))))))))))))))))))
 
 pub adapt_parser : AllHaveParser (codes "adapt") parser.Bool command_line.top.rules
 unfolding command_line
-adapt_parser = (other_id, (other_id, (other_id, (other_id, (other_id, (other_id, (other_id, (other_id, (other_id, (other_id, (other_id, (other_id, (other_id, (other_id, (other_id, (other_id, (other_id, (other_id, (other_id, (other_id, (other_id, (other_id, (other_id, (other_id, ((λ e. (refl, refl)), (other_id, tt))))))))))))))))))))))))))
+adapt_parser = (other_id, (other_id, (other_id, (other_id, (other_id, (other_id, (other_id, (other_id, (other_id, (other_id, (other_id, (other_id, (other_id, (other_id, (other_id, (other_id, (other_id, (other_id, (other_id, (other_id, (other_id, (other_id, (other_id, (other_id, ((λ e. (refl, refl)), (other_id, (other_id, (other_id, (other_id, tt)))))))))))))))))))))))))))))
+
+pub sync_every_parser : AllHaveParser (codes "sync-every") (parser.Signed (pos 1) (pos 4294967295)) command_line.top.rules
+unfolding command_line
+sync_every_parser = (other_id, (other_id, (other_id, (other_id, (other_id, (other_id, (other_id, (other_id, (other_id, (other_id, (other_id, (other_id, (other_id, (other_id, (other_id, (other_id, (other_id, (other_id, (other_id, (other_id, (other_id, (other_id, (other_id, (other_id, (other_id, (other_id, (other_id, ((λ e. (refl, refl)), (other_id, tt)))))))))))))))))))))))))))))
 
 line_is_plain : command_line.top.is_plain ≡ true
 unfolding command_line

@@ -101,6 +101,18 @@ adapt_rule = flag_rule (codes "adapt")
 abbrev pub size_rule : Rule
 size_rule = option_rule (codes "size")
 
+-- where the ledger of the run goes
+abbrev pub ledger_rule : Rule
+ledger_rule = option_rule (codes "ledger")
+
+-- from 1 to 4294967295
+abbrev pub sync_every_rule : Rule
+sync_every_rule = record (option_rule (codes "sync-every")) { parser = Some (parser.Signed (pos 1) (pos 4294967295)) }
+
+-- the ledger by which the files are judged
+abbrev pub after_rule : Rule
+after_rule = option_rule (codes "after")
+
 -- a program that tells its version
 abbrev pub with_version : App → App
 with_version app = on_top (λ shape. record shape { has_version = true }) app
@@ -132,10 +144,14 @@ with_go_on_rules app = with_rule (with_rule app go_on_rule) bad_blocks_also_rule
 abbrev pub with_adapt_rules : App → App
 with_adapt_rules app = with_rule (with_rule app adapt_rule) size_rule
 
+-- with the arguments for a ledger, and for what is judged by one
+abbrev pub with_ledger_rules : App → App
+with_ledger_rules app = with_rule (with_rule (with_rule app ledger_rule) sync_every_rule) after_rule
+
 unfoldable pub command_line : App
 command_line =
-    with_adapt_rules (with_go_on_rules (with_round_rules (with_report_rules (with_run_rules (with_job_rules (with_version
-    (new_app (codes "fiorun"))))))))
+    with_ledger_rules (with_adapt_rules (with_go_on_rules (with_round_rules (with_report_rules (with_run_rules (with_job_rules (with_version
+    (new_app (codes "fiorun")))))))))
 
 -- the number that a text of digits writes
 abbrev pub number_in : Text → ℕ
@@ -169,3 +185,6 @@ pub record IsChoiceOf (choice : Choice) (rows : List Row) : Type 0 where
   pub bad_blocks_also : option_copied choice.bad_blocks_also ≡ first_of (codes "bad-blocks-also") rows
   pub adapt : choice.adapt ≡ unwrap_or (option_map (bytes_eq (codes "true")) (one_of (codes "adapt") rows)) false
   pub size : option_copied choice.size ≡ first_of (codes "size") rows
+  pub ledger : option_copied choice.ledger ≡ first_of (codes "ledger") rows
+  pub sync_every : choice.sync_every ≡ option_map number_in (one_of (codes "sync-every") rows)
+  pub after : option_copied choice.after ≡ first_of (codes "after") rows

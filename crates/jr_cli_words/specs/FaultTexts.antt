@@ -3,6 +3,7 @@ use Rattle.std.specs.Prelude.{ℕ, List, codes}
 use Rattle.jr_text.specs.FaultTexts.{text_fault_text}
 use Rattle.jr_options.specs.FaultTexts.{job_fault_text}
 use Rattle.jr_crew_threads.specs.FaultTexts.{run_fault_text}
+use Rattle.jr_ledger.specs.FaultTexts.{ledger_fault_text}
 use Rattle.jr_replay_traces.specs.FaultTexts.{trace_fault_text}
 use Rattle.jr_cli_words.specs.declared.faults.CliFault.{CliFault}
 use Rattle.jr_cli_words.specs.declared.faults.CliFault.TheVariants as fault
@@ -20,11 +21,17 @@ fault_text fault.BlockKind = codes "command line: bad kind of blocks"
 fault_text fault.RepeatedGoOn = codes "command line: --go-on with --for or --repeat"
 fault_text fault.GoOnFiles = codes "--go-on over several files"
 fault_text fault.JobSize = codes "command line: bad size of jobs"
+fault_text fault.LedgerRounds = codes "command line: --ledger with --for, --repeat or --go-on"
+fault_text fault.LedgerEngine = codes "ledger: the job has no files"
+fault_text fault.LedgerJob = codes "ledger: the job cannot be judged"
+fault_text fault.AfterRun = codes "command line: --after with words of a run"
+fault_text (fault.Ledger ledger) = ledger_fault_text ledger
 fault_text fault.Read = codes "cannot read the job file"
 fault_text fault.Open = codes "cannot open the files"
 fault_text fault.Unadapted = codes "cannot adapt the job file"
 fault_text (fault.Run run) = run_fault_text run
 fault_text (fault.Trace trace) = trace_fault_text trace
 fault_text fault.ReadTrace = codes "cannot read the trace"
+fault_text fault.ReadLedger = codes "cannot read the ledger"
 fault_text fault.Write = codes "cannot write"
 fault_text fault.Memory = codes "out of memory"

@@ -9,6 +9,8 @@ use Rattle.jr_job_options.specs.declared.faults.JobFault.{JobFault}
 use Rattle.jr_job_options.specs.declared.faults.JobFault.TheVariants as job
 use Rattle.jr_replay_traces.specs.declared.faults.TraceFault.{TraceFault}
 use Rattle.jr_replay_traces.specs.declared.faults.TraceFault.TheVariants as trace
+use Rattle.jr_ledger.specs.declared.faults.LedgerFault.{LedgerFault}
+use Rattle.jr_ledger.specs.declared.faults.LedgerFault.TheVariants as ledger
 use Rattle.jr_cli_words.specs.declared.faults.CliFault.{CliFault}
 use Rattle.jr_cli_words.specs.declared.faults.CliFault.TheVariants as fault
 
@@ -42,6 +44,12 @@ status_of_trace (trace.Illegal line) = 2
 status_of_trace trace.Unfinished = 2
 status_of_trace trace.Memory = 3
 
+-- of a faulty ledger
+abbrev pub status_of_ledger : LedgerFault → ℕ
+status_of_ledger (ledger.Line line) = 2
+status_of_ledger ledger.OtherJob = 2
+status_of_ledger ledger.Memory = 3
+
 -- of a fault that ends the program
 abbrev pub status_of_fault : CliFault → ℕ
 status_of_fault fault.Words = 2
@@ -56,12 +64,18 @@ status_of_fault fault.BlockKind = 2
 status_of_fault fault.RepeatedGoOn = 2
 status_of_fault fault.GoOnFiles = 2
 status_of_fault fault.JobSize = 2
+status_of_fault fault.LedgerRounds = 2
+status_of_fault fault.LedgerEngine = 2
+status_of_fault fault.LedgerJob = 2
+status_of_fault fault.AfterRun = 2
+status_of_fault (fault.Ledger faulty) = status_of_ledger faulty
 status_of_fault fault.Read = 3
 status_of_fault fault.Open = 3
 status_of_fault fault.Unadapted = 3
 status_of_fault (fault.Run run) = 3
 status_of_fault (fault.Trace trace) = status_of_trace trace
 status_of_fault fault.ReadTrace = 3
+status_of_fault fault.ReadLedger = 3
 status_of_fault fault.Write = 3
 status_of_fault fault.Memory = 3
 

@@ -1,6 +1,7 @@
 ghost use Rattle.std.specs.Prelude.{◌≡◌};
 
 use jr_crew_threads::RunFault;
+use jr_ledger::LedgerFault;
 use jr_model::Memory;
 use jr_options::JobFault;
 use jr_replay_traces::TraceFault;
@@ -34,6 +35,16 @@ pub enum CliFault {
     GoOnFiles,
     /// The size of jobs that have none is no number of bytes, or is named where no job file is adapted.
     JobSize,
+    /// A ledger is wanted of rounds, each of which is a run of its own.
+    LedgerRounds,
+    /// A ledger is wanted of a job whose engine has no files.
+    LedgerEngine,
+    /// A ledger is wanted of a job that can't be judged by one.
+    LedgerJob,
+    /// The words ask for a run, and for a judgement in place of it.
+    AfterRun,
+    /// The ledger isn't one of the job.
+    Ledger(LedgerFault),
     /// Standard input or the job file can't be read.
     Read,
     /// The files of the plan can't be made, made long enough or opened.
@@ -44,6 +55,8 @@ pub enum CliFault {
     Trace(TraceFault),
     /// The trace to check can't be read.
     ReadTrace,
+    /// The ledger can't be read.
+    ReadLedger,
     /// Writing failed; nothing is said of how much went out.
     Write,
     Memory,
@@ -60,15 +73,17 @@ impl CliFault {
         match self {
             CliFault::Text(TextFault::Memory)
             | CliFault::Job(JobFault::Memory)
-            | CliFault::Trace(TraceFault::Memory) => 3,
+            | CliFault::Trace(TraceFault::Memory)
+            | CliFault::Ledger(LedgerFault::Memory) => 3,
             CliFault::Words | CliFault::Text(_) | CliFault::Job(_) => 2,
             CliFault::Trace(_) | CliFault::SeveralFiles | CliFault::BlockSize => 2,
             CliFault::Duration | CliFault::SeveralRounds | CliFault::KeptTraces => 2,
             CliFault::BlockKind | CliFault::RepeatedGoOn | CliFault::GoOnFiles => 2,
-            CliFault::JobSize => 2,
+            CliFault::JobSize | CliFault::LedgerRounds | CliFault::LedgerEngine => 2,
+            CliFault::LedgerJob | CliFault::AfterRun | CliFault::Ledger(_) => 2,
             CliFault::Unadapted => 3,
             CliFault::Read | CliFault::ReadTrace | CliFault::Open | CliFault::Run(_) => 3,
-            CliFault::Write | CliFault::Memory => 3,
+            CliFault::ReadLedger | CliFault::Write | CliFault::Memory => 3,
         }
     }
 }
@@ -95,12 +110,20 @@ impl fmt::Display for CliFault {
             CliFault::RepeatedGoOn => { write!(f, "command line: --go-on with --for or --repeat") }
             CliFault::GoOnFiles => write!(f, "--go-on over several files"),
             CliFault::JobSize => write!(f, "command line: bad size of jobs"),
+            CliFault::LedgerRounds => {
+                write!(f, "command line: --ledger with --for, --repeat or --go-on")
+            }
+            CliFault::LedgerEngine => write!(f, "ledger: the job has no files"),
+            CliFault::LedgerJob => write!(f, "ledger: the job cannot be judged"),
+            CliFault::AfterRun => write!(f, "command line: --after with words of a run"),
+            CliFault::Ledger(fault) => write!(f, "{fault}"),
             CliFault::Read => write!(f, "cannot read the job file"),
             CliFault::Open => write!(f, "cannot open the files"),
             CliFault::Unadapted => write!(f, "cannot adapt the job file"),
             CliFault::Run(fault) => write!(f, "{fault}"),
             CliFault::Trace(fault) => write!(f, "{fault}"),
             CliFault::ReadTrace => write!(f, "cannot read the trace"),
+            CliFault::ReadLedger => write!(f, "cannot read the ledger"),
             CliFault::Write => write!(f, "cannot write"),
             CliFault::Memory => write!(f, "out of memory"),
         }
@@ -146,6 +169,16 @@ impl From<TraceFault> for CliFault {
 
     fn from(fault: TraceFault) -> CliFault {
         CliFault::Trace(fault)
+    }
+}
+
+impl From<LedgerFault> for CliFault {
+    ghost use Rattle.jr_cli_words.specs.declared.faults.CliFault.TheVariants as fault;
+
+    ghost from_gives = { λ ledger e. e ≡ fault.Ledger ledger };
+
+    fn from(fault: LedgerFault) -> CliFault {
+        CliFault::Ledger(fault)
     }
 }
 

@@ -34,6 +34,19 @@ pub fn read_trace<R: Read + Drop>(alloc: Global, reader: R) -> Result<Vec<u8>, C
     }
 }
 
+/// All that a reader of a ledger gives.
+pub fn read_ledger<R: Read + Drop>(alloc: Global, reader: R) -> Result<Vec<u8>, CliFault>
+    ensures ok { IfOk result (λ text. IfSome (R.remaining reader) (λ bytes. text.items ≡ bytes)) }
+    ensures err { IfErr result (λ fault. (fault ≡ CliFault.ReadLedger) ⊎ (fault ≡ CliFault.Memory)) }
+{
+    let mut text = Vec::new(alloc);
+    let mut reader = reader;
+    match reader.read_to_end(&mut text) {
+        Ok(_) => Ok(text),
+        Err(error) => Err(memory_or(&error, CliFault::ReadLedger)),
+    }
+}
+
 /// Want of memory if the system says so, else the given fault.
 pub fn memory_or(error: &io::Error, fault: CliFault) -> CliFault
     ensures memory { error_kind error.now ≡ ErrorKind.OutOfMemory → result ≡ CliFault.Memory }

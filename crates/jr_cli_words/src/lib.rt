@@ -10,7 +10,7 @@ mod words;
 mod workers;
 
 pub use faults::CliFault;
-pub use inputs::{memory_or, read_text, read_trace};
+pub use inputs::{memory_or, read_ledger, read_text, read_trace};
 pub use jobs::{print_plan, read_job, write_out};
 pub use sizes::{BlockSize, list_size};
 pub use wiping::{Wipe, Wiping};

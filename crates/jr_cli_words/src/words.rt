@@ -10,6 +10,7 @@ ghost use Rattle.jr_cli_words.specs.CommandLine.{
   with_round_rules,
   with_go_on_rules,
   with_adapt_rules,
+  with_ledger_rules,
   job_rule,
   section_rule,
   parse_only_rule,
@@ -36,6 +37,9 @@ ghost use Rattle.jr_cli_words.specs.CommandLine.{
   bad_blocks_also_rule,
   adapt_rule,
   size_rule,
+  ledger_rule,
+  sync_every_rule,
+  after_rule,
   IsChoiceOf,
 };
 
@@ -76,7 +80,7 @@ pub struct Choice<'a> {
     pub allow_mounted_write: bool,
     /// Say what a fault is about, also if standard error is no terminal.
     pub notes: bool,
-    /// The pipes by which the launcher is asked to drop the cached pages of a file (`bin/launch`).
+    /// The pipes by which the launcher is asked to drop the cached pages of a file (`launcher/launch`).
     pub drop_pipes: Option<&'a str>,
     /// The trace to check may be that of a run that was stopped.
     pub interrupted: bool,
@@ -110,6 +114,12 @@ pub struct Choice<'a> {
     pub adapt: bool,
     /// The size of a job that has none, where the job file is adapted.
     pub size: Option<&'a str>,
+    /// The file that the ledger of the run goes to.
+    pub ledger: Option<&'a str>,
+    /// After how many of its writes a file is synced.
+    pub sync_every: Option<u32>,
+    /// The ledger by which the files are judged after a power cut, in place of a run.
+    pub after: Option<&'a str>,
 }
 
 /// Reads the words of the command line, of which the first is the program's name. Help and the version are
@@ -119,6 +129,7 @@ pub fn choose<'a, S: AsStr>(alloc: Global, words: &'a [S]) -> Result<Choice<'a>,
     ensures workers { IfOk result (λ choice. IfSome choice.workers (λ n. (1 ≤ n) × (n ≤ 16))) }
     ensures progress { IfOk result (λ choice. IfSome choice.progress (λ n. (1 ≤ n) × (n ≤ 86400))) }
     ensures repeat { IfOk result (λ choice. IfSome choice.repeat (λ n. (1 ≤ n) × (n ≤ 4294967295))) }
+    ensures sync_every { IfOk result (λ choice. IfSome choice.sync_every (λ n. (1 ≤ n) × (n ≤ 4294967295))) }
     // Refused exactly where clap's rules for these arguments refuse the words, and by their kind.
     ensures refused { FailsBy (fault_of command_line (map S.text words.entry.now)) result }
 {
@@ -137,6 +148,8 @@ fn choice_in<'a>(matches: &ArgMatches<'a>) -> Choice<'a>
         → IfSome result.progress (λ n. (1 ≤ n) × (n ≤ 86400)) }
     ensures repeat { (command : Command) → app_of command ≡ command_line → IsParsedFrom command matches.now
         → IfSome result.repeat (λ n. (1 ≤ n) × (n ≤ 4294967295)) }
+    ensures sync_every { (command : Command) → app_of command ≡ command_line → IsParsedFrom command matches.now
+        → IfSome result.sync_every (λ n. (1 ≤ n) × (n ≤ 4294967295)) }
 {
     Choice {
         job: matches.get_str("job"),
@@ -165,6 +178,9 @@ fn choice_in<'a>(matches: &ArgMatches<'a>) -> Choice<'a>
         bad_blocks_also: matches.get_str("bad-blocks-also"),
         adapt: matches.get_flag("adapt"),
         size: matches.get_str("size"),
+        ledger: matches.get_str("ledger"),
+        sync_every: matches.get_one::<u32>("sync-every"),
+        after: matches.get_str("after"),
     }
 }
 
@@ -245,7 +261,8 @@ fn command<'a>(alloc: Global) -> Result<Command<'a>, AllocError>
     let command = with_report_args(alloc, command)?;
     let command = with_round_args(alloc, command)?;
     let command = with_go_on_args(alloc, command)?;
-    with_adapt_args(alloc, command)
+    let command = with_adapt_args(alloc, command)?;
+    with_ledger_args(alloc, command)
 }
 
 // The arguments for the job and its trace.
@@ -308,6 +325,15 @@ fn with_adapt_args<'a>(alloc: Global, command: Command<'a>) -> Result<Command<'a
 {
     let command = added(Ok(command), adapt_arg(alloc));
     added(command, size_arg(alloc))
+}
+
+// The arguments for a ledger, and for what is judged by one.
+fn with_ledger_args<'a>(alloc: Global, command: Command<'a>) -> Result<Command<'a>, AllocError>
+    ensures { IfOk result (λ made. app_of made ≡ with_ledger_rules (app_of command.entry)) }
+{
+    let command = added(Ok(command), ledger_arg(alloc));
+    let command = added(command, sync_every_arg(alloc));
+    added(command, after_arg(alloc))
 }
 
 // One more argument, where none before it failed. A `?` behind each argument would be a way out for each, and slow to prove.
@@ -611,4 +637,38 @@ fn size_arg<'a>(alloc: Global) -> Arg<'a>
         .value_name("N")
         .action(ArgAction::Set)
         .help("With --adapt: the size of each job that has none, as 16m or 1g")
+}
+
+fn ledger_arg<'a>(alloc: Global) -> Arg<'a>
+    ensures rule { rule_of result ≡ ledger_rule }
+    ensures local { result.global ≡ false }
+{
+    Arg::new(alloc, "ledger")
+        .long("ledger")
+        .value_name("FILE")
+        .action(ArgAction::Set)
+        .help("Where to write which writes ended and which syncs returned, as it happens")
+}
+
+fn sync_every_arg<'a>(alloc: Global) -> Arg<'a>
+    ensures rule { rule_of result ≡ sync_every_rule }
+    ensures local { result.global ≡ false }
+{
+    Arg::new(alloc, "sync-every")
+        .long("sync-every")
+        .value_name("N")
+        .action(ArgAction::Set)
+        .value_parser(value_parser!(u32).range(1..=4294967295))
+        .help("Sync a file each time that so many of its writes have ended")
+}
+
+fn after_arg<'a>(alloc: Global) -> Arg<'a>
+    ensures rule { rule_of result ≡ after_rule }
+    ensures local { result.global ≡ false }
+{
+    Arg::new(alloc, "after")
+        .long("after")
+        .value_name("LEDGER")
+        .action(ArgAction::Set)
+        .help("Judge the files after a power cut by this ledger of the job, and run nothing")
 }

@@ -10,7 +10,7 @@ ghost use Rattle.jr_crew.specs.Working.{CanBeServed, CanStart};
 use crate::outcomes::{CarriedOut, TakenIn};
 use jr_crew_threads::{
     Crowd, Halt, MOST_BYTES, MOST_IOS, Naming, Shares, Turns, Watch, asked_at, note_bad,
-    note_start, note_verdict, push,
+    note_start, note_verdict, push, record_due, record_from,
 };
 use jr_desk::{Desk, DeskFault, Take};
 use jr_header::{Ruling, Served};
@@ -277,6 +277,17 @@ impl<'p, P: Naming> Shared<'p, P> {
                 note_bad(rt, self.watch.diagnoses, ruling);
             }
         }
+    }
+
+    // Has the ledger take in the last of these, with those before it from that place on, if its file is to be synced now. Answers how many
+    // it has then.
+    pub fn record_due<R: Wait>(&self, rt: &R, served: &[Served], recorded: usize) -> usize {
+        record_due(rt, &self.watch, served, recorded)
+    }
+
+    // Has the ledger take in all of these from that place on.
+    pub fn record_from<R: Wait>(&self, rt: &R, served: &[Served], from: usize) {
+        record_from(rt, &self.watch, served, from);
     }
 
     // Takes the lock. Who doesn't get it at once comes until it has it: nobody is counted who has the lock.

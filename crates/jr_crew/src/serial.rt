@@ -10,7 +10,7 @@ ghost use Rattle.jr_crew.specs.Whole.{IsRun, IsEndedRun};
 
 use jr_crew_threads::{
     RunFault, StopFlag, StopRequest, Watch, asked_at, make_room, note_alone, note_start,
-    note_verdict,
+    note_verdict, record_alone,
 };
 use jr_desk::{Desk, Take};
 use jr_engines::Engine;
@@ -170,6 +170,7 @@ fn carry_out(
 {
     make_room(buffer, &ticket)?;
     let served = serve_own(engine, ticket, mem::replace(buffer, Vec::new(alloc)));
+    record_alone(watch, &served);
     settle(desk, &served, watch)?;
     *buffer = served.into_buf();
     Ok(())

@@ -99,27 +99,18 @@ fn carry_out<P: Naming, R: Wait + Clock>(
         → IsWork post.now.inline before first load.new.book (state engine.new) (pass_state channel.new.pass)) }
     ensures next { OnOk result (All CanBeServed load.new.tickets.items) }
 {
-    let crowd = post.shared.crowd();
-    let served = serve_all(
-        rt,
-        crowd,
-        post.alloc,
-        engine,
-        &load.tickets,
-        &mut load.buffers,
-    )?;
+    let served = serve_all(rt, post, engine, &load.tickets, &mut load.buffers)?;
     load.tickets.clear();
     let step = exchange(rt, post, &served, load)?;
     part_with(rt, post.inline, channel, served, &mut load.buffers)?;
     Ok(step)
 }
 
-// Asks the engine for each ticket, one after another. The first call is timed.
+// Asks the engine for each ticket, one after another, and has the ledger take them in. The first call is timed.
 #[tactic(auto, using(crate::proofs::Worked::answered_on))]
-fn serve_all<R: Clock>(
+fn serve_all<P: Naming, R: Wait + Clock>(
     rt: &R,
-    crowd: &Crowd,
-    alloc: Global,
+    post: &Post<'_, P>,
     engine: &mut dyn Engine,
     tickets: &[Ticket],
     buffers: &mut Vec<Vec<u8>>,
@@ -127,18 +118,22 @@ fn serve_all<R: Clock>(
     requires { All CanBeServed tickets.now }
     ensures { IfOk result (λ served. AreAnswered (state engine.old) served.items (state engine.new)) }
 {
-    let mut all = Vec::with_capacity(alloc, tickets.len())?;
+    let mut all = Vec::with_capacity(post.alloc, tickets.len())?;
+    let mut recorded = 0;
     for ticket in tickets {
         let buffer = match buffers.pop() {
             Some(buffer) => buffer,
-            None => Vec::new(alloc),
+            None => Vec::new(post.alloc),
         };
         let is_timed = all.is_empty();
+        let crowd = post.shared.crowd();
         push(
             &mut all,
             serve(rt, crowd, is_timed, engine, ticket, buffer)?,
         )?;
+        recorded = post.shared.record_due(rt, &all, recorded);
     }
+    post.shared.record_from(rt, &all, recorded);
     Ok(all)
 }
 

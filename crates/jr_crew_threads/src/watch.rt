@@ -3,6 +3,7 @@ ghost use Rattle.jr_crew_threads.specs.Stops.{WasAsked};
 
 use crate::diagnoses::Diagnoses;
 use crate::progress::Progress;
+use jr_ledger_run::RunLedger;
 use std::fmt;
 use std::sync::{OnceLock, OnceToken};
 
@@ -54,17 +55,18 @@ impl StopFlag {
     }
 }
 
-/// What another thread has of a run while it goes on: how far it is, and a flag that asks it to stop; and where what stands in bad blocks is
-/// kept.
+/// What another thread has of a run while it goes on: how far it is, and a flag that asks it to stop; where what stands in bad blocks is
+/// kept, and the ledger of its writes.
 #[derive(Clone, Copy, Drop)]
 pub struct Watch<'a> {
     pub progress: Option<&'a Progress>,
     pub stop: Option<&'a StopFlag>,
     pub diagnoses: Option<&'a Diagnoses>,
+    pub ledger: Option<&'a RunLedger>,
 }
 
 impl<'a> Watch<'a> {
-    /// Nobody wants to know how far the run is, nor what stands in bad blocks, and nobody can stop it.
+    /// Nobody wants to know how far the run is, what stands in bad blocks or what was written, and nobody can stop it.
     pub fn none() -> Watch<'a>
         ensures progress { result.progress ≡ None }
         ensures stop { result.stop ≡ None }
@@ -73,6 +75,7 @@ impl<'a> Watch<'a> {
             progress: None,
             stop: None,
             diagnoses: None,
+            ledger: None,
         }
     }
 }

@@ -1,4 +1,4 @@
--- Believed: what the launcher's answer says of the system's cache (bin/launch).
+-- Believed: what the launcher's answer says of the system's cache (launcher/launch).
 use Rattle.std.specs.Prelude.{ℕ, ◌==◌, Bool, true, false, Option, None, Some, if◌then◌else◌}
 use Rattle.jr_io_blocks.specs.declared.droppers.Cached.{Cached}
 use Rattle.jr_io_blocks.specs.declared.droppers.Cached.TheVariants as cached

@@ -1,4 +1,4 @@
--- Believed: what the launcher's answer says of a block device that it was to hold (bin/launch).
+-- Believed: what the launcher's answer says of a block device that it was to hold (launcher/launch).
 use Rattle.std.specs.Prelude.{ℕ, ◌==◌, Option, None, Some, if◌then◌else◌}
 use Rattle.jr_io_blocks.specs.declared.droppers.Hold.{Hold}
 use Rattle.jr_io_blocks.specs.declared.droppers.Hold.TheVariants as hold

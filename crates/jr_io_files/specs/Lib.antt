@@ -3,3 +3,4 @@ pub mod Engines
 pub mod Made
 pub mod Opened
 pub mod Uses
+pub mod ToRead

@@ -15,6 +15,7 @@ mod names;
 mod opened;
 mod refusals;
 mod shares;
+mod to_read;
 mod uses;
 
 pub use claims::{Claims, claim, claim_direct};
@@ -27,3 +28,4 @@ pub use layouts::lay_out;
 pub use names::NamedFile;
 pub use refusals::{Act, Refusal, Why};
 pub use shares::{Reads, SharedFile, Unsynced};
+pub use to_read::claim_to_read;

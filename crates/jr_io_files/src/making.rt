@@ -107,7 +107,7 @@ fn open_or_make<R: Files<File = File>>(
 }
 
 // Opens a file that is there. A pipe that is to be read would wait for its writer, and a folder opens but can't be read.
-fn open_there<R: Files<File = File>>(
+pub(crate) fn open_there<R: Files<File = File>>(
     rt: &R,
     alloc: Global,
     name: &str,
@@ -126,7 +126,7 @@ fn open_there<R: Files<File = File>>(
 }
 
 // Opens the file of this name.
-fn open<R: Files<File = File>>(
+pub(crate) fn open<R: Files<File = File>>(
     rt: &R,
     alloc: Global,
     name: &str,

@@ -6,13 +6,14 @@ use crate::names::NamedFile;
 use crate::shares::Reads;
 use jr_io_blocks::{Cached, Dropper, Failures, FileSync, SyncMarks, SyncStage, is_whole};
 use jr_io_devices::FileNumbers;
+use jr_ledger_run::RunLedger;
 use std::fs::{File, OpenFile, OpenOptions, TryLockError};
 use std::io;
 use std::io::{ErrorKind, Seek, SeekFrom};
 use std::os::unix::fs::FileExt;
 use std::rt::Files;
-use std::sync::OnceLock;
 use std::sync::atomic::{AtomicBool, AtomicU64, Ordering};
+use std::sync::{Arc, OnceLock};
 
 // How often what is cached is synced and dropped before a read that goes on to see it.
 const MOST_DROPS: u32 = 4;
@@ -36,6 +37,8 @@ pub struct OpenedFile {
     stays: AtomicBool,
     is_unseen: AtomicBool,
     cached_reads: AtomicU64,
+    // The ledger that has its syncs, and the file's number there.
+    ledger: OnceLock<(Arc<RunLedger>, u32)>,
 }
 
 /// What the clones of a plan do with a file.
@@ -81,6 +84,7 @@ impl OpenedFile {
             stays: AtomicBool::new(false),
             is_unseen: AtomicBool::new(false),
             cached_reads: AtomicU64::new(0),
+            ledger: OnceLock::new(),
         })
     }
 
@@ -134,6 +138,11 @@ impl OpenedFile {
         self.is_plain
     }
 
+    /// Has its syncs recorded from now on in this ledger, under this number.
+    pub fn record(&self, ledger: Arc<RunLedger>, number: u32) {
+        let _ = self.ledger.try_set((ledger, number));
+    }
+
     /// How many bytes it has.
     pub fn length(&self) -> io::Result<u64> {
         self.file().seek(SeekFrom::End(0))
@@ -175,10 +184,16 @@ impl OpenedFile {
 
     // The file, opened by its name to be written. It is an error that another one has the name.
     fn opened_anew<R: Files>(&self, rt: &R) -> io::Result<R::File> {
-        let file = OpenOptions::new()
-            .read(true)
-            .write(true)
-            .open(rt, self.name())?;
+        self.opened_by(rt, OpenOptions::new().read(true).write(true))
+    }
+
+    /// The file, opened once more by its name, to be synced. It is an error that another one has the name.
+    pub fn opened_to_sync<R: Files>(&self, rt: &R) -> io::Result<R::File> {
+        self.opened_by(rt, OpenOptions::new().read(true))
+    }
+
+    fn opened_by<R: Files>(&self, rt: &R, options: &OpenOptions) -> io::Result<R::File> {
+        let file = options.open(rt, self.name())?;
         let there = FileNumbers::of(&file.metadata()?);
         if there.identity() != self.numbers.identity() {
             return Err(io::Error::from(ErrorKind::NotFound));
@@ -363,8 +378,19 @@ impl OpenedFile {
         Ok(synced)
     }
 
-    // The same. A file that no clone writes may lie where there are no syncs: nothing has to be stored there.
+    // The same, with its lines in the run's ledger.
     fn sync_data(&self) -> io::Result<()> {
+        let Some((ledger, number)) = self.ledger.get() else {
+            return self.sync_system();
+        };
+        let begun = ledger.sync_begins(*number);
+        let synced = self.sync_system();
+        ledger.sync_returned(begun, synced.is_ok());
+        synced
+    }
+
+    // The same, with no lines. A file that no clone writes may lie where there are no syncs: nothing has to be stored there.
+    fn sync_system(&self) -> io::Result<()> {
         match self.file().sync_data() {
             Err(error) if !self.uses.is_written && is_no_sync(&error) => Ok(()),
             synced => synced,

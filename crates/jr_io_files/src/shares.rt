@@ -1,14 +1,17 @@
 ghost use Rattle.std.specs.Prelude.{◌≡◌, ◌<◌, ◌≤◌, length, IfOk, IfErr, IfSome};
 ghost use Rattle.std.specs.Arc.{arc_value};
-ghost use Rattle.jr_io_files.specs.Engines.{IsFresh, NamesFile};
+ghost use Rattle.jr_io_files.specs.Engines.{IsFresh, IsOpenFault, NamesFile};
 ghost use Rattle.jr_io_files.specs.Opened.{files_to_begin};
 ghost use Rattle.jr_io_blocks.specs.Failures.{IsCallFor};
 
+use crate::claims::refused;
 use crate::faults::FileFault;
 use crate::file_engine::FileEngine;
 use crate::opened::OpenedFile;
+use crate::refusals::{Act, Refusal, Why};
 use jr_io_blocks::{Dropper, FailedCall, Positioned, Room};
 use jr_io_devices::{FileNumbers, Identity};
+use jr_ledger_run::RunLedger;
 use jr_model::Dir;
 use std::alloc::{AllocError, AllocFailed, Global};
 use std::fs::File;
@@ -214,6 +217,40 @@ impl FileEngine<SharedFile> {
             }
         }
         begun
+    }
+
+    /// Opens each file once more, to be synced.
+    ///
+    /// Refused is the first that can't be.
+    pub fn opened_to_sync<R: Files<File = File>>(
+        &self,
+        rt: &R,
+        alloc: Global,
+    ) -> Result<Vec<File>, Refusal>
+        ensures { IfErr result (λ refusal. IsOpenFault refusal.fault (length self.now.files)) }
+    {
+        let mut opened = Vec::new(alloc);
+        for (index, shared) in self.files().iter().enumerate() {
+            match shared.file.opened_to_sync(rt) {
+                Ok(file) => opened.push(file)?,
+                Err(error) => {
+                    let name = String::from_str(alloc, shared.file.name())?;
+                    return Err(refused(index, Why::System(Act::Open, name, error)));
+                }
+            }
+        }
+        Ok(opened)
+    }
+
+    /// Has the syncs of all files recorded from now on in this ledger, by their places.
+    pub fn record(&self, ledger: &Arc<RunLedger>) -> Result<(), AllocError> {
+        for (index, shared) in self.files().iter().enumerate() {
+            let ledger = Arc::try_clone(ledger)?;
+            if let Ok(number) = u32::try_from(index) {
+                shared.file.record(ledger, number);
+            }
+        }
+        Ok(())
     }
 
     /// Syncs each file that was written, by any engine that shares it, since it was synced last.

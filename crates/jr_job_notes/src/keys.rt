@@ -1,4 +1,4 @@
-// The tables of what is refused: docs/USING.md prints them, and checks/keys.py compares the two.
+// The tables of what is refused: docs/USING.md prints them, and checks/repository/keys.py compares the two.
 
 use crate::near::is_near;
 use crate::rows::{Fate, Row, Told, Way};

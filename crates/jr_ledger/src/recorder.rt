@@ -1,4 +1,4 @@
-ghost use Rattle.std.specs.Prelude.{◌≡◌, ◌++◌, ◌+◌, ◌<◌, ◌^◌, [], length, replicate, slice_index, slice_set, IfOk, OnErr, OnOk};
+ghost use Rattle.std.specs.Prelude.{◌≡◌, ◌↔◌, ◌++◌, ◌+◌, ◌<◌, ◌^◌, true, [], length, replicate, slice_index, slice_set, IfOk, OnErr, OnOk};
 ghost use Rattle.jr_ledger.specs.Lines.{line_text};
 ghost use Rattle.jr_ledger.specs.Reading.{head_text};
 ghost use Rattle.jr_ledger.specs.Recording.{end_text, return_text, next_sync};
@@ -51,6 +51,16 @@ impl Recorder {
         match outcome {
             Outcome::Whole => self.push(alloc, &LedgerLine::Written(*write)),
             Outcome::Failed | Outcome::Short(_) => Ok(()),
+        }
+    }
+
+    /// Whether one more sync of this file can be recorded: there is this file, and its count isn't at its end.
+    pub fn can_begin(&self, file: u32) -> bool
+        ensures { (result ≡ true) ↔ ((file < length self.now.begun) × (slice_index self.now.begun file + 1 < 2 ^ 64)) }
+    {
+        match self.begun.get(file as usize) {
+            Some(count) => *count < u64::MAX,
+            None => false,
         }
     }
 

@@ -27,6 +27,8 @@ pub enum Unfit {
     File,
     /// There is the trace that is checked.
     Trace,
+    /// There is the ledger by which files are judged.
+    Ledger,
     /// There is standard input, output or error, or another stream of the program.
     Stream,
     /// There goes another output.
@@ -43,6 +45,7 @@ impl fmt::Display for Unfit {
             Unfit::Job => write!(f, "that of the job file"),
             Unfit::File => write!(f, "that of a file of a job"),
             Unfit::Trace => write!(f, "that of the trace that is checked"),
+            Unfit::Ledger => write!(f, "that of the ledger by which files are judged"),
             Unfit::Stream => write!(f, "that of a stream of the program"),
             Unfit::Output => write!(f, "that of another output"),
             Unfit::System => write!(f, "in /dev, /proc or /sys"),

@@ -1,6 +1,8 @@
+pub mod Afters
 pub mod Askable
 pub mod Extents
 pub mod Grounds
+pub mod Ledgers
 pub mod Memory
 pub mod Outcomes
 pub mod Signs

@@ -11,11 +11,12 @@ use crate::show::Pace;
 use crate::stops::Stop;
 use jr_cli_words::CliFault;
 use jr_crew_threads::{Diagnoses, RunFault, StopFlag};
+use jr_ledger_run::RunLedger;
 use std::alloc::{AllocError, Global};
 use std::fs::{File, Files};
 use std::io::{ErrorKind, Read};
 use std::sync::atomic::{AtomicBool, AtomicU64, Ordering};
-use std::sync::{Arc, Wait};
+use std::sync::{Arc, OnceLock, Wait};
 use std::thread;
 use std::thread::{Parker, Threads};
 use std::time::{Clock, Duration, Instant};
@@ -26,7 +27,11 @@ const LINE: u8 = b'p';
 // So many milliseconds lie between two looks at the memory that is left: the quickest run takes some 6 MiB meanwhile.
 const LOOK: u64 = 20;
 
-/// What is asked of a run: by its words, when to say how far it is, and how long it may take; and by the pipe. And what it found in bad blocks.
+// So many looks at first have one between them: threads that begin take much at once.
+const FIRST_LOOKS: u32 = 200;
+
+/// What is asked of a run: by its words, when to say how far it is, and how long it may take; and by the pipe. And what it found in bad blocks,
+/// and its ledger.
 #[derive(Drop)]
 pub struct Asked {
     pace: Pace,
@@ -40,6 +45,7 @@ pub struct Asked {
     // Whether a thread sleeps here, or shows what it was woken for.
     has_sleeper: AtomicBool,
     diagnoses: Diagnoses,
+    ledger: OnceLock<Arc<RunLedger, Global>>,
 }
 
 impl Asked {
@@ -59,6 +65,7 @@ impl Asked {
             sleeper: Parker::new(),
             has_sleeper: AtomicBool::new(false),
             diagnoses: Diagnoses::new(alloc),
+            ledger: OnceLock::new(),
         }
     }
 
@@ -100,6 +107,19 @@ impl Asked {
     /// Where what stands in bad blocks is kept while the run goes on.
     pub fn diagnoses(&self) -> &Diagnoses {
         &self.diagnoses
+    }
+
+    /// Has what the run writes recorded in this ledger. It is set once, before the run.
+    pub fn record(&self, ledger: Arc<RunLedger, Global>) {
+        let _ = self.ledger.try_set(ledger);
+    }
+
+    /// The ledger of the run, if one is kept or files are synced on the way.
+    pub fn ledger(&self) -> Option<&RunLedger> {
+        match self.ledger.get() {
+            Some(ledger) => Some(ledger),
+            None => None,
+        }
     }
 
     /// How many lines were asked for since this was last called.
@@ -260,19 +280,24 @@ pub fn stop_when_short<R: Machine>(
     }
 }
 
-// Asks the run to stop once little memory is left; never where the files can't be read.
+// Asks the run to stop once little memory is left. The files could be read before it began: if they can't be any more, there is no memory for
+// what they say.
 fn end_when_short<R: Wait>(rt: &R, alloc: Global, files: MemoryFiles, asked: &Asked) {
     let mut files = files;
     let sleeper = Parker::new();
+    let mut looks: u32 = 0;
     for _ in rt.forever() {
-        let Some(state) = files.now(alloc) else {
-            return;
-        };
-        if state.is_short() {
+        if files.now(alloc).is_none_or(|state| state.is_short()) {
             asked.is_short.store(true, Ordering::SeqCst);
             asked.stop.set();
             return;
         }
-        sleeper.park_timeout(rt, Duration::from_millis(LOOK));
+        sleeper.park_timeout(rt, Duration::from_millis(pause_after(looks)));
+        looks = looks.saturating_add(1);
     }
+}
+
+// How many milliseconds lie between so many looks and the next one.
+fn pause_after(looks: u32) -> u64 {
+    if looks < FIRST_LOOKS { 1 } else { LOOK }
 }

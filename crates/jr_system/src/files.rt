@@ -30,11 +30,11 @@ use std::os::unix::fs::FileTypeExt;
 /// The plan's files, open for this run, and the launcher that takes them out of the system's cache.
 #[derive(Drop)]
 pub struct Taken<'a> {
-    files: FileEngine<SharedFile>,
-    launcher: Launcher<'a>,
-    reads: Reads,
-    direct: Option<bool>,
-    remarks: Remarks,
+    pub(crate) files: FileEngine<SharedFile>,
+    pub(crate) launcher: Launcher<'a>,
+    pub(crate) reads: Reads,
+    pub(crate) direct: Option<bool>,
+    pub(crate) remarks: Remarks,
 }
 
 /// What the jobs say of the I/O to each file of their plan; nothing where none of it may go past the system's cache.
@@ -130,7 +130,7 @@ fn claimed<R: Files<File = File> + AllocGlobal>(
 }
 
 // How the files are taken, as the words say.
-fn claims_of(choice: &Choice<'_>) -> Claims
+pub(crate) fn claims_of(choice: &Choice<'_>) -> Claims
     ensures { result ≡ claims_of choice.now.cached choice.now.allow_mounted_write }
 {
     Claims {
@@ -144,7 +144,7 @@ fn claims_of(choice: &Choice<'_>) -> Claims
 }
 
 // The pipes by which the run's engines have what is cached dropped.
-fn drop_pipes_of<'a>(choice: &Choice<'a>) -> Option<&'a str>
+pub(crate) fn drop_pipes_of<'a>(choice: &Choice<'a>) -> Option<&'a str>
     ensures { option_copied result ≡ drop_pipes_of choice.now.cached (option_copied choice.now.drop_pipes) }
 {
     if choice.cached {
@@ -259,6 +259,11 @@ fn tell_cached<R: Eprint>(rt: &R, plan: &Plan, wishes: &[Wish], files: &FileEngi
 }
 
 impl<'a> Taken<'a> {
+    // The files themselves.
+    pub(crate) fn files(&self) -> &FileEngine<SharedFile> {
+        &self.files
+    }
+
     /// The engine of the worker of this number over these files.
     pub fn engine<R: Files<File = File> + AllocGlobal>(
         &self,

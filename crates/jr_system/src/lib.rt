@@ -2,12 +2,14 @@
 // and what the screen shows of it; and what is said of faults.
 #![tactic(auto)]
 
+mod afters;
 mod asked;
 mod closed;
 mod extents;
 mod files;
 mod grounds;
 mod jobs;
+mod ledgers;
 mod machine;
 mod meminfo;
 mod memory;
@@ -18,12 +20,14 @@ mod signs;
 mod stops;
 mod ways;
 
+pub use afters::{refuse_judgement, take_to_read};
 pub use asked::{Asked, asked_by, stop_after, stop_when_short};
 pub use closed::Closed;
 pub use extents::PlanBytes;
 pub use files::{Taken, take_files, wishes};
 pub use grounds::{Ground, OneEngine, crew_engines};
 pub use jobs::job_plan;
+pub use ledgers::{ledger_cut, refuse_ledger, unsynced_on_the_way};
 pub use machine::{Machine, Outlet};
 pub use meminfo::{MemoryFiles, tell_history};
 pub use memory::{MemoryState, history_bytes, is_watched};

@@ -41,6 +41,11 @@ impl Remarks {
         })
     }
 
+    /// Whether notes are wanted.
+    pub fn has_notes(&self) -> bool {
+        self.has_notes
+    }
+
     /// Says that a file couldn't be synced before the run.
     pub fn tell_unsynced<R: Eprint>(&self, rt: &R, failed: &Unsynced) {
         if self.has_notes {

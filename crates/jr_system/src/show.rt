@@ -96,6 +96,7 @@ pub fn shown<R: Machine, T, F: for<'p> FnOnce(Watch<'p>, &'p Meter) -> T>(
 {
     let stop = asked.stop();
     let diagnoses = Some(asked.diagnoses());
+    let ledger = asked.ledger();
     let is_shown = asked.pace().seconds().is_some() || asked.has_pipe();
     // (a run that can't be shown goes on)
     let Some(meter) = is_shown.then(|| Meter::shared(rt, extent)).flatten() else {
@@ -103,6 +104,7 @@ pub fn shown<R: Machine, T, F: for<'p> FnOnce(Watch<'p>, &'p Meter) -> T>(
             progress: None,
             stop,
             diagnoses,
+            ledger,
         };
         return f(watch, &Meter::new(rt, extent));
     };
@@ -111,6 +113,7 @@ pub fn shown<R: Machine, T, F: for<'p> FnOnce(Watch<'p>, &'p Meter) -> T>(
         progress: Some(&meter.progress),
         stop,
         diagnoses,
+        ledger,
     };
     let ended = f(watch, &meter);
     meter.end(rt);

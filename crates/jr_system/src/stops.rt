@@ -4,10 +4,12 @@ ghost use Rattle.std.specs.IoError.{error_kind};
 ghost use Rattle.jr_cli_words.specs.Status.{status_of_fault};
 ghost use Rattle.jr_system.specs.Stops.{files_fault};
 
+use jr_after_plans::{AfterFault, after_fault_text};
 use jr_cli_words::{CliFault, memory_or};
 use jr_escape::Escaped;
 use jr_io_files::{FileFault, Refusal};
 use jr_job_notes::Note;
+use jr_plan::Plan;
 use jr_report_outputs::Unfit;
 use std::alloc::Global;
 use std::io;
@@ -24,6 +26,8 @@ pub struct Stop {
 #[derive(Drop)]
 enum Notes {
     None,
+    // What is said in place of the fault's own words.
+    Text(Vec<u8>),
     Job(Vec<Note>),
     Files(Refusal),
     // The output that this word asks for can't go where its path leads.
@@ -137,6 +141,33 @@ impl Stop {
         )
     }
 
+    /// What is to be written to the file of this path can't be.
+    pub fn unwritten(alloc: Global, path: &str, error: io::Error) -> Stop
+        ensures memory { error_kind error ≡ ErrorKind.OutOfMemory → result ≡ CliFault.Memory }
+        ensures other { error_kind error ≢ ErrorKind.OutOfMemory → result ≡ CliFault.Write }
+    {
+        Stop::file(
+            memory_or(&error, CliFault::Write),
+            "write",
+            String::from_str(alloc, path).ok(),
+            error,
+        )
+    }
+
+    /// No ledger of the plan can be judged, for this fault: it is told by the name of its job.
+    pub fn ledger_job(alloc: Global, plan: &Plan, fault: &AfterFault) -> Stop
+        ensures { result ≡ CliFault.LedgerJob }
+    {
+        let notes = match after_fault_text(alloc, plan, fault) {
+            Ok(text) => Notes::Text(text),
+            Err(_) => Notes::None,
+        };
+        Stop {
+            fault: CliFault::LedgerJob,
+            notes,
+        }
+    }
+
     /// What was written to the file of this name can't be synced.
     pub fn unsynced(name: String, error: io::Error) -> Stop
         ensures { result ≡ CliFault.Write }
@@ -144,7 +175,12 @@ impl Stop {
         Stop::file(CliFault::Write, "sync", Some(name), error)
     }
 
-    fn file(fault: CliFault, act: &'static str, name: Option<String>, error: io::Error) -> Stop
+    pub(crate) fn file(
+        fault: CliFault,
+        act: &'static str,
+        name: Option<String>,
+        error: io::Error,
+    ) -> Stop
         ensures { result ≡ fault }
     {
         match name {
@@ -160,7 +196,7 @@ impl Stop {
     pub fn tell<R: Eprint>(&self, rt: &R, has_notes: bool) -> u8
         ensures { result ≡ status_of_fault self.now }
     {
-        let _ = eprintln!(rt; "fiorun: {}", self.fault);
+        self.tell_fault(rt);
         if has_notes {
             self.notes.tell(rt);
         }
@@ -168,10 +204,22 @@ impl Stop {
     }
 }
 
+impl Stop {
+    // Says the fault itself.
+    fn tell_fault<R: Eprint>(&self, rt: &R) {
+        let _ = match &self.notes {
+            Notes::Text(text) => {
+                eprintln!(rt; "fiorun: {}", Escaped(&str::from_utf8(text).unwrap_or("")))
+            }
+            _ => eprintln!(rt; "fiorun: {}", self.fault),
+        };
+    }
+}
+
 impl Notes {
     fn tell<R: Eprint>(&self, rt: &R) {
         match self {
-            Notes::None => {}
+            Notes::None | Notes::Text(_) => {}
             Notes::Job(notes) => tell_all(rt, notes.as_slice()),
             Notes::Files(refusal) => {
                 let _ = eprintln!(rt; "fiorun: note: {}", Escaped(refusal));

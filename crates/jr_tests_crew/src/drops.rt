@@ -113,7 +113,7 @@ fn fault_of(
     }
 }
 
-// `checks/wants.py` refuses each of its requests for memory and threads. A run that is refused is a failed test, as its fault says;
+// `checks/build/wants.py` refuses each of its requests for memory and threads. A run that is refused is a failed test, as its fault says;
 // another number of engines ends it at once.
 #[test]
 fn a_refused_run_drops_its_engines(rt: HostRuntime) -> Result<(), Fail> {

@@ -24,6 +24,7 @@ fn one_worker_is_watched(rt: HostRuntime) -> Result<(), Fail> {
             progress: Some(&progress),
             stop: None,
             diagnoses: None,
+            ledger: None,
         };
         same(&rt, told(&progress), (0, 0, 0, 0));
         let plan = plan_of(rt.alloc(), &checked(4, byte), 1, EngineKind::Null, 0)?;
@@ -41,6 +42,7 @@ fn workers_and_verifiers_are_watched(rt: HostRuntime) -> Result<(), Fail> {
             progress: Some(&progress),
             stop: None,
             diagnoses: None,
+            ledger: None,
         };
         let plan = plan_of(rt.alloc(), &checked(4, 1), 1, EngineKind::Null, verifiers)?;
         let mut engines: Vec<Box<dyn Engine + Send>> = Vec::new(rt.alloc());

@@ -69,6 +69,7 @@ fn assert_raced<R: Abort + Threads + Wait + Clock + Sync>(
             progress: Some(&progress),
             stop: None,
             diagnoses: None,
+            ledger: None,
         };
         let plan = plan_of_two(alloc, first, second, verifiers)?;
         let ran = run(rt, alloc, plan, two_gates(alloc)?, watch)?;

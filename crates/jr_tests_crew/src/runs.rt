@@ -61,7 +61,7 @@ fn assert_sixteen(rt: &impl Abort, desk: &Desk) {
     same(rt, desk.totals().len(), 2);
 }
 
-// (`checks/wants.py` refuses its requests for memory and threads.)
+// (`checks/build/wants.py` refuses its requests for memory and threads.)
 #[test]
 fn four_workers_write_one_file(rt: HostRuntime) -> Result<(), Fail> {
     let alloc = rt.alloc();

@@ -24,6 +24,7 @@ fn one_worker_is_asked_before_it_begins(rt: HostRuntime) -> Result<(), Fail> {
         progress: None,
         stop: Some(&stop),
         diagnoses: None,
+        ledger: None,
     };
     let plan = plan_of(rt.alloc(), &checked(4, 0), 1, EngineKind::Null, 0)?;
     let desk = run_serial(rt.alloc(), plan, &mut NullEngine::new(), watch)?;
@@ -49,6 +50,7 @@ fn one_worker_whom_nobody_asks_to_stop_goes_on_to_the_end(rt: HostRuntime) -> Re
         progress: None,
         stop: Some(&stop),
         diagnoses: None,
+        ledger: None,
     };
     let plan = plan_of(rt.alloc(), &checked(4, 0), 1, EngineKind::Null, 0)?;
     let desk = run_serial(rt.alloc(), plan, &mut NullEngine::new(), watch)?;
@@ -63,6 +65,7 @@ fn workers_whom_nobody_asks_to_stop_go_on_to_the_end(rt: HostRuntime) -> Result<
             progress: None,
             stop: Some(&stop),
             diagnoses: None,
+            ledger: None,
         };
         let plan = plan_of(rt.alloc(), &checked(4, 0), 1, EngineKind::Null, verifiers)?;
         let ran = run(&rt, rt.alloc(), plan, two_nulls(rt.alloc())?, watch)?;
@@ -88,6 +91,7 @@ fn workers_and_verifiers_are_asked_before_they_begin(rt: HostRuntime) -> Result<
             progress: None,
             stop: Some(&stop),
             diagnoses: None,
+            ledger: None,
         };
         let plan = plan_of(rt.alloc(), &checked(4, 0), 1, EngineKind::Null, verifiers)?;
         let ran = run(&rt, rt.alloc(), plan, two_nulls(rt.alloc())?, watch)?;
@@ -114,6 +118,7 @@ fn one_worker_shows_whether_it_was_asked(rt: HostRuntime) -> Result<(), Fail> {
             progress: None,
             stop: Some(&stop),
             diagnoses: None,
+            ledger: None,
         };
         let plan = plan_of(rt.alloc(), &checked(4, 0), 1, EngineKind::Null, 0)?;
         let ran = run_serial_asked(rt.alloc(), plan, &mut NullEngine::new(), watch)?;
@@ -130,6 +135,7 @@ fn workers_show_whether_they_were_asked(rt: HostRuntime) -> Result<(), Fail> {
             progress: None,
             stop: Some(&stop),
             diagnoses: None,
+            ledger: None,
         };
         let plan = plan_of(rt.alloc(), &checked(4, 0), 1, EngineKind::Null, 1)?;
         let ran = run_booked(&rt, rt.alloc(), plan, two_nulls(rt.alloc())?, watch)?;

@@ -1,5 +1,5 @@
 // Two desks side by side, each with a memory of its own. Where a request for memory is refused, the call says so and changes
-// nothing, and made again it answers as the other desk does. `checks/wants.py` runs this with each request refused in turn.
+// nothing, and made again it answers as the other desk does. `checks/build/wants.py` runs this with each request refused in turn.
 use crate::asserts::same;
 use crate::random::{draw, draw_plan, draw_reply};
 use jr_desk::{Desk, Take};

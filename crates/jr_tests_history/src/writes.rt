@@ -96,7 +96,7 @@ fn assert_all(rt: &impl Abort, log: &WriteLog, kept: [bool; 4]) {
     }
 }
 
-// `checks/wants.py` refuses each of its requests for memory.
+// `checks/build/wants.py` refuses each of its requests for memory.
 #[test]
 fn a_refused_settle_changes_nothing(rt: HostRuntime) -> Result<(), Fail> {
     let mut log = WriteLog::new(rt.alloc());

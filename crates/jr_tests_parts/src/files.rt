@@ -1,4 +1,4 @@
-// Files as an engine: what no run of the program shows. (What runs make of files stands in checks/files.py.)
+// Files as an engine: what no run of the program shows. (What runs make of files stands in checks/program/files.py.)
 ghost use Rattle.std.specs.Prelude.{◌+◌, ◌≤◌, IfOk};
 
 use crate::asserts::same;

@@ -319,6 +319,7 @@ fn stopped(alloc: Global) -> Result<(RunEnd, u8), Fail> {
         progress: None,
         stop: Some(&stop),
         diagnoses: None,
+        ledger: None,
     };
     let plan = read_job(alloc, CHECKED.as_bytes(), None)?;
     let mut engine = MemoryEngine::new(alloc, &plan)?;

@@ -31,6 +31,9 @@ const NOTHING: Choice<'static> = Choice {
     bad_blocks_also: None,
     adapt: false,
     size: None,
+    ledger: None,
+    sync_every: None,
+    after: None,
 };
 
 #[test]
@@ -63,6 +66,9 @@ fn each_word_goes_to_its_field(rt: HostRuntime) -> Result<(), Fail> {
         "--bad-blocks-also=k",
         "--adapt",
         "--size=16m",
+        "--ledger=g",
+        "--sync-every=4294967295",
+        "--after=a",
     ];
     let want = Choice {
         job: Some("disk.fio"),
@@ -91,6 +97,9 @@ fn each_word_goes_to_its_field(rt: HostRuntime) -> Result<(), Fail> {
         bad_blocks_also: Some("k"),
         adapt: true,
         size: Some("16m"),
+        ledger: Some("g"),
+        sync_every: Some(4294967295),
+        after: Some("a"),
     };
     same(&rt, choose(rt.alloc(), &words)?, want);
     Ok(())

@@ -6,7 +6,7 @@ use Rattle.std.specs.declared.num.ParseIntError.{ParseIntError}
 use Rattle.clap.specs.Words.{Text, found_of, one_of, one_text, first_of, first_value, matches_of}
 use Rattle.clap.proofs.WalkLemmas.{first_value-rows, one_text-rows}
 use Rattle.jr_cli_words.specs.CommandLine.{command_line, number_in}
-use Rattle.jr_cli_words.proofs.CommandLineFacts.{adapt_parser, allow_mounted_write_parser, cached_parser, interrupted_parser, map_parser, notes_parser, parse_only_parser, progress_parser, repeat_parser, keep_going_parser, keep_traces_parser, go_on_parser, workers_parser, number_read, flag_read, rows_are}
+use Rattle.jr_cli_words.proofs.CommandLineFacts.{adapt_parser, allow_mounted_write_parser, cached_parser, interrupted_parser, map_parser, notes_parser, parse_only_parser, progress_parser, repeat_parser, sync_every_parser, keep_going_parser, keep_traces_parser, go_on_parser, workers_parser, number_read, flag_read, rows_are}
 use Rattle.jr_cli_words.proofs.words.choice_in.Goals as goal
 
 -- how the number of a text is read
@@ -28,6 +28,7 @@ returns-clause-fields c command words is parsed has =
     let interrupted = flag_read command m is parsed (codes "interrupted") interrupted_parser refl refl refl c.get_flag-5.result c.get_flag-5.ensures.none c.get_flag-5.ensures.value c.get_flag-5.ensures.other in
     let map_shown = flag_read command m is parsed (codes "map") map_parser refl refl refl c.get_flag-6.result c.get_flag-6.ensures.none c.get_flag-6.ensures.value c.get_flag-6.ensures.other in
     let rounds = number_read command m is parsed (codes "repeat") 4294967295 repeat_parser refl refl refl (omega arith) Reads c.get_one-3.result (λ u x h. h.0) c.get_one-3.ensures.none c.get_one-3.ensures.value in
+    let writes = number_read command m is parsed (codes "sync-every") 4294967295 sync_every_parser refl refl refl (omega arith) Reads c.get_one-4.result (λ u x h. h.0) c.get_one-4.ensures.none c.get_one-4.ensures.value in
     let adapts = flag_read command m is parsed (codes "adapt") adapt_parser refl refl refl c.get_flag-10.result c.get_flag-10.ensures.none c.get_flag-10.ensures.value c.get_flag-10.ensures.other in
     let goes_on = flag_read command m is parsed (codes "keep-going") keep_going_parser refl refl refl c.get_flag-7.result c.get_flag-7.ensures.none c.get_flag-7.ensures.value c.get_flag-7.ensures.other in
     let keeps_traces = flag_read command m is parsed (codes "keep-traces") keep_traces_parser refl refl refl c.get_flag-8.result c.get_flag-8.ensures.none c.get_flag-8.ensures.value c.get_flag-8.ensures.other in
@@ -59,6 +60,9 @@ returns-clause-fields c command words is parsed has =
       bad_blocks_also = c.get_str-12.ensures ∙ first (codes "bad-blocks-also");
       adapt = adapts ∙ ap (λ (o : Option Text). unwrap_or (option_map (bytes_eq (codes "true")) o) false) (one (codes "adapt"));
       size = c.get_str-13.ensures ∙ first (codes "size");
+      ledger = c.get_str-14.ensures ∙ first (codes "ledger");
+      sync_every = writes.0 ∙ ap (option_map number_in) (one (codes "sync-every"));
+      after = c.get_str-15.ensures ∙ first (codes "after");
     }
 
 pub returns-clause-workers : goal.returns-clause-workers
@@ -72,3 +76,7 @@ returns-clause-progress c command is parsed =
 pub returns-clause-repeat : goal.returns-clause-repeat
 returns-clause-repeat c command is parsed =
     (number_read command c.args.matches.now is parsed (codes "repeat") 4294967295 repeat_parser refl refl refl (omega arith) Reads c.get_one-3.result (λ u x h. h.0) c.get_one-3.ensures.none c.get_one-3.ensures.value).1
+
+pub returns-clause-sync_every : goal.returns-clause-sync_every
+returns-clause-sync_every c command is parsed =
+    (number_read command c.args.matches.now is parsed (codes "sync-every") 4294967295 sync_every_parser refl refl refl (omega arith) Reads c.get_one-4.result (λ u x h. h.0) c.get_one-4.ensures.none c.get_one-4.ensures.value).1

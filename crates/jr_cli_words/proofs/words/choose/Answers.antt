@@ -29,6 +29,10 @@ pub returns-clause-repeat : goal.returns-clause-repeat
 returns-clause-repeat g c =
     c.choice_in.ensures.repeat c.in_ok-command.command c.in_ok-command.ensures c.in_ok-matches.ensures.parsed
 
+pub returns-clause-sync_every : goal.returns-clause-sync_every
+returns-clause-sync_every g c =
+    c.choice_in.ensures.sync_every c.in_ok-command.command c.in_ok-command.ensures c.in_ok-matches.ensures.parsed
+
 pub returns-clause-refused : goal.returns-clause-refused
 returns-clause-refused g c =
     let words : List Text = map g.S.AsStr.text c.args.words.now in

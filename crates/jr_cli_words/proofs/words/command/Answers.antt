@@ -1,7 +1,7 @@
 use Rattle.std.proofs.Common.{◌∙◌, ap}
 use Rattle.std.proofs.lemmas.Result.{IfOk-weaker}
 use Rattle.clap.specs.Simple.{app_of_fields}
-use Rattle.jr_cli_words.specs.CommandLine.{command_line, with_version, with_job_rules, with_run_rules, with_report_rules, with_round_rules, with_go_on_rules, with_adapt_rules}
+use Rattle.jr_cli_words.specs.CommandLine.{command_line, with_version, with_job_rules, with_run_rules, with_report_rules, with_round_rules, with_go_on_rules, with_adapt_rules, with_ledger_rules}
 use Rattle.jr_cli_words.proofs.words.command.Goals as goal
 
 pub returns : goal.returns
@@ -14,4 +14,5 @@ returns c =
     let with_report = c.in_ok-command-3.ensures ∙ ap with_report_rules with_run in
     let with_round = c.in_ok-command-4.ensures ∙ ap with_round_rules with_report in
     let with_go_on = c.in_ok-command-5.ensures ∙ ap with_go_on_rules with_round in
-    IfOk-weaker c.with_adapt_args.result _ _ (λ r made. made ∙ ap with_adapt_rules with_go_on) c.with_adapt_args.ensures
+    let with_adapt = c.in_ok-command-6.ensures ∙ ap with_adapt_rules with_go_on in
+    IfOk-weaker c.with_ledger_args.result _ _ (λ r made. made ∙ ap with_ledger_rules with_adapt) c.with_ledger_args.ensures

@@ -1,0 +1,99 @@
+// What is found of a plan's files after a cut, by the ledger of its run.
+use crate::running::to_output;
+use jr_cli_after::{After, AfterFailure, judge_after};
+use jr_cli_outputs::Outputs;
+use jr_cli_words::{Choice, CliFault, memory_or, read_ledger};
+use jr_ledger::{LedgerLine, read_lines};
+use jr_plan::Plan;
+use jr_system::{Machine, Outlet, Stop, Taken, refuse_judgement, take_to_read};
+use std::fs;
+use std::io::Write;
+
+// Judges the plan's files by the ledger of this path. The report goes to standard output, and what else is asked for to its files. Gives the
+// exit status.
+pub fn judge<R: Outlet + Machine>(
+    rt: &R,
+    choice: &Choice<'_>,
+    path: &str,
+    plan: &Plan,
+) -> Result<u8, Stop> {
+    refuse_judgement(rt.alloc(), choice, plan)?;
+    let outputs = Outputs::of(rt, choice, plan)?;
+    let judged = judge_into(rt, choice, path, plan, &outputs);
+    outputs.clear(rt);
+    judged
+}
+
+fn judge_into<R: Outlet + Machine>(
+    rt: &R,
+    choice: &Choice<'_>,
+    path: &str,
+    plan: &Plan,
+    outputs: &Outputs,
+) -> Result<u8, Stop> {
+    let lines = ledger_lines(rt, path, plan)?;
+    let kept = outputs.kept(rt)?;
+    let files = take_to_read(rt, plan, choice, kept.as_slice())?;
+    let after = judged(rt, plan, lines.as_slice(), &files)?;
+    print_report(rt, plan, &after)?;
+    tell_unread(rt, plan, &files, &after)?;
+    outputs.write_after(rt, plan, &after, files.cached_reads())?;
+    Ok(after.status())
+}
+
+// The lines of the ledger of the plan's run.
+fn ledger_lines<R: Outlet>(rt: &R, path: &str, plan: &Plan) -> Result<Vec<LedgerLine>, Stop> {
+    let text = match fs::open(rt, path) {
+        Ok(file) => read_ledger(rt.alloc(), file)?,
+        Err(error) => return Err(Stop::unread_ledger(rt.alloc(), path, error)),
+    };
+    match read_lines(rt.alloc(), plan, text.as_slice()) {
+        Ok(lines) => Ok(lines),
+        Err(fault) => Err(Stop::from(CliFault::Ledger(fault))),
+    }
+}
+
+// What is found in the files, by one engine that reads them.
+fn judged<R: Outlet>(
+    rt: &R,
+    plan: &Plan,
+    lines: &[LedgerLine],
+    files: &Taken<'_>,
+) -> Result<After, CliFault> {
+    let mut engine = files.engine(rt, 0)?;
+    files.begin(rt, &engine);
+    match judge_after(rt.alloc(), plan, lines, &mut engine) {
+        Ok(after) => Ok(after),
+        Err(AfterFailure::Memory | AfterFailure::Calls) => Err(CliFault::Memory),
+    }
+}
+
+// Writes the report to standard output.
+fn print_report<R: Outlet>(rt: &R, plan: &Plan, after: &After) -> Result<(), CliFault> {
+    let Ok(text) = after.report(rt.alloc(), plan) else {
+        return Err(CliFault::Memory);
+    };
+    let mut out = to_output(rt)?;
+    let written = match out.write_all(text.as_slice()) {
+        Ok(()) => out.flush(),
+        Err(error) => Err(error),
+    };
+    match written {
+        Ok(()) => Ok(()),
+        Err(error) => Err(memory_or(&error, CliFault::Write)),
+    }
+}
+
+// Says on standard error of the chunks that couldn't be read why they couldn't.
+fn tell_unread<R: Outlet>(
+    rt: &R,
+    plan: &Plan,
+    files: &Taken<'_>,
+    after: &After,
+) -> Result<(), CliFault> {
+    let Ok(unread) = after.unread(rt.alloc()) else {
+        return Err(CliFault::Memory);
+    };
+    files.tell_judged(rt, plan, unread.as_slice());
+    Ok(())
+}

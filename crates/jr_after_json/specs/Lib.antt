@@ -1,0 +1,4 @@
+pub mod Bads
+pub mod Blocks
+pub mod Json
+pub mod Written

@@ -1,0 +1,8 @@
+//! The ledger of a run that goes on: its threads add to it under one lock, and what they add goes out at once.
+#![tactic(auto)]
+
+mod lines;
+mod run_ledger;
+
+pub use lines::Lines;
+pub use run_ledger::RunLedger;
