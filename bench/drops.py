@@ -26,7 +26,7 @@ def job_of(backlog, direct):
 
 def seconds_of(clone, room, job, workers):
     """How long a run takes, from its start to its end."""
-    words = [os.path.join(clone, "bin", "launch"), os.path.join(clone, "crates", "fiorun", "out", "fiorun"), f"--workers={workers}"]
+    words = [os.path.join(clone, "launcher", "launch"), os.path.join(clone, "crates", "fiorun", "out", "fiorun"), f"--workers={workers}"]
     begun = time.monotonic()
     ran = subprocess.run(words, input=job, cwd=room, capture_output=True, text=True, check=False)
     taken = time.monotonic() - begun

@@ -472,7 +472,7 @@ def main():
     subprocess.run([PROGRAM, "--parse-only"], input=b"[a]\nsize=4k\n", stdout=subprocess.DEVNULL, check=True)
     memory = int(found("/proc/meminfo", r"MemTotal:\s*(\d+)") or 0) >> 20
     model = found("/proc/cpuinfo", r"model name\s*:\s*(.*)") or platform.machine()
-    print("# Speed\n\nMade by `bench/run.py`, and not by hand; `Instructions` by `bench/instructions.py`, and `Memory` by hand.\n")
+    print("# Speed\n\nMade by `bench/run.py`, and not by hand; `Instructions` by `bench/instructions.py`, the last part by `bench/ledger.py`, and `Memory` by hand.\n")
     print(f"- {model}, {os.cpu_count()} processors, {memory} GiB, Linux {platform.release()}")
     fio_is = said_by("fio", "--version") if has_fio() else "fio is not there: its columns are empty"
     print(f"- kit `{said_by('rt', 'version') or 'unknown'}`, {fio_is}")
