@@ -5,11 +5,12 @@ use Rattle.std.specs.List.Sorted.{IsPartitionPoint}
 use Rattle.std.specs.declared.cmp.Ordering.TheVariants.{Less, Equal, Greater}
 use Rattle.std.specs.Ordering.{is_eq, nat_cmp, ordering_then}
 use Rattle.std.specs.declared.cmp.Ordering.{Ordering}
-use Rattle.std.proofs.lemmas.Bool.{and_parts, eqb-true}
+use Rattle.std.proofs.lemmas.Bool.{and_parts}
 use Rattle.std.proofs.lemmas.Bool.Decides.{nat_tests}
 use Rattle.jr_model.specs.declared.events.WriteId.{WriteId}
 use Rattle.jr_model.specs.History.{same_write, write_order}
 use Rattle.jr_model.proofs.Equality.{write_order_total}
+use Rattle.jr_model.proofs.ListLemmas.{none_by_length}
 use Rattle.jr_backlog.specs.Rounds.{Round, is_before, is_due, IsInOrder, new_round, is_closed, filling, comes_last, next_to_check_after, with_written}
 use Rattle.jr_backlog.proofs.OrderedKeys as keys
 
@@ -44,11 +45,6 @@ removed_write write writes place = keys.found_removed write_order_total write (s
 pub absent_write : (write : WriteId) (writes : List WriteId) (place : ℕ) → IsPartitionPoint (λ other. write_order other write ≡ Less) (λ other. write_order other write ≡ Greater) writes place → filter (λ (other : WriteId). not (same_write write other)) writes ≡ writes
 absent_write write writes place = keys.missed_kept write_order_total write (same_write write) (is_eq-write_order write) writes place
 
--- a round that is closed has nothing to check
-nothing_left : {X : Type 0} (xs : List X) → (length xs == 0) ≡ true → xs ≡ []
-nothing_left [] h = refl
-nothing_left (x ∷ xs) h = absurd (omega (arith, eqb-true (length (x ∷ xs)) 0 h))
-
 -- the round that a write goes to
 filling-closed : (round : Round) → is_closed round ≡ true → filling round ≡ new_round round.limit
 filling-closed round e = rw e
@@ -63,7 +59,7 @@ with_one_more write now = record now { count = min now.limit (now.count + 1); to
 added-to : (round : Round) (write : WriteId) (begins : Bool) (count : ℕ) (writes : List WriteId) → begins ≡ is_closed round → writes ≡ round.to_check ++ write ∷ [] → count ≡ min round.limit ((if begins then 0 else round.count) + 1) → record { limit = round.limit; count = count; exhausted = if begins then false else round.exhausted; to_check = writes } ≡ with_written round write
 unfolding with_one_more
 added-to round write true count writes b k n =
-    let empty : round.to_check ≡ [] = nothing_left round.to_check (and_parts (is_due round) (length round.to_check == 0) (sym b)).1 in
+    let empty : round.to_check ≡ [] = none_by_length round.to_check (and_parts (is_due round) (length round.to_check == 0) (sym b)).1 in
     let one : writes ≡ write ∷ [] = k ∙ ap (λ (ws : List WriteId). ws ++ write ∷ []) empty in
     rw (n, one) (ap (with_one_more write) (sym (filling-closed round (sym b))))
 added-to round write false count writes b k n =

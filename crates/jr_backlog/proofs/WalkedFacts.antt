@@ -1,15 +1,12 @@
 -- What the tests need of a deferred round that is walked beside a plain one.
-use Rattle.std.proofs.Common.{◌≡◌, Bool, true, false, not, ◌&&◌, List, [], ◌∷◌, ◌++◌, length, refl, sym, ◌∙◌, ap, ◌==◌, arith}
+use Rattle.std.proofs.Common.{◌≡◌, Bool, true, false, not, ◌&&◌, List, [], ◌∷◌, ◌++◌, length, refl, sym, ◌∙◌, ap, ◌==◌}
 use Rattle.std.specs.Prelude.{Option, Some, None, filter, is_none, if◌then◌else◌}
-use Rattle.std.proofs.lemmas.Bool.{and_parts, eqb-true}
+use Rattle.std.proofs.lemmas.Bool.{and_parts}
 use Rattle.jr_model.specs.declared.events.WriteId.{WriteId}
 use Rattle.jr_model.specs.History.{same_write}
+use Rattle.jr_model.proofs.ListLemmas.{none_by_length}
 use Rattle.jr_backlog.specs.Rounds.{Round, is_closed, is_due, with_exhausted, with_passed, with_written}
 use Rattle.jr_backlog.specs.Deferred.{Deferred, is_committed, round_now, committed_round, with_draw, with_waiting}
-
-nothing_left : {X : Type 0} (xs : List X) → (length xs == 0) ≡ true → xs ≡ []
-nothing_left [] h = refl
-nothing_left (x ∷ xs) h = absurd (omega (arith, eqb-true (length (x ∷ xs)) 0 h))
 
 now_settled : (round : Round) (waiting : Option WriteId) (ended : Bool) → (is_none waiting && not ended) ≡ true → (if ended then with_exhausted (with_waiting waiting round) else with_waiting waiting round) ≡ round
 now_settled round None false h = refl
@@ -23,7 +20,7 @@ settled_now d h = now_settled d.round d.waiting d.ended h
 -- a write more is the last to check
 added_last : (round : Round) (write : WriteId) (closed : Bool) → is_closed round ≡ closed → (with_written round write).to_check ≡ round.to_check ++ write ∷ []
 added_last round write true e =
-    rw e (ap (λ ws. ws ++ write ∷ []) (sym (nothing_left round.to_check (and_parts (is_due round) (length round.to_check == 0) e).1)))
+    rw e (ap (λ ws. ws ++ write ∷ []) (sym (none_by_length round.to_check (and_parts (is_due round) (length round.to_check == 0) e).1)))
 added_last round write false e = rw e
 
 ended_or_not : (ended : Bool) (round : Round) → (if ended then with_exhausted round else round).to_check ≡ round.to_check

@@ -1,5 +1,5 @@
--- Internal: the round that is left by the calls that a desk makes at a clone's events, one after another. It is the current
--- round of each legal history in which the clone isn't halted.
+-- Claimed: the round that is left by the calls that a desk makes at a clone's events, one after another. A law says that it is the
+-- current round, after each legal history in which the clone isn't halted.
 use Rattle.std.specs.Prelude.{◌==◌, ◌&&◌, List, [], ◌∷◌, ◌++◌, slice_get, Option, Some, None, if◌then◌else◌}
 use Rattle.jr_model.specs.declared.events.Event.{Event}
 use Rattle.jr_model.specs.declared.events.Event.TheVariants.{Issue, Probe, Skip, End, Verdict}

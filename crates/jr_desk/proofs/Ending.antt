@@ -1,5 +1,5 @@
 -- The end of an I/O over a player's engine is the machine's.
-use Rattle.std.proofs.Common.{◌≡◌, ℕ, ◌-◌, List, [], ◌∷◌, ◌++◌, length, map, replicate, Bool, true, cond, refl, sym, ◌∙◌, ap, subst, arith}
+use Rattle.std.proofs.Common.{◌≡◌, ℕ, ◌-◌, List, [], ◌∷◌, ◌++◌, length, map, replicate, Bool, cond, refl, sym, ◌∙◌, ap, subst, arith}
 use Rattle.std.specs.Prelude.{Option, Some, None, IsTrue, slice_get, is_none, nat_lt}
 use Rattle.std.proofs.lemmas.Bool.{eq-eqb}
 use Rattle.std.proofs.lemmas.List.{length-replicate, reverse-append}
@@ -19,6 +19,7 @@ use Rattle.jr_model.specs.Machine.{State, end_refusal, ends_by, machine_end, mac
 use Rattle.jr_model.specs.Plan.{Plan, SubJob, clone_of}
 use Rattle.jr_model.specs.Replies.{Asked, FileBytes, asked, asked_write, covers, next_reply, scripted_reply}
 use Rattle.jr_model.proofs.MachineLaws.{three_conds}
+use Rattle.jr_model.proofs.OptionLemmas.{none_by_test}
 use Rattle.jr_engines.specs.Answers.{AnswerParts, Answers, Leaves}
 use Rattle.jr_engines.specs.States.{ScriptedState, scripted_state}
 use Rattle.jr_engines.proofs.MemoryLemmas.{covers_after_asked}
@@ -75,10 +76,6 @@ length-data plan id io ticket.Read job planned written = length-replicate io.pie
 length-data plan id io ticket.Probe job planned written = length-replicate io.piece.len 0
 length-data plan id io ticket.ReadCheck job planned written = length-replicate io.piece.len 0
 length-data plan id io ticket.Write job planned written = written
-
-none_of : (o : Option Outcome) → is_none o ≡ true → o ≡ None
-none_of None h = refl
-none_of (Some o) h = cc
 
 -- an I/O that was started and has not ended ends by this reply
 module _ (player new : Player) (id : ℕ) (io : Started) (reply : Reply) (served : AnswerParts) (ready : IsReady player) (free : end_refusal (state_of player) id ≡ None) (at : slice_get (started player.desk.history) id ≡ Some io) (called : Answers (scripted_state (record player.engine { set = Some (player.engine.calls, reply) })) (ticket_of player.desk.plan (id, io)) (data_of player.desk.plan id io io.kind) served (scripted_state new.engine)) (desk : new.desk ≡ record player.desk { history = player.desk.history ++ End served.ticket.worker served.ticket.id served.outcome ∷ [] }) (reads : new.reads.items ≡ kept_by served.ticket.kind player.reads.items served) where
@@ -151,7 +148,7 @@ module _ (player new : Player) (id : ℕ) (io : Started) (reply : Reply) (served
 
   unended : outcome_of player.desk.history id ≡ None
   unended =
-      none_of (outcome_of player.desk.history id)
+      none_by_test (outcome_of player.desk.history id)
       (three_conds player.desk.is_stopped (nat_lt id (length (started player.desk.history))) (is_none (outcome_of player.desk.history id)) Stopped Twice Stranger free).2
 
   reads_on : KeepsReads plan new.desk.history new.reads.items

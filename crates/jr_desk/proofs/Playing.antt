@@ -2,6 +2,7 @@
 use Rattle.std.proofs.Common.{◌≡◌, ℕ, ◌+◌, List, [], ◌∷◌, ◌++◌, length, map, Bool, true, false, ◌&&◌, cond, refl, sym, ◌∙◌, ap, subst, arith, inl, inr}
 use Rattle.std.specs.Prelude.{Option, Some, None, Result, Ok, Err, IfSome, IfOk, OnOk, IsTrue, IsFalse, slice_get, is_none, is_some, is_ok, nat_lt, ◌==◌, find, reverse}
 use Rattle.std.proofs.lemmas.Bool.{and_parts, cases_Bool, cond_both, eqb-true, lt-ltb, ltb-true}
+use Rattle.std.proofs.lemmas.Option.{same_Some}
 use Rattle.jr_model.specs.declared.events.IssueKind.{IssueKind}
 use Rattle.jr_model.specs.declared.events.IssueKind.TheVariants as issue
 use Rattle.jr_model.specs.declared.events.Event.{Event}
@@ -23,10 +24,11 @@ use Rattle.jr_model.specs.Tickets.{ticket_fits}
 use Rattle.jr_engines.specs.Answers.{AnswerParts}
 use Rattle.jr_header.specs.Served.{answer_verdict, is_to_judge, is_whole_check}
 use Rattle.jr_model.specs.Races.{has_raced}
-use Rattle.jr_laws_steps.proofs.CountLaws.{numbered_of, appends_same, taken_all}
+use Rattle.jr_laws_steps.proofs.CountLaws.{appends_same, taken_all}
 use Rattle.jr_laws_steps.proofs.DrawnLaws.{started_fit-law}
-use Rattle.jr_laws_steps.proofs.PlaceLemmas.{any_found, item_at}
-use Rattle.jr_laws_steps.proofs.StartedLemmas.{started_below, same_some}
+use Rattle.jr_model.proofs.PlaceLemmas.{any_found, item_at}
+use Rattle.jr_model.proofs.PlanLemmas.{numbered_of}
+use Rattle.jr_laws_steps.proofs.StartedLemmas.{started_below}
 use Rattle.jr_laws_bytes.proofs.Verdicts.{judged_check}
 use Rattle.jr_laws_bytes.specs.Memory.{CoversFiles}
 use Rattle.jr_desk.specs.declared.plays.Player.{Player}
@@ -252,7 +254,7 @@ bytes_found (x ∷ xs) io check found =
     (λ (o : Option AnswerParts). o ≡ Some check → bytes_read (map (λ (a : AnswerParts). (a.ticket.id, a.bytes)) (x ∷ xs)) io ≡ check.bytes)
     (λ here same.
     ap (λ (b : Bool). cond b x.bytes (bytes_read (map (λ (a : AnswerParts). (a.ticket.id, a.bytes)) xs) io)) here
-    ∙ ap (λ (a : AnswerParts). a.bytes) (same_some x check same))
+    ∙ ap (λ (a : AnswerParts). a.bytes) (same_Some x check same))
     (λ other rest.
     ap (λ (b : Bool). cond b x.bytes (bytes_read (map (λ (a : AnswerParts). (a.ticket.id, a.bytes)) xs) io)) other
     ∙ bytes_found xs io check rest) found

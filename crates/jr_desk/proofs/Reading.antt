@@ -1,10 +1,10 @@
 -- What a player keeps of its reads goes on agreeing with its desk's history.
-use Rattle.std.proofs.Common.{◌≡◌, ℕ, zero, suc, ◌+◌, ◌<◌, List, [], ◌∷◌, ◌++◌, length, map, Bool, true, false, cond, refl, sym, ◌∙◌, ap, subst, arith, inl, inr}
+use Rattle.std.proofs.Common.{◌≡◌, ℕ, ◌<◌, List, [], ◌∷◌, ◌++◌, length, Bool, true, false, cond, refl, sym, ◌∙◌, ap, subst, inl, inr}
 use Rattle.std.specs.Prelude.{Option, Some, None, slice_get, ◌==◌, find, reverse}
 use Rattle.std.specs.Option.{option_or}
-use Rattle.std.specs.List.{enumerate_from}
-use Rattle.std.proofs.lemmas.Bool.{cases_Bool, cond_both, eq-eqb, eqb-true, false≢true}
+use Rattle.std.proofs.lemmas.Bool.{cases_Bool, cond_both, eqb-true, false≢true}
 use Rattle.std.proofs.lemmas.List.{reverse-append}
+use Rattle.std.proofs.lemmas.Option.{same_Some}
 use Rattle.jr_model.specs.declared.events.Event.{Event}
 use Rattle.jr_model.specs.declared.events.Event.TheVariants.{End}
 use Rattle.jr_model.specs.declared.events.Outcome.{Outcome}
@@ -17,52 +17,34 @@ use Rattle.jr_model.specs.History.{first_given, started, end_of, outcome_of, is_
 use Rattle.jr_model.specs.Legal.{is_legal}
 use Rattle.jr_model.specs.Plan.{Plan}
 use Rattle.jr_model.proofs.SerialLaws.{first_given-append, whole_some}
+use Rattle.jr_model.proofs.HistoryLemmas.{ends_were_started, outcome_of-end}
+use Rattle.jr_model.proofs.OptionLemmas.{or_none}
 use Rattle.jr_engines.specs.Answers.{AnswerParts}
 use Rattle.jr_header.specs.Served.{is_to_judge, is_whole_check}
-use Rattle.jr_laws_steps.proofs.StartedLemmas.{started-other, started-append, started_stays, got_within, same_some}
+use Rattle.jr_laws_steps.proofs.StartedLemmas.{started-other, started-append, started_stays, got_within}
 use Rattle.jr_desk.specs.Plays.{KeepsReads, kept_by, last_read, is_for, IsJudgeable}
-use Rattle.jr_desk_tickets.specs.Kept.{IsOwn, tickets_of}
+use Rattle.jr_desk_tickets.specs.Kept.{IsOwn}
 use Rattle.jr_desk_tickets.specs.Tickets.{ticket_of}
-use Rattle.jr_desk_tickets.proofs.OwnTickets.{own_started}
-use Rattle.jr_desk_state.proofs.Answering.{ends_started}
+use Rattle.jr_desk_tickets.proofs.OwnTickets.{own_started, ticket_started}
 
 -- tickets stay the desk's own
-
-ticket_there : (plan : Plan) (n : ℕ) (ios : List Started) (k : ℕ) (io : Started) → slice_get ios k ≡ Some io → slice_get (map (ticket_of plan) (enumerate_from n ios)) k ≡ Some (ticket_of plan (n + k, io))
-ticket_there plan n [] k io at = cc
-ticket_there plan n (first ∷ ios) zero io at =
-    let same : n ≡ n + 0 = omega arith in
-    ap (λ (s : Started). Some (ticket_of plan (n, s))) (same_some first io at) ∙ ap (λ (i : ℕ). Some (ticket_of plan (i, io))) same
-ticket_there plan n (first ∷ ios) (suc k) io at =
-    let same : n + 1 + k ≡ n + suc k = omega arith in
-    ticket_there plan (n + 1) ios k io at ∙ ap (λ (i : ℕ). Some (ticket_of plan (i, io))) same
-
--- what was started has its ticket
-pub ticket_at : (plan : Plan) (history : List Event) (id : ℕ) (io : Started) → slice_get (started history) id ≡ Some io → slice_get (tickets_of plan history) id ≡ Some (ticket_of plan (id, io))
-ticket_at plan history id io at =
-    let same : 0 + id ≡ id = omega arith in
-    ticket_there plan 0 (started history) id io at ∙ ap (λ (i : ℕ). Some (ticket_of plan (i, io))) same
 
 own_stays : (plan : Plan) (history events : List Event) (t : Ticket) → IsOwn plan history t → IsOwn plan (history ++ events) t
 own_stays plan history events t own =
     let io = own_started plan history t own in
-    ticket_at plan (history ++ events) t.id io.0 (started_stays history events t.id io.0 io.1) ∙ ap Some io.2
+    ticket_started plan (history ++ events) t.id io.0 (started_stays history events t.id io.0 io.1) ∙ ap Some io.2
 
 outcome_stays : (history events : List Event) (id : ℕ) (o : Outcome) → outcome_of history id ≡ Some o → outcome_of (history ++ events) id ≡ Some o
 outcome_stays history events id o ended =
     first_given-append (end_of id) history events ∙ ap (λ (p : Option Outcome). option_or p (first_given (end_of id) events)) ended
 
-option_or-none : (o : Option Outcome) → option_or o None ≡ o
-option_or-none None = refl
-option_or-none (Some o) = refl
-
 -- a check that ended whole had done so before events that don't end it
 whole_before : (plan : Plan) (history events : List Event) (id : ℕ) (io : Started) → is_legal plan history ≡ true → first_given (end_of id) events ≡ None → IsJudgeable (history ++ events) id io → IsJudgeable history id io
 whole_before plan history events id io legal none check =
     let same : outcome_of (history ++ events) id ≡ outcome_of history id =
-    first_given-append (end_of id) history events ∙ ap (option_or (outcome_of history id)) none ∙ option_or-none (outcome_of history id) in
+    first_given-append (end_of id) history events ∙ ap (option_or (outcome_of history id)) none ∙ or_none (outcome_of history id) in
     let whole : ended_whole (outcome_of history id) ≡ true = ap ended_whole (sym same) ∙ check.2 in
-    let below : id < length (started history) = ends_started plan history legal id Whole (whole_some (outcome_of history id) whole) in
+    let below : id < length (started history) = ends_were_started plan history legal id Whole (whole_some (outcome_of history id) whole) in
     let there : slice_get (started history ++ started events) id ≡ Some io =
     ap (λ (ios : List Started). slice_get ios id) (sym (started-append history events)) ∙ check.0 in
     (got_within (started history) (started events) id io below there, check.1, whole)
@@ -88,19 +70,12 @@ found_for : (xs : List AnswerParts) (io : ℕ) (answer : AnswerParts) → find (
 found_for [] io answer found = cc
 found_for (x ∷ xs) io answer found =
     cond_both (x.ticket.id == io) (Some x) (find (is_for io) xs) (λ (o : Option AnswerParts). o ≡ Some answer → (answer.ticket.id == io) ≡ true)
-    (λ is same. subst (λ (a : AnswerParts). (a.ticket.id == io) ≡ true) (same_some x answer same) is)
+    (λ is same. subst (λ (a : AnswerParts). (a.ticket.id == io) ≡ true) (same_Some x answer same) is)
     (λ other rest. found_for xs io answer rest) found
 
 -- what was kept for an I/O has its number
 pub last_read_for : (reads : List AnswerParts) (io : ℕ) (answer : AnswerParts) → last_read reads io ≡ Some answer → answer.ticket.id ≡ io
 last_read_for reads io answer found = eqb-true answer.ticket.id io (found_for (reverse reads) io answer found)
-
--- an I/O that had not ended ends so
-outcome_now : (history : List Event) (worker id : ℕ) (outcome : Outcome) → outcome_of history id ≡ None → outcome_of (history ++ End worker id outcome ∷ []) id ≡ Some outcome
-outcome_now history worker id outcome unended =
-    first_given-append (end_of id) history (End worker id outcome ∷ [])
-    ∙ ap (λ (o : Option Outcome). option_or o (first_given (end_of id) (End worker id outcome ∷ []))) unended
-    ∙ ap (λ (b : Bool). option_or (cond b (Some outcome) None) None) (eq-eqb id id refl)
 
 no_other_end : (worker id io : ℕ) (outcome : Outcome) → (id == io) ≡ false → first_given (end_of io) (End worker id outcome ∷ []) ≡ None
 no_other_end worker id io outcome other = ap (λ (b : Bool). option_or (cond b (Some outcome) None) None) other
@@ -133,8 +108,8 @@ module _ (plan : Plan) (history : List Event) (reads : List AnswerParts) (worker
   new_ended : IsOwn plan after answer.ticket × (outcome_of after answer.ticket.id ≡ Some answer.outcome)
   new_ended = (
     subst (λ (t : Ticket). IsOwn plan after t) (sym is)
-        (own_stays plan history (End worker id answer.outcome ∷ []) (ticket_of plan (id, io)) (ticket_at plan history id io at)),
-    subst (λ (i : ℕ). outcome_of after i ≡ Some answer.outcome) (sym same_id) (outcome_now history worker id answer.outcome unended),
+        (own_stays plan history (End worker id answer.outcome ∷ []) (ticket_of plan (id, io)) (ticket_started plan history id io at)),
+    subst (λ (i : ℕ). outcome_of after i ≡ Some answer.outcome) (sym same_id) (outcome_of-end history worker id answer.outcome unended),
   )
 
   -- a check of another number was there before
@@ -147,8 +122,8 @@ module _ (plan : Plan) (history : List Event) (reads : List AnswerParts) (worker
   same_check s check =
       let there : Some s ≡ Some io =
       sym check.0 ∙ ap (λ (ios : List Started). slice_get ios id) (started-other history (End worker id answer.outcome) refl) ∙ at in (
-        ap (λ (t : Ticket). is_judged_kind t.kind) is ∙ ap (λ (x : Started). is_judged_kind x.kind) (sym (same_some s io there)) ∙ check.1,
-        ap ended_whole (sym (outcome_now history worker id answer.outcome unended)) ∙ check.2,
+        ap (λ (t : Ticket). is_judged_kind t.kind) is ∙ ap (λ (x : Started). is_judged_kind x.kind) (sym (same_Some s io there)) ∙ check.1,
+        ap ended_whole (sym (outcome_of-end history worker id answer.outcome unended)) ∙ check.2,
       )
 
   kept_more : KeepsReads plan after (reads ++ answer ∷ [])
@@ -156,7 +131,7 @@ module _ (plan : Plan) (history : List Event) (reads : List AnswerParts) (worker
     ended = λ i a found.
         cond_both (answer.ticket.id == i) (Some answer) (last_read reads i)
         (λ (o : Option AnswerParts). o ≡ Some a → IsOwn plan after a.ticket × (outcome_of after a.ticket.id ≡ Some a.outcome))
-        (λ here same. subst (λ (x : AnswerParts). IsOwn plan after x.ticket × (outcome_of after x.ticket.id ≡ Some x.outcome)) (same_some answer a same) new_ended)
+        (λ here same. subst (λ (x : AnswerParts). IsOwn plan after x.ticket × (outcome_of after x.ticket.id ≡ Some x.outcome)) (same_Some answer a same) new_ended)
         (λ other before. old_ended i a before)
         (sym (last_read-more reads answer i) ∙ found);
     checks = λ i s check.

@@ -50,7 +50,3 @@ pub judge_accepts : (desk : DeskState) (t : Ticket) (P : DeskFault → Type 0) �
 judge_accepts desk t P is going unjudged whole true owns =
     subst (λ (o : Option DeskFault). IfSome o P) (sym (judge_free desk.is_stopped (is_judged desk.history t.id) (ended_whole (outcome_of desk.history t.id)) going unjudged whole)) tt
 judge_accepts desk t P is going unjudged whole false owns = absurd (owns is)
-
-pub not_stopped : (stopped : Bool) → (stopped ≡ true → ⊥) → stopped ≡ false
-not_stopped false f = refl
-not_stopped true f = absurd (f refl)

@@ -11,9 +11,9 @@ use Rattle.jr_model.specs.Machine.{State, Played, first_state, machine_run, mach
 use Rattle.jr_model.specs.Plan.{Plan}
 use Rattle.jr_model.proofs.MachineLaws.{legal_run}
 use Rattle.jr_model.specs.PlanFacts.{IsPlanned}
+use Rattle.jr_model.proofs.PlanLemmas.{numbered_of}
 use Rattle.jr_engines.specs.Answers.{AnswerParts}
 use Rattle.jr_laws_bytes.specs.Memory.{CoversFiles}
-use Rattle.jr_laws_steps.proofs.CountLaws.{numbered_of}
 use Rattle.jr_laws_bytes.proofs.Memories.{covers-fresh_memory}
 use Rattle.jr_desk.specs.declared.plays.Player.{Player}
 use Rattle.jr_desk.specs.DeskOf.{desk_in}

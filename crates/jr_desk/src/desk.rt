@@ -10,7 +10,7 @@ ghost use Rattle.jr_desk_tickets.specs.Handing.{IsHanded};
 ghost use Rattle.jr_desk_tickets.specs.Kept.{tickets_of, IsOwn};
 ghost use Rattle.jr_desk.specs.Refusals.{Owns, end_fault, judge_fault};
 ghost use Rattle.jr_desk_state.specs.Takes.{HandsOutOwn, IsTaken, is_finished, is_fitting, WaitsRightly};
-ghost use Rattle.jr_desk_totals.specs.Tallying.{miscompare_of};
+ghost use Rattle.jr_desk_totals.specs.Bads.{miscompare_of};
 
 use jr_desk_state::{
     Board, Take, answer_to, end, is_complete, judge, new_board, prepare, start_next,

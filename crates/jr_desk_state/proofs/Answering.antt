@@ -4,7 +4,7 @@ use Rattle.std.specs.Prelude.{Option, Some, None, cond, nat_lt, nat_eq, ◌==◌
 use Rattle.std.specs.Option.{option_or}
 use Rattle.std.specs.List.{list_all}
 use Rattle.std.specs.Cmp.Lexicographic.{pointwise}
-use Rattle.std.proofs.lemmas.Bool.{and_parts, and_from, eq-eqb, lt-ltb}
+use Rattle.std.proofs.lemmas.Bool.{and_parts, and_from, eq-eqb, lt-ltb, false_from_ne_true}
 use Rattle.jr_model.specs.declared.contents.Expected.TheVariants as expected
 use Rattle.jr_model.specs.declared.contents.Method.{Method}
 use Rattle.jr_model.specs.declared.contents.VerifyKind.{VerifyKind}
@@ -18,20 +18,24 @@ use Rattle.jr_model.specs.declared.tickets.TicketKind.TheVariants as ticket
 use Rattle.jr_model.specs.Choice.{choice}
 use Rattle.jr_model.specs.Content.{block_version, expected_of, expected_pattern, header_of}
 use Rattle.jr_model.specs.History.{first_given, started, started_by, end_of, outcome_of, in_flight, awaiting, is_judged_kind}
-use Rattle.jr_model.specs.Legal.{is_legal, is_complete, is_over, may_happen}
+use Rattle.jr_model.specs.Legal.{is_legal, is_complete, is_over}
 use Rattle.jr_model.specs.Machine.{Appends, is_skip}
 use Rattle.jr_model.specs.Plan.{Plan, SubJob, IsNumbered, clone_of, is_verified}
 use Rattle.jr_model.specs.Rounds.{pass_of}
 use Rattle.jr_model.specs.Tickets.{piece_fits, has_pattern, is_header, is_pattern, is_seed, interval_fits, chunks_fit, suits_kind, suits_method, ticket_fits}
 use Rattle.jr_model.proofs.LegalLaws.{choice_is_step, cases_step_of}
-use Rattle.jr_model.proofs.SerialLaws.{EndsWereStarted, ends-more, first_given-append}
+use Rattle.jr_model.proofs.SerialLaws.{first_given-append}
 use Rattle.jr_model.specs.PlanFacts.{IsPlanned}
+use Rattle.jr_model.proofs.ListLemmas.{none_by_length}
+use Rattle.jr_model.proofs.PlanLemmas.{numbered_of}
+use Rattle.jr_model.proofs.BoolLemmas.{never_both}
+use Rattle.jr_model.proofs.OptionLemmas.{none_from}
+use Rattle.jr_model.proofs.HistoryLemmas.{ends_were_started}
 use Rattle.jr_header.specs.Served.{ExpectsOwn}
 use Rattle.jr_laws_steps.specs.Drawn.{FitsPlan}
-use Rattle.jr_laws_steps.proofs.CountLaws.{numbered_of, along_legal}
 use Rattle.jr_laws_steps.proofs.DrawnLaws.{started_fit-law}
 use Rattle.jr_laws_steps.proofs.IdleLaws.{idle_is_over}
-use Rattle.jr_laws_steps.proofs.RestLaws.{each_ended, none_by_length}
+use Rattle.jr_laws_steps.proofs.RestLaws.{each_ended}
 use Rattle.jr_desk_tickets.specs.Tickets.{method_of, seed_of, expected_by, ticket_of}
 use Rattle.jr_desk_state.specs.Takes.{IsChosen, HandsOutOwn, last_started, ticket_for, answer_with, handing, is_fitting, is_finished, WaitsRightly}
 use Rattle.jr_desk_state.proofs.Keeping.{by_is_skip, last-skip, chosen_at, chosen_legal}
@@ -154,18 +158,6 @@ no_ends plan worker id before (e ∷ events) numbered appends =
     (λ (skip : is_skip e ≡ true) (more : Appends plan worker (before ++ e ∷ []) events). no_ends plan worker id (before ++ e ∷ []) events numbered more)
     (λ (other : is_skip e ≡ false) (last : events ≡ []). ap (first_given (end_of id)) last)
 
-pub ends_started : (plan : Plan) (history : List Event) → is_legal plan history ≡ true → EndsWereStarted history
-ends_started plan history legal =
-    along_legal plan EndsWereStarted (λ (h : List Event) (e : Event) (ends : EndsWereStarted h) (may : may_happen plan h e ≡ true). ends-more plan h e ends may)
-    [] history (λ (io : ℕ) (o : Outcome) (h : None ≡ Some o). none_some io o h) legal
-  where
-    none_some : (io : ℕ) (o : Outcome) → None ≡ Some o → io < 0
-    none_some io o h = cc
-
-none_if : (o : Option Outcome) → ((p : Outcome) → o ≡ Some p → ⊥) → o ≡ None
-none_if None f = refl
-none_if (Some p) f = absurd (f p refl)
-
 no_some : (o : Outcome) → None ≡ Some o → ⊥
 no_some o h = cc
 
@@ -175,16 +167,12 @@ unended plan worker before history io planned legal chosen =
     ap (λ (h : List Event). outcome_of h id) chosen.1
     ∙ first_given-append (end_of id) before chosen.0
     ∙ ap (λ (o : Option Outcome). option_or o (first_given (end_of id) chosen.0))
-    (none_if (outcome_of before id) (λ (p : Outcome) (h : outcome_of before id ≡ Some p). let below : id < id = ends_started plan before legal id p h in omega (arith, below)))
+    (none_from (outcome_of before id) (λ (p : Outcome) (h : outcome_of before id ≡ Some p). let below : id < id = ends_were_started plan before legal id p h in omega (arith, below)))
     ∙ no_ends plan worker id before chosen.0 (numbered_of plan planned) chosen.2
-
-false_if : (b : Bool) → (b ≡ true → ⊥) → b ≡ false
-false_if false f = refl
-false_if true f = absurd (f refl)
 
 incomplete : (plan : Plan) (worker : ℕ) (before history : List Event) (io : Started) → IsPlanned plan → is_legal plan before ≡ true → IsChosen plan worker before history (Some io) → is_complete plan history ≡ false
 incomplete plan worker before history io planned legal chosen =
-    false_if (is_complete plan history)
+    false_from_ne_true (is_complete plan history)
     (λ (whole : is_complete plan history ≡ true).
     let parts = and_parts ((length (in_flight history) == 0) && (length (awaiting history) == 0)) (list_all (is_over history) plan.clones) whole in
     let rests = none_by_length (in_flight history) (and_parts (length (in_flight history) == 0) (length (awaiting history) == 0) parts.0).0 in
@@ -221,9 +209,6 @@ starts_or_skips plan history worker e numbered chosen =
           ]
     ]
 
-true_false : (b : Bool) → b ≡ true → b ≡ false → ⊥
-true_false b t f = cc
-
 none_left : (plan : Plan) (worker : ℕ) (before events : List Event) → IsNumbered plan → Appends plan worker before events → last_started events ≡ None → choice plan (before ++ events) worker ≡ None
 none_left plan worker before [] numbered appends none = subst (λ (h : List Event). choice plan h worker ≡ None) (sym (append-nil before)) appends
 none_left plan worker before (e ∷ events) numbered appends none =
@@ -233,7 +218,7 @@ none_left plan worker before (e ∷ events) numbered appends none =
     (none_left plan worker (before ++ e ∷ []) events numbered more (sym (last-skip e events skip) ∙ none)))
     (λ (other : is_skip e ≡ false) (last : events ≡ []).
     let starts : started_by e ≡ None = subst (λ (rest : List Event). last_started (e ∷ rest) ≡ None) last none in
-    absurd (true_false (is_skip e) (starts_or_skips plan before worker e numbered appends.0 starts) other))
+    absurd (never_both (is_skip e) (starts_or_skips plan before worker e numbered appends.0 starts) other))
 
 handing_waits : (plan : Plan) (worker : ℕ) (history : List Event) (kind : TicketKind) (t : Ticket) → WaitsRightly plan worker history (handing kind t)
 handing_waits plan worker history ticket.Read t = tt
@@ -256,6 +241,6 @@ answer_waits plan worker before history None planned legal chosen =
     (λ (unfinished : is_complete plan history ≡ false). (
       idle,
       λ (rests : (in_flight history ≡ []) × (awaiting history ≡ [])).
-          true_false (is_complete plan history)
+          never_both (is_complete plan history)
           (idle_is_over plan history worker planned (chosen_legal plan worker before history None planned legal chosen) idle rests.0 rests.1) unfinished,
     ))

@@ -5,6 +5,7 @@ use Rattle.std.specs.Prelude.{Option, Some, None, slice_get, ◌==◌, is_some}
 use Rattle.std.specs.List.{list_any, enumerate_from}
 use Rattle.std.specs.Option.{option_map}
 use Rattle.std.proofs.lemmas.Bool.{and_from, eq-eqb}
+use Rattle.std.proofs.lemmas.Option.{same_Some}
 use Rattle.jr_model.specs.declared.blocks.Piece.{Piece}
 use Rattle.jr_model.specs.declared.events.Event.{Event}
 use Rattle.jr_model.specs.declared.events.Started.{Started}
@@ -21,11 +22,12 @@ use Rattle.jr_model.specs.Tickets.{piece_fits}
 use Rattle.jr_backlog.specs.Rounds.{Round}
 use Rattle.jr_backlog.specs.CurrentRound.{current_round}
 use Rattle.jr_backlog.specs.Deferred.{is_committed}
+use Rattle.jr_backlog.proofs.WalkedFacts.{settled_now}
 use Rattle.jr_writes.specs.declared.logs.Logged.{Logged}
 use Rattle.jr_writes.specs.LoggedWrites.{logged}
 use Rattle.jr_laws_steps.proofs.DrawnLaws.{started_are_drawn-law, started_fit-law}
-use Rattle.jr_laws_steps.proofs.PlaceLemmas.{made_at, any_at}
-use Rattle.jr_laws_steps.proofs.StartedLemmas.{same_some}
+use Rattle.jr_model.proofs.PlaceLemmas.{made_at, any_at}
+use Rattle.jr_model.proofs.OptionLemmas.{made_of}
 use Rattle.jr_laws_rounds.specs.Rounds.{HasRound}
 use Rattle.jr_laws_rounds.specs.Standing.{take_up_write}
 use Rattle.jr_laws_rounds.proofs.StandingLists.{numbered_at}
@@ -41,11 +43,6 @@ use Rattle.jr_desk_state.specs.WriteLogs.{checked_by}
 use Rattle.jr_desk_state.proofs.ChoiceLists.{given_here, given_behind, given_nowhere}
 use Rattle.jr_desk_state.proofs.ChoiceMoves.{IsLeft, left_write}
 use Rattle.jr_desk_state.proofs.LogMoves.{log_intact}
-use Rattle.jr_desk_state.proofs.StandingMoves.{settled_is}
-
-mapped : {X Y : Type 0} (f : X → Y) (o : Option X) (y : Y) → option_map f o ≡ Some y → (x : X) × (o ≡ Some x) × (f x ≡ y)
-mapped f None y h = cc
-mapped f (Some x) y h = (x, refl, same_some (f x) y h)
 
 -- what is made of something is something
 pub some_mapped : {X Y : Type 0} (f : X → Y) (o : Option X) → is_some (option_map f o) ≡ is_some o
@@ -58,7 +55,7 @@ pub handed_fits : (plan : Plan) (board : Board) (id : ℕ) (piece : Piece) → I
     → piece_fits piece ≡ true
 handed_fits plan board id piece is at =
     let history = board.history.items in
-    let found = mapped (λ (ticket : Ticket). ticket.piece) (slice_get (tickets_of plan history) id) piece at in
+    let found = made_of (λ (ticket : Ticket). ticket.piece) (slice_get (tickets_of plan history) id) piece at in
     let made = got_ticket plan 0 (started history) id found.0 found.1 in
     let fits = started_fit-law plan history id made.0 is.planned is.legal made.1 in
     subst (λ (p : Piece). piece_fits p ≡ true) (ap (λ (ticket : Ticket). ticket.piece) made.2 ∙ found.2) fits.1.fits
@@ -93,7 +90,7 @@ module _ (plan : Plan) (board : Board) (is : IsBoard plan board) (c : ℕ) (job 
       own_round = record { planned = is.planned; legal = is.legal; there = own; in_pass = stands.in_pass; rounds = rounds; runs = runs }
 
       pub round_is : is_committed standing.rounds ≡ true → standing.rounds.round ≡ current_round job history
-      round_is settled = sym (settled_is standing.rounds settled) ∙ stands.round rounds runs
+      round_is settled = sym (settled_now standing.rounds settled) ∙ stands.round rounds runs
 
       module _ (write : WriteId) (left : list_any (same_write write) (current_round job history).to_check ≡ true) where
         pub its : IsLeft history job standing.pass write
@@ -113,7 +110,7 @@ module _ (plan : Plan) (board : Board) (is : IsBoard plan board) (c : ℕ) (job 
             let name : was.io.write ≡ write = was.named ∙ name_is in
             let begun = started_are_drawn-law plan history issued.id was.io is.planned is.legal was.at in
             let clone : was.io.write.clone ≡ job.clone = ap (λ (w : WriteId). w.clone) name ∙ its.clone in
-            let same : begun.0 ≡ job = same_some begun.0 job (sym begun.2.planned ∙ ap (clone_of plan) clone ∙ own) in
+            let same : begun.0 ≡ job = same_Some begun.0 job (sym begun.2.planned ∙ ap (clone_of plan) clone ∙ own) in
             let drawn : slice_get (draws_of_job job write.pass) write.number ≡ Some begun.1 =
             subst (λ (w : WriteId). slice_get (draws_of_job job w.pass) w.number ≡ Some begun.1) name
             (subst (λ (j : SubJob). slice_get (draws_of_job j was.io.write.pass) was.io.write.number ≡ Some begun.1) same begun.2.drawn)

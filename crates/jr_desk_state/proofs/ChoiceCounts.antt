@@ -2,9 +2,10 @@
 use Rattle.std.proofs.Common.{◌≡◌, ℕ, zero, suc, ◌+◌, ◌*◌, ◌^◌, ◌<◌, ◌≤◌, List, [], ◌∷◌, length, drop, get_or, Bool, true, false}
 use Rattle.std.proofs.Common.{◌&&◌, ◌||◌, not, refl, sym, ◌∙◌, ap, subst, arith}
 use Rattle.std.specs.Prelude.{Option, Some, None, IfSome, slice_get, nat_lt, nat_le, ◌==◌, is_some}
-use Rattle.std.proofs.lemmas.Bool.{and_from, eq-eqb, ne_eqb, eqb-true, lt-ltb, le-ltb, lt-leb}
+use Rattle.std.proofs.lemmas.Bool.{and_from, eq-eqb, ne_eqb, eqb-true, lt-ltb, le-ltb, lt-leb, or_left, and_left, and_right}
 use Rattle.std.proofs.lemmas.List.{length-map}
 use Rattle.std.proofs.Math.ListN.{drop_of_length-le}
+use Rattle.std.proofs.lemmas.Option.{same_Some}
 use Rattle.jr_model.specs.declared.events.Event.{Event}
 use Rattle.jr_model.specs.declared.workloads.Draw.{Draw}
 use Rattle.jr_model.specs.Choice.{choice_of_clone}
@@ -19,9 +20,8 @@ use Rattle.jr_model.specs.PlanFacts.{IsPlanned}
 use Rattle.jr_laws_draws.proofs.TheLaw.{pass_law, drawable_of}
 use Rattle.jr_backlog.specs.CurrentRound.{current_round}
 use Rattle.jr_backlog.specs.Deferred.{is_committed}
-use Rattle.jr_laws_steps.proofs.DrawnLaws.{all_at}
-use Rattle.jr_laws_steps.proofs.PlaceLemmas.{got_dropped, made_at}
-use Rattle.jr_laws_steps.proofs.StartedLemmas.{same_some}
+use Rattle.jr_model.proofs.PlaceLemmas.{got_dropped, made_at}
+use Rattle.jr_model.proofs.ListLemmas.{all_got}
 use Rattle.jr_desk_totals.specs.Tallies.{flying_issues, flying_checks}
 use Rattle.jr_desk_totals.proofs.Compared.{tests_compared}
 use Rattle.jr_desk_totals.proofs.Few.{counts_few}
@@ -52,23 +52,12 @@ counts_at plan board c counts is below read =
     ∙ length-map plan.clones (counts_of board.history.items) in
     read_at board.tallies.counts.items board.tallies.counts.items c counts refl (omega (arith, below, count)) read
 
-blocked_by : (a b : Bool) → a ≡ true → (a || b) ≡ true
-blocked_by true b h = refl
-blocked_by false b h = cc
-
 blocked_full : (a b : Bool) → b ≡ false → (a || not b) ≡ true
 blocked_full true b h = refl
 blocked_full false b h = ap not h
 
 unblocked : (a b : Bool) → a ≡ false → b ≡ true → (a || not b) ≡ false
 unblocked a b first second = ap (λ x. x || not b) first ∙ ap not second
-
-not_first : (a b : Bool) → a ≡ false → (a && b) ≡ false
-not_first a b h = ap (λ x. x && b) h
-
-not_second : (a b : Bool) → b ≡ false → (a && b) ≡ false
-not_second true b h = h
-not_second false b h = refl
 
 module _ (plan : Plan) (board : Board) (is : IsBoard plan board) (c : ℕ) (job : SubJob) (there : clone_of plan c ≡ Some job)
     (standing : Standing) (at : slice_get board.standings.items c ≡ Some standing) (counts : Counts)
@@ -78,7 +67,7 @@ module _ (plan : Plan) (board : Board) (is : IsBoard plan board) (c : ℕ) (job 
 
   counts_are : counts ≡ counts_of events job
   counts_are =
-      same_some counts (counts_of events job)
+      same_Some counts (counts_of events job)
       (sym counted ∙ ap (λ (all : List Counts). slice_get all c) is.tallies.counts ∙ made_at (counts_of events) plan.clones c job there)
 
   -- they are few
@@ -106,7 +95,7 @@ module _ (plan : Plan) (board : Board) (is : IsBoard plan board) (c : ℕ) (job 
     pub none_halted : counts.is_halted ≡ true → None ≡ choice_of_clone plan events worker job
     none_halted halted =
         sym (step ∙ step_blocked plan events worker job standing.pass
-        (blocked_by (is_halted events job) (not (has_room events job)) (sym (ap (λ (x : Counts). x.is_halted) counts_are) ∙ halted)))
+        (or_left (is_halted events job) (not (has_room events job)) (sym (ap (λ (x : Counts). x.is_halted) counts_are) ∙ halted)))
 
     pub none_full : job.depth ≤ counts.issues + counts.checks → None ≡ choice_of_clone plan events worker job
     none_full full =
@@ -145,11 +134,11 @@ module _ (plan : Plan) (board : Board) (is : IsBoard plan board) (c : ℕ) (job 
       -- and where it isn't, or there are no rounds
       pub none_waits : has_rounds job ≡ true → is_committed standing.rounds ≡ true → is_under_way standing.rounds.round ≡ false
           → (has_rounds job && is_under_way (current_round job events)) ≡ false
-      none_waits rounds settled none = not_second (has_rounds job) (is_under_way (current_round job events))
+      none_waits rounds settled none = and_right (has_rounds job) (is_under_way (current_round job events))
           (round_of rounds settled ∙ none)
 
       pub no_rounds : has_rounds job ≡ false → (has_rounds job && is_under_way (current_round job events)) ≡ false
-      no_rounds none = not_first (has_rounds job) (is_under_way (current_round job events)) none
+      no_rounds none = and_left (has_rounds job) (is_under_way (current_round job events)) none
 
       module _ (none : (has_rounds job && is_under_way (current_round job events)) ≡ false) where
         pub issues_next : next_issue plan events worker job standing.pass ≡ choice_of_clone plan events worker job
@@ -169,7 +158,7 @@ draws_fit plan c p n job (Some one) planned there first =
     let limits = planned.drafted.limited c job there in
     let law = pass_law job (drawable_of job limits) in
     let words = pass_words job p (4 * job.cells) in
-    all_at (λ (d : Draw). piece_fits d.piece ≡ true) (draws_over job words) (n + 0) one (law.fits words)
+    all_got (λ (d : Draw). piece_fits d.piece ≡ true) (draws_over job words) (n + 0) one (law.fits words)
     (got_dropped n (draws_of_job job p) 0 one (sym first))
 
 pub first_left : {X : Type 0} (xs : List X) (n : ℕ) → slice_get (drop n xs) 0 ≡ slice_get xs n

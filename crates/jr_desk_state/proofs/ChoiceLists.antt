@@ -5,7 +5,7 @@ use Rattle.std.specs.Prelude.{Option, Some, None, slice_get, is_some}
 use Rattle.std.specs.Option.{option_or}
 use Rattle.std.proofs.lemmas.Option.{slice_get_read}
 use Rattle.jr_model.specs.History.{first_given}
-use Rattle.jr_laws_steps.proofs.PlaceLemmas.{got_dropped}
+use Rattle.jr_model.proofs.PlaceLemmas.{got_dropped}
 
 -- what was read of a list is there
 pub read_at : {X : Type 0} (xs ys : List X) (i : ℕ) (x : X) → xs ≡ ys → i < length xs → x ≡ get_or xs i x → slice_get ys i ≡ Some x

@@ -1,9 +1,10 @@
 -- A clone's step by where the clone stands.
 use Rattle.std.proofs.Common.{◌≡◌, ℕ, suc, ◌<◌, List, Bool, true, false, cond, ◌&&◌, ◌||◌, not}
 use Rattle.std.proofs.Common.{refl, sym, ◌∙◌, ap, subst}
-use Rattle.std.specs.Prelude.{Option, Some, None, slice_get, nat_lt, ◌==◌, filter}
+use Rattle.std.specs.Prelude.{Option, Some, None, slice_get, nat_lt, ◌==◌}
 use Rattle.std.specs.List.{list_any}
-use Rattle.std.proofs.lemmas.Bool.{and_parts, eqb-true, ltb-true}
+use Rattle.std.proofs.lemmas.Bool.{and_parts, eqb-true}
+use Rattle.jr_desk_state.proofs.IssueMoves.{left_below}
 use Rattle.jr_model.specs.declared.events.Event.{Event}
 use Rattle.jr_model.specs.declared.events.Event.TheVariants.{Probe, Skip}
 use Rattle.jr_model.specs.declared.events.WriteId.{WriteId}
@@ -14,11 +15,10 @@ use Rattle.jr_model.specs.LastWrite.{is_intact}
 use Rattle.jr_model.specs.Legal.{is_halted, has_room, is_clear, phase_is_open, takes_up}
 use Rattle.jr_model.specs.Plan.{Plan, SubJob}
 use Rattle.jr_model.specs.Rounds.{pass_of, write_id, is_write_draw, issued_count, has_rounds, no_issue_flies, pass_finished}
-use Rattle.jr_model.specs.Rounds.{group_of, group_index}
 use Rattle.jr_model.proofs.Equality.{eq_write}
-use Rattle.jr_backlog.specs.CurrentRound.{current_round, round_up_to, is_left, last_issued}
-use Rattle.jr_laws_steps.proofs.PlaceLemmas.{any_found, got_made, got_filtered}
-use Rattle.jr_laws_steps.proofs.CountSteps.{number_of_draw}
+use Rattle.jr_backlog.specs.CurrentRound.{current_round, last_issued}
+use Rattle.jr_model.proofs.PlaceLemmas.{any_found}
+use Rattle.jr_model.proofs.LegalLaws.{number_of_draw}
 use Rattle.jr_laws_quiet.proofs.Issues.{all_at}
 use Rattle.jr_laws_rounds.specs.Rounds.{HasRound}
 use Rattle.jr_laws_rounds.specs.Standing.{is_under_way, issue_of, next_issue, take_up, take_up_write, step_in_pass, ChoiceByStanding}
@@ -108,17 +108,6 @@ pub record IsLeft (history : List Event) (job : SubJob) (p : ℕ) (write : Write
   pub pass : write.pass ≡ p
   pub issued : write.number < issued_count history (pass_of job p)
 
-left_issued : (history : List Event) (job : SubJob) (o : Option WriteId) (k : ℕ) (write : WriteId)
-    → slice_get (round_up_to job history o).to_check k ≡ Some write → write.number < issued_count history (pass_of job write.pass)
-left_issued history job None k write at = cc
-left_issued history job (Some last) k write at =
-    let pass = pass_of job last.pass in
-    let made = got_made (write_id pass) (filter (is_left history pass) (group_of pass (group_index pass last.number))) k write at in
-    let kept = got_filtered (is_left history pass) (group_of pass (group_index pass last.number)) k made.0 made.1 in
-    let below : made.0.number < issued_count history pass = ltb-true made.0.number (issued_count history pass)
-    (and_parts (nat_lt made.0.number (issued_count history pass)) _ kept.2).0 in
-    subst (λ (w : WriteId). w.number < issued_count history (pass_of job w.pass)) made.2 below
-
 pub left_write : (plan : Plan) (history : List Event) (job : SubJob) (p : ℕ) (write : WriteId) → HasRound plan history job p
     → list_any (same_write write) (current_round job history).to_check ≡ true → IsLeft history job p write
 left_write plan history job p write has left =
@@ -131,7 +120,7 @@ left_write plan history job p write has left =
     (all_at (λ (w : WriteId). (w.clone == job.clone) && (w.pass == p)) round.to_check found.0 write
     (left_in_pass-law plan history job p has) at) in
     let pass : write.pass ≡ p = eqb-true write.pass p parts.1 in
-    let below = left_issued history job (last_issued job.clone history) found.0 write at in
+    let below = left_below history job (last_issued job.clone history) found.0 write at in
     record {
       clone = eqb-true write.clone job.clone parts.0;
       pass = pass;

@@ -1,19 +1,16 @@
 -- What is known of a ticket of the desk's own: its I/O and its clone.
-use Rattle.std.proofs.Common.{◌≡◌, ◌^◌, ◌≤◌, ◌+◌, List, Bool, true, ◌&&◌, sym, ◌∙◌, ap, arith}
-use borrow.Author.Tests.{leb-true}
-use Rattle.std.proofs.lemmas.Bool.{and_parts}
-use Rattle.std.specs.Prelude.{Some, slice_get, nat_lt, nat_le, ◌==◌, ◌%◌}
-use Rattle.jr_model.specs.declared.blocks.Piece.{Piece}
+use Rattle.std.proofs.Common.{◌≡◌, ◌^◌, ◌≤◌, List, true, sym, ◌∙◌, ap}
+use Rattle.std.specs.Prelude.{Some, slice_get}
 use Rattle.jr_model.specs.declared.events.Event.{Event}
 use Rattle.jr_model.specs.declared.events.Started.{Started}
 use Rattle.jr_model.specs.declared.events.WriteId.{WriteId}
-use Rattle.jr_model.specs.declared.limits.TheConstants.{SECTOR, LARGEST_BLOCK, LARGEST_END}
 use Rattle.jr_model.specs.declared.tickets.Ticket.{Ticket}
 use Rattle.jr_model.specs.History.{started}
 use Rattle.jr_model.specs.Legal.{is_legal}
 use Rattle.jr_model.specs.Plan.{Plan, SubJob, clone_of}
 use Rattle.jr_model.specs.Tickets.{piece_fits}
 use Rattle.jr_model.specs.PlanFacts.{IsPlanned}
+use Rattle.jr_model.proofs.PieceLemmas.{fitting_is_small}
 use Rattle.jr_laws_steps.proofs.DrawnLaws.{started_fit-law}
 use Rattle.jr_desk_tickets.specs.Kept.{IsOwn}
 use Rattle.jr_desk_tickets.proofs.OwnTickets.{own_started}
@@ -30,19 +27,6 @@ pub record OwnParts (plan : Plan) (history : List Event) (ticket : Ticket) : Typ
   pub planned : clone_of plan ticket.write.clone ≡ Some job
   pub named : clone_of plan io.write.clone ≡ Some job
   pub small : ticket.piece.len ≤ 2 ^ 24
-
-fitting_is_small : (piece : Piece) → piece_fits piece ≡ true → piece.len ≤ 2 ^ 24
-fitting_is_small piece fits =
-    let end : Bool = nat_le (piece.offset + piece.len) LARGEST_END in
-    let offset : Bool = piece.offset % SECTOR == 0 in
-    let whole : Bool = piece.len % SECTOR == 0 in
-    let some : Bool = nat_lt 0 piece.len in
-    let most : Bool = nat_le piece.len LARGEST_BLOCK in
-    let front = and_parts (some && most && whole && offset) end fits in
-    let blocks = and_parts (some && most && whole) offset front.0 in
-    let sized = and_parts (some && most) whole blocks.0 in
-    let small = and_parts some most sized.0 in
-    omega (arith, leb-true piece.len LARGEST_BLOCK small.1)
 
 pub own_parts : (plan : Plan) (history : List Event) (ticket : Ticket) → IsPlanned plan → is_legal plan history ≡ true
     → IsOwn plan history ticket → OwnParts plan history ticket

@@ -1,13 +1,12 @@
 -- What each event makes of what is in flight.
-use Rattle.std.proofs.Common.{◌≡◌, ℕ, List, [], ◌∷◌, ◌++◌, length, Bool, true, false, cond, arith, refl, sym, ◌∙◌, ap, subst}
-use Rattle.std.specs.Prelude.{Option, Some, None, IfSome, nat_lt, ◌==◌, is_none, slice_get}
-use Rattle.std.specs.Option.{option_map}
+use Rattle.std.proofs.Common.{◌≡◌, ℕ, List, [], ◌∷◌, length, Bool, true, false, cond, arith, refl, sym, ◌∙◌, ap, subst}
+use Rattle.std.specs.Prelude.{Option, Some, None, IfSome, nat_lt, ◌==◌}
 use Rattle.std.specs.BTreeMap.{insert_entry, is_at}
 use Rattle.std.specs.Map.{keys_of, remove_entry}
 use Rattle.std.specs.List.Sorted.{IsStrictlySortedBy}
 use Rattle.std.specs.declared.cmp.Ordering.TheVariants.{Less, Equal, Greater}
 use Rattle.std.specs.Ordering.{nat_cmp, is_eq}
-use Rattle.std.proofs.lemmas.Bool.{and_parts, eq-eqb, ne_eqb, le-ltb, ltb-true}
+use Rattle.std.proofs.lemmas.Bool.{eq-eqb, ne_eqb, le-ltb}
 use Rattle.std.proofs.lemmas.Cmp.{nat_cmp_total}
 use Rattle.jr_model.specs.declared.blocks.Dir.{Dir}
 use Rattle.jr_model.specs.declared.blocks.Piece.{Piece}
@@ -17,21 +16,18 @@ use Rattle.jr_model.specs.declared.events.Outcome.{Outcome}
 use Rattle.jr_model.specs.declared.events.Started.{Started}
 use Rattle.jr_model.specs.declared.events.Verdict.{Verdict}
 use Rattle.jr_model.specs.declared.events.WriteId.{WriteId}
-use Rattle.jr_model.specs.History.{started, started_by, flies, outcome_of}
+use Rattle.jr_model.specs.History.{started, started_by, flies}
 use Rattle.jr_model.specs.Legal.{is_clear as is_clear_after}
 use Rattle.jr_model.specs.Plan.{Plan, SubJob}
 use Rattle.jr_model.specs.Races.{has_raced}
-use Rattle.jr_model.specs.Tickets.{piece_fits}
-use Rattle.jr_model.proofs.LegalLaws.{is_legal-more}
 use Rattle.jr_flight.specs.declared.ios.Ended.{Ended}
 use Rattle.jr_flight.specs.declared.ios.Io.{Io}
 use Rattle.jr_flight.specs.Flights.{flying_io, is_clear, is_raced, marked, raced_so_far, writes}
 use Rattle.jr_writes.proofs.EntryLemmas.{remove-insert_entry}
-use Rattle.jr_laws_steps.proofs.DrawnLaws.{started_fit-law}
-use Rattle.jr_laws_steps.proofs.PlaceLemmas.{item_at}
-use Rattle.jr_laws_steps.proofs.StartedLemmas.{started_next}
-use Rattle.jr_laws_log.specs.Flying.{io_of, entry_of, flight_of}
-use Rattle.jr_laws_log.proofs.FlyingLaws.{flying_is_started, next_is_free, clear_is_clear, next_flies, others_fly_on, ended_flies_no_more, flight-skips}
+use Rattle.jr_laws_steps.proofs.DrawnLaws.{start_fits}
+use Rattle.jr_laws_log.specs.Flying.{io_of, flight_of}
+use Rattle.jr_laws_log.proofs.FlyingLaws.{next_is_free, clear_is_clear, next_flies, others_fly_on, ended_flies_no_more, flight-skips}
+use Rattle.jr_laws_log.proofs.FlyingLaws.{raced_in_flight}
 use Rattle.jr_laws_steps.specs.Nexts.{IsNext, grown}
 use Rattle.jr_desk_state.specs.declared.flying.Flying.{Flying}
 use Rattle.jr_desk_state.specs.Flyings.{with_begun, CanBegin, IsFlying}
@@ -53,13 +49,6 @@ pub flying_verdict : (plan : Plan) (history : List Event) (worker id : ℕ) (ver
 flying_verdict plan history worker id verdict flying next was =
     let any : WriteId = record { clone = 0; pass = 0; number = 0 } in
     record { all = (others_fly_on plan history worker id any verdict).1 ∙ was.all; begins = was.begins }
-
--- what is started is a piece of whole blocks
-pub start_fits : (plan : Plan) (history : List Event) (event : Event) (begun : Started) → IsNext plan history event
-    → started_by event ≡ Some begun → piece_fits begun.piece ≡ true
-start_fits plan h event begun next starts =
-    let legal = is_legal-more plan h event next.legal next.may in
-    (started_fit-law plan (h ++ event ∷ []) (length (started h)) begun next.planned legal (started_next h event begun starts)).1.fits
 
 -- what is started stands beside what flies, which is marked where it races
 pub flying_start : (plan : Plan) (history : List Event) (event : Event) (begun : Started) (io : Io) (flying : Flying)
@@ -161,17 +150,6 @@ flying_end_other plan h worker id outcome flying apart was = by flying.begun apa
               (subst (λ (es : List (ℕ × Ended)). IsStrictlySortedBy nat_cmp (keys_of es)) all (flight_in_order plan h)) begins.new;
           begins = still_begins id flying.flight ended begins;
         }
-
--- what is in flight has raced so far just where it has after the history
-raced_in_flight : (plan : Plan) (history : List Event) (id : ℕ) → flies history id ≡ true
-    → raced_so_far (flying_io id (flight_of plan history)) ≡ has_raced history id
-raced_in_flight plan h id flying =
-    let parts = and_parts (nat_lt id (length (started h))) (is_none (outcome_of h id)) flying in
-    let found = item_at (started h) id (ltb-true id (length (started h)) parts.0) in
-    ap raced_so_far
-    (flying_is_started plan h id
-    ∙ ap (λ (b : Bool). cond b (option_map (entry_of plan h id) (slice_get (started h) id)) None) flying
-    ∙ ap (option_map (entry_of plan h id)) found.1)
 
 -- of what began last
 pub raced_begun : (plan : Plan) (history : List Event) (id : ℕ) (ended : Ended) (flying : Flying)

@@ -2,14 +2,13 @@
 use Rattle.std.proofs.Common.{◌≡◌, ℕ, zero, suc, ◌+◌, ◌<◌, List, [], ◌∷◌, ◌++◌, length, drop, Bool, true, false, cond, ◌&&◌, ◌||◌, not, refl, sym, ◌∙◌, ap, subst, arith, inl, inr, length-append}
 use Rattle.std.specs.Prelude.{◌⊎◌, Option, Some, None, IfSome, is_none, is_some, unwrap_or, slice_get, nat_lt, ◌==◌, filter}
 use Rattle.std.specs.List.{list_any}
-use Rattle.std.specs.Cmp.{nat_cmp_is}
 use Rattle.std.specs.declared.cmp.Ordering.{Ordering}
-use Rattle.std.specs.declared.cmp.Ordering.TheVariants.{Less, Equal}
 use Rattle.std.specs.Ordering.{is_lt, nat_cmp, ordering_then}
 use Rattle.std.proofs.lemmas.Bool.{and_parts, eqb-true, eq-eqb, ltb-true, or_right, not-true, false_from_ne_true, false≢true}
 use Rattle.std.proofs.lemmas.List.{drop_all, length-drop}
 use Rattle.std.proofs.lemmas.List.Folds.{list_any-append}
 use Rattle.std.proofs.lemmas.Option.{slice_get_within}
+use Rattle.std.proofs.Math.Bool.{or-false}
 use Rattle.jr_model.specs.declared.blocks.Piece.{Piece}
 use Rattle.jr_model.specs.declared.events.Event.{Event}
 use Rattle.jr_model.specs.declared.events.Event.TheVariants.{Issue}
@@ -19,16 +18,20 @@ use Rattle.jr_model.specs.declared.events.Started.{Started}
 use Rattle.jr_model.specs.declared.events.WriteId.{WriteId}
 use Rattle.jr_model.specs.declared.workloads.Draw.{Draw}
 use Rattle.jr_model.specs.Draws.{draws_of_job}
-use Rattle.jr_model.specs.History.{started, is_probe, kind_for}
+use Rattle.jr_model.specs.History.{started, kind_for}
 use Rattle.jr_model.specs.Legal.{is_halted, takes_up}
 use Rattle.jr_model.specs.Plan.{Plan, SubJob, clone_of}
 use Rattle.jr_model.specs.Rounds.{pass_of, write_id, issued_count, all_issued, waits_for_round, pass_finished, has_rounds, group_of, group_index}
 use Rattle.jr_model.proofs.LegalLaws.{is_legal-more}
 use Rattle.jr_model.specs.PlanFacts.{IsPlanned}
-use Rattle.jr_laws_steps.proofs.IdleLaws.{numbered_of}
-use Rattle.jr_laws_steps.proofs.PlaceLemmas.{all_from, got_made}
+use Rattle.jr_model.proofs.PlaceLemmas.{all_from, got_made, got_filtered, nothing_at}
+use Rattle.jr_model.proofs.PlanLemmas.{numbered_of, own_place, own_number}
+use Rattle.jr_model.proofs.BoolLemmas.{same_truth}
+use Rattle.jr_model.proofs.ListLemmas.{none_by_length}
+use Rattle.jr_model.proofs.HistoryLemmas.{issue_is_no_probe}
+use Rattle.jr_model.proofs.NumberLemmas.{less_of, equal_of}
 use Rattle.jr_laws_steps.proofs.StartedLemmas.{got_more, started_next, started_stays}
-use Rattle.jr_laws_quiet.proofs.Groups.{filtered, got_drop}
+use Rattle.jr_laws_quiet.proofs.Groups.{got_drop}
 use Rattle.jr_laws_quiet.proofs.Issues.{all_at}
 use Rattle.jr_backlog.specs.Rounds.{Round, new_round, is_before, is_due, is_closed, takes_writes, comes_last, with_exhausted}
 use Rattle.jr_backlog.specs.CurrentRound.{current_round, round_up_to, last_issued, is_left}
@@ -39,24 +42,17 @@ use Rattle.jr_laws_rounds.specs.Standing.{IsInPass}
 use Rattle.jr_laws_rounds.proofs.ChoiceSteps.{CanIssue, can_issue}
 use Rattle.jr_laws_rounds.proofs.CurrentLast.{issued_here}
 use Rattle.jr_laws_rounds.proofs.CurrentLaws.{waits-law, closed_at_end-law, left_in_pass-law}
-use Rattle.jr_laws_rounds.proofs.CurrentRounds.{iff_same}
 use Rattle.jr_laws_rounds.proofs.CurrentPhases.{IsIssued, its_draw}
 use Rattle.jr_laws_rounds.proofs.KeptLaws.{kept-law}
-use Rattle.jr_laws_rounds.proofs.KeptSettled.{or_false, ran_before, taken_issued}
+use Rattle.jr_laws_rounds.proofs.KeptSettled.{ran_before, taken_issued}
 use Rattle.jr_laws_rounds.proofs.StandingPasses.{done_parts, issue_in}
 use Rattle.jr_laws_rounds.proofs.StandingSteps.{starts_in_pass, issue_keeps_pass, next_in_pass, issue_of_pass}
-use Rattle.jr_backlog.specs.Deferred.{Deferred, is_committed, round_now, committed_round, with_draw, with_waiting}
+use Rattle.jr_backlog.specs.Deferred.{is_committed, round_now, committed_round, with_draw, with_waiting}
+use Rattle.jr_backlog.proofs.WalkedFacts.{settled_now}
 use Rattle.jr_laws_steps.specs.Nexts.{IsNext, grown}
 use Rattle.jr_desk_state.specs.declared.standings.Issued.{Issued}
 use Rattle.jr_desk_state.specs.declared.standings.Standing.{Standing}
 use Rattle.jr_desk_state.specs.Standings.{IsStanding, WasIssued, name_of}
-
--- the clone at a place of a plan has that number
-pub own_number : (plan : Plan) (c : ℕ) (job : SubJob) → IsPlanned plan → clone_of plan c ≡ Some job → c ≡ job.clone
-own_number plan c job planned at = sym (planned.drafted.placed c job at).number
-
-pub own_there : (plan : Plan) (c : ℕ) (job : SubJob) → IsPlanned plan → clone_of plan c ≡ Some job → clone_of plan job.clone ≡ Some job
-own_there plan c job planned at = ap (clone_of plan) (planned.drafted.placed c job at).number ∙ at
 
 -- a clone stands in a pass that it has
 pub pass_within : (history : List Event) (job : SubJob) (standing : Standing) → IsStanding history job standing → standing.pass < job.passes
@@ -67,17 +63,6 @@ with_parts : (round : Round) (waiting : Option WriteId) (ended : Bool) → is_no
 with_parts round None false none unended = refl
 with_parts round None true none unended = absurd (false≢true unended)
 with_parts round (Some write) ended none unended = absurd (false≢true none)
-
-pub settled_now : (d : Deferred) → is_committed d ≡ true → round_now d ≡ d.round
-settled_now d settled =
-    let parts = and_parts (is_none d.waiting) (not d.ended) settled in
-    with_parts d.round d.waiting d.ended parts.0 parts.1
-
--- before its first draw
-nothing_at : {X : Type 0} (items : List X) (k : ℕ) (x : X) → items ≡ [] → slice_get items k ≡ Some x → ⊥
-nothing_at items k x empty at =
-    let none : Some x ≡ None = sym at ∙ ap (λ (xs : List _). slice_get xs k) empty in
-    cc
 
 pub first_standing : (plan : Plan) (job : SubJob) → IsPlanned plan → clone_of plan job.clone ≡ Some job
     → (standing : Standing) → standing.pass ≡ 0 → standing.draws ≡ draws_of_job job 0 → standing.later ≡ None → standing.issued.items ≡ []
@@ -100,16 +85,9 @@ left_below history job (Some write) k other at =
     let pass = pass_of job write.pass in
     let group = group_of pass (group_index pass write.number) in
     let made = got_made (write_id pass) (filter (is_left history pass) group) k other at in
-    let left = filtered (is_left history pass) group k made.0 made.1 in
+    let left = got_filtered (is_left history pass) group k made.0 made.1 in
     let parts = and_parts (nat_lt made.0.number (issued_count history pass)) _ left.2 in
     subst (λ (w : WriteId). w.number < issued_count history (pass_of job w.pass)) made.2 (ltb-true made.0.number (issued_count history pass) parts.0)
-
--- a write of a pass before, or of a lesser number in its pass, is before this one
-less_of : (x y : ℕ) → x < y → nat_cmp x y ≡ Less
-less_of x y below = sym (nat_cmp_is x y Less below)
-
-equal_of : (x y : ℕ) → x ≡ y → nat_cmp x y ≡ Equal
-equal_of x y same = sym (nat_cmp_is x y Equal same)
 
 pub before_by : (a b : WriteId) → a.clone ≡ b.clone → (a.pass < b.pass) ⊎ ((a.pass ≡ b.pass) × (a.number < b.number)) → is_before a b ≡ true
 before_by a b clone (inl earlier) =
@@ -124,11 +102,6 @@ takes_where : (due closed : Bool) → (due && not closed) ≡ false → (not due
 takes_where true true rests = refl
 takes_where true false rests = absurd (false≢true (sym rests))
 takes_where false closed rests = refl
-
-issues_no_check : (dir : IssueKind) → is_probe (kind_for dir) ≡ false
-issues_no_check issue.Read = refl
-issues_no_check issue.Write = refl
-issues_no_check issue.ReadCheck = refl
 
 later_draws : (o : Option (List Draw)) (before all : List Draw) → is_some o ≡ true → IfSome o (λ ds. ds ≡ all) → unwrap_or o before ≡ all
 later_draws None before all some is = absurd (false≢true some)
@@ -184,12 +157,6 @@ pub ready_rounds : (standing ready : Standing) → IsReady standing ready → re
 ready_rounds standing ready (inl same) = ap (λ (s : Standing). s.rounds) same.1
 ready_rounds standing ready (inr begun) = begun.rounds
 
-none_of : {X : Type 0} (xs : List X) → (length xs == 0) ≡ true → xs ≡ []
-none_of [] none = refl
-none_of (x ∷ xs) none =
-    let size : length (x ∷ xs) ≡ 0 = eqb-true (length (x ∷ xs)) 0 none in
-    absurd (omega (arith, size))
-
 some_of : {X : Type 0} (xs : List X) → (length xs == 0) ≡ false → xs ≡ [] → ⊥
 some_of xs some none = false≢true (sym some ∙ ap (λ (ys : List _). length ys == 0) none)
 
@@ -199,7 +166,7 @@ module _ (plan : Plan) (history : List Event) (worker : ℕ) (dir : IssueKind) (
   after = grown history (Issue worker dir write piece)
 
   there : clone_of plan job.clone ≡ Some job
-  there = own_there plan write.clone job next.planned at
+  there = own_place plan write.clone job next.planned at
 
   clone : write.clone ≡ job.clone
   clone = own_number plan write.clone job next.planned at
@@ -294,7 +261,7 @@ module _ (plan : Plan) (history : List Event) (worker : ℕ) (dir : IssueKind) (
     pub at_draw : (standing.draws ≡ [] → suc standing.pass < job.passes → is_some standing.later ≡ true) → (ready : Standing) → IsReady standing ready → IsAt history job write ready
     at_draw prepared ready (inl same) = subst (IsAt history job write) (sym same.1) (at_here (some_of standing.draws same.0))
     at_draw prepared ready (inr begun) =
-        let over = none_of standing.draws begun.over in
+        let over = none_by_length standing.draws begun.over in
         at_next over (prepared over) ready begun.pass begun.draws begun.later begun.issued
 
     -- its round, where it isn't halted and nothing is to be put in
@@ -358,7 +325,7 @@ module _ (plan : Plan) (history : List Event) (worker : ℕ) (dir : IssueKind) (
       let short = length-drop (suc write.number) (draws_of_job job write.pass) in
       let below = some_left in
       let count = more in
-      iff_same (length left == 0) (issued_count after (pass_of job write.pass) == total)
+      same_truth (length left == 0) (issued_count after (pass_of job write.pass) == total)
       (λ none.
       let over : length left ≡ 0 = eqb-true (length left) 0 none in
       eq-eqb (issued_count after (pass_of job write.pass)) total (omega (arith, size, short, below, count, over)))
@@ -368,7 +335,7 @@ module _ (plan : Plan) (history : List Event) (worker : ℕ) (dir : IssueKind) (
 
   -- what was issued before was taken up or not as it was
   taken_same : (name : WriteId) → list_any (takes_up name) after ≡ list_any (takes_up name) history
-  taken_same name = list_any-append (takes_up name) history (Issue worker dir write piece ∷ []) ∙ or_false (list_any (takes_up name) history)
+  taken_same name = list_any-append (takes_up name) history (Issue worker dir write piece ∷ []) ∙ or-false (list_any (takes_up name) history)
 
   was_before : (name : WriteId) (one : Issued) → WasIssued history name one → WasIssued after name one
   was_before name one was = record {
@@ -394,7 +361,7 @@ module _ (plan : Plan) (history : List Event) (worker : ℕ) (dir : IssueKind) (
       record {
         io = io;
         at = ap (slice_get (started after)) place ∙ started_next history (Issue worker dir write piece) io refl;
-        kind = issues_no_check dir;
+        kind = issue_is_no_probe dir;
         named = refl;
         taken_up = sym (taken_same write ∙ untaken);
       }

@@ -25,12 +25,14 @@ use Rattle.jr_model.specs.Plan.{Plan, SubJob, IsNumbered}
 use Rattle.jr_model.proofs.LegalLaws.{is_legal-more, choice_may_happen}
 use Rattle.jr_model.proofs.MachineLaws.{job_says_fits, is_said, said_fits}
 use Rattle.jr_model.specs.PlanFacts.{IsPlanned}
-use Rattle.jr_laws_steps.proofs.CountLaws.{numbered_of}
+use Rattle.jr_model.proofs.PlanLemmas.{numbered_of}
+use Rattle.jr_model.proofs.ListLemmas.{enumerate_more}
+use Rattle.jr_model.proofs.PlaceLemmas.{got_last}
+use Rattle.jr_model.proofs.HistoryLemmas.{skip_starts_none}
 use Rattle.jr_laws_steps.proofs.DrawnLaws.{started_fit-law}
 use Rattle.jr_laws_steps.proofs.StartedLemmas.{started_below}
 use Rattle.jr_desk_tickets.specs.Kept.{IsOwn, tickets_of}
 use Rattle.jr_desk_tickets.specs.Tickets.{method_of, seed_of, expected_by, ticket_of}
-use Rattle.jr_desk_tickets.proofs.HandingLists.{enumerated}
 use Rattle.jr_desk_tickets.proofs.OwnTickets.{own_started}
 use Rattle.jr_desk_state.specs.Takes.{IsChosen, last_started, ticket_for}
 
@@ -44,7 +46,7 @@ tickets_more plan before after None more =
 tickets_more plan before after (Some io) more =
     let same : 0 + length (started before) ≡ length (started before) = omega arith in
     ap (λ (ios : List Started). map (ticket_of plan) (enumerate_from 0 ios)) more
-    ∙ ap (map (ticket_of plan)) (enumerated 0 (started before) io)
+    ∙ ap (map (ticket_of plan)) (enumerate_more 0 (started before) io)
     ∙ map-append (ticket_of plan) (enumerate_from 0 (started before)) ((0 + length (started before), io) ∷ [])
     ∙ ap (λ (k : ℕ). tickets_of plan before ++ ticket_of plan (k, io) ∷ []) same
 
@@ -64,13 +66,6 @@ legal_appends plan worker before (e ∷ events) numbered legal appends =
     (legal_appends plan worker (before ++ e ∷ []) events numbered next more))
     (λ (last : events ≡ []). subst (λ (rest : List Event). is_legal plan (before ++ e ∷ rest) ≡ true) (sym last) next)
 
-skip-starts : (e : Event) → is_skip e ≡ true → started_by e ≡ None
-skip-starts (Skip worker write) h = refl
-skip-starts (Issue worker dir write piece) h = cc
-skip-starts (Probe worker write piece) h = cc
-skip-starts (End worker io outcome) h = cc
-skip-starts (Verdict worker io verdict) h = cc
-
 pub by_is_skip : (e : Event) (A B C : Type 0) → MatchBool (is_skip e) A B → (is_skip e ≡ true → A → C) → (is_skip e ≡ false → B → C) → C
 by_is_skip (Skip worker write) A B C m f g = f refl m
 by_is_skip (Issue worker dir write piece) A B C m f g = g refl m
@@ -79,7 +74,7 @@ by_is_skip (End worker io outcome) A B C m f g = g refl m
 by_is_skip (Verdict worker io verdict) A B C m f g = g refl m
 
 pub last-skip : (e : Event) (rest : List Event) → is_skip e ≡ true → last_started (e ∷ rest) ≡ last_started rest
-last-skip e [] skip = skip-starts e skip
+last-skip e [] skip = skip_starts_none e skip
 last-skip e (next ∷ rest) skip = refl
 
 started_appends : (plan : Plan) (worker : ℕ) (before events : List Event) → Appends plan worker before events → started events ≡ cons_option (last_started events) []
@@ -87,7 +82,7 @@ started_appends plan worker before [] appends = refl
 started_appends plan worker before (e ∷ events) appends =
     by_is_skip e (Appends plan worker (before ++ e ∷ []) events) (events ≡ []) (started (e ∷ events) ≡ cons_option (last_started (e ∷ events)) []) appends.1
     (λ (skip : is_skip e ≡ true) (more : Appends plan worker (before ++ e ∷ []) events).
-    ap (λ (io : Option Started). cons_option io (started events)) (skip-starts e skip)
+    ap (λ (io : Option Started). cons_option io (started events)) (skip_starts_none e skip)
     ∙ started_appends plan worker (before ++ e ∷ []) events more
     ∙ ap (λ (io : Option Started). cons_option io []) (sym (last-skip e events skip)))
     (λ (other : is_skip e ≡ false) (last : events ≡ []). subst (λ (rest : List Event). started (e ∷ rest) ≡ cons_option (last_started (e ∷ rest)) []) (sym last) refl)
@@ -104,15 +99,11 @@ chosen_started plan worker before history io chosen =
     ∙ ap (λ (ios : List Started). started before ++ ios) (started_appends plan worker before chosen.0 chosen.2)
     ∙ ap (λ (o : Option Started). started before ++ cons_option o []) (sym chosen.3)
 
-got_added : (ios : List Started) (io : Started) → slice_get (ios ++ io ∷ []) (length ios) ≡ Some io
-got_added [] io = refl
-got_added (first ∷ ios) io = got_added ios io
-
 -- what a take starts lies at the end of all that is started
 pub chosen_at : (plan : Plan) (worker : ℕ) (before history : List Event) (io : Started) → IsChosen plan worker before history (Some io) → slice_get (started history) (length (started before)) ≡ Some io
 chosen_at plan worker before history io chosen =
     ap (λ (ios : List Started). slice_get ios (length (started before))) (chosen_started plan worker before history (Some io) chosen)
-    ∙ got_added (started before) io
+    ∙ got_last (started before) io
 
 -- an end and a verdict
 

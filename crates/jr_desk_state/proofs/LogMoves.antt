@@ -33,8 +33,9 @@ use Rattle.jr_writes.specs.LogSteps.{steps_of}
 use Rattle.jr_laws_draws.specs.PassLaw.{IsInRegion}
 use Rattle.jr_laws_draws.proofs.TheLaw.{pass_law, drawable_of}
 use Rattle.jr_laws_steps.specs.Nexts.{IsNext, grown}
-use Rattle.jr_laws_steps.proofs.DrawnLaws.{all_at, started_fit-law}
-use Rattle.jr_laws_steps.proofs.PlaceLemmas.{any_at}
+use Rattle.jr_laws_steps.proofs.DrawnLaws.{started_fit-law}
+use Rattle.jr_model.proofs.PlaceLemmas.{any_at}
+use Rattle.jr_model.proofs.ListLemmas.{all_got}
 use Rattle.jr_laws_log.specs.Intact.{log_after}
 use Rattle.jr_laws_log.proofs.DrawLaws.{log_is_intact_of_draws}
 use Rattle.jr_laws_log.proofs.IntactLaws.{fresh_at_end}
@@ -245,7 +246,7 @@ draw_kept : (plan : Plan) (c p k : ℕ) (job : SubJob) (draw : Draw)
 draw_kept plan c p k job draw planned of_job rounds drawn =
     let law = pass_law job (drawable_of job (planned.drafted.limited c job of_job)) in
     let words = pass_words job p (4 * job.cells) in
-    let region = all_at (λ (d : Draw). IsInRegion job d.piece) (draws_over job words) k draw (law.placed words) drawn in
+    let region = all_got (λ (d : Draw). IsInRegion job d.piece) (draws_over job words) k draw (law.placed words) drawn in
     any_at (checks_in draw.piece.file) plan.clones c job of_job
     (and_from (has_rounds job) (job.file == draw.piece.file) rounds (eq-eqb job.file draw.piece.file (sym region.file)))
 

@@ -2,9 +2,11 @@
 use Rattle.std.proofs.Common.{◌≡◌, ℕ, ◌+◌, List, [], ◌∷◌, ◌++◌, length, sym, ◌∙◌, ap, subst, arith, inl, inr, length-append}
 use Rattle.std.specs.Prelude.{Some, slice_get}
 use Rattle.std.proofs.lemmas.List.Sums.{sum_by_push}
+use Rattle.std.proofs.lemmas.Option.{same_Some}
 use Rattle.jr_model.specs.declared.events.Event.{Event}
 use Rattle.jr_model.specs.Plan.{Plan, SubJob, clone_of}
-use Rattle.jr_laws_steps.proofs.StartedLemmas.{got_more, same_some}
+use Rattle.jr_model.proofs.PlaceLemmas.{nothing_at}
+use Rattle.jr_laws_steps.proofs.StartedLemmas.{got_more}
 use Rattle.jr_desk_state.specs.declared.standings.Standing.{Standing}
 use Rattle.jr_desk_state.specs.Boards.{left_of}
 use Rattle.jr_desk_state.specs.Standings.{ArePrepared, IsPrepared, IsStanding, left_in}
@@ -17,18 +19,14 @@ pub record StandTo (plan : Plan) (history : List Event) (n : ℕ) (standings : L
   pub prepared : ArePrepared plan standings
   pub left : left_of standings ≡ 0
 
-none_there : {X : Type 0} (xs : List X) (k : ℕ) (x : X) → xs ≡ [] → slice_get xs k ≡ Some x → ⊥
-none_there [] k x none got = cc
-none_there (y ∷ ys) k x none got = cc
-
 pub stand_none : (plan : Plan) (history : List Event) (standings : List Standing) → standings ≡ [] → StandTo plan history 0 standings
 stand_none plan history standings none = record {
   count = ap length none;
   each = λ (k : ℕ) (job : SubJob) (standing : Standing) (there : clone_of plan k ≡ Some job) (got : slice_get standings k ≡ Some standing).
-      absurd (none_there standings k standing none got);
+      absurd (nothing_at standings k standing none got);
   prepared = λ (k : ℕ) (job : SubJob) (standing : Standing) (there : clone_of plan k ≡ Some job)
       (got : slice_get standings k ≡ Some standing).
-      absurd (none_there standings k standing none got);
+      absurd (nothing_at standings k standing none got);
   left = ap left_of none;
 }
 
@@ -59,6 +57,6 @@ stand_more plan history n job before after new was pushed at is ready empty = re
         elim (got_more before new k standing (ap (λ (ss : List Standing). slice_get ss k) (sym pushed) ∙ got)) [
           | inl old ↦ earlier k other standing there old
           | inr last ↦
-              let same : job ≡ other = same_some job other (sym at ∙ ap (clone_of plan) (sym was.count ∙ sym last.0) ∙ there) in
+              let same : job ≡ other = same_Some job other (sym at ∙ ap (clone_of plan) (sym was.count ∙ sym last.0) ∙ there) in
               subst (λ (s : Standing). P other s) (sym last.1) (subst (λ (j : SubJob). P j new) same here)
         ]

@@ -1,11 +1,9 @@
 -- A clone at rest stays so, and nothing more of it is started.
-use Rattle.std.proofs.Common.{◌≡◌, ℕ, suc, ◌+◌, ◌<◌, List, [], ◌∷◌, ◌++◌, length, Bool, true, false, ◌&&◌, ◌||◌, not}
-use Rattle.std.proofs.Common.{refl, sym, ◌∙◌, ap, subst, arith, inl, inr}
+use Rattle.std.proofs.Common.{◌≡◌, ℕ, suc, ◌+◌, List, [], ◌∷◌, ◌++◌, length, Bool, true, false, ◌&&◌, ◌||◌, not}
+use Rattle.std.proofs.Common.{refl, sym, ◌∙◌, ap, arith, inl, inr}
 use Rattle.std.specs.Prelude.{◌==◌, None, Some, slice_get}
-use Rattle.std.proofs.lemmas.Bool.{and_parts, and_from, or_cases, or_left, or_right, cases_Bool, cases_eq, cases_lt, both_ways}
+use Rattle.std.proofs.lemmas.Bool.{and_parts, and_from, or_cases, cases_Bool, cases_eq, cases_lt, both_ways}
 use Rattle.std.proofs.lemmas.Bool.{eqb-true, le-ltb, ne_eqb, not-true}
-use Rattle.std.proofs.lemmas.List.FromFn.{length-map-range_with_len}
-use Rattle.std.proofs.lemmas.Option.{same_Some, slice_get_within}
 use Rattle.jr_model.specs.declared.events.Event.{Event}
 use Rattle.jr_model.specs.declared.events.Event.TheVariants.{Issue, Probe, Skip, End, Verdict}
 use Rattle.jr_model.specs.declared.blocks.Piece.{Piece}
@@ -15,51 +13,27 @@ use Rattle.jr_model.specs.Choice.{choice_of_clone}
 use Rattle.jr_model.specs.History.{is_probe, started}
 use Rattle.jr_model.specs.Legal.{is_io_of, is_legal, may_happen, may_take_up, is_halted, has_room, is_over, is_at_rest}
 use Rattle.jr_model.specs.Plan.{Plan, SubJob, clone_of}
-use Rattle.jr_model.specs.Rounds.{Pass, pass_of, passes_of, all_issued, has_rounds, nothing_flies_of, pass_finished, clone_finished}
+use Rattle.jr_model.specs.Rounds.{pass_of, passes_of, all_issued, has_rounds, nothing_flies_of, pass_finished, clone_finished}
 use Rattle.jr_model.specs.PlanFacts.{IsPlanned}
 use Rattle.jr_backlog.specs.Rounds.{is_due, is_closed}
 use Rattle.jr_backlog.specs.CurrentRound.{current_round}
-use Rattle.jr_laws_steps.proofs.PlaceLemmas.{all_from}
+use Rattle.jr_model.proofs.PlanLemmas.{pass_at, own_place}
 use Rattle.jr_laws_steps.proofs.StepLaws.{may_probe_of}
 use Rattle.jr_desk_totals.specs.Tallies.{Tally, awaited, flying_checks, flying_issues, tally_of}
 use Rattle.jr_desk_totals.proofs.Bads.{ends_counted, verdicts_counted}
 use Rattle.jr_desk_totals.proofs.Compared.{is_at_rest-counts}
 use Rattle.jr_desk_totals.proofs.Counted.{tally-more, tally_after-other}
-use Rattle.jr_laws_quiet.proofs.Issues.{all_at, got_pass}
+use Rattle.jr_laws_quiet.proofs.Issues.{all_at}
 use Rattle.jr_laws_rounds.proofs.ChoiceSteps.{can_issue, can_take, unbegun_not_taken}
 use Rattle.jr_laws_rounds.proofs.CurrentLaws.{closed_at_end-law}
-use Rattle.jr_laws_rounds.proofs.KeptSettled.{ran_before}
-use Rattle.jr_laws_rounds.proofs.StandingFinished.{own_place, finished_by_standing-law, clone_finished_by_standing-law}
-use Rattle.jr_laws_rounds.proofs.StandingPasses.{current_parts, done_parts, issue_in, none_taken, stays_finished, take_in}
+use Rattle.jr_laws_rounds.proofs.StandingFinished.{finished_by_standing-law, clone_finished_by_standing-law}
+use Rattle.jr_laws_rounds.proofs.StandingPasses.{current_parts, done_parts, issue_in, none_taken, take_in}
 use Rattle.jr_laws_rounds.proofs.StandingSteps.{always_in_pass}
+use Rattle.jr_laws_rounds.proofs.StandingOver.{over_longer}
 use Rattle.jr_laws_steps.specs.Nexts.{IsNext, grown}
 use Rattle.jr_desk_state.specs.declared.resting.Rested.{Rested}
 use Rattle.jr_desk_state.specs.Rests.{AreRested}
 use Rattle.jr_desk_state.proofs.ChoiceMoves.{chosen, step_blocked, step_issues, next_none}
-
-over_longer : (plan : Plan) → IsPlanned plan → (other : SubJob) → clone_of plan other.clone ≡ Some other → (h : List Event) (e : Event)
-    → is_legal plan h ≡ true → may_happen plan h e ≡ true → is_over h other ≡ true → is_over (h ++ e ∷ []) other ≡ true
-over_longer plan planned other there h e legal may over =
-    elim (or_cases (is_halted h other) (clone_finished h other) over) [
-      | inl halted ↦
-          elim (cases_Bool (is_halted (h ++ e ∷ []) other)) [
-            | inl still ↦ or_left (is_halted (h ++ e ∷ []) other) (clone_finished (h ++ e ∷ []) other) still
-            | inr runs ↦ absurd (both_ways (is_halted h other) (ran_before other h e runs) halted)
-          ]
-      | inr finished ↦
-          or_right (is_halted (h ++ e ∷ []) other) (clone_finished (h ++ e ∷ []) other)
-          (all_from (pass_finished (h ++ e ∷ [])) (passes_of other) (one finished))
-    ]
-  where
-    one : clone_finished h other ≡ true → (k : ℕ) (pass : Pass) → slice_get (passes_of other) k ≡ Some pass
-        → pass_finished (h ++ e ∷ []) pass ≡ true
-    one finished k pass at =
-        let within : k < other.passes =
-        omega (arith, slice_get_within (passes_of other) k pass at, length-map-range_with_len (pass_of other) 0 other.passes) in
-        let same : pass_of other k ≡ pass = same_Some (pass_of other k) pass (sym (got_pass other k within) ∙ at) in
-        subst (λ (q : Pass). pass_finished (h ++ e ∷ []) q ≡ true) same
-        (stays_finished plan planned other there h e k legal may
-        (subst (λ (q : Pass). pass_finished h q ≡ true) (sym same) (all_at (pass_finished h) (passes_of other) k pass finished at)))
 
 module _ (plan : Plan) (planned : IsPlanned plan) (other : SubJob) (there : clone_of plan other.clone ≡ Some other) (h : List Event)
     (legal : is_legal plan h ≡ true) (over : is_over h other ≡ true) where
@@ -75,7 +49,7 @@ module _ (plan : Plan) (planned : IsPlanned plan) (other : SubJob) (there : clon
         | inl halted ↦ both_ways (is_halted h other) (not-true (is_halted h other) can.going) halted
         | inr finished ↦
             both_ways (pass_finished h pass) now.unfinished
-            (all_at (pass_finished h) (passes_of other) write.pass pass finished (got_pass other write.pass now.within))
+            (all_at (pass_finished h) (passes_of other) write.pass pass finished (pass_at other write.pass now.within))
       ]
 
   -- nor checked
@@ -95,7 +69,7 @@ module _ (plan : Plan) (planned : IsPlanned plan) (other : SubJob) (there : clon
               | inr within ↦
                   none_taken plan h other write.pass write.number take.draw take.drawn
                   (done_parts h pass (all_at (pass_finished h) (passes_of other) write.pass pass finished
-                  (got_pass other write.pass (omega (arith, within, now.1.within))))).closed
+                  (pass_at other write.pass (omega (arith, within, now.1.within))))).closed
             ])
             take.may
       ]

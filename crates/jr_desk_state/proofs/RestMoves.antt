@@ -15,13 +15,13 @@ use Rattle.jr_model.specs.PlanFacts.{IsPlanned}
 use Rattle.jr_backlog.specs.Rounds.{Round, is_closed}
 use Rattle.jr_backlog.specs.CurrentRound.{current_round}
 use Rattle.jr_backlog.specs.Deferred.{round_now}
-use Rattle.jr_laws_steps.proofs.IdleLaws.{numbered_of}
 use Rattle.jr_laws_steps.proofs.IssueLaws.{issued_at_most}
-use Rattle.jr_laws_steps.proofs.PlaceLemmas.{all_from, item_at, made_at}
+use Rattle.jr_model.proofs.PlaceLemmas.{all_from, item_at, made_at}
+use Rattle.jr_model.proofs.PlanLemmas.{numbered_of}
+use Rattle.jr_model.proofs.BoolLemmas.{same_truth}
 use Rattle.jr_laws_quiet.proofs.Issues.{all_at}
 use Rattle.jr_laws_rounds.proofs.CurrentLaws.{closed_at_end-law}
 use Rattle.jr_laws_rounds.proofs.StandingFinished.{finished_by_standing-law, clone_finished_by_standing-law}
-use Rattle.jr_laws_rounds.proofs.StandingLists.{same_test}
 use Rattle.jr_desk_totals.specs.Tallies.{flying_issues, flying_checks, awaited}
 use Rattle.jr_desk_totals.proofs.Compared.{nothing_flies_of-counts, is_at_rest-counts, is_complete-counts}
 use Rattle.jr_desk_totals.specs.declared.tallies.Counts.{Counts}
@@ -180,7 +180,7 @@ rests_over plan board clone counts kept there none job at =
     let verdicts : counts.verdicts ≡ awaited history job.clone = ap (λ (t : Counts). t.verdicts) tally in
     let first : (flies == 0) ≡ true = eq-eqb flies 0 (omega (arith, issues, checks, none.issues, none.checks)) in
     let second : (awaited history job.clone == 0) ≡ true = eq-eqb (awaited history job.clone) 0 (omega (arith, verdicts, none.verdicts)) in
-    same_test (is_at_rest history job) (is_over history job)
+    same_truth (is_at_rest history job) (is_over history job)
     (λ rests. (and_parts (is_over history job) (flies == 0) (and_parts (is_over history job && (flies == 0)) (awaited history job.clone == 0) (sym (is_at_rest-counts history job) ∙ rests)).0).0)
     (λ over. is_at_rest-counts history job ∙ and_from (is_over history job && (flies == 0)) (awaited history job.clone == 0) (and_from (is_over history job) (flies == 0) over first) second)
 
@@ -288,7 +288,7 @@ all_complete plan history planned legal all =
 
 complete_rests : (plan : Plan) (history : List Event) → IsPlanned plan → is_legal plan history ≡ true → is_complete plan history ≡ list_all (is_at_rest history) plan.clones
 complete_rests plan history planned legal =
-    same_test (is_complete plan history) (list_all (is_at_rest history) plan.clones) (each_rests plan history planned legal) (all_complete plan history planned legal)
+    same_truth (is_complete plan history) (list_all (is_at_rest history) plan.clones) (each_rests plan history planned legal) (all_complete plan history planned legal)
 
 pub incomplete : (plan : Plan) (history : List Event) (i : ℕ) → IsPlanned plan → is_legal plan history ≡ true → i < length plan.clones → ((job : SubJob) → clone_of plan i ≡ Some job → false ≡ is_at_rest history job) → false ≡ is_complete plan history
 incomplete plan history i planned legal within busy_one =
@@ -332,11 +332,11 @@ pub record IsOpenTo (history : List Event) (clones : List SubJob) (n phase : ℕ
 -- with one more of them, which is at rest or keeps its phase open
 narrowed : (q a b n : ℕ) (rest : Bool) → ((rest ≡ true) × (n ≡ a)) ⊎ ((rest ≡ false) × (n ≡ min a b)) → (nat_le q a && ((nat_le q b || rest) && true)) ≡ nat_le q n
 narrowed q a b n rest (inl same) =
-    same_test (nat_le q a && ((nat_le q b || rest) && true)) (nat_le q n)
+    same_truth (nat_le q a && ((nat_le q b || rest) && true)) (nat_le q n)
     (λ both. le-leb q n (omega (arith, same.1, leb-true q a (and_parts (nat_le q a) ((nat_le q b || rest) && true) both).0)))
     (λ low. and_from (nat_le q a) ((nat_le q b || rest) && true) (le-leb q a (omega (arith, same.1, leb-true q n low))) (and_from (nat_le q b || rest) true (or_right (nat_le q b) rest same.0) refl))
 narrowed q a b n rest (inr less) =
-    same_test (nat_le q a && ((nat_le q b || rest) && true)) (nat_le q n) there back
+    same_truth (nat_le q a && ((nat_le q b || rest) && true)) (nat_le q n) there back
   where
     there : (nat_le q a && ((nat_le q b || rest) && true)) ≡ true → nat_le q n ≡ true
     there both =
@@ -454,7 +454,7 @@ pub opens_by : (plan : Plan) (history : List Event) (e : ℕ) (first : SubJob) �
     → (job : SubJob)
     → phase_is_open plan history job ≡ nat_le job.phase first.phase
 opens_by plan history e first there stirs rests job =
-    same_test (phase_is_open plan history job) (nat_le job.phase first.phase) low all
+    same_truth (phase_is_open plan history job) (nat_le job.phase first.phase) low all
   where
     low : phase_is_open plan history job ≡ true → nat_le job.phase first.phase ≡ true
     low opened =

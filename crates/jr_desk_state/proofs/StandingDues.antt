@@ -5,6 +5,7 @@ use Rattle.std.specs.Prelude.{◌⊎◌, Option, Some, None, slice_get, ◌==◌
 use Rattle.std.specs.Option.{option_or}
 use Rattle.std.specs.List.{list_any}
 use Rattle.std.proofs.lemmas.Bool.{and_parts, and_from, cases_order, eq-eqb, not-true, not_from_false, false_from_ne_true, both_ways}
+use Rattle.std.proofs.lemmas.Option.{same_Some}
 use Rattle.jr_model.specs.declared.events.Event.{Event}
 use Rattle.jr_model.specs.declared.events.Event.TheVariants.{Issue, Probe, Skip, End, Verdict}
 use Rattle.jr_model.specs.declared.events.IssueKind.{IssueKind}
@@ -19,16 +20,16 @@ use Rattle.jr_model.specs.History.{started, started_by, end_of, outcome_of, in_f
 use Rattle.jr_model.specs.Legal.{is_legal, may_happen, may_take_up, takes_up}
 use Rattle.jr_model.specs.Plan.{Plan, SubJob, clone_of}
 use Rattle.jr_model.specs.Rounds.{pass_of, write_id, is_write_draw, issued_count, has_rounds, group_index, is_full, is_settled, is_probe_of, settles}
-use Rattle.jr_model.proofs.LegalLaws.{is_legal-more, same_write_refl}
+use Rattle.jr_model.proofs.LegalLaws.{is_legal-more, same_write_refl, number_of_draw}
 use Rattle.jr_model.proofs.SerialLaws.{first_given-append}
 use Rattle.jr_model.proofs.Equality.{eq_write}
 use Rattle.jr_model.specs.PlanFacts.{IsPlanned}
-use Rattle.jr_laws_steps.proofs.IdleLaws.{numbered_of}
+use Rattle.jr_model.proofs.HistoryLemmas.{by_events}
+use Rattle.jr_model.proofs.PlanLemmas.{numbered_of}
 use Rattle.jr_laws_steps.proofs.OnceLaws.{is_taken_up, started_once-law}
-use Rattle.jr_laws_steps.proofs.StartedLemmas.{by_events, same_some, started-other, started_stays}
+use Rattle.jr_laws_steps.proofs.StartedLemmas.{started-other, started_stays}
 use Rattle.jr_laws_steps.proofs.StepLaws.{may_probe_of, may_skip_of}
 use Rattle.jr_laws_quiet.proofs.Checks.{settled_taken}
-use Rattle.jr_laws_quiet.proofs.Groups.{number_is}
 use Rattle.jr_laws_quiet.proofs.Members.{in_own_group, full_issued}
 use Rattle.jr_laws_quiet.proofs.Phases.{open_parts}
 use Rattle.jr_backlog.specs.Rounds.{is_due, is_to_check}
@@ -59,7 +60,7 @@ named : (job : SubJob) (w : WriteId) (draw : Draw)
     → write_id (pass_of job w.pass) draw ≡ w
 named job w draw own drawn =
     let made : ℕ → ℕ → WriteId = λ c n. record { clone = c; pass = w.pass; number = n } in
-    ap (λ (c : ℕ). made c draw.number) (sym own) ∙ ap (made w.clone) (number_is job w.pass w.number draw drawn)
+    ap (λ (c : ℕ). made c draw.number) (sym own) ∙ ap (made w.clone) (number_of_draw job w.pass w.number draw drawn)
 
 -- what was taken up never, isn't settled
 untaken_unsettled : (h : List Event) (w : WriteId) → list_any (takes_up w) h ≡ false → is_settled h w ≡ false
@@ -130,7 +131,7 @@ module _ (plan : Plan) (planned : IsPlanned plan) (job : SubJob) (there : clone_
       let can = can_take plan h pass take.draw take.may in
       let inside = in_own_group job w.pass take.draw.number take.draw (at_number job w.pass w.number take.draw take.drawn) can.writes in
       let issued = full_issued h job w.pass g take.draw (open_parts h pass g can.opened).full inside.0 inside.1 in
-      omega (arith, issued, number_is job w.pass w.number take.draw take.drawn)
+      omega (arith, issued, number_of_draw job w.pass w.number take.draw take.drawn)
 
   -- a write that is left stays so at an event that doesn't settle it
   left_longer : (h : List Event) (e : Event) (w : WriteId)
@@ -169,11 +170,11 @@ module _ (plan : Plan) (planned : IsPlanned plan) (job : SubJob) (there : clone_
   left_where_probed h (Issue worker dir write piece) w io may own starts check =
       let s : Started = record { worker = worker; kind = kind_for dir; write = write; piece = piece } in
       let probe = (and_parts (is_probe io.kind) (same_write io.write w) check).0 in
-      absurd (no_check dir (ap (λ (x : Started). is_probe x.kind) (same_some s io starts) ∙ probe))
+      absurd (no_check dir (ap (λ (x : Started). is_probe x.kind) (same_Some s io starts) ∙ probe))
   left_where_probed h (Probe worker write piece) w io may own starts check =
       let s : Started = record { worker = worker; kind = ticket.Probe; write = write; piece = piece } in
       let its_write = eq_write io.write w (and_parts (is_probe io.kind) (same_write io.write w) check).1 in
-      let same : write ≡ w = ap (λ (x : Started). x.write) (same_some s io starts) ∙ its_write in
+      let same : write ≡ w = ap (λ (x : Started). x.write) (same_Some s io starts) ∙ its_write in
       let clone : write.clone ≡ job.clone = ap (λ (x : WriteId). x.clone) same ∙ own in
       subst (λ (x : WriteId). IsLeft job h x) same
       (left_where_taken plan job h write clone (take_in plan planned job there h write (may_probe_of plan h worker write piece may).0 clone))

@@ -7,6 +7,7 @@ use Rattle.std.specs.Vec.{with_item}
 use Rattle.std.proofs.lemmas.Bool.{and_parts, and_from, and_left, and_right, eq-eqb, ne_eqb, not-true, or_right, false≢true}
 use Rattle.std.proofs.lemmas.List.{length-set}
 use Rattle.std.proofs.lemmas.List.Folds.{list_any-append}
+use Rattle.std.proofs.Math.Bool.{or-false}
 use Rattle.jr_model.specs.declared.blocks.Piece.{Piece}
 use Rattle.jr_model.specs.declared.events.Event.{Event}
 use Rattle.jr_model.specs.declared.events.Event.TheVariants.{Issue, Probe, Skip, End, Verdict}
@@ -23,7 +24,8 @@ use Rattle.jr_model.specs.Plan.{Plan, SubJob, clone_of}
 use Rattle.jr_model.specs.Rounds.{pass_of, issues_of, issued_count, has_rounds}
 use Rattle.jr_model.proofs.LegalLaws.{is_legal-more, same_write_refl}
 use Rattle.jr_model.specs.PlanFacts.{IsPlanned}
-use Rattle.jr_laws_steps.proofs.IdleLaws.{numbered_of}
+use Rattle.jr_model.proofs.PlanLemmas.{own_place, own_number}
+use Rattle.jr_model.proofs.Equality.{other_name}
 use Rattle.jr_laws_steps.proofs.StartedLemmas.{started_stays}
 use Rattle.jr_laws_steps.proofs.StepLaws.{may_probe_of, may_skip_of}
 use Rattle.jr_laws_quiet.proofs.Issues.{issued_same}
@@ -35,24 +37,18 @@ use Rattle.jr_laws_rounds.specs.Rounds.{HasRound}
 use Rattle.jr_laws_rounds.specs.Standing.{IsInPass}
 use Rattle.jr_laws_rounds.proofs.ChoiceSteps.{can_take}
 use Rattle.jr_laws_rounds.proofs.KeptLaws.{kept-law}
-use Rattle.jr_laws_rounds.proofs.KeptSettled.{or_false, ran_before}
+use Rattle.jr_laws_rounds.proofs.KeptSettled.{ran_before}
 use Rattle.jr_laws_rounds.proofs.StandingFlights.{FliesOf}
 use Rattle.jr_laws_rounds.proofs.StandingPasses.{TakeIn, take_in}
 use Rattle.jr_laws_rounds.proofs.StandingSteps.{other_clone, other_keeps_pass}
 use Rattle.jr_backlog.specs.Deferred.{Deferred, is_committed, round_now, committed_round}
+use Rattle.jr_backlog.proofs.WalkedFacts.{settled_now}
 use Rattle.jr_laws_steps.specs.Nexts.{IsNext, grown}
 use Rattle.jr_laws_steps.proofs.Lists.{got_set}
 use Rattle.jr_desk_state.specs.declared.standings.Issued.{Issued}
 use Rattle.jr_desk_state.specs.declared.standings.Standing.{Standing}
 use Rattle.jr_desk_state.specs.Standings.{IsStanding, WasIssued, name_of}
 use Rattle.jr_desk_state.proofs.StandingDues.{IsLeft, left_where_taken, left_to_check, taken_in_pass, taken_was_issued, left_in_flight, flies_in_pass}
-
--- a planned clone stands at its number
-pub clone_is : (plan : Plan) (c : ℕ) (job : SubJob) → IsPlanned plan → clone_of plan c ≡ Some job → c ≡ job.clone
-clone_is plan c job planned at = sym (numbered_of plan planned c job at)
-
-pub clone_there : (plan : Plan) (c : ℕ) (job : SubJob) → IsPlanned plan → clone_of plan c ≡ Some job → clone_of plan job.clone ≡ Some job
-clone_there plan c job planned at = ap (clone_of plan) (numbered_of plan planned c job at) ∙ at
 
 now_settled : (round : Round) (waiting : Option WriteId) (ended : Bool)
     → (is_none waiting && not ended) ≡ true
@@ -61,22 +57,12 @@ now_settled round None false h = refl
 now_settled round None true h = cc
 now_settled round (Some write) ended h = cc
 
--- where nothing is to be put in, the round is as it stands
-pub settled_is : (d : Deferred) → is_committed d ≡ true → round_now d ≡ d.round
-settled_is d h = now_settled d.round d.waiting d.ended h
-
--- a write of another clone
-other_name : (a b : WriteId) (c : ℕ) → (a.clone ≡ c → ⊥) → b.clone ≡ c → same_write a b ≡ false
-other_name a b c apart own =
-    and_left ((a.clone == b.clone) && (a.pass == b.pass)) (a.number == b.number)
-    (and_left (a.clone == b.clone) (a.pass == b.pass) (ne_eqb a.clone b.clone (λ same. apart (same ∙ own))))
-
 -- whether a draw was taken up after one event more
 taken_after : (h : List Event) (e : Event) (name : WriteId)
     → list_any (takes_up name) (h ++ e ∷ []) ≡ (list_any (takes_up name) h || takes_up name e)
 taken_after h e name =
     list_any-append (takes_up name) h (e ∷ [])
-    ∙ ap (λ (b : Bool). list_any (takes_up name) h || b) (or_false (takes_up name e))
+    ∙ ap (λ (b : Bool). list_any (takes_up name) h || b) (or-false (takes_up name e))
 
 -- a draw that was issued, which the event takes up or not
 pub issued_stays : (h : List Event) (e : Event) (name : WriteId) (one : Issued)
@@ -90,7 +76,7 @@ issued_stays h e name one apart was = record {
   named = was.named;
   taken_up =
       was.taken_up
-      ∙ sym (taken_after h e name ∙ ap (λ (b : Bool). list_any (takes_up name) h || b) apart ∙ or_false (list_any (takes_up name) h));
+      ∙ sym (taken_after h e name ∙ ap (λ (b : Bool). list_any (takes_up name) h || b) apart ∙ or-false (list_any (takes_up name) h));
 }
 
 pub issued_taken : (h : List Event) (e : Event) (name : WriteId) (one : Issued)
@@ -212,30 +198,30 @@ module _ (plan : Plan) (h : List Event) (job : SubJob) (s : Standing) (now : IsS
       → clone_of plan write.clone ≡ Some job
       → TakeIn plan job h write
   taken_in_probe worker write piece next at =
-      take_in plan next.planned job (clone_there plan write.clone job next.planned at) h write
-      (may_probe_of plan h worker write piece next.may).0 (clone_is plan write.clone job next.planned at)
+      take_in plan next.planned job (own_place plan write.clone job next.planned at) h write
+      (may_probe_of plan h worker write piece next.may).0 (own_number plan write.clone job next.planned at)
 
   taken_in_skip : (worker : ℕ) (write : WriteId)
       → IsNext plan h (Skip worker write)
       → clone_of plan write.clone ≡ Some job
       → TakeIn plan job h write
   taken_in_skip worker write next at =
-      take_in plan next.planned job (clone_there plan write.clone job next.planned at) h write
-      (may_skip_of plan h worker write next.may) (clone_is plan write.clone job next.planned at)
+      take_in plan next.planned job (own_place plan write.clone job next.planned at) h write
+      (may_skip_of plan h worker write next.may) (own_number plan write.clone job next.planned at)
 
   pub taken_up_here : (worker : ℕ) (write : WriteId) (piece : Piece)
       → IsNext plan h (Probe worker write piece)
       → clone_of plan write.clone ≡ Some job
       → (write.pass ≡ s.pass) × (write.number < length s.issued.items)
   taken_up_here worker write piece next at =
-      here_of write next.planned (clone_there plan write.clone job next.planned at) (taken_in_probe worker write piece next at)
+      here_of write next.planned (own_place plan write.clone job next.planned at) (taken_in_probe worker write piece next at)
 
   pub skipped_here : (worker : ℕ) (write : WriteId)
       → IsNext plan h (Skip worker write)
       → clone_of plan write.clone ≡ Some job
       → (write.pass ≡ s.pass) × (write.number < length s.issued.items)
   skipped_here worker write next at =
-      here_of write next.planned (clone_there plan write.clone job next.planned at) (taken_in_skip worker write next at)
+      here_of write next.planned (own_place plan write.clone job next.planned at) (taken_in_skip worker write next at)
 
   -- a write that is left in the pass is still to check
   left_here : (w : WriteId)
@@ -257,7 +243,7 @@ module _ (plan : Plan) (h : List Event) (job : SubJob) (s : Standing) (now : IsS
         rounds = left.rounds;
         runs = runs;
       } in
-      subst (λ (r : Round). is_to_check r w ≡ true) (sym (now.round left.rounds runs) ∙ settled_is s.rounds settled)
+      subst (λ (r : Round). is_to_check r w ≡ true) (sym (now.round left.rounds runs) ∙ settled_now s.rounds settled)
       (left_to_check plan h job w round own left)
 
   -- what is skipped, or is checked and ends, is still to check
@@ -267,8 +253,8 @@ module _ (plan : Plan) (h : List Event) (job : SubJob) (s : Standing) (now : IsS
       → is_committed s.rounds ≡ true
       → is_to_check s.rounds.round write ≡ true
   skip_left worker write next at settled =
-      let own = clone_is plan write.clone job next.planned at in
-      let there = clone_there plan write.clone job next.planned at in
+      let own = own_number plan write.clone job next.planned at in
+      let there = own_place plan write.clone job next.planned at in
       let take = taken_in_skip worker write next at in
       let can = can_take plan h (pass_of job write.pass) take.draw take.may in
       left_here write next.planned next.legal there own (skipped_here worker write next at).0
@@ -291,8 +277,8 @@ module _ (plan : Plan) (h : List Event) (job : SubJob) (s : Standing) (now : IsS
       → is_committed s.rounds ≡ true
       → is_to_check s.rounds.round io.write ≡ true
   check_left worker id io next at check clone runs settled =
-      let own = clone_is plan io.write.clone job next.planned clone in
-      let there = clone_there plan io.write.clone job next.planned clone in
+      let own = own_number plan io.write.clone job next.planned clone in
+      let there = own_place plan io.write.clone job next.planned clone in
       let test : Started → Bool = λ (x : Started). is_probe x.kind && same_write x.write io.write in
       let f : FliesOf h job.clone test = record {
         id = id;
@@ -391,9 +377,9 @@ module _ (plan : Plan) (h : List Event) (job : SubJob) (s : Standing) (now : IsS
       → IsStanding (grown h (Probe worker write piece)) job
       (record s { issued = with_item s.issued i (record old { is_taken_up = true }) })
   probe_moves worker i write piece old next at number item =
-      takes_one plan h (Probe worker write piece) job next (clone_there plan write.clone job next.planned at) (λ q. refl)
+      takes_one plan h (Probe worker write piece) job next (own_place plan write.clone job next.planned at) (λ q. refl)
       s i old s.rounds write now
-      (λ name. refl) (clone_is plan write.clone job next.planned at) (taken_up_here worker write piece next at).0 number item (λ ran. refl)
+      (λ name. refl) (own_number plan write.clone job next.planned at) (taken_up_here worker write piece next at).0 number item (λ ran. refl)
 
   -- after the skip of one
   pub skip_moves : (worker : ℕ) (write : WriteId) (old : Issued)
@@ -406,12 +392,12 @@ module _ (plan : Plan) (h : List Event) (job : SubJob) (s : Standing) (now : IsS
         rounds = committed_round (with_passed s.rounds.round write);
       })
   skip_moves worker write old next at item settled =
-      let own = clone_is plan write.clone job next.planned at in
-      takes_one plan h (Skip worker write) job next (clone_there plan write.clone job next.planned at) (λ q. refl) s write.number old
+      let own = own_number plan write.clone job next.planned at in
+      takes_one plan h (Skip worker write) job next (own_place plan write.clone job next.planned at) (λ q. refl) s write.number old
       (committed_round (with_passed s.rounds.round write)) write now
       (λ name. refl) own (skipped_here worker write next at).0 refl item
       (λ ran.
-      ap (λ (round : Round). with_passed round write) (sym (settled_is s.rounds settled))
+      ap (λ (round : Round). with_passed round write) (sym (settled_now s.rounds settled))
       ∙ sym (ap {B = Round} (λ (b : Bool). cond b (with_passed (round_now s.rounds) write) (round_now s.rounds))
       (eq-eqb write.clone job.clone own)))
 
@@ -424,12 +410,12 @@ module _ (plan : Plan) (h : List Event) (job : SubJob) (s : Standing) (now : IsS
       → is_committed s.rounds ≡ true
       → IsStanding (grown h (End worker id Whole)) job (record s { rounds = committed_round (with_passed s.rounds.round io.write) })
   check_moves worker id io next at check clone settled =
-      let own = clone_is plan io.write.clone job next.planned clone in
-      stands_on plan h (End worker id Whole) job next (clone_there plan io.write.clone job next.planned clone) (λ q. refl) s s.issued
+      let own = own_number plan io.write.clone job next.planned clone in
+      stands_on plan h (End worker id Whole) job next (own_place plan io.write.clone job next.planned clone) (λ q. refl) s s.issued
       (committed_round (with_passed s.rounds.round io.write)) now refl
       (λ k one found. issued_stays h (End worker id Whole) (name_of job s.pass k) one refl (now.issued k one found))
       (λ ran.
-      ap (λ (round : Round). with_passed round io.write) (sym (settled_is s.rounds settled))
+      ap (λ (round : Round). with_passed round io.write) (sym (settled_now s.rounds settled))
       ∙ sym (ap (λ (o : Option Started). after_end job (Some Whole) o (round_now s.rounds)) at
       ∙ ap {B = Round} (λ (b : Bool). cond b (with_passed (round_now s.rounds) io.write) (round_now s.rounds))
       (and_from (is_probe io.kind && (io.write.clone == job.clone)) true

@@ -1,11 +1,12 @@
 -- The standings of all clones where that of one clone is changed.
-use Rattle.std.proofs.Common.{◌≡◌, ℕ, zero, suc, ◌+◌, ◌<◌, ◌≤◌, List, [], ◌∷◌, length, get_or, true, refl, ◌∙◌, ap, arith}
+use Rattle.std.proofs.Common.{◌≡◌, ℕ, ◌+◌, ◌<◌, ◌≤◌, List, [], length, get_or, true, ◌∙◌, ap, arith}
 use Rattle.std.proofs.Math.ListN.{set}
 use Rattle.std.specs.Prelude.{Some, slice_get}
 use Rattle.std.proofs.lemmas.List.{get_or-set_same}
 use Rattle.std.proofs.lemmas.Option.{slice_get_within}
 use Rattle.jr_model.specs.declared.events.Event.{Event}
 use Rattle.jr_model.specs.Plan.{Plan, SubJob, clone_of}
+use Rattle.jr_model.proofs.PlaceLemmas.{got_set}
 use Rattle.jr_backlog.specs.Deferred.{Deferred, is_committed, round_now}
 use Rattle.jr_desk_state.specs.declared.standings.Standing.{Standing}
 use Rattle.jr_desk_state.specs.Boards.{left_of}
@@ -52,12 +53,6 @@ pub prepared_same : (job : SubJob) (standing : Standing) (rounds : Deferred) →
 prepared_same job standing rounds same is =
     prepared_settled_now job standing rounds (ap is_committed same ∙ is.settled) is
 
--- what is put in a clone's place is there
-pub got_set_here : {X : Type 0} (xs : List X) (c : ℕ) (s : X) → c < length xs → slice_get (set xs c s) c ≡ Some s
-got_set_here [] c s below = absurd (omega (arith, below))
-got_set_here (x ∷ xs) zero s below = refl
-got_set_here (x ∷ xs) (suc c) s below = got_set_here xs c s (omega (arith, below))
-
 -- the writes that are left where a clone's standing is replaced twice: first by one with as many, and then by one with fewer
 pub left_passed : (standings : List Standing) (c : ℕ) (old now read after : Standing) (passed : ℕ)
     → slice_get standings c ≡ Some old
@@ -69,7 +64,7 @@ left_passed standings c old now read after passed at same is few =
     omega (
       arith,
       left_same standings c old now at same,
-      left_set (set standings c now) c now after (got_set_here standings c now (slice_get_within standings c old at)),
+      left_set (set standings c now) c now after (got_set standings c now (slice_get_within standings c old at)),
       ap left_in is,
       few,
     )

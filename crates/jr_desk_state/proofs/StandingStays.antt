@@ -8,11 +8,12 @@ use Rattle.jr_model.specs.declared.events.Outcome.{Outcome}
 use Rattle.jr_model.specs.declared.events.Verdict.{Verdict}
 use Rattle.jr_model.specs.declared.tickets.Ticket.{Ticket}
 use Rattle.jr_model.specs.Plan.{Plan, SubJob, clone_of}
+use Rattle.jr_model.proofs.PlanLemmas.{own_place, own_number}
 use Rattle.jr_laws_steps.specs.Nexts.{IsNext, grown}
 use Rattle.jr_desk_state.specs.declared.standings.Standing.{Standing}
 use Rattle.jr_desk_state.specs.Standings.{IsStanding, AreStanding}
 use Rattle.jr_desk_state.proofs.EndingParts.{OwnParts}
-use Rattle.jr_desk_state.proofs.StandingMoves.{clone_is, clone_there, stays_end_other, stays_verdict}
+use Rattle.jr_desk_state.proofs.StandingMoves.{stays_end_other, stays_verdict}
 use Rattle.jr_desk_state.proofs.StartingStandings.{standing_moves}
 
 -- at a verdict all clones stand where they stood
@@ -24,7 +25,7 @@ standings_judged plan history worker id verdict standings next are = record {
   count = are.count;
   each = λ (k : ℕ) (job : SubJob) (standing : Standing) (there : clone_of plan k ≡ Some job) (got : slice_get standings k ≡ Some standing).
       stays_verdict plan history job standing (are.each k job standing there got) worker id verdict next
-      (clone_there plan k job next.planned there);
+      (own_place plan k job next.planned there);
 }
 
 -- at an end the others do
@@ -39,5 +40,5 @@ standings_ended plan history worker outcome ticket standings standing parts next
     parts.planned is
     (λ (k : ℕ) (other : SubJob) (its : Standing) (there : clone_of plan k ≡ Some other) (apart : ticket.write.clone ≡ k → ⊥)
     (was : IsStanding history other its).
-    stays_end_other plan history other its was worker ticket.id outcome parts.io next (clone_there plan k other next.planned there) parts.at
-    (λ (e : parts.io.write.clone ≡ other.clone). apart (sym parts.clone ∙ e ∙ sym (clone_is plan k other next.planned there))))
+    stays_end_other plan history other its was worker ticket.id outcome parts.io next (own_place plan k other next.planned there) parts.at
+    (λ (e : parts.io.write.clone ≡ other.clone). apart (sym parts.clone ∙ e ∙ sym (own_number plan k other next.planned there))))

@@ -8,7 +8,7 @@ use Rattle.std.proofs.lemmas.List.{length-set}
 use Rattle.std.proofs.lemmas.Bool.{cases_Bool, or_cases}
 use Rattle.std.proofs.lemmas.List.Filters.{length-filter_both}
 use Rattle.std.proofs.lemmas.List.Sums.{length-filter, sum_by-cons, sum_by-set}
-use Rattle.std.proofs.lemmas.Option.{get_or_from_slice_get, slice_get_within}
+use Rattle.std.proofs.lemmas.Option.{get_or_from_slice_get, slice_get_within, same_Some}
 use Rattle.jr_model.specs.declared.events.Event.{Event}
 use Rattle.jr_model.specs.declared.events.IssueKind.{IssueKind}
 use Rattle.jr_model.specs.declared.events.IssueKind.TheVariants as issue
@@ -18,11 +18,10 @@ use Rattle.jr_model.specs.Plan.{Plan, SubJob, clone_of}
 use Rattle.jr_model.specs.Rounds.{has_rounds}
 use Rattle.jr_backlog.specs.Rounds.{Round, is_closed, is_to_check, new_round, with_passed, with_written}
 use Rattle.jr_backlog.specs.Deferred.{Deferred, committed_round, is_committed, round_now, with_draw, with_waiting}
-use Rattle.jr_laws_steps.proofs.StartedLemmas.{same_some}
+use Rattle.jr_backlog.proofs.WalkedFacts.{settled_now}
 use Rattle.jr_laws_steps.proofs.Lists.{got_set}
 use Rattle.jr_desk_state.specs.declared.standings.Standing.{Standing}
 use Rattle.jr_desk_state.specs.Boards.{left_of}
-use Rattle.jr_desk_state.proofs.StandingMoves.{settled_is}
 use Rattle.jr_desk_state.specs.Standings.{AreOthersPrepared, ArePrepared, AreStanding, IsPrepared, IsStanding, added_by, left_in}
 
 -- what holds of each clone's standing holds of each where one is put in its place
@@ -38,7 +37,7 @@ each_set : (plan : Plan) (P Q : SubJob → Standing → Type 0) (standings : Lis
 each_set plan P Q standings c job new each planned here others k other standing there got =
     elim (got_set standings c k standing new got) [
       | inl same ↦
-          let jobs : job ≡ other = same_some job other (sym planned ∙ ap (clone_of plan) (sym same.0) ∙ there) in
+          let jobs : job ≡ other = same_Some job other (sym planned ∙ ap (clone_of plan) (sym same.0) ∙ there) in
           subst (λ (s : Standing). Q other s) (sym same.1) (subst (λ (j : SubJob). Q j new) jobs here)
       | inr apart ↦ others k other standing there apart.0 (each k other standing there apart.1)
     ]
@@ -87,7 +86,7 @@ pub others_all : (plan : Plan) (one : ℕ) (standings : List Standing) (new : St
 others_all plan one standings new job are planned is c other standing there at =
     elim (got_set standings one c standing new at) [
       | inl same ↦
-          let jobs : job ≡ other = same_some job other (sym planned ∙ ap (clone_of plan) (sym same.0) ∙ there) in
+          let jobs : job ≡ other = same_Some job other (sym planned ∙ ap (clone_of plan) (sym same.0) ∙ there) in
           subst (λ (s : Standing). IsPrepared other s) (sym same.1) (subst (λ (j : SubJob). IsPrepared j new) jobs is)
       | inr far ↦ are c other standing (λ (e : c ≡ one). far.0 (sym e)) there far.1
     ]
@@ -102,7 +101,7 @@ pub others_moved : (plan : Plan) (one c : ℕ) (standings : List Standing) (old 
 others_moved plan one c standings old new job are planned here stays k other standing apart there at =
     elim (got_set standings c k standing new at) [
       | inl same ↦
-          let jobs : job ≡ other = same_some job other (sym planned ∙ ap (clone_of plan) (sym same.0) ∙ there) in
+          let jobs : job ≡ other = same_Some job other (sym planned ∙ ap (clone_of plan) (sym same.0) ∙ there) in
           subst (λ (s : Standing). IsPrepared other s) (sym same.1)
           (subst (λ (j : SubJob). IsPrepared j new) jobs
           (stays (are c job old (λ (is : c ≡ one). apart (same.0 ∙ is)) planned here)))
@@ -150,7 +149,7 @@ fewer_without {X = X} p xs some =
 pub fewer_passed : (d : Deferred) (write : WriteId) → is_committed d ≡ true → is_to_check d.round write ≡ true
     → length (round_now (committed_round (with_passed d.round write))).to_check < length (round_now d).to_check
 fewer_passed d write settled left =
-    subst (λ (r : Round). length (with_passed d.round write).to_check < length r.to_check) (sym (settled_is d settled))
+    subst (λ (r : Round). length (with_passed d.round write).to_check < length r.to_check) (sym (settled_now d settled))
     (fewer_without (same_write write) d.round.to_check left)
 
 -- one that is issued comes to it
@@ -181,7 +180,7 @@ pub left_drawn : (job : SubJob) (kind : IssueKind) (write : WriteId) (d : Deferr
     → length (round_now (with_draw d o ended)).to_check ≤ length (round_now d).to_check + added_by job kind
 left_drawn job kind write d o ended rounds settled writes reads checks =
     subst (λ (r : Round). length (round_now (with_draw d o ended)).to_check ≤ length r.to_check + added_by job kind)
-    (sym (settled_is d settled))
+    (sym (settled_now d settled))
     (drawn_length d o ended (length d.round.to_check + added_by job kind) (by_kind kind writes reads checks))
   where
     unwritten : (n : ℕ) → o ≡ None → length (with_waiting o d.round).to_check ≤ length d.round.to_check + n

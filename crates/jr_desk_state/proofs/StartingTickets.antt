@@ -3,6 +3,7 @@ use Rattle.std.proofs.Common.{◌≡◌, ◌<◌, ℕ, List, Bool, true, false, 
 use Rattle.std.specs.Prelude.{Option, Some, None, slice_get, unwrap_or}
 use Rattle.std.specs.Option.{option_map}
 use Rattle.std.proofs.lemmas.Bool.{false≢true}
+use Rattle.std.proofs.lemmas.Option.{same_Some}
 use Rattle.jr_model.specs.declared.blocks.Dir.{Dir}
 use Rattle.jr_model.specs.declared.blocks.Piece.{Piece}
 use Rattle.jr_model.specs.declared.contents.Expected.{Expected}
@@ -29,10 +30,9 @@ use Rattle.jr_writes.specs.LoggedWrites.{logged}
 use Rattle.jr_flight.specs.declared.ios.Io.{Io}
 use Rattle.jr_laws_log.specs.Flying.{dir_of, io_of}
 use Rattle.jr_laws_steps.proofs.StepLaws.{IsNamed}
-use Rattle.jr_laws_steps.proofs.StartedLemmas.{same_some}
 use Rattle.jr_desk_tickets.specs.Kept.{tickets_of}
 use Rattle.jr_desk_tickets.specs.Tickets.{method_of, seed_of, expected_by, ticket_of}
-use Rattle.jr_desk_tickets.proofs.HandingMoves.{ticket_started}
+use Rattle.jr_desk_tickets.proofs.OwnTickets.{ticket_started}
 use Rattle.jr_desk_state.specs.declared.board.Board.{Board}
 use Rattle.jr_desk_state.specs.declared.standings.Issued.{Issued}
 use Rattle.jr_desk_state.specs.declared.standings.Standing.{Standing}
@@ -68,7 +68,7 @@ has_ticket plan board write job standing issued is planned at here got =
 got_issued : (o : Option Issued) (id : ℕ) → option_map (λ (issued : Issued). issued.id) o ≡ Some id
     → (issued : Issued) × (o ≡ Some issued) × (issued.id ≡ id)
 got_issued None id found = cc
-got_issued (Some issued) id found = (issued, refl, same_some issued.id id found)
+got_issued (Some issued) id found = (issued, refl, same_Some issued.id id found)
 
 -- the seed that is read of the ticket of the number under which it was issued
 pub seed_kept : (plan : Plan) (board : Board) (write : WriteId) (job : SubJob) (standing : Standing) (id seed : ℕ)

@@ -17,7 +17,7 @@ use Rattle.jr_model.specs.Plan.{Plan}
 use Rattle.jr_model.specs.Rounds.{pass_of}
 use Rattle.jr_model.proofs.LegalLaws.{choice_is_step, choice_may_happen, cases_step_of}
 use Rattle.jr_model.specs.PlanFacts.{IsPlanned}
-use Rattle.jr_laws_steps.proofs.CountLaws.{numbered_of}
+use Rattle.jr_model.proofs.PlanLemmas.{numbered_of}
 use Rattle.jr_desk_tickets.specs.Tickets.{ticket_of}
 use Rattle.jr_desk_state.specs.declared.board.Board.{Board}
 use Rattle.jr_desk_state.specs.Boards.{IsBoard, IsReady}

@@ -5,15 +5,9 @@ use Rattle.std.specs.Int.{bit_at, bit_not, trailing_zeros}
 use Rattle.std.proofs.Math.Nat.{div-le_self}
 use Rattle.std.proofs.lemmas.Bool.{cases_lt, cases_eq, eqb-true, ne_eqb}
 use Rattle.std.proofs.lemmas.List.{get_or_default, get_or_past, get_or-replicate, get_or-set_same, get_or-set_other, length-replicate}
-use Rattle.std.proofs.lemmas.Nat.{shr-shr}
-use Rattle.std.proofs.lemmas.Nat.Bits.{bit_at-zero, bit_at-lt, bit_at_not, bit_at_above, bit_at-trailing_zeros, bit_at_set_other, bit_at_clear_same, bit_at_clear_other}
+use Rattle.std.proofs.lemmas.Nat.Bits.{bit_at-zero, bit_at_above, bit_at-trailing_zeros, bit_at_set_other, bit_at_clear_same, bit_at_clear_other}
+use Rattle.jr_model.proofs.NumberLemmas.{bit_at-shr, one_from_not}
 use Rattle.jr_desk_state.specs.Waitings.{is_marked}
-
-bit_at-shr : (n k i : ℕ) → bit_at (n / 2 ^ k) i ≡ bit_at n (k + i)
-bit_at-shr n k i = ap (λ (x : ℕ). x % 2) (shr-shr n k i)
-
-one_from_not : (w j : ℕ) → w < 2 ^ 64 → j < 64 → bit_at (bit_not w64 w) j ≡ 0 → bit_at w j ≡ 1
-one_from_not w j fits within h = omega (arith, h, bit_at_not w64 w j fits within, bit_at-lt w j)
 
 -- where a word has no clear bit from one on, all are set
 pub all_set : (w bit : ℕ) → w < 2 ^ 64 → bit_not w64 w / 2 ^ bit ≡ 0 → (k : ℕ) → bit ≤ k → k < 64 → bit_at w k ≡ 1

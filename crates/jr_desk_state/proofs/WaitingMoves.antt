@@ -2,6 +2,7 @@
 use Rattle.std.proofs.Common.{◌≡◌, ◌+◌, ◌-◌, ◌*◌, ◌^◌, ◌<◌, ◌≤◌, ◌⊎◌, ℕ, List, [], ◌∷◌, ◌++◌, length, Bool, true, false, cond, not, sym, ◌∙◌, ap, subst, arith, inl, inr}
 use Rattle.std.specs.Prelude.{Option, Some, None, slice_get, ◌==◌}
 use Rattle.std.proofs.lemmas.Bool.{or_cases, or_left, or_right, cases_Bool, cases_lt, both_ways, ne_eqb, le-ltb, lt-ltb, not-true}
+use Rattle.std.proofs.lemmas.Option.{same_Some}
 use Rattle.jr_model.specs.declared.events.Event.{Event}
 use Rattle.jr_model.specs.declared.events.Event.TheVariants.{Issue, Probe, Skip, End, Verdict}
 use Rattle.jr_model.specs.declared.events.Outcome.{Outcome}
@@ -12,10 +13,9 @@ use Rattle.jr_model.specs.Legal.{has_room, is_at_rest, is_halted, is_io_of, is_l
 use Rattle.jr_model.specs.Plan.{Plan, SubJob, clone_of}
 use Rattle.jr_laws_rounds.proofs.KeptSettled.{ran_before}
 use Rattle.jr_model.specs.PlanFacts.{IsPlanned}
-use Rattle.jr_laws_rounds.proofs.StandingFinished.{own_place}
+use Rattle.jr_model.proofs.PlanLemmas.{own_place, own_number}
 use Rattle.jr_laws_rounds.proofs.StandingSteps.{always_in_pass}
 use Rattle.jr_laws_steps.specs.Nexts.{IsNext, grown}
-use Rattle.jr_laws_steps.proofs.StartedLemmas.{same_some}
 use Rattle.jr_desk_totals.specs.declared.tallies.Counts.{Counts}
 use Rattle.jr_desk_totals.specs.declared.tallies.Tallies.{Tallies}
 use Rattle.jr_desk_totals.specs.Tallying.{IsTallied}
@@ -27,7 +27,6 @@ use Rattle.jr_desk_state.specs.declared.waiting.Waiting.{Waiting}
 use Rattle.jr_desk_state.specs.Waitings.{AreWaiting, is_blocked, is_marked, waits_for_own}
 use Rattle.jr_desk_state.proofs.ChoiceMoves.{chosen, step_blocked}
 use Rattle.jr_desk_state.proofs.RestKept.{none_at_rest, rest_longer}
-use Rattle.jr_desk_state.proofs.StandingMoves.{clone_is}
 
 -- nothing of the clone ends by the event, which names this I/O
 abbrev pub EndsNothing : ℕ → Option Started → Event → Type 0
@@ -103,7 +102,7 @@ waiting_grows plan h e waiting next ends are = record {
   few = are.few;
   each = λ c job there marked.
       waits_longer plan h e job next (own_place plan c job next.planned there)
-      (subst (λ (k : ℕ). EndsNothing k (named_in (started h) e) e) (clone_is plan c job next.planned there) (ends c marked))
+      (subst (λ (k : ℕ). EndsNothing k (named_in (started h) e) e) (own_number plan c job next.planned there) (ends c marked))
       (are.each c job there marked);
 }
 
@@ -154,7 +153,7 @@ pub waits_full : (plan : Plan) (h : List Event) (tallies : Tallies) (clone : ℕ
     → clone_of plan clone ≡ Some own → slice_get tallies.counts.items clone ≡ Some counts → own.depth ≤ counts.issues + counts.checks
     → (job : SubJob) → clone_of plan clone ≡ Some job → waits_for_own h job ≡ true
 waits_full plan h tallies clone counts own tallied there counted full job planned =
-    let same : own ≡ job = same_some own job (sym there ∙ planned) in
+    let same : own ≡ job = same_Some own job (sym there ∙ planned) in
     let are = counts_are plan h tallies clone job counts tallied planned counted in
     let issues : counts.issues ≡ flying_issues h job.clone = ap (λ (k : Counts). k.issues) are in
     let checks : counts.checks ≡ flying_checks h job.clone = ap (λ (k : Counts). k.checks) are in

@@ -23,7 +23,7 @@ ghost use Rattle.jr_desk_state.specs.Standings.{added_by, IsPrepared, IsStanding
 
 use jr_backlog::DeferredRounds;
 use jr_draw::DrawsLeft;
-use jr_model::{IoId, IssueKind, Memory, VerifyKind, WriteId};
+use jr_model::{IoId, IssueKind, Memory, WriteId};
 use jr_plan::SubJob;
 use std::alloc::Global;
 
@@ -225,5 +225,5 @@ fn written(kind: IssueKind, write: WriteId) -> Option<WriteId>
 pub(crate) fn has_rounds(job: &SubJob) -> bool
     ensures { result ≡ has_rounds job.now }
 {
-    job.method().kind != VerifyKind::Plain && job.checks_writes()
+    job.verifies()
 }

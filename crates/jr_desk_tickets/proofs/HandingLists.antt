@@ -1,20 +1,9 @@
 -- Lists by number: what one item more, or one item changed, makes of them.
-use Rattle.std.proofs.Common.{◌≡◌, ℕ, zero, suc, ◌+◌, ◌<◌, ◌≤◌, List, [], ◌∷◌, ◌++◌, length, map, refl, ◌∙◌, ap, arith}
+use Rattle.std.proofs.Common.{◌≡◌, ℕ, zero, suc, ◌+◌, ◌<◌, ◌≤◌, List, [], ◌∷◌, length, map, refl, ◌∙◌, ap, arith}
 use Rattle.std.proofs.Math.ListN.{set}
 use Rattle.std.specs.Prelude.{Option, Some, slice_get}
 use Rattle.std.specs.List.{enumerate_from, range_with_len}
 use Rattle.std.proofs.lemmas.Option.{same_Some}
-
--- an item more has the next number
-pub enumerated : {X : Type 0} (n : ℕ) (xs : List X) (x : X)
-    → enumerate_from n (xs ++ x ∷ []) ≡ enumerate_from n xs ++ (n + length xs, x) ∷ []
-enumerated {X = X} n [] x =
-    let same : n ≡ n + 0 = omega arith in
-    ap (λ (k : ℕ). (k, x) ∷ []) same
-enumerated {X = X} n (y ∷ xs) x =
-    let same : n + 1 + length xs ≡ n + suc (length xs) = omega arith in
-    ap (λ (zs : List (ℕ × X)). (n, y) ∷ zs) (enumerated (n + 1) xs x)
-    ∙ ap (λ (k : ℕ). (n, y) ∷ (enumerate_from (n + 1) xs ++ (k, x) ∷ [])) same
 
 -- what is made of the items and their numbers has an item for each
 pub length_numbered : {X Y : Type 0} (f : ℕ × X → Y) (n : ℕ) (xs : List X) → length (map f (enumerate_from n xs)) ≡ length xs

@@ -19,10 +19,12 @@ use Rattle.jr_model.specs.Legal.{is_legal, may_happen}
 use Rattle.jr_model.specs.Plan.{Plan}
 use Rattle.jr_model.specs.Races.{has_raced}
 use Rattle.jr_model.proofs.RaceLaws.{raced_other, raced_for_good}
+use Rattle.jr_model.proofs.HistoryLemmas.{outcome_of-stays, outcome_of-end, legal_is_well}
+use Rattle.jr_model.proofs.ListLemmas.{enumerate_more}
 use Rattle.jr_laws_steps.proofs.StartedLemmas.{started-starts, started-other, length-started-starts, length-started-other, started_below}
 use Rattle.jr_laws_steps.specs.Nexts.{IsNext, grown}
 use Rattle.jr_laws_steps.proofs.JudgedEnded.{flying_unjudged}
-use Rattle.jr_laws_steps.proofs.Grown.{outcome_of-stays, outcome_of-other, outcome_of-end, is_judged-stays, is_judged-other, is_judged-verdict, not_ended_yet, not_judged_yet, legal_is_well, end_names, verdict_names}
+use Rattle.jr_laws_steps.proofs.Grown.{outcome_of-other, is_judged-stays, is_judged-other, is_judged-verdict, not_ended_yet, not_judged_yet, end_names, verdict_names}
 use Rattle.jr_laws_steps.proofs.Lists.{map_same}
 use Rattle.jr_desk_tickets.specs.declared.table.TicketTable.{TicketTable}
 use Rattle.jr_desk_tickets.specs.declared.table.IoState.{IoState}
@@ -32,7 +34,7 @@ use Rattle.jr_desk_tickets.specs.Handing.{IsHanded, all_states, by_outcome, head
 use Rattle.jr_desk_tickets.specs.Kept.{tickets_of}
 use Rattle.jr_desk_tickets.specs.Tickets.{ticket_of}
 use Rattle.jr_desk_tickets.proofs.HandingLaunches.{headers_few, kept_at, launches_more, length-launches, tickets_again}
-use Rattle.jr_desk_tickets.proofs.HandingLists.{enumerated, numbered_at, map_moved}
+use Rattle.jr_desk_tickets.proofs.HandingLists.{map_moved}
 use Rattle.jr_desk_tickets.proofs.OwnTickets.{tickets_count}
 
 -- the tickets
@@ -42,7 +44,7 @@ pub tickets_starts : (plan : Plan) (history : List Event) (event : Event) (io : 
 tickets_starts plan history event io starts =
     let same : 0 + length (started history) ≡ length (started history) = omega arith in
     ap (λ (ios : List Started). map (ticket_of plan) (enumerate_from 0 ios)) (started-starts history event io starts)
-    ∙ ap (map (ticket_of plan)) (enumerated 0 (started history) io)
+    ∙ ap (map (ticket_of plan)) (enumerate_more 0 (started history) io)
     ∙ map-append (ticket_of plan) (enumerate_from 0 (started history)) ((0 + length (started history), io) ∷ [])
     ∙ ap (λ (k : ℕ). tickets_of plan history ++ ticket_of plan (k, io) ∷ []) same
 
@@ -50,13 +52,6 @@ pub tickets_stay : (plan : Plan) (history : List Event) (event : Event) → star
     → tickets_of plan (grown history event) ≡ tickets_of plan history
 tickets_stay plan history event nothing =
     ap (λ (ios : List Started). map (ticket_of plan) (enumerate_from 0 ios)) (started-other history event nothing)
-
--- an I/O that was started has its ticket
-pub ticket_started : (plan : Plan) (history : List Event) (id : ℕ) (io : Started) → slice_get (started history) id ≡ Some io
-    → slice_get (tickets_of plan history) id ≡ Some (ticket_of plan (id, io))
-ticket_started plan history id io at =
-    let same : 0 + id ≡ id = omega arith in
-    numbered_at (ticket_of plan) 0 (started history) id io at ∙ ap {B = Option Ticket} (λ (i : ℕ). Some (ticket_of plan (i, io))) same
 
 -- how far they have come
 

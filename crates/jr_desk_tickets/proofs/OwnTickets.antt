@@ -1,6 +1,6 @@
 -- The tickets of a history, and the I/Os that they are of.
 use Rattle.std.proofs.Common.{◌≡◌, ℕ, ◌+◌, List, length, map, ◌∙◌, ap, arith}
-use Rattle.std.specs.Prelude.{Some, slice_get}
+use Rattle.std.specs.Prelude.{Option, Some, slice_get}
 use Rattle.std.specs.List.{enumerate_from}
 use Rattle.jr_model.specs.declared.events.Event.{Event}
 use Rattle.jr_model.specs.declared.events.Started.{Started}
@@ -9,7 +9,7 @@ use Rattle.jr_model.specs.History.{started}
 use Rattle.jr_model.specs.Plan.{Plan}
 use Rattle.jr_desk_tickets.specs.Kept.{IsOwn, tickets_of}
 use Rattle.jr_desk_tickets.specs.Tickets.{ticket_of}
-use Rattle.jr_desk_tickets.proofs.HandingLists.{got_numbered, length_numbered}
+use Rattle.jr_desk_tickets.proofs.HandingLists.{got_numbered, length_numbered, numbered_at}
 
 -- a ticket is that of the I/O under its number
 pub got_ticket : (plan : Plan) (n : ℕ) (ios : List Started) (k : ℕ) (t : Ticket)
@@ -28,3 +28,10 @@ own_started plan history t own =
 -- each has one
 pub tickets_count : (plan : Plan) (history : List Event) → length (tickets_of plan history) ≡ length (started history)
 tickets_count plan history = length_numbered (ticket_of plan) 0 (started history)
+
+-- an I/O that was started has its ticket
+pub ticket_started : (plan : Plan) (history : List Event) (id : ℕ) (io : Started) → slice_get (started history) id ≡ Some io
+    → slice_get (tickets_of plan history) id ≡ Some (ticket_of plan (id, io))
+ticket_started plan history id io at =
+    let same : 0 + id ≡ id = omega arith in
+    numbered_at (ticket_of plan) 0 (started history) id io at ∙ ap {B = Option Ticket} (λ (i : ℕ). Some (ticket_of plan (i, io))) same

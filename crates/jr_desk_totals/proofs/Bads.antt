@@ -12,9 +12,10 @@ use Rattle.jr_model.specs.History.{started, is_probe}
 use Rattle.jr_model.specs.Legal.{is_legal, may_happen}
 use Rattle.jr_model.specs.Plan.{Plan, SubJob}
 use Rattle.jr_model.specs.Report.{Miscompare, miscompare_on, miscompare_by, miscompares}
+use Rattle.jr_model.proofs.PlaceLemmas.{got_longer}
 use Rattle.jr_desk_totals.specs.Tallies.{named_in, miscompare_in}
 use Rattle.jr_desk_totals.specs.After.{IsAfter, EndsCounted, JudgesCounted}
-use Rattle.jr_laws_steps.proofs.Grown.{Agrees, got_longer, kept-more, end_names, verdict_names}
+use Rattle.jr_laws_steps.proofs.Grown.{Agrees, kept-more, end_names, verdict_names}
 use Rattle.jr_desk_totals.proofs.Moved.{is_halted-more, totals-more}
 use Rattle.jr_desk_totals.proofs.Counted.{tally-more, end_falls-issue, end_falls-check, verdict_falls}
 

@@ -12,8 +12,10 @@ use Rattle.jr_model.specs.Plan.{Plan, SubJob}
 use Rattle.jr_model.specs.Rounds.{no_issue_flies, nothing_flies_of}
 use Rattle.jr_model.proofs.LegalLaws.{started_planned}
 use Rattle.jr_model.specs.PlanFacts.{IsPlanned}
-use Rattle.jr_laws_steps.proofs.PlaceLemmas.{all_from, keeps_none}
-use Rattle.jr_laws_steps.proofs.RestLaws.{none_by_length, length_by_none}
+use Rattle.jr_model.proofs.PlaceLemmas.{all_from, keeps_none}
+use Rattle.jr_model.proofs.ListLemmas.{none_by_length}
+use Rattle.jr_model.proofs.BoolLemmas.{same_truth}
+use Rattle.jr_laws_steps.proofs.RestLaws.{length_by_none}
 use Rattle.jr_desk_totals.specs.Tallies.{flying_issues, flying_checks, awaited}
 use Rattle.jr_desk_totals.specs.After.{AreCompared, AreAll}
 use Rattle.jr_desk_totals.proofs.Tallied.{counted, tallied, tallied_least, count_kept, kept_by, length_split, all_as_count, none_as_count}
@@ -48,11 +50,6 @@ tests_compared history job = record {
 }
 
 -- nothing is kept of what was started where nothing is kept of any clone of the plan
-
-same_tests : (a b : Bool) → (a ≡ true → b ≡ true) → (b ≡ true → a ≡ true) → a ≡ b
-same_tests true b forth back = sym (forth refl)
-same_tests false true forth back = back refl
-same_tests false false forth back = refl
 
 dropped : (b own : Bool) (x : Started) → own ≡ true → counted (b && own) ≤ 0 → cond b (Some x) None ≡ None
 dropped false own x is none = refl
@@ -113,7 +110,7 @@ none_flies plan history planned legal all =
 
 pub flies_none : (plan : Plan) (history : List Event) → IsPlanned plan → is_legal plan history ≡ true → (length (in_flight history) == 0) ≡ list_all (λ (job : SubJob). flying_issues history job.clone + flying_checks history job.clone == 0) plan.clones
 flies_none plan history planned legal =
-    same_tests (length (in_flight history) == 0) (list_all (rests history) plan.clones)
+    same_truth (length (in_flight history) == 0) (list_all (rests history) plan.clones)
     (λ none. each_rests plan history (none_by_length (in_flight history) none))
     (λ all. length_by_none (in_flight history) (none_flies plan history planned legal all))
 
@@ -131,7 +128,7 @@ none_awaits plan history planned legal all =
 
 pub awaits_none : (plan : Plan) (history : List Event) → IsPlanned plan → is_legal plan history ≡ true → (length (awaiting history) == 0) ≡ list_all (λ (job : SubJob). awaited history job.clone == 0) plan.clones
 awaits_none plan history planned legal =
-    same_tests (length (awaiting history) == 0) (list_all (is_judged_all history) plan.clones)
+    same_truth (length (awaiting history) == 0) (list_all (is_judged_all history) plan.clones)
     (λ none. each_is_judged plan history (none_by_length (awaiting history) none))
     (λ all. length_by_none (awaiting history) (none_awaits plan history planned legal all))
 

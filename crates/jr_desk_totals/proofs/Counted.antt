@@ -17,10 +17,11 @@ use Rattle.jr_model.specs.declared.tickets.TicketKind.TheVariants as ticket
 use Rattle.jr_model.specs.History.{started, started_by, kind_for, end_of, outcome_of, is_verdict_on, is_judged, in_flight, in_flight_of, is_of_clone, is_judged_kind, is_probe, ended_whole}
 use Rattle.jr_model.specs.Legal.{is_legal, may_happen}
 use Rattle.jr_model.specs.Plan.{Plan}
+use Rattle.jr_model.proofs.HistoryLemmas.{outcome_of-stays, outcome_of-end}
 use Rattle.jr_laws_steps.proofs.JudgedEnded.{flying_unjudged}
 use Rattle.jr_laws_steps.proofs.StartedLemmas.{started-starts, started-other}
 use Rattle.jr_desk_totals.specs.Tallies.{flying_issues, flying_checks, awaited, Tally, tally_of, named_in, concerns, tally_ended, tally_after_end, tally_after}
-use Rattle.jr_laws_steps.proofs.Grown.{outcome_of-stays, outcome_of-other, outcome_of-end, is_judged-stays, is_judged-other, is_judged-verdict, not_ended_yet, end_names, verdict_names}
+use Rattle.jr_laws_steps.proofs.Grown.{outcome_of-other, is_judged-stays, is_judged-other, is_judged-verdict, not_ended_yet, end_names, verdict_names}
 use Rattle.jr_desk_totals.proofs.Tallied.{counted, tallied, tallied_same, tallied_push, tallied_moves, count_filtered, count_kept}
 
 -- the counts as tallies over what was started

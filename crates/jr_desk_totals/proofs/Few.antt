@@ -1,9 +1,7 @@
 -- How large a clone's counts and totals are, in a legal history.
 use Rattle.std.proofs.Common.{◌≡◌, ℕ, suc, ◌+◌, ◌*◌, ◌≤◌, List, [], ◌∷◌, ◌++◌, length, set, Bool, true, false, cond, ◌&&◌, ◌||◌, not, refl, ◌∙◌, ap, arith}
-use Rattle.std.specs.Prelude.{Option, Some, None, slice_get, nat_lt, nat_le, ◌==◌, ◌%◌}
-use Rattle.std.proofs.lemmas.Bool.{and_parts, leb-true}
-use Rattle.jr_model.specs.declared.limits.TheConstants.{LARGEST_BLOCK, LARGEST_END, SECTOR}
-use Rattle.jr_model.specs.declared.blocks.Piece.{Piece}
+use Rattle.std.specs.Prelude.{Option, Some, None, slice_get, ◌==◌}
+use Rattle.jr_model.specs.declared.limits.TheConstants.{LARGEST_BLOCK}
 use Rattle.jr_model.specs.declared.events.Event.{Event}
 use Rattle.jr_model.specs.declared.events.Event.TheVariants.{Issue, Probe, Skip, End, Verdict}
 use Rattle.jr_model.specs.declared.events.Outcome.{Outcome}
@@ -19,13 +17,15 @@ use Rattle.jr_model.specs.Legal.{is_legal, may_happen, is_io_of, is_bad, is_void
 use Rattle.jr_model.specs.Machine.{work_of}
 use Rattle.jr_model.specs.Plan.{Plan, SubJob, clone_of}
 use Rattle.jr_model.specs.Report.{all_totals}
-use Rattle.jr_model.specs.Tickets.{piece_fits}
 use Rattle.jr_model.specs.Totals.{is_read, if_wanted, moved_by, totals_of}
 use Rattle.jr_model.specs.PlanFacts.{IsPlanned}
-use Rattle.jr_laws_steps.proofs.CountLaws.{numbered_of, issued_within, untaken_first}
+use Rattle.jr_model.proofs.HistoryLemmas.{by_events}
+use Rattle.jr_model.proofs.PlanLemmas.{numbered_of}
+use Rattle.jr_model.proofs.PieceLemmas.{fitting_is_short}
+use Rattle.jr_laws_steps.proofs.CountLaws.{issued_within, untaken_first}
 use Rattle.jr_laws_steps.proofs.CountSteps.{all_untaken, all_untaken_most, skip_falls}
 use Rattle.jr_laws_steps.proofs.DrawnLaws.{started_fit-law}
-use Rattle.jr_laws_steps.proofs.StartedLemmas.{by_events, length-started-starts, length-started-other}
+use Rattle.jr_laws_steps.proofs.StartedLemmas.{length-started-starts, length-started-other}
 use Rattle.jr_desk_totals.specs.Tallies.{flying_issues, flying_checks, awaited, named_in, concerns, totals_after}
 use Rattle.jr_desk_totals.specs.After.{AreFew}
 use Rattle.jr_laws_steps.proofs.Grown.{end_names, verdict_names}
@@ -193,20 +193,8 @@ skip_few plan h (Probe worker write piece) c planned legal may = omega (arith, a
 skip_few plan h (End worker io outcome) c planned legal may = omega (arith, all_untaken_most plan h (End worker io outcome ∷ []))
 skip_few plan h (Verdict worker io verdict) c planned legal may = omega (arith, all_untaken_most plan h (Verdict worker io verdict ∷ []))
 
--- a piece is a block at most
-piece_small : (p : Piece) → piece_fits p ≡ true → p.len ≤ LARGEST_BLOCK
-piece_small p fits =
-    let a = nat_lt 0 p.len in
-    let b = nat_le p.len LARGEST_BLOCK in
-    let c = p.len % SECTOR == 0 in
-    let d = p.offset % SECTOR == 0 in
-    let at_d = and_parts (a && b && c && d) (nat_le (p.offset + p.len) LARGEST_END) fits in
-    let at_c = and_parts (a && b && c) d at_d.0 in
-    let at_b = and_parts (a && b) c at_c.0 in
-    leb-true p.len LARGEST_BLOCK (and_parts a b at_b.0).1
-
 started_small : (plan : Plan) (h : List Event) (id : ℕ) (io : Started) → IsPlanned plan → is_legal plan h ≡ true → slice_get (started h) id ≡ Some io → io.piece.len ≤ LARGEST_BLOCK
-started_small plan h id io planned legal at = piece_small io.piece (started_fit-law plan h id io planned legal at).1.fits
+started_small plan h id io planned legal at = fitting_is_short io.piece (started_fit-law plan h id io planned legal at).1.fits
 
 bytes_gain : (ios : List Started) (test : TicketKind → Bool) (c : ℕ) (e : Event) → ((id : ℕ) (io : Started) → slice_get ios id ≡ Some io → io.piece.len ≤ LARGEST_BLOCK) → bytes (moved_by ios test c e) ≤ ones (moved_by ios test c e) * LARGEST_BLOCK
 bytes_gain ios test c (End worker id outcome) small = by_io (slice_get ios id) refl

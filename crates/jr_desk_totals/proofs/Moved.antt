@@ -20,8 +20,9 @@ use Rattle.jr_model.specs.Legal.{is_legal, may_happen, is_io_of, is_fault, is_ba
 use Rattle.jr_model.specs.Plan.{Plan, SubJob, IsNumbered, clone_of}
 use Rattle.jr_model.specs.Report.{all_totals}
 use Rattle.jr_model.specs.Totals.{is_read, if_wanted, moved_by, moved, bytes_of, is_verdict_of, is_skip_of, is_fault_of, totals_of}
+use Rattle.jr_model.proofs.PlaceLemmas.{got_longer}
 use Rattle.jr_desk_totals.specs.Tallies.{named_in, concerns, totals_ended, totals_judged, totals_after_end, totals_after, halted_by}
-use Rattle.jr_laws_steps.proofs.Grown.{Agrees, got_longer, kept-more, found-more, counted-more}
+use Rattle.jr_laws_steps.proofs.Grown.{Agrees, kept-more, found-more, counted-more}
 use Rattle.jr_laws_steps.proofs.Lists.{map_set}
 
 -- what an event says by the I/O that it names stays where more I/Os are started

@@ -2,8 +2,8 @@
 use Rattle.std.proofs.Common.{◌≡◌, ℕ, zero, suc, ◌+◌, ◌≤◌, List, [], ◌∷◌, ◌++◌, length, Bool, true, false, cond, ◌&&◌, ◌||◌, not, refl, sym, ◌∙◌, ap, arith, add-zero, zero-add}
 use Rattle.std.specs.Prelude.{Some, None, slice_get, ◌==◌, filter, filter_map, count_by}
 use Rattle.std.specs.List.{list_all, list_any, cons_option, enumerate_from}
-use Rattle.std.proofs.lemmas.Bool.{ne_eqb}
 use Rattle.std.proofs.lemmas.List.Sums.{sum_by-cons}
+use Rattle.jr_model.proofs.NumberLemmas.{one_more_is_some}
 
 -- what a test counts for one item
 abbrev pub counted : Bool → ℕ
@@ -99,15 +99,12 @@ length_split {X = X} p (x ∷ xs) =
     let other : count_by (λ (y : X). not (p y)) (x ∷ xs) ≡ counted (not (p x)) + count_by (λ (y : X). not (p y)) xs = sum_by-cons (λ (y : X). counted (not (p y))) x xs in
     omega (arith, yes, other, one_of (p x), length_split p xs)
 
-one_is_some : (n : ℕ) → (1 + n == 0) ≡ false
-one_is_some n = ne_eqb (1 + n) 0 (λ e. absurd (omega (arith, e)))
-
 none_more : (n : ℕ) (b : Bool) → b ≡ (n == 0) → b ≡ (0 + n == 0)
 none_more n b h = h ∙ ap {B = Bool} (λ (m : ℕ). m == 0) (sym (zero-add n))
 
 all_one : (b rest : Bool) (n : ℕ) → rest ≡ (n == 0) → (b && rest) ≡ (counted (not b) + n == 0)
 all_one true rest n h = none_more n rest h
-all_one false rest n h = sym (one_is_some n)
+all_one false rest n h = sym (one_more_is_some n)
 
 pub all_as_count : {X : Type 0} (p : X → Bool) (xs : List X) → list_all p xs ≡ (count_by (λ (x : X). not (p x)) xs == 0)
 all_as_count p [] = refl
@@ -116,7 +113,7 @@ all_as_count {X = X} p (x ∷ xs) =
     ∙ ap {B = Bool} (λ (m : ℕ). m == 0) (sym (sum_by-cons (λ (y : X). counted (not (p y))) x xs))
 
 any_one : (b rest : Bool) (n : ℕ) → not rest ≡ (n == 0) → not (b || rest) ≡ (counted b + n == 0)
-any_one true rest n h = sym (one_is_some n)
+any_one true rest n h = sym (one_more_is_some n)
 any_one false rest n h = none_more n (not rest) h
 
 pub none_as_count : {X : Type 0} (p : X → Bool) (xs : List X) → not (list_any p xs) ≡ (count_by p xs == 0)

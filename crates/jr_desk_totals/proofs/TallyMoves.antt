@@ -5,7 +5,8 @@ use Rattle.std.specs.List.{cons_option}
 use Rattle.std.specs.Option.{option_map}
 use Rattle.std.proofs.lemmas.Bool.{eq-eqb}
 use Rattle.std.proofs.lemmas.List.{length-map, map-append}
-use Rattle.std.proofs.lemmas.Option.{slice_get-map, slice_get_within, slice_get_read}
+use Rattle.std.proofs.lemmas.Option.{slice_get-map, slice_get_within, slice_get_read, same_Some}
+use Rattle.std.proofs.Math.Bool.{or-false}
 use Rattle.jr_model.specs.declared.blocks.Piece.{Piece}
 use Rattle.jr_model.specs.declared.events.Event.{Event}
 use Rattle.jr_model.specs.declared.events.Event.TheVariants.{Issue, Probe, Skip, End, Verdict}
@@ -25,11 +26,11 @@ use Rattle.jr_model.specs.Plan.{Plan, SubJob, IsNumbered, clone_of}
 use Rattle.jr_model.specs.Report.{Miscompare, miscompare_on, miscompares}
 use Rattle.jr_model.specs.Totals.{totals_of}
 use Rattle.jr_model.specs.PlanFacts.{IsPlanned}
-use Rattle.jr_laws_steps.proofs.CountLaws.{numbered_of}
-use Rattle.jr_laws_steps.proofs.StartedLemmas.{same_some}
+use Rattle.jr_model.proofs.PlanLemmas.{numbered_of}
+use Rattle.jr_model.proofs.PlaceLemmas.{item_at}
 use Rattle.jr_desk_totals.specs.Tallies.{Tally, flying_issues, flying_checks, awaited, tally_of, named_in, concerns, tally_ended, tally_after, totals_ended, totals_judged, totals_after, halted_by, miscompare_in}
 use Rattle.jr_desk_totals.proofs.Bads.{miscompares-more, ends_counted, verdicts_counted}
-use Rattle.jr_desk_totals.proofs.Counted.{tally-more}
+use Rattle.jr_desk_totals.proofs.Counted.{tally-more, tally_after-other}
 use Rattle.jr_desk_totals.proofs.Few.{counts_few}
 use Rattle.jr_laws_steps.proofs.Lists.{map_set}
 use Rattle.jr_desk_totals.proofs.Moved.{is_halted-more, concerns_one, all_totals-more}
@@ -38,18 +39,14 @@ use Rattle.jr_laws_steps.proofs.StartedFew.{started_small, work-same}
 use Rattle.jr_desk_totals.specs.declared.tallies.Bad.{Bad}
 use Rattle.jr_desk_totals.specs.declared.tallies.Counts.{Counts}
 use Rattle.jr_desk_totals.specs.declared.tallies.Tallies.{Tallies}
-use Rattle.jr_desk_totals.specs.Tallying.{AreLow, AreSmall, CanCount, IsTallied, counts_of, counts_with, flying_in, miscompare_of, tally_in, tally_judged}
+use Rattle.jr_desk_totals.specs.Tallying.{AreLow, AreSmall, CanCount, IsTallied, counts_of, counts_with, flying_in, tally_in, tally_judged}
+use Rattle.jr_desk_totals.specs.Bads.{miscompare_of}
 
 -- lists
 
-got_at : {X : Type 0} (xs : List X) (k : ℕ) → k < length xs → (x : X) × (slice_get xs k ≡ Some x)
-got_at [] k h = absurd (omega (arith, h))
-got_at (x ∷ xs) zero h = (x, refl)
-got_at (x ∷ xs) (suc k) h = got_at xs k (omega (arith, h))
-
 set_same : {X : Type 0} (xs : List X) (k : ℕ) (x : X) → slice_get xs k ≡ Some x → set xs k x ≡ xs
 set_same [] k x at = refl
-set_same {X = X} (y ∷ xs) zero x at = ap (λ (z : X). z ∷ xs) (sym (same_some y x at))
+set_same {X = X} (y ∷ xs) zero x at = ap (λ (z : X). z ∷ xs) (sym (same_Some y x at))
 set_same {X = X} (y ∷ xs) (suc k) x at = ap (λ (zs : List X). y ∷ zs) (set_same xs k x at)
 
 mapped_next : {X Y : Type 0} (f : X → Y) (y : Y) (xs : List X) (i : ℕ) → i < length xs → ((x : X) → f x ≡ y) → map f (take i xs) ++ y ∷ [] ≡ map f (take (suc i) xs)
@@ -62,10 +59,6 @@ pub rows-push : {X Y : Type 0} (f : X → Y) (y : Y) (xs : List X) (i : ℕ) (be
 rows-push {X = X} {Y = Y} f y xs i before after sofar pushed h same =
     let plus_one : suc i ≡ i + 1 = omega arith in
     pushed ∙ ap (λ (ys : List Y). ys ++ y ∷ []) sofar ∙ mapped_next f y xs i h same ∙ ap (λ (k : ℕ). map f (take k xs)) plus_one
-
-or_false : (b : Bool) → (b || false) ≡ b
-or_false true = refl
-or_false false = refl
 
 -- what is kept of a clone
 
@@ -86,10 +79,10 @@ totals_at plan history tallies c job is at =
 
 -- what is found there is that of the clone
 pub counts_are : (plan : Plan) (history : List Event) (tallies : Tallies) (c : ℕ) (job : SubJob) (counts : Counts) → IsTallied plan history tallies → clone_of plan c ≡ Some job → slice_get tallies.counts.items c ≡ Some counts → counts ≡ counts_of history job
-counts_are plan history tallies c job counts is at got = same_some counts (counts_of history job) (sym got ∙ counts_at plan history tallies c job is at)
+counts_are plan history tallies c job counts is at got = same_Some counts (counts_of history job) (sym got ∙ counts_at plan history tallies c job is at)
 
 pub totals_are : (plan : Plan) (history : List Event) (tallies : Tallies) (c : ℕ) (job : SubJob) (totals : Totals) → IsTallied plan history tallies → clone_of plan c ≡ Some job → slice_get tallies.totals.items c ≡ Some totals → totals ≡ totals_of history job.clone
-totals_are plan history tallies c job totals is at got = same_some totals (totals_of history job.clone) (sym got ∙ totals_at plan history tallies c job is at)
+totals_are plan history tallies c job totals is at got = same_Some totals (totals_of history job.clone) (sym got ∙ totals_at plan history tallies c job is at)
 
 -- the same items tell of the same history
 pub tallied_same : (plan : Plan) (history : List Event) (before after : Tallies) → IsTallied plan history before → after.counts ≡ before.counts → after.totals ≡ before.totals → after.bads.items ≡ before.bads.items → IsTallied plan history after
@@ -107,7 +100,7 @@ tallied_same plan history before after was counts totals bads =
 its_counts : (plan : Plan) (history : List Event) (tallies : Tallies) (c d : ℕ) (counts : Counts) → IsPlanned plan → IsTallied plan history tallies → d ≡ c → slice_get tallies.counts.items c ≡ Some counts → (job : SubJob) × (job.clone ≡ d) × (counts ≡ counts_of history job)
 its_counts plan history tallies c d counts planned is same got =
     let there : c < length tallies.counts.items = slice_get_within tallies.counts.items c counts got in
-    let found = got_at plan.clones c (omega (arith, there, counts_length plan history tallies is)) in
+    let found = item_at plan.clones c (omega (arith, there, counts_length plan history tallies is)) in
     (found.0, numbered_of plan planned c found.0 found.1 ∙ sym same, counts_are plan history tallies c found.0 counts is found.1 got)
 
 flying_some : (kind : TicketKind) (k : Counts) (n m : ℕ) → (is_probe kind ≡ false → k.issues ≡ suc n) → (is_probe kind ≡ true → k.checks ≡ suc m) → 1 ≤ flying_in kind k
@@ -120,7 +113,7 @@ pub can_end : (plan : Plan) (history : List Event) (worker id : ℕ) (outcome : 
 can_end plan history worker id outcome io tallies c kind at same of_kind next is counts got =
     let names = ends_counted plan history worker id outcome next.legal next.may in
     let s = names.ended in
-    let one : s ≡ io = same_some s io (sym names.there ∙ at) in
+    let one : s ≡ io = same_Some s io (sym names.there ∙ at) in
     let own = its_counts plan history tallies c s.write.clone counts next.planned is (ap (λ (x : Started). x.write.clone) one ∙ same) got in
     let issues : counts.issues ≡ flying_issues history s.write.clone = ap (λ (k : Counts). k.issues) own.2 ∙ ap (flying_issues history) own.1 in
     let checks : counts.checks ≡ flying_checks history s.write.clone = ap (λ (k : Counts). k.checks) own.2 ∙ ap (flying_checks history) own.1 in
@@ -132,7 +125,7 @@ pub can_judge : (plan : Plan) (history : List Event) (worker id : ℕ) (verdict 
 can_judge plan history worker id verdict io tallies c at same next is counts got =
     let names = verdicts_counted plan history worker id verdict next.legal next.may in
     let s = names.judged in
-    let one : s ≡ io = same_some s io (sym names.there ∙ at) in
+    let one : s ≡ io = same_Some s io (sym names.there ∙ at) in
     let own = its_counts plan history tallies c s.write.clone counts next.planned is (ap (λ (x : Started). x.write.clone) one ∙ same) got in
     let verdicts : counts.verdicts ≡ awaited history s.write.clone = ap (λ (k : Counts). k.verdicts) own.2 ∙ ap (awaited history) own.1 in
     omega (arith, verdicts, names.verdict)
@@ -194,15 +187,6 @@ counts-more plan history e job legal may =
 
 -- an event about another clone
 
-tally_after-other : (c : ℕ) (io : Option Started) (e : Event) (t : Tally) → concerns c io e ≡ false → tally_after c io e t ≡ t
-tally_after-other c io (Issue worker dir write piece) t h = ap (λ (b : Bool). cond b (record t { issues = t.issues + 1 }) t) h
-tally_after-other c io (Probe worker write piece) t h = ap (λ (b : Bool). cond b (record t { checks = t.checks + 1 }) t) h
-tally_after-other c io (Skip worker write) t h = refl
-tally_after-other c None (End worker id outcome) t h = refl
-tally_after-other c (Some io) (End worker id outcome) t h = ap (λ (b : Bool). cond b (tally_ended io.kind outcome t) t) h
-tally_after-other c None (Verdict worker id verdict) t h = refl
-tally_after-other c (Some io) (Verdict worker id verdict) t h = ap (λ (b : Bool). cond b (tally_judged t) t) h
-
 halted_by-other : (job : SubJob) (io : Option Started) (e : Event) → concerns job.clone io e ≡ false → halted_by job io e ≡ false
 halted_by-other job io (Issue worker dir write piece) h = refl
 halted_by-other job io (Probe worker write piece) h = refl
@@ -217,7 +201,7 @@ counts-other plan history e job legal may other =
     counts-more plan history e job legal may
     ∙ ap (λ (s : Tally). counts_with s (is_halted history job || halted_by job io e)) (tally_after-other job.clone io e t other)
     ∙ ap (λ (b : Bool). counts_with t (is_halted history job || b)) (halted_by-other job io e other)
-    ∙ ap (counts_with t) (or_false (is_halted history job))
+    ∙ ap (counts_with t) (or-false (is_halted history job))
 
 -- the counts of the clone alone that the event is about change
 pub all_counts-more : (plan : Plan) (history : List Event) (e : Event) (c : ℕ) (job : SubJob) → IsNumbered plan → is_legal plan history ≡ true → may_happen plan history e ≡ true → clone_of plan c ≡ Some job → concerns c (named history e) e ≡ true → map (counts_of (history ++ e ∷ [])) plan.clones ≡ set (map (counts_of history) plan.clones) c (counts_after job (named history e) e (counts_of history job))
@@ -231,7 +215,7 @@ all_counts-more plan history e c job numbered legal may at about =
 
 module _ (plan : Plan) (history : List Event) (e : Event) (c : ℕ) (before : Tallies) (next : IsNext plan history e) (was : IsTallied plan history before) (there : c < length before.counts.items) where
   its_job : (job : SubJob) × (clone_of plan c ≡ Some job)
-  its_job = got_at plan.clones c (omega (arith, there, counts_length plan history before was))
+  its_job = item_at plan.clones c (omega (arith, there, counts_length plan history before was))
 
   its_number : (job : SubJob) → clone_of plan c ≡ Some job → job.clone ≡ c
   its_number job at = numbered_of plan next.planned c job at
@@ -300,17 +284,17 @@ issue_step job worker dir write piece k same =
     let more : Tally = record (tally_in k) { issues = k.issues + 1 } in
     sym
     (ap (λ (b : Bool). counts_with (cond b more (tally_in k)) (k.is_halted || false)) (eq-eqb write.clone job.clone same)
-    ∙ ap (counts_with more) (or_false k.is_halted))
+    ∙ ap (counts_with more) (or-false k.is_halted))
 
 probe_step : (job : SubJob) (worker : ℕ) (write : WriteId) (piece : Piece) (k : Counts) → write.clone ≡ job.clone → record k { checks = k.checks + 1 } ≡ counts_after job None (Probe worker write piece) k
 probe_step job worker write piece k same =
     let more : Tally = record (tally_in k) { checks = k.checks + 1 } in
     sym
     (ap (λ (b : Bool). counts_with (cond b more (tally_in k)) (k.is_halted || false)) (eq-eqb write.clone job.clone same)
-    ∙ ap (counts_with more) (or_false k.is_halted))
+    ∙ ap (counts_with more) (or-false k.is_halted))
 
 skip_step : (job : SubJob) (worker : ℕ) (write : WriteId) (k : Counts) → k ≡ counts_after job None (Skip worker write) k
-skip_step job worker write k = sym (ap (counts_with (tally_in k)) (or_false k.is_halted))
+skip_step job worker write k = sym (ap (counts_with (tally_in k)) (or-false k.is_halted))
 
 end_step : (job : SubJob) (worker id : ℕ) (outcome : Outcome) (named_io : Option Started) (io : Started) (k : Counts) → named_io ≡ Some io → io.write.clone ≡ job.clone → counts_with (tally_ended io.kind outcome (tally_in k)) (k.is_halted || is_fault outcome) ≡ counts_after job named_io (End worker id outcome) k
 end_step job worker id outcome named_io io k at same =
@@ -412,7 +396,7 @@ judged_tallied plan history worker id verdict io job c before after old new judg
     tallied-more plan history e c before next was there after about
     (counts-written plan history e c before next was there after.counts.items old new read counts
     (λ (other : SubJob) (there_too : clone_of plan c ≡ Some other) (number : other.clone ≡ c).
-    let one : job ≡ other = same_some job other (sym planned ∙ there_too) in
+    let one : job ≡ other = same_Some job other (sym planned ∙ there_too) in
     counted
     ∙ ap (λ (j : SubJob). counts_with (tally_judged (tally_in old)) (old.is_halted || j.is_fatal && is_bad verdict)) one
     ∙ verdict_step other worker id verdict (named history e) io old at (same ∙ sym number)))

@@ -1,4 +1,4 @@
--- Believed: laws of the running counts: which tests are comparisons of them, and what they are after one event more.
+-- Claimed: laws of the running counts: which tests are comparisons of them, and what they are after one event more.
 use Rattle.std.specs.Prelude.{◌≡◌, ◌≤◌, ◌*◌, set, ℕ, suc, ◌+◌, ◌==◌, nat_lt, true, false, ◌&&◌, ◌||◌, List, [], ◌∷◌, ◌++◌, length, Some, None, slice_get}
 use Rattle.std.specs.List.{list_all, cons_option}
 use Rattle.jr_model.specs.declared.events.Event.{Event}

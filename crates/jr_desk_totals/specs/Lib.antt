@@ -1,3 +1,4 @@
 pub mod After
+pub mod Bads
 pub mod Tallies
 pub mod Tallying

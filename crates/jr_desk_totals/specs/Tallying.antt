@@ -6,9 +6,9 @@ use Rattle.jr_model.specs.declared.tickets.TicketKind.TheVariants as ticket
 use Rattle.jr_model.specs.declared.totals.Totals.{Totals}
 use Rattle.jr_model.specs.Legal.{is_halted}
 use Rattle.jr_model.specs.Plan.{Plan, SubJob}
-use Rattle.jr_model.specs.Report.{Miscompare, miscompares, all_totals}
+use Rattle.jr_model.specs.Report.{miscompares, all_totals}
+use Rattle.jr_desk_totals.specs.Bads.{miscompare_of}
 use Rattle.jr_desk_totals.specs.Tallies.{Tally, flying_issues, flying_checks, awaited}
-use Rattle.jr_desk_totals.specs.declared.tallies.Bad.{Bad}
 use Rattle.jr_desk_totals.specs.declared.tallies.Counts.{Counts}
 use Rattle.jr_desk_totals.specs.declared.tallies.Tallies.{Tallies}
 
@@ -44,10 +44,6 @@ flying_in ticket.Read counts = counts.issues
 flying_in ticket.Write counts = counts.issues
 flying_in ticket.ReadCheck counts = counts.issues
 flying_in ticket.Probe counts = counts.checks
-
--- a bad verdict as the definitions have it
-abbrev pub miscompare_of : Bad → Miscompare
-miscompare_of bad = record { write = bad.write; piece = bad.piece; what = bad.what }
 
 -- these are the counts, the totals and the bad verdicts of the history
 pub record IsTallied (plan : Plan) (history : List Event) (tallies : Tallies) : Type 0 where

@@ -1,5 +1,7 @@
--- More words of a generator begin with fewer.
-use Rattle.std.proofs.Common.{◌≡◌, ℕ, ◌+◌, ◌-◌, ◌*◌, ◌≤◌, List, ap, ◌∙◌, arith}
+-- More words of a generator begin with fewer, and no draw comes of none.
+use Rattle.std.proofs.Common.{◌≡◌, ℕ, ◌+◌, ◌-◌, ◌*◌, ◌≤◌, List, [], refl, ap, ◌∙◌, arith}
+use Rattle.jr_draw.specs.Drawing.{draws_left}
+use Rattle.jr_draw.specs.declared.drawer.Drawer.{Drawer}
 use Rattle.jr_model.specs.Draws.{draws_over}
 use Rattle.jr_model.specs.Plan.{SubJob}
 use Rattle.jr_model.specs.Words.{words_from, state_after}
@@ -15,3 +17,8 @@ whole_pass job state n law enough =
     ap (λ (m : ℕ). draws_over job (words_from state m)) e
     ∙ ap (draws_over job) (words_from-add (4 * job.cells) rest state)
     ∙ law.ends words (words_from (state_after state (4 * job.cells)) rest) (omega (arith, length-words_from state (4 * job.cells)))
+
+-- no draw comes of no words
+pub none_of_no_words : (drawer : Drawer (List ℕ)) → draws_left words_from drawer 0 ≡ []
+unfolding words_from
+none_of_no_words drawer = refl

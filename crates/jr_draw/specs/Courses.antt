@@ -29,6 +29,7 @@ job_of a = record {
   backlog = 0;
   is_fatal = false;
   declines = false;
+  direct = false;
 }
 
 abbrev pub progress_of : Inside → PassProgress

@@ -1,4 +1,4 @@
--- Internal: the count of an engine's calls (of this project).
+-- Believed: what contracts see of the count of an engine's calls (of this project).
 use Rattle.std.specs.Prelude.{ℕ, ◌+◌, ◌≡◌, Result, is_ok, if◌then◌else◌}
 use Rattle.jr_engines.specs.declared.faults.EngineFault.{EngineFault}
 

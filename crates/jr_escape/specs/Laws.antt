@@ -1,4 +1,4 @@
--- Believed: what holds of every text that is shown so.
+-- Claimed: what holds of every text that is shown so.
 use Rattle.std.specs.Prelude.{◌≡◌, ℕ, ◌==◌, ◌||◌, Bool, false, List, chars}
 use Rattle.std.specs.List.{list_any}
 use Rattle.std.specs.Str.{IsUtf8}

@@ -19,32 +19,18 @@ use Rattle.std.proofs.lemmas.Map.Keys.{IsDistinct-from_sorted, sorted_tail}
 use Rattle.std.proofs.lemmas.Map.Lookups.{exact_unsigned}
 use Rattle.std.proofs.lemmas.Map.Views.{All-found}
 use Rattle.std.proofs.lemmas.Option.{same_Some, none-some}
+use Rattle.std.proofs.Math.Bool.{or-false, or-true, and-false, or_assoc}
 use Rattle.jr_model.specs.Pieces.{pieces_overlap}
+use Rattle.jr_model.proofs.PieceLemmas.{overlap_turned}
 use Rattle.jr_flight.specs.declared.ios.Ended.{Ended}
 use Rattle.jr_flight.specs.declared.ios.Io.{Io}
 use Rattle.jr_flight.specs.Flights.{flying_io, writes, writes_over, marked}
 use Rattle.jr_flight.specs.Places.{Place, near_piece, if_standing, IsMeasured, IsIndexed, IsWrote, raced_if, raced_under, hits, hits_under, raced_at}
-use Rattle.jr_flight.proofs.PlaceLemmas.{any_near, one_passes, overlap_turned}
-
-or_assoc : (a b c : Bool) → ((a || b) || c) ≡ (a || (b || c))
-or_assoc true b c = refl
-or_assoc false b c = refl
-
-or_false : (b : Bool) → (b || false) ≡ b
-or_false true = refl
-or_false false = refl
-
-or_true : (b : Bool) → (b || true) ≡ true
-or_true true = refl
-or_true false = refl
-
-and_false : (b : Bool) → (b && false) ≡ false
-and_false true = refl
-and_false false = refl
+use Rattle.jr_flight.proofs.PlaceLemmas.{any_near, one_passes}
 
 -- what doesn't race now is as it was
 stays : (ended : Ended) → raced_if false ended ≡ ended
-stays ended = ap (λ (b : Bool). record { io = ended.io; raced = b }) (or_false ended.raced)
+stays ended = ap (λ (b : Bool). record { io = ended.io; raced = b }) (or-false ended.raced)
 
 -- a look-up asks for the number
 at_number : (id k : ℕ) → is_at (nat_cmp id) k ≡ (k == id)
@@ -119,7 +105,7 @@ marked_by_read io es reads = marked-changed io es ∙ all es
     all (e ∷ xs) =
         let own = e.0 == io.id in
         ap (λ (b : Bool). (e.0, raced_if (not own && (b && pieces_overlap io.piece e.1.io.piece)) e.1) ∷ changed (mark_of io) xs) reads
-        ∙ ap (λ (b : Bool). (e.0, raced_if b e.1) ∷ changed (mark_of io) xs) (and_false (not own))
+        ∙ ap (λ (b : Bool). (e.0, raced_if b e.1) ∷ changed (mark_of io) xs) (and-false (not own))
         ∙ ap (λ (ended : Ended). (e.0, ended) ∷ changed (mark_of io) xs) (stays e.1)
         ∙ ap (λ (ys : List (ℕ × Ended)). e ∷ ys) (all xs)
 
@@ -196,7 +182,7 @@ set_here id ended e es true at sorted found rest =
     let none : flying_io id es ≡ None =
     lookup-none (is_at (nat_cmp id)) es (none_past_head (eq_by_cmp_equiv nat_cmp_total) id e es apart at) in
     ap (λ (x : Ended). (e.0, as_raced x) ∷ es) here
-    ∙ ap (λ (b : Bool). (e.0, record { io = e.1.io; raced = b }) ∷ es) (sym (or_true e.1.raced))
+    ∙ ap (λ (b : Bool). (e.0, record { io = e.1.io; raced = b }) ∷ es) (sym (or-true e.1.raced))
     ∙ ap (λ (xs : List (ℕ × Ended)). (e.0, raced_if true e.1) ∷ xs) (sym (raced_under_none id es none))
 set_here id ended e es false at sorted found rest =
     ap (λ (xs : List (ℕ × Ended)). e ∷ xs) (rest (sym (lookup_tail (is_at (nat_cmp id)) e es at) ∙ found))

@@ -9,7 +9,7 @@ use Rattle.std.specs.declared.cmp.Ordering.{Ordering}
 use Rattle.std.specs.declared.ops.Bound.TheVariants.{Included, Excluded}
 use Rattle.std.specs.BTreeMap.{BTreeMap, get, IsOrdered}
 use Rattle.std.specs.BTreeMap.Range.{range_contains}
-use Rattle.std.proofs.lemmas.Bool.{and_parts, and_from, eqb-true, eq-eqb, ltb-true, lt-ltb, not-true, both_ways, false_from_ne_true}
+use Rattle.std.proofs.lemmas.Bool.{and_parts, and_from, eqb-true, eq-eqb, ltb-true, not-true, both_ways, false_from_ne_true}
 use Rattle.std.proofs.lemmas.Cmp.{nat_cmp_total, then_total, on_total}
 use Rattle.std.proofs.lemmas.Bool.Decides.{nat_tests}
 use Rattle.std.proofs.lemmas.List.Folds.{Any-from_list_any, list_any-from_Any}
@@ -19,6 +19,7 @@ use Rattle.std.proofs.lemmas.Option.{cond_some, same_Some}
 use Rattle.jr_model.specs.declared.blocks.Dir.{Dir}
 use Rattle.jr_model.specs.declared.blocks.Piece.{Piece}
 use Rattle.jr_model.specs.Pieces.{piece_end, pieces_overlap}
+use Rattle.jr_model.proofs.BoolLemmas.{same_truth}
 use Rattle.jr_flight.specs.declared.ios.Ended.{Ended}
 use Rattle.jr_flight.specs.declared.ios.Io.{Io}
 use Rattle.jr_flight.specs.Flights.{is_clear, is_raced, waits_for, writes, writes_over}
@@ -89,12 +90,6 @@ list_any-filter {X} p keep (x ∷ xs) =
       | true ↦ ap (λ (b : Bool). p x || b) (list_any-filter p keep xs)
       | false ↦ list_any-filter p keep xs
     ]
-
--- two tests that are true together are one
-same_truth : (a b : Bool) → (a ≡ true → b ≡ true) → (b ≡ true → a ≡ true) → a ≡ b
-same_truth true b there back = sym (there refl)
-same_truth false true there back = back refl
-same_truth false false there back = refl
 
 -- what stands at a place flies under its number
 stood : (at : Place) (o : Option Ended) (io : Io) → if_standing at o ≡ Some io → (ended : Ended) × (o ≡ Some ended) × (ended.io ≡ io)
@@ -238,14 +233,3 @@ one_passes {X} p ids ordered id x here =
     subst (λ (v : X). p (id, v) ≡ true) (sym value) (subst (λ (k : ℕ). p (k, f.value) ≡ true) (sym own) parts.0))
     (λ passes. entry_found exact_unsigned ids test
     (record { key = id; value = x; there = here; pass = and_from (p (id, x)) (id == id) passes (eq-eqb id id refl) }))
-
--- which of two pieces is named first is all one
-pub overlap_turned : (a b : Piece) → pieces_overlap a b ≡ true → pieces_overlap b a ≡ true
-overlap_turned a b shared =
-    let start = max a.offset b.offset in
-    let end = min (piece_end a) (piece_end b) in
-    let parts = and_parts (a.file == b.file) (nat_lt start end) shared in
-    let same : a.file ≡ b.file = eqb-true a.file b.file parts.0 in
-    let common : start < end = ltb-true start end parts.1 in
-    and_from _ _ (eq-eqb b.file a.file (sym same))
-    (lt-ltb (max b.offset a.offset) (min (piece_end b) (piece_end a)) (omega arith))

@@ -3,7 +3,6 @@ pub mod Differences
 pub mod Lengths
 mod OwnHeaders
 mod Generated
-pub mod Halves
 pub mod Headers
 pub mod Laws
 pub mod Patterns

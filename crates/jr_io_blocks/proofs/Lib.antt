@@ -1,3 +1,2 @@
-pub mod CloneLemmas
 pub mod MoveLemmas
 pub mod RegionLemmas

@@ -1,5 +1,5 @@
 -- What has been looked at is what is promised of an adapted text.
-use Rattle.std.proofs.Common.{◌≡◌, ℕ, Bool, true, false, not, List, [], ◌∷◌, map, Option, Some, None, Result, Ok, Err, refl, ap, ◌∙◌, sym}
+use Rattle.std.proofs.Common.{◌≡◌, ℕ, true, List, [], ◌∷◌, map, Option, Some, None, Result, Ok, Err, refl, ap, ◌∙◌, sym}
 use Rattle.std.specs.Prelude.{IfErr, IfSome, is_ok, slice_get, string_bytes, unwrap_or}
 use Rattle.std.specs.Result.{result_ok}
 use Rattle.jr_text.specs.JobText.{sections_of}
@@ -11,8 +11,8 @@ use Rattle.jr_job_options.specs.Options.{default_options}
 use Rattle.jr_job_options.specs.declared.faults.JobFault.{JobFault}
 use Rattle.jr_job_options.specs.declared.faults.JobFault.TheVariants.{Memory}
 use Rattle.jr_options.specs.Refusals.{refusal_of}
-use Rattle.jr_job_notes.specs.Laws.{faulty_line, FirstIsNamed}
-use Rattle.jr_job_notes.specs.Notes.{noted, refused_lines, sections_noted}
+use Rattle.jr_job_notes.specs.Laws.{FirstIsNamed}
+use Rattle.jr_job_notes.specs.Notes.{faulty_line, noted, refused_lines, sections_noted}
 use Rattle.jr_job_notes.specs.declared.notes.Note.{Note}
 use Rattle.jr_job_adapt.specs.declared.adapting.Adapted.{Adapted}
 use Rattle.jr_job_adapt.specs.Adapted.{IsAdapted, IsOfWhole, said}
@@ -27,10 +27,6 @@ no_numbers (n ∷ ns) is = absurd (cc)
 
 pub none_refused : (sections : List SectionText) (notes : List Note) → noted notes ≡ sections_noted None sections → notes ≡ [] → refused_lines None sections ≡ []
 none_refused sections notes is none = no_numbers (refused_lines None sections) (sym is ∙ ap noted none)
-
-pub was_true : (b : Bool) → not b ≡ false → b ≡ true
-was_true true h = refl
-was_true false h = absurd (cc)
 
 -- a plan has no fault, and what refuses one is its fault
 pub no_fault : {A : Type 0} (o : Option JobFault) (r : Result A JobFault) (x : A) → IfSome o (λ fault. r ≡ Err fault) → r ≡ Ok x → None ≡ o

@@ -6,8 +6,7 @@ use Rattle.jr_text.specs.JobText.{sections_of}
 use Rattle.jr_text.specs.Records.{SectionText}
 use Rattle.jr_options.specs.Refusals.{refusal_of}
 use Rattle.jr_job_options.specs.declared.faults.JobFault.{JobFault}
-use Rattle.jr_job_notes.specs.Laws.{faulty_line}
-use Rattle.jr_job_notes.specs.Notes.{refused_lines}
+use Rattle.jr_job_notes.specs.Notes.{faulty_line, refused_lines}
 use Rattle.jr_job_adapt.specs.declared.adapting.Adapted.{Adapted}
 use Rattle.jr_job_options.specs.Options.{default_options}
 use Rattle.jr_job_adapt.specs.Causes.{are_caused}

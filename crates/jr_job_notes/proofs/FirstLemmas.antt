@@ -26,8 +26,8 @@ use Rattle.jr_job_options.specs.Shapes.{shape_of, shape_with, options_fit, cell_
 use Rattle.jr_options.specs.PlanOf.{JobAsked, jobs_below}
 use Rattle.jr_options.specs.Refusals.{counting_lines, line_fault, job_fault, joint_fault, jobs_fault, refusal_of, are_mixed, clones_in, is_far, is_long, work_in}
 use Rattle.jr_options.specs.Surveys.{is_global, is_planned}
-use Rattle.jr_job_notes.specs.Notes.{is_refused, line_number, refused_in}
-use Rattle.jr_job_notes.specs.Laws.{faulty_line, AcceptedHaveNone, FirstIsNamed}
+use Rattle.jr_job_notes.specs.Notes.{is_refused, line_number, refused_in, faulty_line}
+use Rattle.jr_job_notes.specs.Laws.{AcceptedHaveNone, FirstIsNamed}
 
 -- a fault, where there is one, names this line
 abbrev NamesOwn : ℕ → Option JobFault → Type 0

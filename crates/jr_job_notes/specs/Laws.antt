@@ -1,19 +1,10 @@
--- Believed: what holds of the lines that are refused by themselves.
+-- Claimed: what holds of the lines that are refused by themselves.
 use Rattle.std.specs.Prelude.{◌≡◌, ℕ, ◌+◌, ◌≤◌, List, [], ◌∷◌, Option, Some, None, Ok, slice_get}
 use Rattle.jr_text.specs.JobText.{sections_of}
 use Rattle.jr_text.specs.Records.{SectionText}
 use Rattle.jr_job_options.specs.declared.faults.JobFault.{JobFault}
-use Rattle.jr_job_options.specs.declared.faults.JobFault.TheVariants as fault
 use Rattle.jr_options.specs.Refusals.{refusal_of}
-use Rattle.jr_job_notes.specs.Notes.{refused_lines}
-
--- the line that a fault names, where it is one of a line by itself
-abbrev pub faulty_line : JobFault → Option ℕ
-faulty_line (fault.Unknown line) = Some line
-faulty_line (fault.BadValue line) = Some line
-faulty_line (fault.BadSplit line) = Some line
-faulty_line (fault.SeveralFiles line) = Some line
-faulty_line _ = None
+use Rattle.jr_job_notes.specs.Notes.{faulty_line, refused_lines}
 
 -- where a plan is refused by a line, that line is the first of those that are refused by themselves
 abbrev pub FirstIsNamed : Type 0

@@ -3,6 +3,8 @@ use Rattle.std.specs.Prelude.{◌≡◌, ℕ, ◌-◌, ◌++◌, Bool, true, fal
 use Rattle.jr_text.specs.declared.faults.TextFault.{TextFault}
 use Rattle.jr_text.specs.declared.faults.TextFault.TheVariants as fault
 use Rattle.jr_text.specs.Records.{LineText, SectionText}
+use Rattle.jr_job_options.specs.declared.faults.JobFault.{JobFault}
+use Rattle.jr_job_options.specs.declared.faults.JobFault.TheVariants as refusal
 use Rattle.jr_options.specs.Refusals.{counting_lines, line_fault}
 use Rattle.jr_job_notes.specs.declared.notes.Note.{Note}
 
@@ -20,6 +22,14 @@ refused_in lines = map line_number (filter is_refused lines)
 -- the numbers of those that are looked at for the planned jobs
 abbrev pub refused_lines : Option (List ℕ) → List SectionText → List ℕ
 refused_lines only sections = refused_in (counting_lines only sections)
+
+-- the line that a fault names, where it is one of a line by itself
+abbrev pub faulty_line : JobFault → Option ℕ
+faulty_line (refusal.Unknown line) = Some line
+faulty_line (refusal.BadValue line) = Some line
+faulty_line (refusal.BadSplit line) = Some line
+faulty_line (refusal.SeveralFiles line) = Some line
+faulty_line _ = None
 
 -- the lines that notes are of
 abbrev pub noted_line : Note → Option ℕ

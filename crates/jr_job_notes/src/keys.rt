@@ -204,7 +204,7 @@ static REGION_KEYS: [Row; 17] = [
 ];
 
 // Keys that aren't read: files.
-static FILES_KEYS: [Row; 13] = [
+static FILES_KEYS: [Row; 14] = [
     (
         "nrfiles nr_files",
         "a clone works on one file",
@@ -236,7 +236,13 @@ static FILES_KEYS: [Row; 13] = [
         DROPPED,
     ),
     (
-        "fsync fdatasync sync_file_range write_barrier",
+        "fsync fdatasync",
+        "files are synced before their checks and at the end",
+        "--sync-every=N before the job file",
+        Fate::Nearly(Way::Out, "syncs between writes"),
+    ),
+    (
+        "sync_file_range write_barrier",
         "files are synced before their checks and at the end",
         "nothing",
         Fate::Nearly(Way::Out, "syncs between writes"),

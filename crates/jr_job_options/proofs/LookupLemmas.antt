@@ -2,9 +2,10 @@
 use Rattle.std.proofs.Common.{◌≡◌, ℕ, Bool, true, false, cond, List, [], ◌∷◌, ◌++◌, reverse, Option, Some, None, Result, Ok, Err, ap, ◌∙◌, sym, subst, refl, codes, append_assoc, append-nil}
 use Rattle.std.specs.List.{list_any, find, position_or_len}
 use Rattle.std.specs.Option.{option_map}
-use Rattle.std.specs.Prelude.{ok_or, nat_lt, ◌==◌, ◌||◌, length, is_some}
+use Rattle.std.specs.Prelude.{ok_or, nat_lt, ◌==◌, length, is_some}
 use Rattle.std.specs.Cmp.Lexicographic.{bytes_decides}
 use Rattle.std.proofs.lemmas.List.{reverse-append}
+use Rattle.std.proofs.Math.Bool.{or-false}
 use Rattle.jr_text.specs.Records.{LineText}
 use Rattle.jr_job_options.specs.declared.faults.JobFault.{JobFault}
 use Rattle.jr_job_options.specs.declared.faults.JobFault.TheVariants as fault
@@ -285,16 +286,12 @@ find-last found test (other ∷ lines) line = by (test other) (find-last found t
     by true same = refl
     by false same = same
 
-or_none : (b : Bool) → (b || false) ≡ b
-or_none true = refl
-or_none false = refl
-
 value_from-last : (found : Option (List ℕ)) (word : List ℕ) (lines : List LineText) → value_from found word lines ≡ value_or found (last_line (word ∷ []) lines)
 unfolding value_or
 value_from-last found word [] = refl
 value_from-last found word (line ∷ lines) =
     value_from-last (cond (same_text line.key word) line.value found) word lines
-    ∙ ap (λ b. value_or (cond b line.value found) (last_line (word ∷ []) lines)) (sym (or_none (same_text line.key word)))
+    ∙ ap (λ b. value_or (cond b line.value found) (last_line (word ∷ []) lines)) (sym (or-false (same_text line.key word)))
     ∙ sym (ap (λ ls. value_or found (find (is_keyed (word ∷ [])) ls)) (reverse-append (line ∷ []) lines) ∙ find-last found (is_keyed (word ∷ [])) (reverse lines) line)
 
 value_or-none : (line : Option LineText) → value_or None line ≡ value_of line

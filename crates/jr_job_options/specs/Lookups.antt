@@ -72,6 +72,7 @@ options_by saying = record {
   is_fatal = (alone (saying (codes "verify_fatal" ∷ []))).is_fatal;
   checks_writes = (alone (saying (codes "do_verify" ∷ []))).checks_writes;
   declines = (alone (saying (codes "serialize_overlap" ∷ []))).declines;
+  direct = (alone (saying (codes "direct" ∷ []))).direct;
 }
 
 -- the options that lines say: of each option the last line counts

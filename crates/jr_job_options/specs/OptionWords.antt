@@ -57,7 +57,7 @@ keys =
     ∷ (codes "verify_async", Number number.Verifiers)
     ∷ (codes "verify_fatal", Flag flag.Fatal)
     ∷ (codes "do_verify", Flag flag.Checks)
-    ∷ (codes "direct", Flag flag.Unused)
+    ∷ (codes "direct", Flag flag.Direct)
     ∷ (codes "buffered", Flag flag.Unused)
     ∷ (codes "thread", Flag flag.Unused)
     ∷ (codes "invalidate", Flag flag.Unused)

@@ -38,6 +38,7 @@ default_options = record {
   is_fatal = false;
   checks_writes = true;
   declines = false;
+  direct = false;
 }
 
 -- the options once one more line says this
@@ -64,6 +65,7 @@ with_setting o (setting.Verifiers v) = record o { verifiers = v }
 with_setting o (setting.Fatal v) = record o { is_fatal = v }
 with_setting o (setting.Checks v) = record o { checks_writes = v }
 with_setting o (setting.Declines v) = record o { declines = v }
+with_setting o (setting.Direct v) = record o { direct = v }
 with_setting o setting.Nothing = o
 
 -- the numbers of a job's options are ones that they may have

@@ -58,6 +58,7 @@ flag_setting flag.Stonewall v = setting.Stonewall v
 flag_setting flag.Fatal v = setting.Fatal v
 flag_setting flag.Checks v = setting.Checks v
 flag_setting flag.Serialize v = setting.Declines (not v)
+flag_setting flag.Direct v = setting.Direct v
 flag_setting flag.Unused v = setting.Nothing
 
 -- what a number sets; so many percent of writes leave the others to reads

@@ -32,6 +32,7 @@ pub enum FlagKey {
     Fatal,
     Checks,
     Serialize,
+    Direct,
     /// One without effect.
     Unused,
 }

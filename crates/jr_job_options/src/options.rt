@@ -60,6 +60,8 @@ pub struct JobOptions {
     pub checks_writes: bool,
     /// Whether its I/Os wait for none that they overlap (not `serialize_overlap`, if that is given).
     pub declines: bool,
+    /// Whether its I/O is to go past the system's cache (`direct`).
+    pub direct: bool,
 }
 
 impl JobOptions {
@@ -93,6 +95,7 @@ impl JobOptions {
             is_fatal: false,
             checks_writes: true,
             declines: false,
+            direct: false,
         }
     }
 
@@ -133,6 +136,7 @@ impl JobOptions {
             Setting::Fatal(is_fatal) => options.is_fatal = is_fatal,
             Setting::Checks(checks_writes) => options.checks_writes = checks_writes,
             Setting::Declines(declines) => options.declines = declines,
+            Setting::Direct(direct) => options.direct = direct,
             Setting::Nothing => {}
         }
         options

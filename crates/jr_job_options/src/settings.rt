@@ -39,6 +39,7 @@ pub enum Setting {
     Fatal(bool),
     Checks(bool),
     Declines(bool),
+    Direct(bool),
     /// Nothing that a clone's numbers show: a name of a file, or an option without effect.
     Nothing,
 }
@@ -99,6 +100,7 @@ fn flag_setting(key: FlagKey, flag: bool) -> Setting
         FlagKey::Fatal => Setting::Fatal(flag),
         FlagKey::Checks => Setting::Checks(flag),
         FlagKey::Serialize => Setting::Declines(!flag),
+        FlagKey::Direct => Setting::Direct(flag),
         FlagKey::Unused => Setting::Nothing,
     }
 }

@@ -33,7 +33,7 @@ const KEYS: [(&str, Key); 36] = [
     ("verify_async", Key::Number(NumberKey::Verifiers)),
     ("verify_fatal", Key::Flag(FlagKey::Fatal)),
     ("do_verify", Key::Flag(FlagKey::Checks)),
-    ("direct", Key::Flag(FlagKey::Unused)),
+    ("direct", Key::Flag(FlagKey::Direct)),
     ("buffered", Key::Flag(FlagKey::Unused)),
     ("thread", Key::Flag(FlagKey::Unused)),
     ("invalidate", Key::Flag(FlagKey::Unused)),

@@ -2,10 +2,10 @@
 use Rattle.std.proofs.Common.{◌≡◌, ℕ, zero, suc, ◌*◌, List, [], ◌∷◌, ◌++◌, length, Bool, true, false, ◌&&◌, ◌||◌, refl, sym, ◌∙◌, ap, subst, inl, inr, append_assoc, append-nil, get_or}
 use Rattle.std.specs.Prelude.{Option, Some, None, slice_get}
 use Rattle.std.specs.List.{list_any, cons_option}
-use Rattle.std.proofs.lemmas.Bool.{and_right}
+use Rattle.std.proofs.lemmas.Bool.{and_right, or_parts}
 use Rattle.std.proofs.lemmas.List.Elements.{filter_map-append}
 use Rattle.std.proofs.lemmas.List.Folds.{list_any_none}
-use Rattle.std.proofs.lemmas.Option.{slice_get-get_or}
+use Rattle.std.proofs.lemmas.Option.{slice_get-get_or, same_Some}
 use Rattle.jr_model.specs.declared.blocks.Dir.{Dir}
 use Rattle.jr_model.specs.declared.blocks.Dir.TheVariants as direction
 use Rattle.jr_model.specs.declared.events.Event.{Event}
@@ -25,12 +25,12 @@ use Rattle.jr_model.specs.Rounds.{Pass, passes_of}
 use Rattle.jr_model.specs.Serial.{carried_out, ends_as, followed_by, goes_on, memory_after, serial_after, serial_history, stored_for}
 use Rattle.jr_model.proofs.LegalLaws.{first_given-some, cases_step_of}
 use Rattle.jr_model.proofs.SerialLaws.{any-append, legal_serial}
+use Rattle.jr_model.proofs.PlanLemmas.{numbered_of}
 use Rattle.jr_laws_steps.specs.Drawn.{is_kind_of}
 use Rattle.jr_laws_steps.proofs.DrawnLaws.{started_are_drawn-law}
-use Rattle.jr_laws_steps.proofs.IdleLaws.{numbered_of}
 use Rattle.jr_laws_bytes.specs.Checks.{is_check, is_miscompare, has_miscompare}
-use Rattle.jr_laws_bytes.specs.Clean.{is_faulty_end, has_fault, is_bad_verdict, has_bad}
-use Rattle.jr_laws_bytes.proofs.Starts.{some_same}
+use Rattle.jr_laws_bytes.specs.Clean.{is_faulty_end, has_fault}
+use Rattle.jr_laws_bytes.specs.BadVerdicts.{is_bad_verdict, has_bad}
 use Rattle.jr_laws_bytes.proofs.Verdicts.{judged_check}
 
 -- what is chosen is the step of some draw
@@ -157,10 +157,6 @@ serial_clean plan =
     let good : has_miscompare history ≡ false = ap (λ (ios : List Started). list_any (is_miscompare ios) history) (sym (append-nil (started history))) ∙ clean.good [] in
     (clean.whole, good)
 
-neither_of : (a b : Bool) → (a || b) ≡ false → (a ≡ false) × (b ≡ false)
-neither_of true b e = absurd (cc)
-neither_of false b e = (refl, e)
-
 -- where no clone checks its reads, what gets a verdict is a check
 checks_alone : (kind : TicketKind) (d : Dir) (job : SubJob) → checks_reads job ≡ false → is_kind_of kind d job ≡ true → is_judged_kind kind ≡ true → is_probe kind ≡ true
 checks_alone ticket.Probe d job none is judged = refl
@@ -197,5 +193,5 @@ serial_good plan planned none =
   where
     none_of : {X : Type 0} (f : X → Bool) (xs : List X) (k : ℕ) (x : X) → list_any f xs ≡ false → slice_get xs k ≡ Some x → f x ≡ false
     none_of f [] k x h at = cc
-    none_of f (y ∷ ys) zero x h at = ap f (sym (some_same y x at)) ∙ (neither_of (f y) (list_any f ys) h).0
-    none_of f (y ∷ ys) (suc k) x h at = none_of f ys k x (neither_of (f y) (list_any f ys) h).1 at
+    none_of f (y ∷ ys) zero x h at = ap f (sym (same_Some y x at)) ∙ (or_parts (f y) (list_any f ys) h).0
+    none_of f (y ∷ ys) (suc k) x h at = none_of f ys k x (or_parts (f y) (list_any f ys) h).1 at

@@ -16,10 +16,10 @@ use Rattle.jr_model.specs.Plan.{Plan, SubJob, FileSpec, clone_of}
 use Rattle.jr_model.specs.Tickets.{piece_fits, interval_fits}
 use Rattle.jr_model.specs.Words.{pass_words}
 use Rattle.jr_model.specs.PlanFacts.{IsPlanned}
+use Rattle.jr_model.proofs.PieceLemmas.{interval_of_cells}
 use Rattle.jr_laws_draws.specs.PassLaw.{IsInRegion}
 use Rattle.jr_laws_draws.proofs.TheLaw.{pass_law, drawable_of}
 use Rattle.jr_header.proofs.Lengths.{length-content_of}
-use Rattle.jr_laws_steps.proofs.DrawnLaws.{interval_of_cells}
 use Rattle.jr_laws_bytes.proofs.Blocks.{same_by_parts}
 use Rattle.jr_laws_bytes.proofs.Starts.{IsDrawOf}
 

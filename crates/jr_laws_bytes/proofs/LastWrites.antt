@@ -1,10 +1,10 @@
 -- The last write of a block along a legal history, and why a check in flight stays intact.
 use Rattle.std.proofs.Common.{◌≡◌, ℕ, zero, suc, ◌+◌, ◌*◌, ◌/◌, ◌<◌, ◌≤◌, List, [], ◌∷◌, ◌++◌, length, Bool, true, false, cond, ◌&&◌, ◌||◌, not, refl, sym, ◌∙◌, ap, subst, arith, inl, inr, append_assoc, append-nil}
-use Rattle.std.specs.Prelude.{◌⊎◌, Option, Some, None, slice_get, is_none, nat_lt, ◌==◌, fold, max, min}
+use Rattle.std.specs.Prelude.{◌⊎◌, Option, Some, None, slice_get, is_none, nat_lt, fold}
 use Rattle.std.specs.Option.{option_or}
 use Rattle.std.specs.List.{list_any, list_all, cons_option, range_with_len}
 use Rattle.std.proofs.lemmas.Bool.{and_parts, and_from, or_parts, false≢true, eq-eqb, ne_eqb, lt-ltb, cases_eq}
-use Rattle.std.proofs.lemmas.Option.{slice_get_within}
+use Rattle.std.proofs.lemmas.Option.{slice_get_within, same_Some}
 use Rattle.std.proofs.lemmas.List.Elements.{filter_map-append}
 use Rattle.jr_model.specs.declared.blocks.Piece.{Piece}
 use Rattle.jr_model.specs.declared.events.Event.{Event}
@@ -17,18 +17,20 @@ use Rattle.jr_model.specs.declared.workloads.Draw.{Draw}
 use Rattle.jr_model.specs.History.{started, started_by, end_of, first_given, outcome_of, flies, in_flight, is_probe, is_write, ended_whole}
 use Rattle.jr_model.specs.LastWrite.{covers_block, last_after_end, last_after, last_write, is_this_write, is_intact}
 use Rattle.jr_model.specs.Legal.{may_happen, legal_after, is_legal, end_fits}
-use Rattle.jr_model.specs.Pieces.{piece_end, pieces_overlap}
+use Rattle.jr_model.specs.Pieces.{pieces_overlap}
 use Rattle.jr_model.specs.declared.events.IssueKind.{IssueKind}
 use Rattle.jr_model.specs.declared.events.IssueKind.TheVariants.{Read, Write, ReadCheck}
 use Rattle.jr_model.specs.Plan.{Plan, SubJob, issued_as}
 use Rattle.jr_laws_quiet.proofs.Races.{last_write_push}
 use Rattle.jr_model.proofs.RaceLaws.{raced_push}
 use Rattle.jr_model.specs.Races.{writes_over, writes_over_io, races_by, has_raced}
-use Rattle.jr_model.proofs.LegalLaws.{is_legal-more, same_write_refl}
-use Rattle.jr_model.proofs.SerialLaws.{EndsWereStarted, first_given-append, ends-more}
-use Rattle.jr_model.proofs.Equality.{eq_write}
+use Rattle.jr_model.proofs.LegalLaws.{is_legal-more}
+use Rattle.jr_model.proofs.SerialLaws.{first_given-append}
+use Rattle.jr_model.proofs.Equality.{this_write, is_this}
 use Rattle.jr_model.specs.PlanFacts.{IsPlanned}
-use Rattle.jr_laws_bytes.proofs.Starts.{some_same, checkable, none_of_flying, probe_event, draw_started}
+use Rattle.jr_model.proofs.OptionLemmas.{none_by_test}
+use Rattle.jr_model.proofs.PieceLemmas.{shared_block}
+use Rattle.jr_laws_bytes.proofs.Starts.{checkable, none_of_flying, probe_event, draw_started}
 use Rattle.jr_laws_bytes.proofs.Contents.{IsWholeBlocks, block_of, covers_from, lies_in_file}
 
 -- what holds at first, and after each event that may happen where it held before, holds after each legal history
@@ -41,14 +43,6 @@ along_legal plan P step before (x ∷ xs) legal held after =
 
 pub after_legal : (plan : Plan) (P : List Event → Type 0) → P [] → ((history : List Event) (e : Event) → is_legal plan history ≡ true → may_happen plan history e ≡ true → P history → P (history ++ e ∷ [])) → (history : List Event) → is_legal plan history ≡ true → P history
 after_legal plan P first step history legal = along_legal plan P step [] history refl first legal
-
-pub ends_were_started : (plan : Plan) (history : List Event) → is_legal plan history ≡ true → EndsWereStarted history
-ends_were_started plan history legal =
-    after_legal plan (λ (all : List Event). EndsWereStarted all) (λ io o h. none_ended io o h)
-    (λ (before : List Event) (e : Event) legal_before may ends. ends-more plan before e ends may) history legal
-  where
-    none_ended : (io : ℕ) (o : Outcome) → None ≡ Some o → io < 0
-    none_ended io o h = cc
 
 -- one event more
 
@@ -90,10 +84,6 @@ range_all p a (suc n) k all low below =
       | inr other ↦ let past : a + 1 ≤ k = omega (arith, other) in range_all p (a + 1) n k parts.1 past (omega arith)
     ]
 
-this_write : (write : WriteId) (last : Option WriteId) → is_this_write write last ≡ true → last ≡ Some write
-this_write write None h = absurd (false≢true h)
-this_write write (Some other) h = ap Some (eq_write other write h)
-
 -- an intact write is the last one of each block of its piece
 pub intact_block : (history : List Event) (write : WriteId) (piece : Piece) (block : ℕ) → IsWholeBlocks piece → is_intact history write piece ≡ true → covers_block piece piece.file block ≡ true → last_write history piece.file block ≡ Some write
 intact_block history write piece block blocks intact covered =
@@ -104,17 +94,6 @@ intact_block history write piece block blocks intact covered =
     (range_all (λ (k : ℕ). is_this_write write (last_write history piece.file k)) (piece.offset / 512) (piece.len / 512) block intact low below)
 
 -- no write in flight shares a block with a check in flight
-
--- two pieces with a block in common overlap
-pub shared_block : (a b : Piece) (file block : ℕ) → covers_block a file block ≡ true → covers_block b file block ≡ true → pieces_overlap a b ≡ true
-shared_block a b file block in_a in_b =
-    let of_a = block_of a file block in_a in
-    let of_b = block_of b file block in_b in
-    let low : max a.offset b.offset ≤ block * 512 = omega (arith, of_a.low, of_b.low) in
-    let below : block * 512 < min (piece_end a) (piece_end b) = omega (arith, of_a.below, of_b.below) in
-    and_from (a.file == b.file) (nat_lt (max a.offset b.offset) (min (piece_end a) (piece_end b)))
-    (eq-eqb a.file b.file (of_a.here ∙ sym of_b.here))
-    (lt-ltb (max a.offset b.offset) (min (piece_end a) (piece_end b)) (omega (arith, low, below)))
 
 -- unless it has raced
 abbrev pub ChecksAreClear : List Event → Type 0
@@ -174,7 +153,7 @@ checks_clear-more plan history e may clear i j a b file block at_i at_j open_i o
           elim (started_cases history e j b at_j) [
             | inl old_j ↦ clear_write history e j a b file block new_i.1 races.1 old_j free_j.0 writes in_a in_b
             | inr new_j ↦
-                let same : a ≡ b = some_same a b (sym new_i.1 ∙ new_j.1) in
+                let same : a ≡ b = same_Some a b (sym new_i.1 ∙ new_j.1) in
                 not_both b.kind (subst (λ (x : Started). is_write x.kind ≡ true) same writes) probes
           ]
     ]
@@ -205,16 +184,12 @@ not_taken : (b : Bool) (x y : Option WriteId) → (b ≡ true → ⊥) → cond 
 not_taken true x y never = absurd (never refl)
 not_taken false x y never = refl
 
-none_from : (o : Option Outcome) → is_none o ≡ true → o ≡ None
-none_from None h = refl
-none_from (Some o) h = absurd (false≢true h)
-
 -- no I/O that ends under a check in flight writes any of its blocks
 end_keeps : (plan : Plan) (history : List Event) (worker id : ℕ) (outcome : Outcome) (i : ℕ) (s : Started) (block : ℕ) (last : Option WriteId) (o : Option Started) → is_legal plan history ≡ true → may_happen plan history (End worker id outcome) ≡ true → slice_get (started history) i ≡ Some s → outcome_of history i ≡ None → is_probe s.kind ≡ true → has_raced history i ≡ false → covers_block s.piece s.piece.file block ≡ true → slice_get (started history) id ≡ o → last_after_end (has_raced history id) o outcome s.piece.file block last ≡ last
 end_keeps plan history worker id outcome i s block last None legal may at unended probe unraced covered other = refl
 end_keeps plan history worker id outcome i s block last (Some io) legal may at unended probe unraced covered other =
     let flying = (and_parts (flies history id) (end_fits worker outcome (slice_get (started history) id)) may).0 in
-    let open_id = none_from (outcome_of history id) (and_parts (nat_lt id (length (started history))) (is_none (outcome_of history id)) flying).1 in
+    let open_id = none_by_test (outcome_of history id) (and_parts (nat_lt id (length (started history))) (is_none (outcome_of history id)) flying).1 in
     not_taken (is_write io.kind && covers_block io.piece s.piece.file block) (cond (ended_whole (Some outcome) && not (has_raced history id)) (Some io.write) None) last
     (λ (taken : (is_write io.kind && covers_block io.piece s.piece.file block) ≡ true).
     let parts = and_parts (is_write io.kind) (covers_block io.piece s.piece.file block) taken in
@@ -259,14 +234,11 @@ all_range p a (suc n) each =
     and_from (p a) (list_all p (range_with_len (a + 1) n)) (each a (omega arith) (omega arith))
     (all_range p (a + 1) n (λ (k : ℕ) (low : a + 1 ≤ k) (below : k < a + 1 + n). each k (omega arith) (omega arith)))
 
-is_this : (write : WriteId) (last : Option WriteId) → last ≡ Some write → is_this_write write last ≡ true
-is_this write last h = ap (is_this_write write) h ∙ same_write_refl write
-
 -- so it is intact
 pub check_stays_intact : (plan : Plan) (history : List Event) (io : ℕ) (s : Started) → IsPlanned plan → is_legal plan history ≡ true → slice_get (started history) io ≡ Some s → is_probe s.kind ≡ true → flies history io ≡ true → has_raced history io ≡ false → is_intact history s.write s.piece ≡ true
 check_stays_intact plan history io s planned legal at probe flying unraced =
     let piece = s.piece in
-    let unended = none_from (outcome_of history io) (and_parts (nat_lt io (length (started history))) (is_none (outcome_of history io)) flying).1 in
+    let unended = none_by_test (outcome_of history io) (and_parts (nat_lt io (length (started history))) (is_none (outcome_of history io)) flying).1 in
     let drawn = draw_started plan history io s legal at in
     let blocks = (lies_in_file plan s.write piece drawn.0 drawn.1 planned drawn.2).blocks in
     all_range (λ (k : ℕ). is_this_write s.write (last_write history piece.file k)) (piece.offset / 512) (piece.len / 512)

@@ -4,7 +4,7 @@ use Rattle.std.specs.Prelude.{◌⊎◌, Option, Some, None, slice_get, nat_le, 
 use Rattle.std.specs.Option.{option_map}
 use Rattle.std.proofs.lemmas.Bool.{and_parts, and_from, false≢true, eqb-true, eq-eqb, leb-true, le-leb, cases_Bool, cases_eq, cases_lt}
 use Rattle.std.proofs.lemmas.List.{length-take-le, length-drop, length-replicate, drop-drop}
-use Rattle.std.proofs.lemmas.Option.{slice_get-map}
+use Rattle.std.proofs.lemmas.Option.{slice_get-map, same_Some}
 use Rattle.jr_model.specs.declared.blocks.Piece.{Piece}
 use Rattle.jr_model.specs.declared.events.Event.{Event}
 use Rattle.jr_model.specs.declared.events.Event.TheVariants.{End}
@@ -22,7 +22,7 @@ use Rattle.jr_model.specs.PlanFacts.{IsPlanned}
 use Rattle.jr_laws_bytes.specs.Memory.{CoversFiles, HoldsLastWrites}
 use Rattle.jr_model.specs.Races.{has_raced}
 use Rattle.jr_laws_bytes.proofs.Blocks.{part_of_take, length-placed, before-placed, behind-placed, within-placed}
-use Rattle.jr_laws_bytes.proofs.Starts.{some_same, draw_started}
+use Rattle.jr_laws_bytes.proofs.Starts.{draw_started}
 use Rattle.jr_laws_bytes.proofs.Contents.{LiesInFile, lies_in_file, length-content_of_io, written_in-content, block_of, covers_from, same_by_blocks}
 use Rattle.jr_laws_bytes.proofs.LastWrites.{last_write-more, checks_are_intact}
 
@@ -92,7 +92,7 @@ covers-fresh_memory plan planned file spec at =
 
 pub memory_with-same : (memory : List FileBytes) (file offset : ℕ) (new : List ℕ) (found : FileBytes) → slice_get memory file ≡ Some found → slice_get (memory_with memory file offset new) file ≡ Some (file_with found offset new)
 memory_with-same [] file offset new found at = cc
-memory_with-same (first ∷ files) zero offset new found at = ap (λ (f : FileBytes). Some (file_with f offset new)) (some_same first found at)
+memory_with-same (first ∷ files) zero offset new found at = ap (λ (f : FileBytes). Some (file_with f offset new)) (same_Some first found at)
 memory_with-same (first ∷ files) (suc file) offset new found at = memory_with-same files file offset new found at
 
 pub memory_with-other : (memory : List FileBytes) (file offset other : ℕ) (new : List ℕ) → (other ≡ file → ⊥) → slice_get (memory_with memory file offset new) other ≡ slice_get memory other
@@ -114,7 +114,7 @@ module _ (memory : List FileBytes) (file offset : ℕ) (new : List ℕ) (covered
     | inl same ↦
         let range = has_range memory file offset (length new) covered in
         let old = has_range memory other part m h in
-        let one : range.found ≡ old.found = some_same range.found old.found (sym range.there ∙ ap (slice_get memory) (sym same) ∙ old.there) in
+        let one : range.found ≡ old.found = same_Some range.found old.found (sym range.there ∙ ap (slice_get memory) (sym same) ∙ old.there) in
         let low : range.found.low ≡ old.found.low = ap (λ (f : FileBytes). f.low) one in
         let high : range.found.high ≡ old.found.high = ap (λ (f : FileBytes). f.high) one in
         covers_from_range (memory_with memory file offset new) other part m (record {
@@ -145,7 +145,7 @@ module _ (memory : List FileBytes) (file offset : ℕ) (new : List ℕ) (covered
   stored-apart part m h apart =
       let range = has_range memory file offset (length new) covered in
       let old = has_range memory file part m h in
-      let one : range.found ≡ old.found = some_same range.found old.found (sym range.there ∙ old.there) in
+      let one : range.found ≡ old.found = same_Some range.found old.found (sym range.there ∙ old.there) in
       let low : range.found.low ≡ old.found.low = ap (λ (f : FileBytes). f.low) one in
       found_bytes range part m
       ∙ elim apart [
@@ -177,7 +177,7 @@ covers_files-memory_with plan memory file offset new within covered other spec a
 
 -- the end of a write
 after_write : (covered whole : Bool) (own write : WriteId) (last : Option WriteId) → cond covered (cond whole (Some own) None) last ≡ Some write → (covered ≡ true) → (whole ≡ true) × (own ≡ write)
-after_write covered true own write last h is = (refl, some_same own write (sym (ap (λ (b : Bool). cond b (Some own) last) is) ∙ h))
+after_write covered true own write last h is = (refl, same_Some own write (sym (ap (λ (b : Bool). cond b (Some own) last) is) ∙ h))
 after_write covered false own write last h is = absurd (none_some (sym (ap (λ (b : Bool). cond b None last) is) ∙ h))
   where
     none_some : None ≡ Some write → ⊥

@@ -6,7 +6,6 @@ use Rattle.std.proofs.lemmas.Bool.{and_parts, false≢true, cond_both}
 use Rattle.std.proofs.lemmas.List.{length-replicate}
 use Rattle.jr_model.specs.declared.events.Event.{Event}
 use Rattle.jr_model.specs.declared.events.Event.TheVariants.{Verdict}
-use Rattle.jr_model.specs.declared.events.Outcome.{Outcome}
 use Rattle.jr_model.specs.declared.events.Started.{Started}
 use Rattle.jr_model.specs.declared.replies.Reply.{Reply}
 use Rattle.jr_model.specs.declared.steps.DeskFault.{DeskFault}
@@ -24,13 +23,15 @@ use Rattle.jr_model.specs.Replies.{outcome_for, stored, reply_to_write}
 use Rattle.jr_model.proofs.MachineLaws.{IsSound, three_conds, four_conds, sound_step, none_kept}
 use Rattle.jr_model.specs.PlanFacts.{IsPlanned}
 use Rattle.jr_model.specs.Races.{has_raced}
+use Rattle.jr_model.proofs.OptionLemmas.{none_by_test}
+use Rattle.jr_model.proofs.PlanLemmas.{numbered_of}
 use Rattle.jr_laws_bytes.specs.Checks.{has_miscompare, keeps_bytes, is_quiet_step}
 use Rattle.jr_laws_bytes.specs.Memory.{HoldsLastWrites}
 use Rattle.jr_laws_bytes.proofs.Starts.{draw_started}
 use Rattle.jr_laws_bytes.proofs.Contents.{length-content_of_io}
 use Rattle.jr_laws_bytes.proofs.Memories.{covers-fresh_memory, stored_check}
 use Rattle.jr_laws_bytes.proofs.KeptBytes.{stored_by_write, given_by_read}
-use Rattle.jr_laws_bytes.proofs.QuietRuns.{IsQuiet, numbered_plan, quiet-more, quiet_choices, harmless_verdict, quiet_first, quiet_read, quiet_write}
+use Rattle.jr_laws_bytes.proofs.QuietRuns.{IsQuiet, quiet-more, quiet_choices, harmless_verdict, quiet_first, quiet_read, quiet_write}
 
 -- the machine's steps
 
@@ -39,13 +40,9 @@ pub record IsQuietState (plan : Plan) (s : State) : Type 0 where
   pub sound : IsSound plan s
   pub quiet : IsQuiet plan s.history s.memory (bytes_read s.read_back)
 
-none_from : (o : Option Outcome) → is_none o ≡ true → o ≡ None
-none_from None h = refl
-none_from (Some o) h = absurd (false≢true h)
-
 unended_from : (s : State) (id : ℕ) → end_refusal s id ≡ None → outcome_of s.history id ≡ None
 unended_from s id free =
-    none_from (outcome_of s.history id)
+    none_by_test (outcome_of s.history id)
     (three_conds s.is_stopped (nat_lt id (length (started s.history))) (is_none (outcome_of s.history id)) Stopped Twice Stranger free).2
 
 quiet_ends_by : (plan : Plan) (s : State) (id : ℕ) (given : Reply) (kind : TicketKind) (io : Started) → IsPlanned plan → keeps_bytes given ≡ true → IsQuietState plan s → IsSound plan (ends_by plan s id given kind io) → end_refusal s id ≡ None → slice_get (started s.history) id ≡ Some io → io.kind ≡ kind → IsQuiet plan (ends_by plan s id given kind io).history (ends_by plan s id given kind io).memory (bytes_read (ends_by plan s id given kind io).read_back)
@@ -105,7 +102,7 @@ quiet_take plan s worker planned state sound = record {
       (record { reply = take_answer plan history (length (started s.history)) events; state = record s { history = history } })
       (λ (stepped : Stepped). IsQuiet plan stepped.state.history stepped.state.memory (bytes_read stepped.state.read_back))
       (λ stopped. state.quiet)
-      (λ going. quiet_choices (work_of plan) plan worker s.history s.memory (bytes_read s.read_back) (choice plan s.history worker) (numbered_plan plan planned) refl state.quiet);
+      (λ going. quiet_choices (work_of plan) plan worker s.history s.memory (bytes_read s.read_back) (choice plan s.history worker) (numbered_of plan planned) refl state.quiet);
 }
   where
     events : List Event
@@ -116,15 +113,15 @@ quiet_take plan s worker planned state sound = record {
 
 quiet_step : (plan : Plan) (s : State) (next : Step) → IsPlanned plan → is_quiet_step next ≡ true → IsQuietState plan s → IsQuietState plan (machine_step plan s next).state
 quiet_step plan s (step.Take worker) planned keeps state =
-    quiet_take plan s worker planned state (sound_step plan s (step.Take worker) (numbered_plan plan planned) state.sound)
+    quiet_take plan s worker planned state (sound_step plan s (step.Take worker) (numbered_of plan planned) state.sound)
 quiet_step plan s (step.End id given) planned keeps state =
     quiet_end_by plan s id given (end_refusal s id) (slice_get (started s.history) id) planned keeps state
-    (sound_step plan s (step.End id given) (numbered_plan plan planned) state.sound) refl refl
+    (sound_step plan s (step.End id given) (numbered_of plan planned) state.sound) refl refl
 quiet_step plan s (step.Judge by id) planned keeps state =
     quiet_judge_by plan s by id (judge_refusal s id) (slice_get (started s.history) id) planned state
-    (sound_step plan s (step.Judge by id) (numbered_plan plan planned) state.sound) refl refl
+    (sound_step plan s (step.Judge by id) (numbered_of plan planned) state.sound) refl refl
 quiet_step plan s step.Stop planned keeps state = record {
-  sound = sound_step plan s step.Stop (numbered_plan plan planned) state.sound;
+  sound = sound_step plan s step.Stop (numbered_of plan planned) state.sound;
   quiet = state.quiet;
 }
 

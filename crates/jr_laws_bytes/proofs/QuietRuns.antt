@@ -4,6 +4,7 @@ use Rattle.std.specs.Prelude.{Option, Some, None, slice_get, ◌==◌}
 use Rattle.std.specs.Option.{option_or}
 use Rattle.std.specs.List.{list_any}
 use Rattle.std.proofs.lemmas.Bool.{and_left, and_right, cases_Bool, ltb-true, or_from, or_parts, false≢true, cond_both, cases_eq, eq-eqb, ne_eqb}
+use Rattle.std.proofs.lemmas.Option.{same_Some}
 use Rattle.jr_model.specs.declared.events.Event.{Event}
 use Rattle.jr_model.specs.declared.events.Event.TheVariants.{Issue, Probe, Skip, End, Verdict}
 use Rattle.jr_model.specs.declared.events.Outcome.{Outcome}
@@ -25,17 +26,16 @@ use Rattle.jr_model.proofs.SerialLaws.{first_given-append, whole_some}
 use Rattle.jr_model.proofs.RaceLaws.{raced_push, raced_other}
 use Rattle.jr_model.specs.PlanFacts.{IsPlanned}
 use Rattle.jr_model.specs.Races.{races_by, has_raced}
+use Rattle.jr_model.proofs.PlaceLemmas.{got_longer}
+use Rattle.jr_model.proofs.HistoryLemmas.{outcome_of-stays, ends_were_started}
 use Rattle.jr_laws_bytes.specs.Checks.{is_check, is_miscompare, has_miscompare}
 use Rattle.jr_laws_bytes.specs.Memory.{CoversFiles, HoldsLastWrites}
-use Rattle.jr_laws_steps.proofs.Grown.{is_known, got_longer, found-more}
-use Rattle.jr_laws_bytes.proofs.Starts.{legal_at, some_same, draw_started}
+use Rattle.jr_laws_steps.proofs.Grown.{is_known, found-more}
+use Rattle.jr_laws_bytes.proofs.Starts.{legal_at, draw_started}
 use Rattle.jr_laws_bytes.proofs.Contents.{lies_in_file}
-use Rattle.jr_laws_bytes.proofs.LastWrites.{ends_were_started, started_cases}
+use Rattle.jr_laws_bytes.proofs.LastWrites.{started_cases}
 use Rattle.jr_laws_bytes.proofs.Memories.{covers_piece, covers_part, covers_files-memory_with, holds_write, holds_on, holds_read, holds_none}
 use Rattle.jr_laws_bytes.proofs.Verdicts.{good_on_own}
-
-pub numbered_plan : (plan : Plan) → IsPlanned plan → IsNumbered plan
-numbered_plan plan planned i job at = (planned.drafted.placed i job at).number
 
 -- each check that ended whole gave what its write put there
 abbrev pub ChecksGaveTheirOwn : Plan → List Event → (ℕ → List ℕ) → Type 0
@@ -52,20 +52,10 @@ pub record IsQuiet (plan : Plan) (history : List Event) (memory : List FileBytes
 
 -- one event more
 
-same_outcome : (history : List Event) (e : Event) (io : ℕ) → end_of io e ≡ None → outcome_of (history ++ e ∷ []) io ≡ outcome_of history io
-same_outcome history e io other =
-    first_given-append (end_of io) history (e ∷ [])
-    ∙ ap (λ (o : Option Outcome). option_or (outcome_of history io) (option_or o None)) other
-    ∙ or_none (outcome_of history io)
-  where
-    or_none : (o : Option Outcome) → option_or o (option_or None None) ≡ o
-    or_none None = refl
-    or_none (Some o) = refl
-
 -- a check that ended whole, and not by the last event, had before
 whole_before : (plan : Plan) (history : List Event) (e : Event) (io : ℕ) (s : Started) → is_legal plan history ≡ true → end_of io e ≡ None → IsWholeCheck (history ++ e ∷ []) io s → IsWholeCheck history io s
 whole_before plan history e io s legal other check =
-    let whole : ended_whole (outcome_of history io) ≡ true = ap ended_whole (sym (same_outcome history e io other)) ∙ check.2 in
+    let whole : ended_whole (outcome_of history io) ≡ true = ap ended_whole (sym (outcome_of-stays history e io other)) ∙ check.2 in
     let below : io < length (started history) = ends_were_started plan history legal io _ (whole_some (outcome_of history io) whole) in
     let unraced = (or_parts (has_raced history io) (races_by history io (started_by e)) (sym (raced_push history e io) ∙ check.3)).0 in
     elim (started_cases history e io s check.0) [
@@ -175,7 +165,7 @@ quiet_first plan memory read covered = record {
 ended_now : (history : List Event) (worker id : ℕ) (outcome : Outcome) (io x : Started) → slice_get (started history) id ≡ Some io → slice_get (started (history ++ End worker id outcome ∷ [])) id ≡ Some x → io ≡ x
 ended_now history worker id outcome io x at later =
     elim (started_cases history (End worker id outcome) id x later) [
-      | inl old ↦ some_same io x (sym at ∙ old)
+      | inl old ↦ same_Some io x (sym at ∙ old)
       | inr new ↦ absurd (none_some new.1)
     ]
   where

@@ -1,5 +1,6 @@
 -- In the history of one worker over a right memory nothing goes wrong and nothing races, so its report is the one of the draws.
-use Rattle.std.proofs.Common.{◌≡◌, Bool, true, false, not, ◌&&◌, ◌||◌, List, [], ◌∷◌, refl}
+use Rattle.std.proofs.Common.{◌≡◌, true, false, List, [], ◌∷◌, refl}
+use Rattle.std.proofs.lemmas.Bool.{or_parts, and_from, not_from_false}
 use Rattle.jr_model.specs.declared.events.Event.{Event}
 use Rattle.jr_model.specs.declared.events.Event.TheVariants.{Issue, Probe, Skip, End, Verdict}
 use Rattle.jr_model.specs.Legal.{is_fault, is_bad}
@@ -10,31 +11,19 @@ use Rattle.jr_model.specs.Serial.{serial_history}
 use Rattle.jr_model.proofs.SerialLaws.{rested_serial}
 use Rattle.jr_plan.specs.Files.{are_apart}
 use Rattle.jr_model.specs.PlanFacts.{IsPlanned}
+use Rattle.jr_model.proofs.PlanLemmas.{numbered_of}
 use Rattle.jr_laws_quiet.specs.Quiet.{is_calm, is_quiet}
 use Rattle.jr_laws_quiet.proofs.Reports.{quiet_run_unraced}
-use Rattle.jr_laws_bytes.specs.Clean.{is_faulty_end, has_fault, is_bad_verdict, has_bad}
+use Rattle.jr_laws_bytes.specs.Clean.{is_faulty_end, has_fault}
+use Rattle.jr_laws_bytes.specs.BadVerdicts.{is_bad_verdict, has_bad}
 use Rattle.jr_laws_bytes.proofs.CleanLaws.{serial_clean}
 use Rattle.jr_laws_steps.proofs.CountLaws.{serial_stops_all}
 use Rattle.jr_laws_steps.proofs.DoneLaws.{serial_complete}
-use Rattle.jr_laws_steps.proofs.IdleLaws.{numbered_of}
-
--- neither of two tests holds
-neither : (a b : Bool) → (a || b) ≡ false → (a ≡ false) × (b ≡ false)
-neither true b e = absurd (cc)
-neither false b e = (refl, e)
-
-both : (a b : Bool) → a ≡ true → b ≡ true → (a && b) ≡ true
-both true b h k = k
-both false b h k = absurd (cc)
-
-turned : (a : Bool) → a ≡ false → not a ≡ true
-turned true e = absurd (cc)
-turned false e = refl
 
 -- an event that is no fault and no bad verdict is calm
 calm : (event : Event) → is_faulty_end event ≡ false → is_bad_verdict event ≡ false → is_calm event ≡ true
-calm (End worker io outcome) fault bad = turned (is_fault outcome) fault
-calm (Verdict worker io verdict) fault bad = turned (is_bad verdict) bad
+calm (End worker io outcome) fault bad = not_from_false (is_fault outcome) fault
+calm (Verdict worker io verdict) fault bad = not_from_false (is_bad verdict) bad
 calm (Issue worker dir write piece) fault bad = refl
 calm (Probe worker write piece) fault bad = refl
 calm (Skip worker write) fault bad = refl
@@ -43,9 +32,9 @@ calm (Skip worker write) fault bad = refl
 pub quiet_of : (history : List Event) → has_fault history ≡ false → has_bad history ≡ false → is_quiet history ≡ true
 quiet_of [] fault bad = refl
 quiet_of (event ∷ events) fault bad =
-    let faults = neither (is_faulty_end event) (has_fault events) fault in
-    let bads = neither (is_bad_verdict event) (has_bad events) bad in
-    both (is_calm event) (is_quiet events) (calm event faults.0 bads.0) (quiet_of events faults.1 bads.1)
+    let faults = or_parts (is_faulty_end event) (has_fault events) fault in
+    let bads = or_parts (is_bad_verdict event) (has_bad events) bad in
+    and_from (is_calm event) (is_quiet events) (calm event faults.0 bads.0) (quiet_of events faults.1 bads.1)
 
 pub serial_quiet : (plan : Plan) → IsPlanned plan → are_apart plan.clones ≡ true → has_bad (serial_history plan) ≡ false → (is_quiet (serial_history plan) ≡ true) × (report_of plan (serial_history plan) ≡ quiet_report plan)
 serial_quiet plan planned apart good =

@@ -3,6 +3,7 @@ use Rattle.std.proofs.Common.{◌≡◌, ℕ, zero, suc, ◌+◌, List, [], ◌�
 use Rattle.std.specs.Prelude.{Option, Some, None, slice_get, filter_map, is_none, ◌==◌}
 use Rattle.std.specs.List.{list_any, enumerate_from, cons_option}
 use Rattle.std.proofs.lemmas.Bool.{and_parts, or_parts, not-true, false≢true}
+use Rattle.std.proofs.lemmas.Option.{same_Some}
 use Rattle.jr_model.specs.declared.events.IssueKind.TheVariants.{Read, Write, ReadCheck}
 use Rattle.jr_model.specs.declared.blocks.Piece.{Piece}
 use Rattle.jr_model.specs.declared.events.Event.{Event}
@@ -42,9 +43,6 @@ pub record StartsAt (history : List Event) (io : ℕ) (s : Started) : Type 0 whe
   pub rest : List Event
   pub starts : started_by event ≡ Some s
   pub split : history ≡ before_start history io ++ event ∷ rest
-
-pub some_same : {X : Type 0} (x y : X) → Some x ≡ Some y → x ≡ y
-some_same x y h = cc
 
 pub starts_at : (history : List Event) (io : ℕ) (s : Started) → slice_get (started history) io ≡ Some s → StartsAt history io s
 starts_at [] io s h = cc
@@ -219,10 +217,10 @@ issuable plan before worker dir write piece may =
 -- what started an I/O of a legal history
 
 pub probe_event : (e : Event) (s : Started) → started_by e ≡ Some s → is_probe s.kind ≡ true → e ≡ Probe s.worker s.write s.piece
-probe_event (Issue worker Read write piece) s starts probe = absurd (false≢true (ap (λ (x : Started). is_probe x.kind) (some_same (record { worker = worker; kind = ticket.Read; write = write; piece = piece }) s starts) ∙ probe))
-probe_event (Issue worker Write write piece) s starts probe = absurd (false≢true (ap (λ (x : Started). is_probe x.kind) (some_same (record { worker = worker; kind = ticket.Write; write = write; piece = piece }) s starts) ∙ probe))
-probe_event (Issue worker ReadCheck write piece) s starts probe = absurd (false≢true (ap (λ (x : Started). is_probe x.kind) (some_same (record { worker = worker; kind = ticket.ReadCheck; write = write; piece = piece }) s starts) ∙ probe))
-probe_event (Probe worker write piece) s starts probe = ap (λ (x : Started). Probe x.worker x.write x.piece) (some_same (record { worker = worker; kind = ticket.Probe; write = write; piece = piece }) s starts)
+probe_event (Issue worker Read write piece) s starts probe = absurd (false≢true (ap (λ (x : Started). is_probe x.kind) (same_Some (record { worker = worker; kind = ticket.Read; write = write; piece = piece }) s starts) ∙ probe))
+probe_event (Issue worker Write write piece) s starts probe = absurd (false≢true (ap (λ (x : Started). is_probe x.kind) (same_Some (record { worker = worker; kind = ticket.Write; write = write; piece = piece }) s starts) ∙ probe))
+probe_event (Issue worker ReadCheck write piece) s starts probe = absurd (false≢true (ap (λ (x : Started). is_probe x.kind) (same_Some (record { worker = worker; kind = ticket.ReadCheck; write = write; piece = piece }) s starts) ∙ probe))
+probe_event (Probe worker write piece) s starts probe = ap (λ (x : Started). Probe x.worker x.write x.piece) (same_Some (record { worker = worker; kind = ticket.Probe; write = write; piece = piece }) s starts)
 probe_event (Skip worker write) s starts probe = cc
 probe_event (End worker io outcome) s starts probe = cc
 probe_event (Verdict worker io verdict) s starts probe = cc
@@ -249,12 +247,12 @@ draw_started plan history io s legal at =
     drawn_for plan before (Issue worker dir write piece) s starts may =
         let found = issuable plan before worker dir write piece may in
         subst (λ (x : Started). (job : SubJob) × (draw : Draw) × IsDrawOf plan x.write x.piece job draw)
-        (some_same (record { worker = worker; kind = kind_for dir; write = write; piece = piece }) s starts)
+        (same_Some (record { worker = worker; kind = kind_for dir; write = write; piece = piece }) s starts)
         (found.job, found.draw, found.names)
     drawn_for plan before (Probe worker write piece) s starts may =
         let found = checkable plan before worker write piece may in
         subst (λ (x : Started). (job : SubJob) × (draw : Draw) × IsDrawOf plan x.write x.piece job draw)
-        (some_same (record { worker = worker; kind = ticket.Probe; write = write; piece = piece }) s starts)
+        (same_Some (record { worker = worker; kind = ticket.Probe; write = write; piece = piece }) s starts)
         (found.job, found.draw, found.names)
     drawn_for plan before (Skip worker write) s starts may = cc
     drawn_for plan before (End worker io outcome) s starts may = cc
@@ -273,7 +271,7 @@ none_flies_from f history n (x ∷ xs) zero s at unended none =
     let flying : if_flying history (n, x) ≡ Some x = ap (λ (o : Option Outcome). cond (is_none o) (Some x) None) here in
     let rest = filter_map (if_flying history) (enumerate_from (n + 1) xs) in
     let parts = or_parts (f x) (list_any f rest) (subst (λ (o : Option Started). list_any f (cons_option o rest) ≡ false) flying none) in
-    subst (λ (y : Started). f y ≡ false) (some_same x s at) parts.0
+    subst (λ (y : Started). f y ≡ false) (same_Some x s at) parts.0
 none_flies_from f history n (x ∷ xs) (suc k) s at unended none =
     let next : n + 1 + k ≡ n + suc k = omega arith in
     none_flies_from f history (n + 1) xs k s at (subst (λ (i : ℕ). outcome_of history i ≡ None) (sym next) unended)

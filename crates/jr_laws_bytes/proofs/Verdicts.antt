@@ -5,7 +5,7 @@ use Rattle.std.specs.Option.{option_or}
 use Rattle.std.proofs.lemmas.Bool.{and_left, and_parts, and_right, cases_Bool, false≢true, true_from_ne_false}
 use Rattle.std.proofs.lemmas.List.Elements.{filter_map-append}
 use Rattle.std.proofs.lemmas.List.Folds.{list_any_none}
-use Rattle.std.proofs.lemmas.Option.{slice_get-get_or}
+use Rattle.std.proofs.lemmas.Option.{slice_get-get_or, same_Some}
 use Rattle.jr_model.specs.declared.contents.VerifyKind.{VerifyKind}
 use Rattle.jr_model.specs.declared.contents.VerifyKind.TheVariants as verify
 use Rattle.jr_model.specs.declared.events.Event.{Event}
@@ -33,7 +33,7 @@ use Rattle.jr_model.specs.PlanFacts.{IsPlanned}
 use Rattle.jr_model.specs.Races.{has_raced}
 use Rattle.jr_header.proofs.Laws.{good_on_content, good_on_no_other}
 use Rattle.jr_laws_bytes.specs.Checks.{is_check, is_miscompare, has_miscompare, GivesWholePieces, AreToldApart, IsToldApart}
-use Rattle.jr_laws_bytes.proofs.Starts.{legal_at, some_same, IsCheckable, check_started}
+use Rattle.jr_laws_bytes.proofs.Starts.{legal_at, IsCheckable, check_started}
 use Rattle.jr_laws_bytes.proofs.Contents.{same_by_blocks, lies_in_file, drawn_chunks, length-content_of_io, written_in-content}
 use Rattle.jr_laws_bytes.proofs.LastWrites.{intact_block}
 
@@ -51,7 +51,7 @@ good_in_job None found s seed probe is fits whole = refl
 good_in_job (Some job) found s seed probe is fits whole =
     by_kind job s seed (content_in_job (Some job) s.write s.piece seed) s.kind probe
     ∙ good_on_content job.method s.write s.piece seed job.method.kind refl fits
-    (subst (λ (j : SubJob). interval_fits j.method.kind j.method.interval s.piece.len ≡ true) (sym (some_same job found is)) whole)
+    (subst (λ (j : SubJob). interval_fits j.method.kind j.method.interval s.piece.len ≡ true) (sym (same_Some job found is)) whole)
 
 -- a write's own bytes are good
 pub good_on_own : (plan : Plan) (history : List Event) (io : ℕ) (s : Started) → IsPlanned plan → is_legal plan history ≡ true → slice_get (started history) io ≡ Some s → is_probe s.kind ≡ true → verdict_on plan s (content_of_io plan s) ≡ Good
@@ -70,7 +70,7 @@ checked_kind verify.Sha256 pattern verified has = refl
 own_in_job : (job : Option SubJob) (found : SubJob) (s : Started) (seed : ℕ) (bytes : List ℕ) → is_probe s.kind ≡ true → job ≡ Some found → is_checked found.method.kind found.method.pattern ≡ true → piece_fits s.piece ≡ true → interval_fits found.method.kind found.method.interval s.piece.len ≡ true → length bytes ≡ s.piece.len → AreToldApart job s seed bytes → verdict_in_job job s seed bytes ≡ Good → bytes ≡ content_in_job job s.write s.piece seed
 own_in_job None found s seed bytes probe is checked fits whole size apart good = cc
 own_in_job (Some job) found s seed bytes probe is checked fits whole size apart good =
-    let same : found ≡ job = sym (some_same job found is) in
+    let same : found ≡ job = sym (same_Some job found is) in
     good_on_no_other job.method s.write s.piece seed bytes job.method.kind refl
     (subst (λ (j : SubJob). is_checked j.method.kind j.method.pattern ≡ true) same checked) fits
     (subst (λ (j : SubJob). interval_fits j.method.kind j.method.interval s.piece.len ≡ true) same whole) size apart (sym (by_kind job s seed bytes s.kind probe) ∙ good)
@@ -90,7 +90,7 @@ own_from_good plan before s bytes planned probe check size apart good =
 
 split_at : {X : Type 0} (xs : List X) (k : ℕ) (x : X) → slice_get xs k ≡ Some x → xs ≡ take k xs ++ x ∷ drop (suc k) xs
 split_at [] k x at = cc
-split_at (y ∷ xs) zero x at = ap (λ (z : _). z ∷ xs) (some_same y x at)
+split_at (y ∷ xs) zero x at = ap (λ (z : _). z ∷ xs) (same_Some y x at)
 split_at (y ∷ xs) (suc k) x at = ap (λ (zs : _). y ∷ zs) (split_at xs k x at)
 
 whole_more : (a b : Option Outcome) → ended_whole a ≡ true → ended_whole (option_or a b) ≡ true

@@ -1,4 +1,4 @@
--- Believed: when a check is found bad: exactly where the bytes that it read aren't its write's.
+-- Claimed: when a check is found bad: exactly where the bytes that it read aren't its write's.
 use Rattle.std.specs.Prelude.{◌≡◌, ◌≢◌, ◌↔◌, ℕ, Bool, true, false, ◌&&◌, List, length, Option, Some, None, slice_get}
 use Rattle.std.specs.List.{list_any, list_all}
 use Rattle.jr_model.specs.declared.events.Event.{Event}

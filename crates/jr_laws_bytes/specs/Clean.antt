@@ -1,9 +1,9 @@
--- Believed: when nothing went wrong in a history.
+-- Claimed: the history of one worker over a right memory, in which nothing goes wrong.
 use Rattle.std.specs.Prelude.{◌≡◌, ℕ, Bool, true, false, List, Some}
 use Rattle.std.specs.List.{list_any}
 use Rattle.jr_model.specs.declared.events.Event.{Event}
 use Rattle.jr_model.specs.declared.events.Event.TheVariants.{Issue, Probe, Skip, End, Verdict}
-use Rattle.jr_model.specs.Legal.{is_bad, is_fault}
+use Rattle.jr_model.specs.Legal.{is_fault}
 use Rattle.jr_model.specs.Plan.{Plan, SubJob, clone_of, checks_reads}
 use Rattle.jr_model.specs.Quiet.{quiet_report}
 use Rattle.jr_model.specs.Report.{report_of}
@@ -11,6 +11,7 @@ use Rattle.jr_model.specs.Serial.{serial_history}
 use Rattle.jr_plan.specs.Files.{are_apart}
 use Rattle.jr_model.specs.PlanFacts.{IsPlanned}
 use Rattle.jr_laws_quiet.specs.Quiet.{is_quiet}
+use Rattle.jr_laws_bytes.specs.BadVerdicts.{has_bad}
 use Rattle.jr_laws_bytes.specs.Checks.{has_miscompare}
 
 -- the event ends an I/O or check that failed or ended short
@@ -24,18 +25,6 @@ is_faulty_end (Verdict worker io verdict) = false
 -- some I/O or check of the history failed or ended short
 abbrev pub has_fault : List Event → Bool
 has_fault history = list_any is_faulty_end history
-
--- the event is a Bad verdict, on the check of a write or on a checked read
-abbrev pub is_bad_verdict : Event → Bool
-is_bad_verdict (Verdict worker io verdict) = is_bad verdict
-is_bad_verdict (Issue worker kind write piece) = false
-is_bad_verdict (Probe worker write piece) = false
-is_bad_verdict (Skip worker write) = false
-is_bad_verdict (End worker io outcome) = false
-
--- some verdict of the history is Bad
-abbrev pub has_bad : List Event → Bool
-has_bad history = list_any is_bad_verdict history
 
 -- the history of one worker over a right memory has no fault, and no Bad verdict on the check of a write
 abbrev pub SerialIsClean : Type 0

@@ -1,3 +1,4 @@
+pub mod BadVerdicts
 pub mod Checks
 pub mod Clean
 pub mod Memory

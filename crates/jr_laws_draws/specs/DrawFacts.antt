@@ -65,6 +65,7 @@ part_of job = record {
   backlog = 0;
   is_fatal = false;
   declines = false;
+  direct = false;
 }
 
 -- these m cells from cell x on are free, where there is a map

@@ -1,4 +1,4 @@
--- Believed: what holds of the draws of a pass, whatever its words.
+-- Claimed: what holds of the draws of a pass, whatever its words.
 use Rattle.std.specs.Prelude.{◌≡◌, ℕ, suc, ◌+◌, ◌*◌, ◌%◌, ◌<◌, ◌≤◌, Bool, true, false, ◌&&◌, List, ◌++◌, Some, length, slice_get, All, AllPairs, Any}
 use Rattle.jr_model.specs.declared.blocks.Piece.{Piece}
 use Rattle.jr_model.specs.declared.workloads.Draw.{Draw}

@@ -3,6 +3,7 @@ use Rattle.std.proofs.Common.{◌≡◌, ℕ, ◌+◌, ◌/◌, ◌<◌, List, [
 use Rattle.std.specs.Prelude.{Option, Some, None, slice_get, filter_map}
 use Rattle.std.specs.List.{cons_option}
 use Rattle.std.proofs.lemmas.Bool.{cases_Bool}
+use Rattle.std.proofs.lemmas.Option.{same_Some}
 use Rattle.jr_model.specs.declared.blocks.Piece.{Piece}
 use Rattle.jr_model.specs.declared.limits.TheConstants.{SECTOR}
 use Rattle.jr_model.specs.declared.contents.Expected.{Expected}
@@ -24,7 +25,6 @@ use Rattle.jr_writes.specs.LoggedWrites.{logged}
 use Rattle.jr_writes.specs.LogSteps.{LogStep, settle, unsettle, log_of, step_of, step_at_end}
 use Rattle.jr_laws_steps.specs.Drawn.{IsDrawn}
 use Rattle.jr_laws_steps.proofs.DrawnLaws.{started_are_drawn-law, drawn_fits, kind_for_draw}
-use Rattle.jr_laws_steps.proofs.StartedLemmas.{same_some}
 use Rattle.jr_laws_log.specs.Intact.{log_after, WasStarted}
 use Rattle.jr_laws_log.proofs.LastBlocks.{HasBlocks, blocks_from_fits, intact_at, last_law}
 use Rattle.jr_laws_log.proofs.IntactLaws.{kept_law, log_is_intact}
@@ -95,11 +95,11 @@ module _ (plan : Plan) (history : List Event) (checked_by : WriteId → Piece �
   was_drawn id io at kind named =
       let found = started_are_drawn-law plan history id io planned legal at in
       let there = found.2 in
-      let jobs : found.0 ≡ job = same_some found.0 job (sym there.planned ∙ ap (λ (w : WriteId). clone_of plan w.clone) named ∙ of_job) in
+      let jobs : found.0 ≡ job = same_Some found.0 job (sym there.planned ∙ ap (λ (w : WriteId). clone_of plan w.clone) named ∙ of_job) in
       let here : slice_get (draws_of_job job write.pass) write.number ≡ Some found.1 =
       subst (λ (w : WriteId). slice_get (draws_of_job job w.pass) w.number ≡ Some found.1) named
       (subst (λ (j : SubJob). slice_get (draws_of_job j io.write.pass) io.write.number ≡ Some found.1) jobs there.drawn) in
-      let one : found.1 ≡ draw = same_some found.1 draw (sym here ∙ drawn) in
+      let one : found.1 ≡ draw = same_Some found.1 draw (sym here ∙ drawn) in
       record { place = id; io = io; at = at; kind = kind; named = named; there = there.piece ∙ ap (λ (d : Draw). d.piece) one }
 
   abbrev shown_if : Bool → Option Logged

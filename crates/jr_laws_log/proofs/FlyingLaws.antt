@@ -27,14 +27,15 @@ use Rattle.jr_model.specs.Pieces.{pieces_overlap}
 use Rattle.jr_model.specs.Plan.{Plan, SubJob, clone_of, declines_of}
 use Rattle.jr_model.specs.Races.{writes_over as writes_over_after, writes_over_io, races_by, has_raced}
 use Rattle.jr_model.proofs.RaceLaws.{raced_push, raced_other, unstarted_is_unraced}
-use Rattle.jr_model.proofs.SerialLaws.{first_given-append, none_from}
+use Rattle.jr_model.proofs.SerialLaws.{first_given-append}
 use Rattle.jr_flight.specs.declared.ios.Ended.{Ended}
 use Rattle.jr_flight.specs.declared.ios.Io.{Io}
-use Rattle.jr_flight.specs.Flights.{flying_io, is_clear, is_raced, marked, waits_for, writes, writes_over}
-use Rattle.jr_laws_steps.proofs.PlaceLemmas.{item_at}
+use Rattle.jr_flight.specs.Flights.{flying_io, is_clear, is_raced, marked, raced_so_far, waits_for, writes, writes_over}
+use Rattle.jr_model.proofs.PlaceLemmas.{item_at}
+use Rattle.jr_model.proofs.OptionLemmas.{none_from}
+use Rattle.jr_model.proofs.HistoryLemmas.{legal_is_well, outcome_of-stays, start_ends_none}
 use Rattle.jr_laws_steps.proofs.StartedLemmas.{started-starts, started-other}
 use Rattle.jr_laws_log.specs.Flying.{dir_of, io_of, entry_of, if_flying_entry, flight_of, begun}
-use Rattle.jr_laws_log.proofs.LogGrowth.{well}
 
 both_none : {X : Type 0} (b : Bool) (o : Option X) → o ≡ None → cond b o None ≡ None
 both_none true o none = none
@@ -202,24 +203,6 @@ module _ {X Y : Type 0} (made : ℕ → X → Y) where
               ∙ sym (left_in keep made id n x (keep n) (entries_from keep made (n + 1) xs) (λ is. apart (sym is)))
         ]
 
-or_none : (o : Option Outcome) → option_or o None ≡ o
-or_none None = refl
-or_none (Some x) = refl
-
--- how an I/O ended after an event that isn't its end
-outcome_same : (h : List Event) (e : Event) (k : ℕ) → end_of k e ≡ None → outcome_of (h ++ e ∷ []) k ≡ outcome_of h k
-outcome_same h e k none =
-    first_given-append (end_of k) h (e ∷ [])
-    ∙ ap (λ (o : Option Outcome). option_or (outcome_of h k) (option_or o None)) none
-    ∙ or_none (outcome_of h k)
-
-starts_end_none : (e : Event) (io : Started) (k : ℕ) → started_by e ≡ Some io → end_of k e ≡ None
-starts_end_none (Issue worker dir write piece) io k starts = refl
-starts_end_none (Probe worker write piece) io k starts = refl
-starts_end_none (Skip worker write) io k starts = cc
-starts_end_none (End worker id outcome) io k starts = cc
-starts_end_none (Judged worker id verdict) io k starts = cc
-
 -- it has not ended
 abbrev unended : List Event → ℕ → Bool
 unended h k = is_none (outcome_of h k)
@@ -238,6 +221,17 @@ flying_is_started plan h id =
           ∙ both_none (unended h id) got (ap (option_map (entry_of plan h id)) (slice_get_past (started h) id past))
           ∙ sym (ap (λ (b : Bool). cond (b && unended h id) got None) (le-ltb id (length (started h)) past))
     ]
+
+-- what flies has raced so far just where it has after the history
+pub raced_in_flight : (plan : Plan) (history : List Event) (id : ℕ) → flies history id ≡ true
+    → raced_so_far (flying_io id (flight_of plan history)) ≡ has_raced history id
+raced_in_flight plan h id flying =
+    let parts = and_parts (nat_lt id (length (started h))) (unended h id) flying in
+    let found = item_at (started h) id (ltb-true id (length (started h)) parts.0) in
+    ap raced_so_far
+    (flying_is_started plan h id
+    ∙ ap (λ (b : Bool). cond b (option_map (entry_of plan h id) (slice_get (started h) id)) None) flying
+    ∙ ap (option_map (entry_of plan h id)) found.1)
 
 pub flies_is_flying : (plan : Plan) (history : List Event) (id : ℕ) → is_some (flying_io id (flight_of plan history)) ≡ flies history id
 flies_is_flying plan h id =
@@ -373,11 +367,11 @@ module _ (plan : Plan) (h : List Event) (e : Event) (io : Started) (legal : is_l
       let free : outcome_of h now ≡ None =
       none_from (outcome_of h now)
       (λ (o : Outcome) (is : outcome_of h now ≡ Some o).
-      let below : now < now = (well plan h legal).ends now o is in omega (arith, below)) in
+      let below : now < now = (legal_is_well plan h legal).ends now o is in omega (arith, below)) in
       let own : Ended = record { io = new; raced = is_raced new (flight_of plan h) } in
       ap (λ (ios : List Started). entries_from (unended later) (entry_of plan later) 0 ios) (started-starts h e io starts)
       ∙ same_entries (entry_of plan later) (entry_of plan later) (unended later) (unended h) 0 (started h ++ io ∷ [])
-      (λ k above. ap is_none (outcome_same h e k (starts_end_none e io k starts))) (λ k x. refl)
+      (λ k above. ap is_none (outcome_of-stays h e k (start_ends_none e io k starts))) (λ k x. refl)
       ∙ sym (insert_last (unended h) (entry_of plan later) 0 now (started h) io (zero-add now) (ap is_none free))
       ∙ ap (λ (es : List (ℕ × Ended)). insert_entry nat_cmp es now (entry_of plan later now io))
       (sym (made_again (entry_of plan h) (entry_of plan later) (unended h) mark 0 (started h) marked_one))
@@ -402,7 +396,7 @@ flies_on : (plan : Plan) (h : List Event) (e : Event) → started_by e ≡ None 
 flies_on plan h e nothing ends =
     ap (λ (ios : List Started). entries_from (unended (h ++ e ∷ [])) (entry_of plan (h ++ e ∷ [])) 0 ios) (started-other h e nothing)
     ∙ same_entries (entry_of plan (h ++ e ∷ [])) (entry_of plan h) (unended (h ++ e ∷ [])) (unended h) 0 (started h)
-    (λ k above. ap is_none (outcome_same h e k (ends k))) (same_entry plan h e nothing)
+    (λ k above. ap is_none (outcome_of-stays h e k (ends k))) (same_entry plan h e nothing)
 
 pub others_fly_on : (plan : Plan) (history : List Event) (worker id : ℕ) (write : WriteId) (verdict : Verdict)
     → (flight_of plan (history ++ Skip worker write ∷ []) ≡ flight_of plan history)
@@ -425,7 +419,7 @@ ended_flies_no_more plan h worker id outcome =
     ∙ ap (λ (b : Bool). is_none (option_or (outcome_of h id) (option_or (cond b (Some outcome) None) None))) (eq-eqb id id refl)
     ∙ is_some_or (outcome_of h id) outcome in
     let others : (k : ℕ) → (k ≡ id → ⊥) → unended (h ++ e ∷ []) k ≡ unended h k =
-    λ k apart. ap is_none (outcome_same h e k (ap (λ (b : Bool). cond b (Some outcome) None) (ne_eqb id k (λ same. apart (sym same))))) in
+    λ k apart. ap is_none (outcome_of-stays h e k (ap (λ (b : Bool). cond b (Some outcome) None) (ne_eqb id k (λ same. apart (sym same))))) in
     ap (λ (ios : List Started). entries_from (unended (h ++ e ∷ [])) (entry_of plan (h ++ e ∷ [])) 0 ios) (started-other h e refl)
     ∙ same_entries (entry_of plan (h ++ e ∷ [])) (entry_of plan h) (unended (h ++ e ∷ [])) (unended (h ++ e ∷ [])) 0 (started h)
     (λ k above. refl) (same_entry plan h e refl)

@@ -3,7 +3,7 @@ use Rattle.std.proofs.Common.{◌≡◌, ℕ, ◌+◌, ◌/◌, ◌<◌, ◌≤�
 use Rattle.std.specs.Prelude.{Option, Some, None, slice_get}
 use Rattle.std.specs.List.{cons_option}
 use Rattle.std.proofs.lemmas.Bool.{and_from, and_left, and_right, cases_Bool, cases_eq, cases_lt, both_ways, false_from_ne_true}
-use Rattle.std.proofs.lemmas.Option.{none-some, cond_some}
+use Rattle.std.proofs.lemmas.Option.{none-some, cond_some, same_Some}
 use Rattle.jr_model.specs.declared.limits.TheConstants.{SECTOR}
 use Rattle.jr_model.specs.declared.blocks.Piece.{Piece}
 use Rattle.jr_model.specs.declared.contents.Expected.{Expected}
@@ -23,19 +23,20 @@ use Rattle.jr_model.proofs.RaceLaws.{raced_other}
 use Rattle.jr_model.proofs.LegalLaws.{is_legal-more, same_write_refl}
 use Rattle.jr_model.proofs.Equality.{eq_write}
 use Rattle.jr_model.specs.PlanFacts.{IsPlanned}
+use Rattle.jr_model.proofs.PieceLemmas.{overlap_turned, shared_block}
+use Rattle.jr_model.proofs.PlaceLemmas.{got_longer}
+use Rattle.jr_model.proofs.HistoryLemmas.{started-more, by_events, outcome_of-end}
+use Rattle.jr_model.proofs.OptionLemmas.{none_from}
 use Rattle.jr_writes.specs.declared.logs.Logged.{Logged}
 use Rattle.jr_writes.specs.LoggedWrites.{if_apart, lies_apart, logged}
 use Rattle.jr_writes.specs.LogSteps.{LogStep, settle, unsettle, steps_of, step_of, step_at_end}
 use Rattle.jr_writes.proofs.LogLemmas.{logged-settled, logged-unsettled}
-use Rattle.jr_writes.proofs.Overlaps.{overlap_back}
-use Rattle.jr_laws_quiet.proofs.LastWrites.{overlap_from}
 use Rattle.jr_laws_quiet.proofs.Latest.{common_block}
 use Rattle.jr_laws_quiet.proofs.Races.{last_write_push}
-use Rattle.jr_laws_quiet.proofs.Steps.{started_push, got_within}
-use Rattle.jr_laws_steps.proofs.StartedLemmas.{same_some, by_events, started_stays, started_below, started-other}
+use Rattle.jr_laws_steps.proofs.StartedLemmas.{started_stays, started_below, started-other}
 use Rattle.jr_laws_log.specs.Intact.{log_after, WasStarted, IsOfIntact}
 use Rattle.jr_laws_log.proofs.LogGrowth.{log-same, log-whole, log-failed}
-use Rattle.jr_laws_log.proofs.LastBlocks.{last_law, flying_of, outcome_now, HasBlocks, intact_same, intact_all, intact_not, one_place, blocks_at, unlanded}
+use Rattle.jr_laws_log.proofs.LastBlocks.{last_law, flying_of, HasBlocks, intact_same, intact_all, intact_not, one_place, blocks_at, unlanded}
 use Rattle.jr_laws_log.proofs.OrderLemmas.{ordered_log}
 
 -- what the log has of a started write
@@ -62,10 +63,6 @@ pub record IsStarted (h : List Event) (write : WriteId) : Type 0 where
 pub record IsKept (checked_by : WriteId → Piece → Expected) (h : List Event) : Type 0 where
   pub known : (write : WriteId) (entry : Logged) → logged (log_after checked_by h) write ≡ Some entry → IsStarted h write
   pub equal : (id : ℕ) (io : Started) → slice_get (started h) id ≡ Some io → is_write io.kind ≡ true → IsShown checked_by h io
-
-none_from : {X : Type 0} (o : Option X) → ((x : X) → o ≡ Some x → ⊥) → o ≡ None
-none_from None f = refl
-none_from (Some x) f = absurd (f x refl)
 
 some_apart : (piece : Piece) (o : Option Logged) (entry : Logged) → if_apart piece o ≡ Some entry → o ≡ Some entry
 some_apart piece None entry h = cc
@@ -145,8 +142,8 @@ module _ (plan : Plan) (planned : IsPlanned plan) (checked_by : WriteId → Piec
           record { id = was.id; io = was.io; at = started_stays h (e ∷ []) was.id was.io was.at; kind = was.kind; named = was.named };
       equal = λ id io at kind. elim (cases_lt id (length (started h))) [
         | inl below ↦
-            let there = sym (got_within (started h) (cons_option (started_by e) []) id below) in
-            let push = ap (λ (ios : List Started). slice_get ios id) (sym (started_push h e)) in
+            let there = sym (got_longer (started h) (cons_option (started_by e) []) id below) in
+            let push = ap (λ (ios : List Started). slice_get ios id) (sym (started-more h e)) in
             equal_old id io (there ∙ push ∙ at) kind
         | inr past ↦ equal_new id io at kind past
       ];
@@ -218,7 +215,7 @@ module _ (plan : Plan) (planned : IsPlanned plan) (checked_by : WriteId → Piec
         ∙ ap (λ (b : Bool). looked b io0.write) (same_write_refl io0.write)
         ∙ ap (shown checked_by io0) (sym now)
     equal_own false is =
-        let ended : outcome_of later id0 ≡ Some outcome = outcome_now h worker id0 outcome unended in
+        let ended : outcome_of later id0 ≡ Some outcome = outcome_of-end h worker id0 outcome unended in
         let broken : is_intact later io0.write io0.piece ≡ false =
         unlanded plan later planned legal_later id0 io0 (stays id0 io0 at0) kind0
         (λ whole unraced.
@@ -251,7 +248,7 @@ module _ (plan : Plan) (planned : IsPlanned plan) (checked_by : WriteId → Piec
           → (last : Option WriteId)
           → cond covers (given w) last ≡ Some io.write
           → ⊥
-      overwritten true true c last same = other_name (same_some io0.write io.write same)
+      overwritten true true c last same = other_name (same_Some io0.write io.write same)
       overwritten false true c last same = none-some io.write same
       overwritten w false c last same = both_ways false refl c
 
@@ -259,7 +256,7 @@ module _ (plan : Plan) (planned : IsPlanned plan) (checked_by : WriteId → Piec
           → IsShown checked_by later io
       equal_other true over =
           let own = blocks_at plan h planned legal id0 io0 at0 in
-          let common = common_block io.piece io0.piece blocks.sectors own.sectors (overlap_back io0.piece io.piece over) in
+          let common = common_block io.piece io0.piece blocks.sectors own.sectors (overlap_turned io0.piece io.piece over) in
           let f = io.piece.file in
           let b = io.piece.offset / SECTOR + common.place in
           let broken : is_intact later io.write io.piece ≡ false =
@@ -271,7 +268,7 @@ module _ (plan : Plan) (planned : IsPlanned plan) (checked_by : WriteId → Piec
           let f = io.piece.file in
           let uncovered : (b : ℕ) → covers_block io.piece f b ≡ true → covers_block io0.piece f b ≡ false =
           λ b covers. false_from_ne_true (covers_block io0.piece f b)
-          (λ both. both_ways (pieces_overlap io0.piece io.piece) over (overlap_from io0.piece io.piece f b both covers)) in
+          (λ both. both_ways (pieces_overlap io0.piece io.piece) over (shared_block io0.piece io.piece f b both covers)) in
           let same : is_intact later io.write io.piece ≡ is_intact h io.write io.piece =
           intact_same io.write io.piece blocks h later
           (λ b covers.
@@ -292,7 +289,7 @@ module _ (plan : Plan) (planned : IsPlanned plan) (checked_by : WriteId → Piec
     equal_ended id io at kind =
         elim (cases_eq id id0) [
           | inl same ↦
-              let one : io0 ≡ io = same_some io0 io (sym at0 ∙ ap (slice_get (started h)) (sym same) ∙ at) in
+              let one : io0 ≡ io = same_Some io0 io (sym at0 ∙ ap (slice_get (started h)) (sym same) ∙ at) in
               subst (IsShown checked_by later) one (equal_own lands refl)
           | inr apart ↦ equal_other id io at kind apart lands refl (pieces_overlap io0.piece io.piece) refl
         ]

@@ -3,8 +3,9 @@ use Rattle.std.proofs.Common.{◌≡◌, ℕ, suc, ◌+◌, ◌/◌, ◌%◌, �
 use Rattle.std.specs.Prelude.{◌⊎◌, Option, Some, None, slice_get, nat_lt, nat_le, ◌==◌, is_none, fold}
 use Rattle.std.specs.Option.{option_or}
 use Rattle.std.specs.List.{list_all, cons_option}
-use Rattle.std.proofs.lemmas.Bool.{and_parts, eqb-true, eq-eqb, ltb-true, both_ways, false_from_ne_true, true_from_ne_false}
+use Rattle.std.proofs.lemmas.Bool.{and_parts, eqb-true, ltb-true, both_ways, false_from_ne_true, true_from_ne_false}
 use Rattle.std.proofs.lemmas.List.Sums.{fold_push}
+use Rattle.std.proofs.lemmas.Option.{same_Some}
 use Rattle.jr_model.specs.declared.limits.TheConstants.{SECTOR, LARGEST_BLOCK, LARGEST_END}
 use Rattle.jr_model.specs.declared.blocks.Piece.{Piece}
 use Rattle.jr_model.specs.declared.events.Event.{Event}
@@ -24,14 +25,15 @@ use Rattle.jr_model.proofs.RaceLaws.{raced_other, raced_for_good}
 use Rattle.jr_model.specs.Tickets.{piece_fits}
 use Rattle.jr_model.proofs.LegalLaws.{same_write_refl}
 use Rattle.jr_model.proofs.SerialLaws.{first_given-append}
-use Rattle.jr_model.proofs.Equality.{eq_write}
+use Rattle.jr_model.proofs.Equality.{eq_write, this_write, is_this}
 use Rattle.jr_model.specs.PlanFacts.{IsPlanned}
 use Rattle.jr_laws_quiet.proofs.Races.{last_write_push}
 use Rattle.jr_laws_quiet.proofs.Latest.{InSectors, covers_own, not_all}
 use Rattle.jr_laws_steps.proofs.OnceLaws.{started_once-law}
 use Rattle.jr_laws_steps.proofs.DrawnLaws.{started_fit-law}
-use Rattle.jr_laws_steps.proofs.PlaceLemmas.{item_at, all_from, got_ranged, ranged_at}
-use Rattle.jr_laws_steps.proofs.StartedLemmas.{same_some, by_events, started_stays, started_below}
+use Rattle.jr_model.proofs.PlaceLemmas.{item_at, all_from, got_ranged, ranged_at}
+use Rattle.jr_model.proofs.HistoryLemmas.{by_events, outcome_of-end}
+use Rattle.jr_laws_steps.proofs.StartedLemmas.{started_stays, started_below}
 
 -- an I/O that may end was started, and has not ended
 pub record IsFlying (h : List Event) (id : ℕ) : Type 0 where
@@ -56,15 +58,6 @@ flying_of plan h worker id outcome may =
 pub outcome_stays : (h : List Event) (e : Event) (id : ℕ) (o : Outcome) → outcome_of h id ≡ Some o → outcome_of (h ++ e ∷ []) id ≡ Some o
 outcome_stays h e id o was =
     first_given-append (end_of id) h (e ∷ []) ∙ ap (λ (x : Option Outcome). option_or x (first_given (end_of id) (e ∷ []))) was
-
--- and is what its end says
-pub outcome_now : (h : List Event) (worker id : ℕ) (o : Outcome)
-    → outcome_of h id ≡ None
-    → outcome_of (h ++ End worker id o ∷ []) id ≡ Some o
-outcome_now h worker id o was =
-    first_given-append (end_of id) h (End worker id o ∷ [])
-    ∙ ap (λ (x : Option Outcome). option_or x (first_given (end_of id) (End worker id o ∷ []))) was
-    ∙ ap (λ (b : Bool). option_or (cond b (Some o) None) None) (eq-eqb id id refl)
 
 -- a started write of this name that ended whole, didn't race, and covers the block
 pub record LastIs (h : List Event) (f b : ℕ) (write : WriteId) : Type 0 where
@@ -113,7 +106,7 @@ module _ (plan : Plan) (h : List Event) (legal : is_legal plan h ≡ true) where
   end_gives : (outcome : Outcome) (raced : Bool) (io : Started) (hit : Bool) (last : Option WriteId) (write : WriteId)
       → cond hit (cond (ended_whole (Some outcome) && not raced) (Some io.write) None) last ≡ Some write
       → ((hit ≡ true) × (outcome ≡ Whole) × (io.write ≡ write) × (raced ≡ false)) ⊎ (last ≡ Some write)
-  end_gives Whole false io true last write is = inl (refl, refl, same_some io.write write is, refl)
+  end_gives Whole false io true last write is = inl (refl, refl, same_Some io.write write is, refl)
   end_gives Whole true io true last write is = cc
   end_gives Failed raced io true last write is = cc
   end_gives (Short n) raced io true last write is = cc
@@ -140,7 +133,7 @@ module _ (plan : Plan) (h : List Event) (legal : is_legal plan h ≡ true) where
               kind = parts.0;
               named = this.2;
               covers = parts.1;
-              ended = outcome_now h worker id outcome flying.unended ∙ ap Some this.1;
+              ended = outcome_of-end h worker id outcome flying.unended ∙ ap Some this.1;
               unraced = raced_other h e id refl ∙ this.3;
             }
         | inr before ↦ last_kept e f b write (law f b write before)
@@ -165,13 +158,6 @@ not_this : (write : WriteId) (o : Option WriteId) → (o ≡ Some write → ⊥)
 not_this write None apart = refl
 not_this write (Some other) apart =
     false_from_ne_true (same_write other write) (λ same. apart (ap Some (eq_write other write same)))
-
-is_this : (write : WriteId) (o : Option WriteId) → o ≡ Some write → is_this_write write o ≡ true
-is_this write o same = ap (is_this_write write) same ∙ same_write_refl write
-
-this_of : (write : WriteId) (o : Option WriteId) → is_this_write write o ≡ true → o ≡ Some write
-this_of write None h = cc
-this_of write (Some other) h = ap Some (eq_write other write h)
 
 -- a piece of whole blocks, and at least one
 pub record HasBlocks (p : Piece) : Type 0 where
@@ -244,7 +230,7 @@ module _ (write : WriteId) (p : Piece) (blocks : HasBlocks p) where
       → is_intact h write p ≡ true
       → last_write h p.file (p.offset / SECTOR + k) ≡ Some write
   intact_at h k within whole =
-      this_of write (last_write h p.file (p.offset / SECTOR + k))
+      this_write write (last_write h p.file (p.offset / SECTOR + k))
       (true_from_ne_false (is_this_write write (last_write h p.file (p.offset / SECTOR + k)))
       (λ fails.
       both_ways (is_intact h write p)

@@ -1,78 +1,25 @@
 -- The log of a history with one more event, and what an event's I/O is in it.
-use Rattle.std.proofs.Common.{◌≡◌, ℕ, suc, ◌<◌, ◌≤◌, List, [], ◌∷◌, ◌++◌, length, Bool, true, false, cond, ◌&&◌, not, refl, sym, ◌∙◌, ap, arith, append-nil, length-append}
-use Rattle.std.specs.Prelude.{Option, Some, None, slice_get, nat_lt, is_none, filter_map}
-use Rattle.std.specs.List.{list_all, cons_option}
-use Rattle.std.proofs.lemmas.Bool.{and_parts, and_from, lt-ltb, ltb-true}
+use Rattle.std.proofs.Common.{◌≡◌, ℕ, suc, List, [], ◌∷◌, ◌++◌, Bool, true, false, cond, ◌&&◌, not, refl, sym, ◌∙◌, ap, append-nil}
+use Rattle.std.specs.Prelude.{Option, Some, None, slice_get, filter_map}
+use Rattle.std.specs.List.{cons_option}
+use Rattle.std.proofs.lemmas.Bool.{ltb-true}
 use Rattle.std.proofs.lemmas.List.Elements.{filter_map-append}
-use Rattle.std.proofs.lemmas.List.Folds.{list_all-append}
 use Rattle.std.proofs.lemmas.List.Sums.{fold_push}
 use Rattle.jr_model.specs.declared.blocks.Piece.{Piece}
 use Rattle.jr_model.specs.declared.contents.Expected.{Expected}
 use Rattle.jr_model.specs.declared.events.Event.{Event}
 use Rattle.jr_model.specs.declared.events.Event.TheVariants.{Issue, Probe, Skip, End, Verdict}
 use Rattle.jr_model.specs.declared.events.Outcome.{Outcome}
-use Rattle.jr_model.specs.declared.events.Outcome.TheVariants.{Whole}
 use Rattle.jr_model.specs.declared.events.Started.{Started}
 use Rattle.jr_model.specs.declared.events.WriteId.{WriteId}
-use Rattle.jr_model.specs.History.{started, started_by, outcome_of, flies, is_judged, ended_whole, is_write}
-use Rattle.jr_model.specs.Legal.{is_legal, may_happen, end_fits, verdict_fits}
+use Rattle.jr_model.specs.History.{started, started_by, ended_whole, is_write}
+use Rattle.jr_model.specs.Legal.{is_legal, may_happen}
 use Rattle.jr_model.specs.Plan.{Plan}
 use Rattle.jr_model.specs.Races.{has_raced}
-use Rattle.jr_model.proofs.SerialLaws.{IsWell, well-more, whole_some}
 use Rattle.jr_writes.specs.LoggedWrites.{settled, unsettled}
 use Rattle.jr_writes.specs.LogSteps.{LogStep, settle, unsettle, after_step, log_of, step_of, step_at_end, steps_of}
 use Rattle.jr_laws_quiet.proofs.Races.{stays_ended, stays_started}
-use Rattle.jr_laws_quiet.proofs.Steps.{refers, refers_more, all_weaker, started_push}
-use Rattle.jr_laws_steps.proofs.StartedLemmas.{by_events}
 use Rattle.jr_laws_log.specs.Intact.{log_after, after_if}
-
--- what ended or was judged in a legal history was started
-pub well : (plan : Plan) (history : List Event) → is_legal plan history ≡ true → IsWell plan history
-well plan history legal =
-    by_events plan (IsWell plan) (record { legal = refl; ends = λ io o h. none_some io o h; judged = λ io h. none_true io h })
-    (λ h e legal_h so_far may. well-more plan h e so_far may) history legal
-  where
-    none_some : (io : ℕ) (o : Outcome) → None ≡ Some o → io < 0
-    none_some io o h = cc
-
-    none_true : (io : ℕ) → false ≡ true → io < 0
-    none_true io h = cc
-
--- an event that may happen speaks of an I/O that was started
-pub refers_now : (plan : Plan) (h : List Event) (e : Event)
-    → is_legal plan h ≡ true
-    → may_happen plan h e ≡ true
-    → refers (length (started h)) e ≡ true
-refers_now plan h (End worker io outcome) legal may =
-    let flying = and_parts (flies h io) (end_fits worker outcome (slice_get (started h) io)) may in
-    (and_parts (nat_lt io (length (started h))) (is_none (outcome_of h io)) flying.0).0
-refers_now plan h (Verdict worker io verdict) legal may =
-    let fits = verdict_fits plan (has_raced h io) verdict (slice_get (started h) io) in
-    let parts = and_parts (ended_whole (outcome_of h io) && not (is_judged h io)) fits may in
-    let ended = and_parts (ended_whole (outcome_of h io)) (not (is_judged h io)) parts.0 in
-    lt-ltb io (length (started h)) ((well plan h legal).ends io Whole (whole_some (outcome_of h io) ended.0))
-refers_now plan h (Issue worker dir write piece) legal may = refl
-refers_now plan h (Probe worker write piece) legal may = refl
-refers_now plan h (Skip worker write) legal may = refl
-
--- and so does each event of a legal history
-pub all_refer : (plan : Plan) (history : List Event)
-    → is_legal plan history ≡ true
-    → list_all (refers (length (started history))) history ≡ true
-all_refer plan history legal = by_events plan (λ (h : List Event). list_all (refers (length (started h))) h ≡ true) refl grows history legal
-  where
-    grows : (h : List Event) (e : Event)
-        → is_legal plan h ≡ true
-        → list_all (refers (length (started h))) h ≡ true
-        → may_happen plan h e ≡ true
-        → list_all (refers (length (started (h ++ e ∷ [])))) (h ++ e ∷ []) ≡ true
-    grows h e legal_h so_far may =
-        let n = length (started h) in
-        let m = length (started (h ++ e ∷ [])) in
-        let le : n ≤ m = omega (arith, ap length (started_push h e), length-append (started h) (cons_option (started_by e) [])) in
-        list_all-append (refers m) h (e ∷ [])
-        ∙ and_from (list_all (refers m) h) (refers m e && true) (all_weaker (refers n) (refers m) h (λ x. refers_more n m x le) so_far)
-        (and_from (refers m e) true (refers_more n m e le (refers_now plan h e legal_h may)) refl)
 
 -- the step that an event is doesn't depend on what is started later
 module _ (plan : Plan) (h : List Event) (e : Event) (checked_by : WriteId → Piece → Expected) (legal : is_legal plan h ≡ true) where

@@ -1,4 +1,4 @@
--- Believed: what is in flight after a history, by number, and what each event makes of it.
+-- Claimed: what is in flight after a history, by number, and what each event makes of it.
 use Rattle.std.specs.Prelude.{◌≡◌, ℕ, true, List, [], ◌∷◌, ◌++◌, length, Option, Some, None, slice_get, filter_map, is_none, is_some, if◌then◌else◌}
 use Rattle.std.specs.BTreeMap.{insert_entry, is_at}
 use Rattle.std.specs.List.{enumerate_from}

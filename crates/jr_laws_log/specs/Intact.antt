@@ -1,4 +1,4 @@
--- Believed: the write log of a history has its intact writes; what each event makes of the log; which writes it can't have yet.
+-- Claimed: the write log of a history has its intact writes; what each event makes of the log; which writes it can't have yet.
 use Rattle.std.specs.Prelude.{◌≡◌, ◌<◌, ℕ, true, false, List, ◌∷◌, [], ◌++◌, Option, Some, None, slice_get, not, ◌&&◌, if◌then◌else◌}
 use Rattle.jr_model.specs.declared.blocks.Piece.{Piece}
 use Rattle.jr_model.specs.declared.contents.Expected.{Expected}

@@ -4,6 +4,7 @@ use Rattle.std.specs.Prelude.{Option, Some, None, slice_get, ◌==◌}
 use Rattle.std.specs.List.{list_any, list_all, range_with_len}
 use Rattle.std.proofs.lemmas.Bool.{and_parts, and_from, and_left, eqb-true, eq-eqb, ne_eqb, cases_Bool, cases_eq, or_left, or_right, both_ways, false_from_ne_true}
 use Rattle.std.proofs.lemmas.List.Folds.{list_any-append}
+use Rattle.std.proofs.Math.Bool.{or-false}
 use Rattle.jr_model.specs.declared.blocks.Piece.{Piece}
 use Rattle.jr_model.specs.declared.events.Event.{Event}
 use Rattle.jr_model.specs.declared.events.Event.TheVariants.{Issue, Probe, Skip, End, Verdict}
@@ -21,16 +22,19 @@ use Rattle.jr_plan.specs.Files.{are_apart}
 use Rattle.jr_model.specs.PlanFacts.{IsPlanned}
 use Rattle.jr_laws_quiet.proofs.Races.{unraced, raced_before, quiet_is_fine}
 use Rattle.jr_model.specs.Races.{has_raced}
-use Rattle.jr_laws_quiet.specs.Quiet.{is_quiet, none_declines, NothingRaced, stays_last}
+use Rattle.jr_model.proofs.PlaceLemmas.{any_found, any_at, ranged_at}
+use Rattle.jr_model.proofs.PlanLemmas.{numbered_of}
+use Rattle.jr_model.proofs.HistoryLemmas.{issue_is_no_probe}
+use Rattle.jr_model.proofs.LegalLaws.{number_of_draw}
+use Rattle.jr_laws_quiet.specs.Quiet.{is_quiet, NothingRaced, stays_last}
+use Rattle.jr_laws_quiet.specs.Declining.{none_declines}
 use Rattle.jr_laws_quiet.proofs.Steps.{are_fine}
 use Rattle.jr_laws_quiet.proofs.Tallies.{total, marked, upto, total_push}
-use Rattle.jr_laws_quiet.proofs.Steps.{IsStep, along, IsNamed, IsTakeUp, probe_of, skip_of, no_probe}
-use Rattle.jr_laws_quiet.proofs.Ends.{or_false}
-use Rattle.jr_laws_quiet.proofs.Issues.{spread, spread_same, spread_grows, spread_all, MayTakeUp, may_take_up_parts, clone_is, all_at, got_range, finishes, finished_parts}
-use Rattle.jr_laws_quiet.proofs.Groups.{number_is}
+use Rattle.jr_laws_quiet.proofs.Steps.{IsStep, along, IsNamed, IsTakeUp, probe_of, skip_of}
+use Rattle.jr_laws_quiet.proofs.Issues.{spread, spread_same, spread_grows, spread_all, MayTakeUp, may_take_up_parts, clone_is, all_at, finishes, finished_parts}
 use Rattle.jr_laws_quiet.proofs.Members.{in_own_group, full_issued}
 use Rattle.jr_laws_quiet.proofs.Phases.{issue_cases, open_parts}
-use Rattle.jr_laws_quiet.proofs.Latest.{numbers_of, intact_is_last, any_at, any_from}
+use Rattle.jr_laws_quiet.proofs.Latest.{intact_is_last}
 
 -- the name of draw k of pass p of clone c
 abbrev pub name_at : ℕ → ℕ → ℕ → WriteId
@@ -42,7 +46,7 @@ is_taken c h p k = list_any (takes_up (name_at c p k)) h
 
 pub taken_push : (c : ℕ) (h : List Event) (e : Event) (p k : ℕ) → is_taken c (h ++ e ∷ []) p k ≡ (is_taken c h p k || takes_up (name_at c p k) e)
 taken_push c h e p k =
-    list_any-append (takes_up (name_at c p k)) h (e ∷ []) ∙ ap (λ (b : Bool). is_taken c h p k || b) (or_false (takes_up (name_at c p k) e))
+    list_any-append (takes_up (name_at c p k)) h (e ∷ []) ∙ ap (λ (b : Bool). is_taken c h p k || b) (or-false (takes_up (name_at c p k) e))
 
 -- the write is of a verified clone and passes the test
 abbrev pub worth_where : SubJob → (ℕ → Draw → Bool) → ℕ → Draw → ℕ
@@ -105,18 +109,18 @@ marks_taken c h e write takes same fresh =
           ∙ ap (λ (b : Bool). is_taken c h q i || b)
           (takes (name_at c q i) ∙ false_from_ne_true (same_write write (name_at c q i))
           (λ (hit : same_write write (name_at c q i) ≡ true). let parts = same_name write c q i hit in apart (sym parts.0) (sym parts.1)))
-          ∙ or_false (is_taken c h q i);
+          ∙ or-false (is_taken c h q i);
     }
 
 pub not_taken : (c : ℕ) (h : List Event) (e : Event) → ((q i : ℕ) → takes_up (name_at c q i) e ≡ false) → (q i : ℕ) → is_taken c (h ++ e ∷ []) q i ≡ is_taken c h q i
-not_taken c h e none q i = taken_push c h e q i ∙ ap (λ (b : Bool). is_taken c h q i || b) (none q i) ∙ or_false (is_taken c h q i)
+not_taken c h e none q i = taken_push c h e q i ∙ ap (λ (b : Bool). is_taken c h q i || b) (none q i) ∙ or-false (is_taken c h q i)
 
 -- a check that was started was taken up
 started_taken : (history : List Event) (io : ℕ) (s : Started) (w : WriteId) → slice_get (started history) io ≡ Some s → is_probe s.kind ≡ true → same_write s.write w ≡ true → list_any (takes_up w) history ≡ true
 started_taken [] io s w at probe same = cc
 started_taken (Issue worker kind write piece ∷ events) zero s w at probe same =
     let one : record { worker = worker; kind = kind_for kind; write = write; piece = piece } ≡ s = some_same _ s at in
-    absurd (both_ways (is_probe (kind_for kind)) (no_probe kind) (ap (λ (x : Started). is_probe x.kind) one ∙ probe))
+    absurd (both_ways (is_probe (kind_for kind)) (issue_is_no_probe kind) (ap (λ (x : Started). is_probe x.kind) one ∙ probe))
   where
     some_same : (u v : Started) → Some u ≡ Some v → u ≡ v
     some_same u v g = cc
@@ -137,7 +141,7 @@ started_taken (Verdict worker id verdict ∷ events) io s w at probe same = star
 -- what is settled was taken up
 pub settled_taken : (history : List Event) (w : WriteId) → is_settled history w ≡ true → list_any (takes_up w) history ≡ true
 settled_taken history w settled =
-    let found = any_at (settles (started history) w) history settled in
+    let found = any_found (settles (started history) w) history settled in
     one_event found.0 found.1 found.2 found.3
   where
     by_io : (o : Option Started) (io : ℕ) → slice_get (started history) io ≡ o → is_probe_of w o ≡ true → list_any (takes_up w) history ≡ true
@@ -147,7 +151,7 @@ settled_taken history w settled =
         started_taken history io s w at parts.0 parts.1
 
     one_event : (k : ℕ) (e : Event) → slice_get history k ≡ Some e → settles (started history) w e ≡ true → list_any (takes_up w) history ≡ true
-    one_event k (Skip worker skipped) at hit = any_from (takes_up w) history k (Skip worker skipped) at hit
+    one_event k (Skip worker skipped) at hit = any_at (takes_up w) history k (Skip worker skipped) at hit
     one_event k (End worker io outcome) at hit = by_io (slice_get (started history) io) io refl hit
     one_event k (Issue worker kind write piece) at hit = cc
     one_event k (Probe worker write piece) at hit = cc
@@ -157,7 +161,7 @@ module _ (plan : Plan) (planned_all : IsPlanned plan) (apart : are_apart plan.cl
   -- a pass that has begun is one of the clone's
   begun_step : (h : List Event) (e : Event) → IsStep plan h e → ((q : ℕ) → 0 < issued_count h (pass_of job q) → q < job.passes) → (q : ℕ) → 0 < issued_count (h ++ e ∷ []) (pass_of job q) → q < job.passes
   begun_step h e step begun q some =
-      elim (issue_cases plan (numbers_of plan planned_all) c job planned h e step q) [
+      elim (issue_cases plan (numbered_of plan planned_all) c job planned h e step q) [
         | inl same ↦ begun q (omega (arith, same, some))
         | inr next ↦ next.may.below
       ]
@@ -237,7 +241,7 @@ module _ (plan : Plan) (planned_all : IsPlanned plan) (apart : are_apart plan.cl
   probes_step h (Probe worker write piece) step raceless so_far =
       elim (cases_eq write.clone c) [
         | inl same ↦
-            let takes = takes_up_of h true write raceless step.legal step.quiet same (probe_of plan h worker write piece (numbers_of plan planned_all) step.may) in
+            let takes = takes_up_of h true write raceless step.legal step.quiet same (probe_of plan h worker write piece (numbered_of plan planned_all) step.may) in
             tally_takes (probe_worth c) (is_kept job) h (Probe worker write piece) write true (λ w. refl) same takes
             (ap {B = ℕ} (λ (b : Bool). cond b 1 0) (eq-eqb write.clone c same ∙ sym takes.last)) so_far
         | inr differs ↦
@@ -247,7 +251,7 @@ module _ (plan : Plan) (planned_all : IsPlanned plan) (apart : are_apart plan.cl
   probes_step h (Skip worker write) step raceless so_far =
       elim (cases_eq write.clone c) [
         | inl same ↦
-            let takes = takes_up_of h false write raceless step.legal step.quiet same (skip_of plan h worker write (numbers_of plan planned_all) step.may) in
+            let takes = takes_up_of h false write raceless step.legal step.quiet same (skip_of plan h worker write (numbered_of plan planned_all) step.may) in
             tally_takes (probe_worth c) (is_kept job) h (Skip worker write) write false (λ w. refl) same takes
             (ap {B = ℕ} (λ (b : Bool). cond b 1 0) (sym takes.last)) so_far
         | inr differs ↦
@@ -262,7 +266,7 @@ module _ (plan : Plan) (planned_all : IsPlanned plan) (apart : are_apart plan.cl
   skips_step h (Probe worker write piece) step raceless so_far =
       elim (cases_eq write.clone c) [
         | inl same ↦
-            let takes = takes_up_of h true write raceless step.legal step.quiet same (probe_of plan h worker write piece (numbers_of plan planned_all) step.may) in
+            let takes = takes_up_of h true write raceless step.legal step.quiet same (probe_of plan h worker write piece (numbered_of plan planned_all) step.may) in
             tally_takes (skip_worth c) (is_overwritten job) h (Probe worker write piece) write true (λ w. refl) same takes
             (ap {B = ℕ} (λ (b : Bool). cond (not b) 1 0) (sym takes.last)) so_far
         | inr differs ↦
@@ -271,7 +275,7 @@ module _ (plan : Plan) (planned_all : IsPlanned plan) (apart : are_apart plan.cl
   skips_step h (Skip worker write) step raceless so_far =
       elim (cases_eq write.clone c) [
         | inl same ↦
-            let takes = takes_up_of h false write raceless step.legal step.quiet same (skip_of plan h worker write (numbers_of plan planned_all) step.may) in
+            let takes = takes_up_of h false write raceless step.legal step.quiet same (skip_of plan h worker write (numbered_of plan planned_all) step.may) in
             tally_takes (skip_worth c) (is_overwritten job) h (Skip worker write) write false (λ w. refl) same takes
             (ap {B = ℕ} (λ (b : Bool). cond b 1 0) (eq-eqb write.clone c same) ∙ ap {B = ℕ} (λ (b : Bool). cond (not b) 1 0) (sym takes.last)) so_far
         | inr differs ↦
@@ -287,10 +291,10 @@ module _ (plan : Plan) (planned_all : IsPlanned plan) (apart : are_apart plan.cl
       let own = in_own_group job p k d at writes in
       let g = group_index pass k in
       let all : list_all (λ (i : ℕ). is_closed history pass i) (range_with_len 0 (group_count pass)) ≡ true = second (has_rounds job) _ rounds closed in
-      let one : is_closed history pass g ≡ true = all_at (λ (i : ℕ). is_closed history pass i) (range_with_len 0 (group_count pass)) g g all (got_range 0 (group_count pass) g own.1 ∙ ap Some (zero-add g)) in
+      let one : is_closed history pass g ≡ true = all_at (λ (i : ℕ). is_closed history pass i) (range_with_len 0 (group_count pass)) g g all (ranged_at 0 (group_count pass) g own.1 ∙ ap Some (zero-add g)) in
       let members = (and_parts (is_full history pass g) (list_all (λ (x : Draw). is_settled history (write_id pass x)) (group_of pass g)) one).1 in
       let settled : is_settled history (write_id pass d) ≡ true = all_at (λ (x : Draw). is_settled history (write_id pass x)) (group_of pass g) own.0.place d members own.0.at in
-      let name : write_id pass d ≡ name_at c p k = ap (λ (x : ℕ). name_at x p d.number) (clone_is plan (numbers_of plan planned_all) c job planned) ∙ ap (name_at c p) (number_is job p k d at) in
+      let name : write_id pass d ≡ name_at c p k = ap (λ (x : ℕ). name_at x p d.number) (clone_is plan (numbered_of plan planned_all) c job planned) ∙ ap (name_at c p) (number_of_draw job p k d at) in
       settled_taken history (name_at c p k) (subst (λ (w : WriteId). is_settled history w ≡ true) name settled)
     where
       second : (a b : Bool) → a ≡ true → (not a || b) ≡ true → b ≡ true
@@ -324,8 +328,8 @@ module _ (plan : Plan) (planned_all : IsPlanned plan) (apart : are_apart plan.cl
 -- what is checked stays last in its group, and what is skipped doesn't
 pub kept_or_not : (plan : Plan) (history : List Event) (worker : ℕ) (write : WriteId) (piece : Piece) (job : SubJob) (draw : Draw) → IsPlanned plan → none_declines plan ≡ true → are_apart plan.clones ≡ true → is_legal plan history ≡ true → is_quiet history ≡ true → clone_of plan write.clone ≡ Some job → slice_get (draws_of_job job write.pass) write.number ≡ Some draw → (may_happen plan history (Probe worker write piece) ≡ true → stays_last (pass_of job write.pass) draw ≡ true) × (may_happen plan history (Skip worker write) ≡ true → stays_last (pass_of job write.pass) draw ≡ false)
 kept_or_not plan history worker write piece job draw planned_all none files legal quiet planned drawn = (
-  λ (may : may_happen plan history (Probe worker write piece) ≡ true). of_draw true (probe_of plan history worker write piece (numbers_of plan planned_all) may),
-  λ (may : may_happen plan history (Skip worker write) ≡ true). of_draw false (skip_of plan history worker write (numbers_of plan planned_all) may),
+  λ (may : may_happen plan history (Probe worker write piece) ≡ true). of_draw true (probe_of plan history worker write piece (numbered_of plan planned_all) may),
+  λ (may : may_happen plan history (Skip worker write) ≡ true). of_draw false (skip_of plan history worker write (numbered_of plan planned_all) may),
 )
   where
     some_same : (u v : Draw) → Some u ≡ Some v → u ≡ v
@@ -333,7 +337,7 @@ kept_or_not plan history worker write piece job draw planned_all none files lega
 
     of_draw : (stays : Bool) → IsTakeUp plan history stays write → stays_last (pass_of job write.pass) draw ≡ stays
     of_draw stays take =
-        let raceless = unraced plan (numbers_of plan planned_all) none history legal in
+        let raceless = unraced plan (numbered_of plan planned_all) none history legal in
         let takes = takes_up_of plan planned_all files write.clone job planned history stays write raceless legal (quiet_is_fine plan history raceless legal quiet) refl take in
         let one : takes.draw ≡ draw = some_same takes.draw draw (sym takes.drawn ∙ drawn) in
         subst (λ (d : Draw). stays_last (pass_of job write.pass) d ≡ stays) one takes.last

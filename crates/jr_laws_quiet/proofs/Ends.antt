@@ -3,8 +3,8 @@ use Rattle.std.proofs.Common.{◌≡◌, ℕ, zero, suc, ◌+◌, ◌<◌, ◌�
 use Rattle.std.specs.Prelude.{◌⊎◌, Option, Some, None, slice_get, nat_lt, ◌==◌, is_none, is_some, filter_map}
 use Rattle.std.specs.Option.{option_or}
 use Rattle.std.specs.List.{list_all, cons_option, enumerate_from}
-use Rattle.std.proofs.lemmas.Bool.{and_parts, eqb-true, eq-eqb, ne_eqb, ltb-true, not-true}
-use Rattle.std.proofs.lemmas.List.Folds.{list_any-append}
+use Rattle.std.proofs.lemmas.Bool.{and_parts, eqb-true, eq-eqb, ne_eqb, ltb-true, not-true, false_from_ne_true}
+use Rattle.std.proofs.Math.Bool.{or-false}
 use Rattle.jr_model.specs.declared.events.Event.{Event}
 use Rattle.jr_model.specs.declared.events.Event.TheVariants.{Issue, Probe, Skip, End, Verdict}
 use Rattle.jr_model.specs.declared.events.Outcome.{Outcome}
@@ -14,11 +14,14 @@ use Rattle.jr_model.specs.declared.events.Verdict.{Verdict as GivenVerdict}
 use Rattle.jr_model.specs.History.{started, started_by, end_of, outcome_of, flies, is_verdict_on, is_judged, ended_whole, is_judged_kind, in_flight, if_flying, awaiting, if_awaiting}
 use Rattle.jr_model.specs.Legal.{is_legal, end_fits, verdict_fits, is_complete, is_over, is_fault}
 use Rattle.jr_model.specs.Plan.{Plan}
-use Rattle.jr_model.proofs.SerialLaws.{first_given-append, none_from, false_from}
+use Rattle.jr_model.proofs.SerialLaws.{first_given-append}
 use Rattle.jr_model.specs.Races.{has_raced}
+use Rattle.jr_model.proofs.OptionLemmas.{none_from}
+use Rattle.jr_model.proofs.PlaceLemmas.{item_at, got_longer}
+use Rattle.jr_model.proofs.HistoryLemmas.{is_judged-more, started-more}
 use Rattle.jr_laws_quiet.proofs.Steps.{is_fine, are_fine}
 use Rattle.jr_laws_quiet.proofs.Tallies.{total, got, marked, total_push, marked_same, marked_push, marked_grows, marked_all}
-use Rattle.jr_laws_quiet.proofs.Steps.{IsStep, along, well_of, refers, refers_now, all_refer, started_push, got_within, Agrees}
+use Rattle.jr_laws_quiet.proofs.Steps.{IsStep, along, well_of, refers, refers_now, all_refer, Agrees}
 
 -- what f gives of the I/O that the event ends
 abbrev pub end_worth : (Started → ℕ) → List Started → Event → ℕ
@@ -37,14 +40,14 @@ verdict_worth f ios (Probe worker write piece) = 0
 verdict_worth f ios (Skip worker write) = 0
 
 pub end_worth_agrees : (f : Started → ℕ) → Agrees (end_worth f)
-end_worth_agrees f ios more (End worker io outcome) h = ap (got f) (got_within ios more io (ltb-true io (length ios) h))
+end_worth_agrees f ios more (End worker io outcome) h = ap (got f) (got_longer ios more io (ltb-true io (length ios) h))
 end_worth_agrees f ios more (Issue worker kind write piece) h = refl
 end_worth_agrees f ios more (Probe worker write piece) h = refl
 end_worth_agrees f ios more (Skip worker write) h = refl
 end_worth_agrees f ios more (Verdict worker io verdict) h = refl
 
 pub verdict_worth_agrees : (f : Started → ℕ) → Agrees (verdict_worth f)
-verdict_worth_agrees f ios more (Verdict worker io verdict) h = ap (got f) (got_within ios more io (ltb-true io (length ios) h))
+verdict_worth_agrees f ios more (Verdict worker io verdict) h = ap (got f) (got_longer ios more io (ltb-true io (length ios) h))
 verdict_worth_agrees f ios more (Issue worker kind write piece) h = refl
 verdict_worth_agrees f ios more (Probe worker write piece) h = refl
 verdict_worth_agrees f ios more (Skip worker write) h = refl
@@ -64,19 +67,11 @@ pub is_some_or : {Y : Type 0} (a b : Option Y) → is_some (option_or a b) ≡ (
 is_some_or None b = refl
 is_some_or (Some y) b = refl
 
-pub or_false : (b : Bool) → (b || false) ≡ b
-or_false true = refl
-or_false false = refl
-
 pub has_ended_push : (h : List Event) (e : Event) (io : ℕ) → has_ended (h ++ e ∷ []) io ≡ (has_ended h io || is_some (end_of io e))
 has_ended_push h e io =
     ap is_some (first_given-append (end_of io) h (e ∷ []))
     ∙ is_some_or (outcome_of h io) (option_or (end_of io e) None)
-    ∙ ap (λ (b : Bool). has_ended h io || b) (is_some_or (end_of io e) None ∙ or_false (is_some (end_of io e)))
-
-pub is_judged_push : (h : List Event) (e : Event) (io : ℕ) → is_judged (h ++ e ∷ []) io ≡ (is_judged h io || is_verdict_on io e)
-is_judged_push h e io =
-    list_any-append (is_verdict_on io) h (e ∷ []) ∙ ap (λ (b : Bool). is_judged h io || b) (or_false (is_verdict_on io e))
+    ∙ ap (λ (b : Bool). has_ended h io || b) (is_some_or (end_of io e) None ∙ or-false (is_some (end_of io e)))
 
 pub none_is_none : {Y : Type 0} (o : Option Y) → is_none o ≡ true → is_some o ≡ false
 none_is_none None h = refl
@@ -93,7 +88,7 @@ not_ended_yet plan h legal quiet io le =
 
 pub not_judged_yet : (plan : Plan) (h : List Event) → is_legal plan h ≡ true → are_fine h ≡ true → (io : ℕ) → length (started h) ≤ io → is_judged h io ≡ false
 not_judged_yet plan h legal quiet io le =
-    false_from (is_judged h io) (λ (at : is_judged h io ≡ true). let below : io < length (started h) = (well_of plan h legal quiet).judged io at in omega (arith, below, le))
+    false_from_ne_true (is_judged h io) (λ (at : is_judged h io ≡ true). let below : io < length (started h) = (well_of plan h legal quiet).judged io at in omega (arith, below, le))
 
 -- the sums agree so far
 abbrev pub EndsTally : (Started → ℕ) → List Event → Type 0
@@ -109,12 +104,12 @@ module _ (plan : Plan) (f : Started → ℕ) (h : List Event) (e : Event) (step 
   -- a sum over the events, after one that ends nothing and judges nothing
   same_marks : (T : List Event → ℕ → Bool) (o : Option Started) → started_by e ≡ o → ((io : ℕ) → T (h ++ e ∷ []) io ≡ T h io) → T h (length (started h)) ≡ false → marked (T (h ++ e ∷ [])) f 0 (started (h ++ e ∷ [])) ≡ marked (T h) f 0 (started h)
   same_marks T None starts same off =
-      ap (marked (T (h ++ e ∷ [])) f 0) (started_push h e ∙ ap (λ (s : Option Started). started h ++ cons_option s []) starts ∙ append-nil (started h))
+      ap (marked (T (h ++ e ∷ [])) f 0) (started-more h e ∙ ap (λ (s : Option Started). started h ++ cons_option s []) starts ∙ append-nil (started h))
       ∙ marked_same (T (h ++ e ∷ [])) (T h) f 0 (started h) (λ io low high. same io)
   same_marks T (Some s) starts same off =
       let n = length (started h) in
       let last : T h (0 + n) ≡ false = subst (λ (i : ℕ). T h i ≡ false) (sym (zero-add n)) off in
-      ap (marked (T (h ++ e ∷ [])) f 0) (started_push h e ∙ ap (λ (x : Option Started). started h ++ cons_option x []) starts)
+      ap (marked (T (h ++ e ∷ [])) f 0) (started-more h e ∙ ap (λ (x : Option Started). started h ++ cons_option x []) starts)
       ∙ marked_same (T (h ++ e ∷ [])) (T h) f 0 (started h ++ s ∷ []) (λ io low high. same io)
       ∙ marked_push (T h) f 0 (started h) s
       ∙ omega (arith, ap (λ (b : Bool). cond b (f s) 0) last)
@@ -124,37 +119,32 @@ module _ (plan : Plan) (f : Started → ℕ) (h : List Event) (e : Event) (step 
   one_more F agrees =
       total_push (F (started (h ++ e ∷ []))) h e
       ∙ ap (λ (n : ℕ). n + F (started (h ++ e ∷ [])) e)
-      (ap (λ (ios : List Started). total (F ios) h) (started_push h e) ∙ total_agrees F agrees (started h) (cons_option (started_by e) []) h all_known)
+      (ap (λ (ios : List Started). total (F ios) h) (started-more h e) ∙ total_agrees F agrees (started h) (cons_option (started_by e) []) h all_known)
 
   ends_keep : end_worth f (started (h ++ e ∷ [])) e ≡ 0 → ((io : ℕ) → is_some (end_of io e) ≡ false) → EndsTally f h → EndsTally f (h ++ e ∷ [])
   ends_keep nothing none so_far =
-      let marks = same_marks has_ended (started_by e) refl (λ io. has_ended_push h e io ∙ ap (λ (b : Bool). has_ended h io || b) (none io) ∙ or_false (has_ended h io)) (not_ended_yet plan h step.legal step.quiet (length (started h)) (omega arith)) in
+      let marks = same_marks has_ended (started_by e) refl (λ io. has_ended_push h e io ∙ ap (λ (b : Bool). has_ended h io || b) (none io) ∙ or-false (has_ended h io)) (not_ended_yet plan h step.legal step.quiet (length (started h)) (omega arith)) in
       omega (arith, one_more (end_worth f) (end_worth_agrees f), nothing, marks, so_far)
 
   verdicts_keep : verdict_worth f (started (h ++ e ∷ [])) e ≡ 0 → ((io : ℕ) → is_verdict_on io e ≡ false) → VerdictsTally f h → VerdictsTally f (h ++ e ∷ [])
   verdicts_keep nothing none so_far =
-      let marks = same_marks is_judged (started_by e) refl (λ io. is_judged_push h e io ∙ ap (λ (b : Bool). is_judged h io || b) (none io) ∙ or_false (is_judged h io)) (not_judged_yet plan h step.legal step.quiet (length (started h)) (omega arith)) in
+      let marks = same_marks is_judged (started_by e) refl (λ io. is_judged-more h e io ∙ ap (λ (b : Bool). is_judged h io || b) (none io) ∙ or-false (is_judged h io)) (not_judged_yet plan h step.legal step.quiet (length (started h)) (omega arith)) in
       omega (arith, one_more (verdict_worth f) (verdict_worth_agrees f), nothing, marks, so_far)
-
-pub some_within : {X : Type 0} (xs : List X) (k : ℕ) → k < length xs → (x : X) × (slice_get xs k ≡ Some x)
-some_within [] k below = absurd (omega arith)
-some_within (x ∷ xs) zero below = (x, refl)
-some_within (x ∷ xs) (suc k) below = some_within xs k (omega (arith, below))
 
 module _ (plan : Plan) (f : Started → ℕ) where
   end_tallies : (h : List Event) (worker io : ℕ) (outcome : Outcome) → IsStep plan h (End worker io outcome) → EndsTally f h → EndsTally f (h ++ End worker io outcome ∷ [])
   end_tallies h worker io outcome step so_far =
       let e = End worker io outcome in
       let flying = and_parts (nat_lt io (length (started h))) (is_none (outcome_of h io)) (and_parts (flies h io) (end_fits worker outcome (slice_get (started h) io)) step.may).0 in
-      let found = some_within (started h) io (ltb-true io (length (started h)) flying.0) in
-      let same : started (h ++ e ∷ []) ≡ started h = started_push h e ∙ append-nil (started h) in
+      let found = item_at (started h) io (ltb-true io (length (started h)) flying.0) in
+      let same : started (h ++ e ∷ []) ≡ started h = started-more h e ∙ append-nil (started h) in
       let there : slice_get (started (h ++ e ∷ [])) io ≡ Some found.0 = ap (λ (ios : List Started). slice_get ios io) same ∙ found.1 in
       let off : has_ended h (0 + io) ≡ false = subst (λ (i : ℕ). has_ended h i ≡ false) (sym (zero-add io)) (none_is_none (outcome_of h io) flying.1) in
       let on : has_ended (h ++ e ∷ []) (0 + io) ≡ true =
       subst (λ (i : ℕ). has_ended (h ++ e ∷ []) i ≡ true) (sym (zero-add io))
       (has_ended_push h e io ∙ ap (λ (b : Bool). has_ended h io || b) (some_if (io == io) outcome ∙ eq-eqb io io refl) ∙ or_is_true (has_ended h io)) in
       let others : (i : ℕ) → (i ≡ 0 + io → ⊥) → has_ended (h ++ e ∷ []) i ≡ has_ended h i =
-      λ (i : ℕ) (apart : i ≡ 0 + io → ⊥). has_ended_push h e i ∙ ap (λ (b : Bool). has_ended h i || b) (some_if (io == i) outcome ∙ ne_eqb io i (λ equal. apart (omega (arith, equal)))) ∙ or_false (has_ended h i) in
+      λ (i : ℕ) (apart : i ≡ 0 + io → ⊥). has_ended_push h e i ∙ ap (λ (b : Bool). has_ended h i || b) (some_if (io == i) outcome ∙ ne_eqb io i (λ equal. apart (omega (arith, equal)))) ∙ or-false (has_ended h i) in
       let grows = marked_grows (has_ended h) (has_ended (h ++ e ∷ [])) f 0 io (started h) found.0 found.1 off on others in
       omega (
         arith,
@@ -181,15 +171,15 @@ module _ (plan : Plan) (f : Started → ℕ) where
       let e = Verdict worker io verdict in
       let fits = and_parts (ended_whole (outcome_of h io) && not (is_judged h io)) (verdict_fits plan (has_raced h io) verdict (slice_get (started h) io)) step.may in
       let unjudged = not-true (is_judged h io) (and_parts (ended_whole (outcome_of h io)) (not (is_judged h io)) fits.0).1 in
-      let found = some_within (started h) io (ltb-true io (length (started h)) (refers_now plan h e step)) in
-      let same : started (h ++ e ∷ []) ≡ started h = started_push h e ∙ append-nil (started h) in
+      let found = item_at (started h) io (ltb-true io (length (started h)) (refers_now plan h e step)) in
+      let same : started (h ++ e ∷ []) ≡ started h = started-more h e ∙ append-nil (started h) in
       let there : slice_get (started (h ++ e ∷ [])) io ≡ Some found.0 = ap (λ (ios : List Started). slice_get ios io) same ∙ found.1 in
       let off : is_judged h (0 + io) ≡ false = subst (λ (i : ℕ). is_judged h i ≡ false) (sym (zero-add io)) unjudged in
       let on : is_judged (h ++ e ∷ []) (0 + io) ≡ true =
       subst (λ (i : ℕ). is_judged (h ++ e ∷ []) i ≡ true) (sym (zero-add io))
-      (is_judged_push h e io ∙ ap (λ (b : Bool). is_judged h io || b) (eq-eqb io io refl) ∙ or_is_true (is_judged h io)) in
+      (is_judged-more h e io ∙ ap (λ (b : Bool). is_judged h io || b) (eq-eqb io io refl) ∙ or_is_true (is_judged h io)) in
       let others : (i : ℕ) → (i ≡ 0 + io → ⊥) → is_judged (h ++ e ∷ []) i ≡ is_judged h i =
-      λ (i : ℕ) (apart : i ≡ 0 + io → ⊥). is_judged_push h e i ∙ ap (λ (b : Bool). is_judged h i || b) (ne_eqb io i (λ equal. apart (omega (arith, equal)))) ∙ or_false (is_judged h i) in
+      λ (i : ℕ) (apart : i ≡ 0 + io → ⊥). is_judged-more h e i ∙ ap (λ (b : Bool). is_judged h i || b) (ne_eqb io i (λ equal. apart (omega (arith, equal)))) ∙ or-false (is_judged h i) in
       let grows = marked_grows (is_judged h) (is_judged (h ++ e ∷ [])) f 0 io (started h) found.0 found.1 off on others in
       omega (
         arith,

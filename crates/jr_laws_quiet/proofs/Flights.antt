@@ -10,7 +10,7 @@ use Rattle.jr_model.specs.declared.events.Started.{Started}
 use Rattle.jr_model.specs.History.{started, outcome_of, in_flight, if_flying}
 use Rattle.jr_model.specs.Legal.{conflicts, is_clear, waits_for}
 use Rattle.jr_model.specs.Plan.{Plan, SubJob, clone_of, declines_of}
-use Rattle.jr_laws_quiet.specs.Quiet.{none_declines}
+use Rattle.jr_laws_quiet.specs.Declining.{none_declines}
 use Rattle.jr_laws_quiet.proofs.Ends.{has_ended}
 
 pub any_given : {X Y : Type 0} (g : ℕ × X → Option Y) (p : Y → Bool) (n k : ℕ) (xs : List X) (x : X) (y : Y) → slice_get xs k ≡ Some x → g (n + k, x) ≡ Some y → p y ≡ true → list_any p (filter_map g (enumerate_from n xs)) ≡ true

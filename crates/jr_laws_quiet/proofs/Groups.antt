@@ -5,11 +5,10 @@ use Rattle.std.proofs.lemmas.Bool.{eqb-false, lt-ltb, le-ltb, cases_lt}
 use Rattle.std.proofs.lemmas.Nat.{div-add-mod', mod_below}
 use Rattle.std.proofs.lemmas.Option.{slice_get_within}
 use Rattle.jr_model.specs.declared.workloads.Draw.{Draw}
-use Rattle.jr_model.specs.Draws.{draws_of_job, fresh_progress}
+use Rattle.jr_model.specs.Draws.{draws_of_job}
 use Rattle.jr_model.specs.Plan.{SubJob}
 use Rattle.jr_model.specs.Rounds.{pass_of, is_write_draw, writes_of, group_of, group_count, group_index}
-use Rattle.jr_model.specs.Words.{pass_words}
-use Rattle.jr_model.proofs.LegalLaws.{number-draws_from}
+use Rattle.jr_model.proofs.LegalLaws.{number_of_draw}
 use Rattle.jr_laws_quiet.proofs.Tallies.{total, count_by-total}
 
 -- the numbers of these draws rise, from n on
@@ -129,18 +128,6 @@ got_filter {X = X} p (y ∷ xs) (suc k) x at passes =
     by_case true found = (suc found.0, found.1)
     by_case false found = found
 
-pub filtered : {X : Type 0} (p : X → Bool) (xs : List X) (i : ℕ) (x : X) → slice_get (filter p xs) i ≡ Some x → (k : ℕ) × (slice_get xs k ≡ Some x) × (p x ≡ true)
-filtered p [] i x at = cc
-filtered {X = X} p (y ∷ xs) i x at = by_case (p y) i refl at (λ (j : ℕ) (there : slice_get (filter p xs) j ≡ Some x). filtered p xs j x there)
-  where
-    further : (k : ℕ) × (slice_get xs k ≡ Some x) × (p x ≡ true) → (k : ℕ) × (slice_get (y ∷ xs) k ≡ Some x) × (p x ≡ true)
-    further found = (suc found.0, found.1, found.2)
-
-    by_case : (b : Bool) (j : ℕ) → p y ≡ b → slice_get (cond b (y ∷ filter p xs) (filter p xs)) j ≡ Some x → ((m : ℕ) → slice_get (filter p xs) m ≡ Some x → (k : ℕ) × (slice_get xs k ≡ Some x) × (p x ≡ true)) → (k : ℕ) × (slice_get (y ∷ xs) k ≡ Some x) × (p x ≡ true)
-    by_case true zero passes there rest = let same : y ≡ x = cc in (0, there, ap p (sym same) ∙ passes)
-    by_case true (suc j) passes there rest = further (rest j there)
-    by_case false j passes there rest = further (rest j there)
-
 pub got_take : {X : Type 0} (n : ℕ) (xs : List X) (j : ℕ) → j < n → slice_get (take n xs) j ≡ slice_get xs j
 got_take zero xs j below = absurd (omega arith)
 got_take (suc n) [] j below = refl
@@ -160,14 +147,10 @@ take_within n xs j x at =
     let within = slice_get_within (take n xs) j x at in
     omega (arith, within, length-take n xs)
 
--- the draws of a pass are numbered by their places
-pub number_is : (job : SubJob) (p k : ℕ) (d : Draw) → slice_get (draws_of_job job p) k ≡ Some d → d.number ≡ k
-number_is job p k d at = omega (arith, number-draws_from job (fresh_progress job) (pass_words job p (4 * job.cells)) k d at)
-
 pub writes_rise : (job : SubJob) (p : ℕ) → Rising 0 (writes_of (pass_of job p))
 writes_rise job p =
     rising_filter is_write_draw 0 (draws_of_job job p)
-    (λ (k : ℕ) (d : Draw) (at : slice_get (draws_of_job job p) k ≡ Some d). number_is job p k d at ∙ sym (zero-add k))
+    (λ (k : ℕ) (d : Draw) (at : slice_get (draws_of_job job p) k ≡ Some d). number_of_draw job p k d at ∙ sym (zero-add k))
 
 -- a cut of a list into groups of b
 pub group_place : {X : Type 0} (b i : ℕ) (xs : List X) → 0 < b → slice_get (take b (drop (i / b * b) xs)) (i % b) ≡ slice_get xs i

@@ -1,9 +1,8 @@
 -- Each draw of a pass is issued once, in order, so a sum over issues is one over draws.
-use Rattle.std.proofs.Common.{◌≡◌, ℕ, zero, suc, ◌+◌, ◌<◌, ◌≤◌, List, [], ◌∷◌, ◌++◌, length, take, map, Bool, true, false, cond, ◌&&◌, ◌||◌, not, refl, sym, ◌∙◌, ap, subst, arith, inl, inr, add-zero, zero-add}
+use Rattle.std.proofs.Common.{◌≡◌, ℕ, zero, suc, ◌+◌, ◌<◌, ◌≤◌, List, [], ◌∷◌, ◌++◌, length, take, Bool, true, false, cond, ◌&&◌, ◌||◌, not, refl, sym, ◌∙◌, ap, subst, arith, inl, inr, zero-add}
 use Rattle.std.specs.Prelude.{◌⊎◌, Option, Some, None, slice_get, nat_lt, ◌==◌, flat_map}
 use Rattle.std.specs.List.{list_any, list_all, range_with_len}
 use Rattle.std.proofs.lemmas.Bool.{and_parts, and_from, eqb-true, eq-eqb, ne_eqb, lt-ltb, le-ltb, ltb-true, cases_eq, cases_lt, not-true, and_left, and_right, or_from}
-use Rattle.std.proofs.lemmas.List.Sums.{sum_by_push}
 use Rattle.std.proofs.lemmas.Option.{slice_get_within}
 use Rattle.jr_model.specs.declared.blocks.Piece.{Piece}
 use Rattle.jr_model.specs.declared.events.Event.{Event}
@@ -23,6 +22,8 @@ use Rattle.jr_model.specs.Legal.{is_legal, is_complete, is_over, is_halted, halt
 use Rattle.jr_model.specs.Plan.{Plan, SubJob, IsNumbered, clone_of, issued_as}
 use Rattle.jr_model.specs.Rounds.{Pass, pass_of, passes_of, write_id, is_write_draw, issues_of, issued_count, all_issued, is_current, waits_for_round, pass_finished, clone_finished, nothing_flies_in, rounds_closed, has_rounds, is_open, group_index}
 use Rattle.jr_model.specs.Totals.{moved, moved_by, if_wanted}
+use Rattle.jr_model.proofs.PlanLemmas.{pass_at}
+use Rattle.jr_model.proofs.HistoryLemmas.{issued_push}
 use Rattle.jr_laws_quiet.proofs.Steps.{is_fine, are_fine}
 use Rattle.jr_laws_quiet.proofs.Tallies.{total, got, marked, upto, total_push, total-filter_map, total_same, total-map, total_upto, marked_same, marked_grows, marked_all, upto_same_below, upto_grows, total-flat_map}
 use Rattle.jr_laws_quiet.proofs.Steps.{IsStep, along, IsNamed, issue_of}
@@ -116,9 +117,6 @@ may_take_up_parts plan h pass draw may =
       clear = p5.1;
       opened = p6.1;
     }
-
-pub issued_push : (h : List Event) (e : Event) (pass : Pass) → issued_count (h ++ e ∷ []) pass ≡ issued_count h pass + cond (issues_of pass e) 1 0
-issued_push h e pass = sum_by_push (λ (x : Event). cond (issues_of pass x) 1 0) h e
 
 -- an event that issues nothing of the pass
 pub issued_same : (h : List Event) (e : Event) (pass : Pass) → issues_of pass e ≡ false → issued_count (h ++ e ∷ []) pass ≡ issued_count h pass
@@ -301,26 +299,12 @@ all_at {X = X} p (y ∷ xs) zero x h at =
     subst (λ (z : X). p z ≡ true) same (and_parts (p y) (list_all p xs) h).0
 all_at p (y ∷ xs) (suc k) x h at = all_at p xs k x (and_parts (p y) (list_all p xs) h).1 at
 
-pub got_map : {X Y : Type 0} (f : X → Y) (xs : List X) (k : ℕ) (x : X) → slice_get xs k ≡ Some x → slice_get (map f xs) k ≡ Some (f x)
-got_map f [] k x at = cc
-got_map f (y ∷ xs) zero x at = let same : y ≡ x = cc in ap (λ z. Some (f z)) same
-got_map f (y ∷ xs) (suc k) x at = got_map f xs k x at
-
-pub got_range : (a n k : ℕ) → k < n → slice_get (range_with_len a n) k ≡ Some (a + k)
-got_range a zero k below = absurd (omega arith)
-got_range a (suc n) zero below = ap Some (sym (add-zero a))
-got_range a (suc n) (suc k) below = got_range (a + 1) n k (omega (arith, below)) ∙ ap Some (omega arith)
-
--- pass p of a clone
-pub got_pass : (job : SubJob) (p : ℕ) → p < job.passes → slice_get (passes_of job) p ≡ Some (pass_of job p)
-got_pass job p below = got_map (pass_of job) (range_with_len 0 job.passes) p p (got_range 0 job.passes p below ∙ ap Some (zero-add p))
-
 -- in a complete history in which nothing goes wrong each pass is finished
 pub finishes : (plan : Plan) (history : List Event) (c : ℕ) (job : SubJob) → clone_of plan c ≡ Some job → are_fine history ≡ true → is_complete plan history ≡ true → (p : ℕ) → p < job.passes → pass_finished history (pass_of job p) ≡ true
 finishes plan history c job planned quiet complete p below =
     let over = all_at (is_over history) plan.clones c job (completes plan history complete).2 planned in
     let finished : clone_finished history job ≡ true = either (is_halted history job) (clone_finished history job) (never_halted history job quiet) over in
-    all_at (pass_finished history) (passes_of job) p (pass_of job p) finished (got_pass job p below)
+    all_at (pass_finished history) (passes_of job) p (pass_of job p) finished (pass_at job p below)
   where
     either : (a b : Bool) → a ≡ false → (a || b) ≡ true → b ≡ true
     either true b p h = cc

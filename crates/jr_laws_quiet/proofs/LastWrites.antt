@@ -1,12 +1,12 @@
 -- Where nothing raced, a write started after each earlier one that it overlaps had ended, so where no write of a block is in
 -- flight, its last write is the one that was issued last.
-use Rattle.std.proofs.Common.{◌≡◌, ℕ, zero, suc, ◌+◌, ◌*◌, ◌<◌, ◌≤◌, List, [], ◌∷◌, ◌++◌, length, Bool, true, false, cond, ◌&&◌, ◌||◌, refl, sym, ◌∙◌, ap, subst, arith, inl, inr, append-nil, zero-add}
-use Rattle.std.specs.Prelude.{Option, Some, None, slice_get, nat_lt, nat_le, ◌==◌, is_none, is_some, fold, min, max, filter_map}
+use Rattle.std.proofs.Common.{◌≡◌, ℕ, zero, suc, List, [], ◌∷◌, ◌++◌, length, Bool, true, false, cond, ◌&&◌, ◌||◌, refl, sym, ◌∙◌, ap, subst, arith, inl, inr, append-nil, zero-add}
+use Rattle.std.specs.Prelude.{Option, Some, None, slice_get, nat_lt, ◌==◌, is_none, is_some, fold, filter_map}
 use Rattle.std.specs.List.{list_any, list_all, cons_option, enumerate_from}
-use Rattle.std.proofs.lemmas.Bool.{and_parts, and_from, eqb-true, eq-eqb, ne_eqb, lt-ltb, ltb-true, leb-true, cases_Bool, cases_eq, not-true, or_parts, or_left, or_right, both_ways, true_from_ne_false}
+use Rattle.std.proofs.lemmas.Bool.{and_parts, and_from, ne_eqb, ltb-true, cases_Bool, cases_eq, not-true, or_parts, or_left, or_right, both_ways, true_from_ne_false}
 use Rattle.std.proofs.lemmas.List.Sums.{fold_push}
 use Rattle.std.proofs.lemmas.Option.{slice_get_within}
-use Rattle.jr_model.specs.declared.limits.TheConstants.{SECTOR}
+use Rattle.std.proofs.Math.Bool.{or-false}
 use Rattle.jr_model.specs.declared.blocks.Piece.{Piece}
 use Rattle.jr_model.specs.declared.events.Event.{Event}
 use Rattle.jr_model.specs.declared.events.Event.TheVariants.{Issue, Probe, Skip, End, Verdict}
@@ -25,10 +25,14 @@ use Rattle.jr_model.specs.Pieces.{pieces_overlap}
 use Rattle.jr_model.specs.Plan.{Plan}
 use Rattle.jr_model.specs.Rounds.{is_write_draw, pass_of}
 use Rattle.jr_model.specs.PlanFacts.{IsPlanned}
-use Rattle.jr_laws_quiet.specs.Quiet.{is_quiet, none_declines, NothingRaced, issued_over, last_issued, writes_block}
+use Rattle.jr_model.proofs.PlaceLemmas.{item_at, got_longer, got_last}
+use Rattle.jr_model.proofs.HistoryLemmas.{started-more}
+use Rattle.jr_model.proofs.PieceLemmas.{shared_block}
+use Rattle.jr_laws_quiet.specs.Quiet.{is_quiet, NothingRaced, issued_over, last_issued, writes_block}
+use Rattle.jr_laws_quiet.specs.Declining.{none_declines}
 use Rattle.jr_laws_quiet.proofs.Steps.{are_fine}
-use Rattle.jr_laws_quiet.proofs.Steps.{IsStep, along, refers, all_refer, started_push, got_within, got_at_end, got_push, Agrees, issue_of, write_kind}
-use Rattle.jr_laws_quiet.proofs.Ends.{has_ended, has_ended_push, not_ended_yet, or_false, none_is_none, some_if, some_within}
+use Rattle.jr_laws_quiet.proofs.Steps.{IsStep, along, refers, all_refer, got_push, Agrees, issue_of, write_kind}
+use Rattle.jr_laws_quiet.proofs.Ends.{has_ended, has_ended_push, not_ended_yet, none_is_none, some_if}
 use Rattle.jr_laws_quiet.proofs.Issues.{may_issue_parts}
 pub use Rattle.jr_laws_quiet.proofs.Flights.{found_flying}
 use Rattle.jr_laws_quiet.proofs.Flights.{is_free, clear_is_free}
@@ -37,40 +41,11 @@ use Rattle.jr_laws_quiet.proofs.Races.{unraced, raced_before, overlaps_none, qui
 pub last_issued_push : (h : List Event) (e : Event) (f b : ℕ) → last_issued (h ++ e ∷ []) f b ≡ issued_over f b (last_issued h f b) e
 last_issued_push h e f b = fold_push (issued_over f b) None h e
 
--- what is known of a piece that covers a block
-pub record Covers (p : Piece) (f b : ℕ) : Type 0 where
-  pub file : p.file ≡ f
-  pub low : p.offset ≤ b * SECTOR
-  pub high : b * SECTOR < p.offset + p.len
-
-pub covers_parts : (p : Piece) (f b : ℕ) → covers_block p f b ≡ true → Covers p f b
-covers_parts p f b h =
-    let parts = and_parts ((p.file == f) && nat_le p.offset (b * SECTOR)) (nat_lt (b * SECTOR) (p.offset + p.len)) h in
-    let front = and_parts (p.file == f) (nat_le p.offset (b * SECTOR)) parts.0 in
-    record {
-      file = eqb-true p.file f front.0;
-      low = leb-true p.offset (b * SECTOR) front.1;
-      high = ltb-true (b * SECTOR) (p.offset + p.len) parts.1;
-    }
-
-pub between : (x a b c d : ℕ) → a ≤ x → b ≤ x → x < c → x < d → max a b < min c d
-between x a b c d p q r s = omega arith
-
--- two pieces that cover one block overlap
-pub overlap_from : (p q : Piece) (f b : ℕ) → covers_block p f b ≡ true → covers_block q f b ≡ true → pieces_overlap p q ≡ true
-overlap_from p q f b h k =
-    let one = covers_parts p f b h in
-    let two = covers_parts q f b k in
-    and_from (p.file == q.file) (nat_lt (max p.offset q.offset) (min (p.offset + p.len) (q.offset + q.len)))
-    (eq-eqb p.file q.file (one.file ∙ sym two.file))
-    (lt-ltb (max p.offset q.offset) (min (p.offset + p.len) (q.offset + q.len))
-    (between (b * SECTOR) p.offset q.offset (p.offset + p.len) (q.offset + q.len) one.low two.low one.high two.high))
-
 -- a write in flight that covers a block bars every piece that covers it
 pub barred : (h : List Event) (writes : Bool) (piece : Piece) (id : ℕ) (s : Started) (f b : ℕ) → is_free h writes piece ≡ true → slice_get (started h) id ≡ Some s → has_ended h id ≡ false → is_write s.kind ≡ true → covers_block s.piece f b ≡ true → covers_block piece f b ≡ true → ⊥
 barred h writes piece id s f b clear at flying kind covered covers =
     let hit : conflicts writes piece s ≡ true =
-    and_from (writes || is_write s.kind) (pieces_overlap s.piece piece) (or_right writes (is_write s.kind) kind) (overlap_from s.piece piece f b covered covers) in
+    and_from (writes || is_write s.kind) (pieces_overlap s.piece piece) (or_right writes (is_write s.kind) kind) (shared_block s.piece piece f b covered covers) in
     both_ways (list_any (conflicts writes piece) (in_flight h)) (not-true (list_any (conflicts writes piece) (in_flight h)) clear)
     (found_flying h (conflicts writes piece) id s at flying hit)
 
@@ -108,10 +83,10 @@ module _ (plan : Plan) (f b : ℕ) (h : List Event) (e : Event) (step : IsStep p
   -- an event that ends nothing and issues no write of the block
   law_keeps : ((io : ℕ) → is_some (end_of io e) ≡ false) → ((o : Option WriteId) → last_after (has_raced h) (started h) f b o e ≡ o) → ((o : Option WriteId) → issued_over f b o e ≡ o) → ((s : Started) → started_by e ≡ Some s → is_write s.kind ≡ true → covers_block s.piece f b ≡ true → ⊥) → LastLaw h f b → LastLaw (h ++ e ∷ []) f b
   law_keeps no_end keeps_last keeps_issued starts law =
-      let ended : (id : ℕ) → has_ended (h ++ e ∷ []) id ≡ has_ended h id = λ (id : ℕ). has_ended_push h e id ∙ ap (λ (x : Bool). has_ended h id || x) (no_end id) ∙ or_false (has_ended h id) in
+      let ended : (id : ℕ) → has_ended (h ++ e ∷ []) id ≡ has_ended h id = λ (id : ℕ). has_ended_push h e id ∙ ap (λ (x : Bool). has_ended h id || x) (no_end id) ∙ or-false (has_ended h id) in
       let issued : last_issued (h ++ e ∷ []) f b ≡ last_issued h f b = last_issued_push h e f b ∙ keeps_issued (last_issued h f b) in
       record {
-        flying = λ (id : ℕ) (s : Started) (over : FliesOver (h ++ e ∷ []) f b id s). issued ∙ law.flying id s (before id s over (ended id) (started_by e) refl (subst (λ (ios : List Started). slice_get ios id ≡ Some s) (started_push h e) over.at));
+        flying = λ (id : ℕ) (s : Started) (over : FliesOver (h ++ e ∷ []) f b id s). issued ∙ law.flying id s (before id s over (ended id) (started_by e) refl (subst (λ (ios : List Started). slice_get ios id ≡ Some s) (started-more h e) over.at));
         landed = λ (none : (id : ℕ) (s : Started) → FliesOver (h ++ e ∷ []) f b id s → ⊥). last_write_push plan h step.legal e f b ∙ keeps_last (last_write h f b)
             ∙ law.landed (λ (id : ℕ) (s : Started) (over : FliesOver h f b id s). none id s (after id s over (ended id))) ∙ sym issued;
       }
@@ -131,7 +106,7 @@ module _ (plan : Plan) (f b : ℕ) (h : List Event) (e : Event) (step : IsStep p
 
       after : (id : ℕ) (s : Started) → FliesOver h f b id s → has_ended (h ++ e ∷ []) id ≡ has_ended h id → FliesOver (h ++ e ∷ []) f b id s
       after id s over same = record {
-        at = subst (λ (ios : List Started). slice_get ios id ≡ Some s) (sym (started_push h e)) (got_within (started h) (cons_option (started_by e) []) id (slice_get_within (started h) id s over.at) ∙ over.at);
+        at = subst (λ (ios : List Started). slice_get ios id ≡ Some s) (sym (started-more h e)) (got_longer (started h) (cons_option (started_by e) []) id (slice_get_within (started h) id s over.at) ∙ over.at);
         flying = same ∙ over.flying;
         writes = over.writes;
         covers = over.covers;
@@ -146,17 +121,17 @@ module _ (plan : Plan) (f b : ℕ) where
       let now : last_issued (h ++ e ∷ []) f b ≡ Some write =
       last_issued_push h e f b ∙ ap (λ (x : Bool). cond x (Some write) (last_issued h f b)) (and_from (is_write (kind_for kind)) (covers_block piece f b) writes covers) in
       let not_yet : has_ended (h ++ e ∷ []) (length (started h)) ≡ false =
-      has_ended_push h e (length (started h)) ∙ or_false (has_ended h (length (started h))) ∙ not_ended_yet plan h step.legal step.quiet (length (started h)) (omega arith) in
+      has_ended_push h e (length (started h)) ∙ or-false (has_ended h (length (started h))) ∙ not_ended_yet plan h step.legal step.quiet (length (started h)) (omega arith) in
       let flies_now : FliesOver (h ++ e ∷ []) f b (length (started h)) s0 = record {
-        at = subst (λ (ios : List Started). slice_get ios (length (started h)) ≡ Some s0) (sym (started_push h e)) (got_at_end (started h) s0);
+        at = subst (λ (ios : List Started). slice_get ios (length (started h)) ≡ Some s0) (sym (started-more h e)) (got_last (started h) s0);
         flying = not_yet;
         writes = writes;
         covers = covers;
       } in
       record {
         flying = λ (id : ℕ) (s : Started) (over : FliesOver (h ++ e ∷ []) f b id s).
-            elim (got_push (started h) s0 s id (subst (λ (ios : List Started). slice_get ios id ≡ Some s) (started_push h e) over.at)) [
-              | inl old ↦ absurd (overlaps_none h e s0 id s refl raceless old (sym (has_ended_push h e id ∙ or_false (has_ended h id)) ∙ over.flying) over.writes (overlap_from s.piece piece f b over.covers covers))
+            elim (got_push (started h) s0 s id (subst (λ (ios : List Started). slice_get ios id ≡ Some s) (started-more h e) over.at)) [
+              | inl old ↦ absurd (overlaps_none h e s0 id s refl raceless old (sym (has_ended_push h e id ∙ or-false (has_ended h id)) ∙ over.flying) over.writes (shared_block s.piece piece f b over.covers covers))
               | inr last ↦ now ∙ ap (λ (x : Started). Some x.write) last.1
             ];
         landed = λ (none : (id : ℕ) (s : Started) → FliesOver (h ++ e ∷ []) f b id s → ⊥). absurd (none (length (started h)) s0 flies_now);
@@ -165,7 +140,7 @@ module _ (plan : Plan) (f b : ℕ) where
   law_ended : (h : List Event) (worker io : ℕ) (s0 : Started) → IsStep plan h (End worker io Whole) → has_raced h io ≡ false → slice_get (started h) io ≡ Some s0 → has_ended h io ≡ false → (covering : Bool) → (is_write s0.kind && covers_block s0.piece f b) ≡ covering → LastLaw h f b → LastLaw (h ++ End worker io Whole ∷ []) f b
   law_ended h worker io s0 step raceless at flying covering covers law =
       let e = End worker io Whole in
-      let same : started (h ++ e ∷ []) ≡ started h = started_push h e ∙ append-nil (started h) in
+      let same : started (h ++ e ∷ []) ≡ started h = started-more h e ∙ append-nil (started h) in
       let issued : last_issued (h ++ e ∷ []) f b ≡ last_issued h f b = last_issued_push h e f b in
       let written : last_write (h ++ e ∷ []) f b ≡ cond covering (Some s0.write) (last_write h f b) =
       last_write_push plan h step.legal e f b
@@ -195,7 +170,7 @@ module _ (plan : Plan) (f b : ℕ) where
             | inr apart ↦
                 none id s (record {
                   at = subst (λ (ios : List Started). slice_get ios id ≡ Some s) (sym same) over.at;
-                  flying = has_ended_push h (End worker io Whole) id ∙ ap (λ (x : Bool). has_ended h id || x) (some_if (io == id) Whole ∙ ne_eqb io id apart) ∙ or_false (has_ended h id) ∙ over.flying;
+                  flying = has_ended_push h (End worker io Whole) id ∙ ap (λ (x : Bool). has_ended h id || x) (some_if (io == id) Whole ∙ ne_eqb io id apart) ∙ or-false (has_ended h id) ∙ over.flying;
                   writes = over.writes;
                   covers = over.covers;
                 })
@@ -248,7 +223,7 @@ module _ (plan : Plan) (f b : ℕ) where
       whole_end (Short n) bad = absurd (cc (bad.calm))
       whole_end Whole good =
           let flying = and_parts (nat_lt io (length (started h))) (is_none (outcome_of h io)) (and_parts (flies h io) (end_fits worker Whole (slice_get (started h) io)) good.may).0 in
-          let found = some_within (started h) io (ltb-true io (length (started h)) flying.0) in
+          let found = item_at (started h) io (ltb-true io (length (started h)) flying.0) in
           law_ended h worker io found.0 good (raced_before h (End worker io outcome) raceless io) found.1 (none_is_none (outcome_of h io) flying.1) (is_write found.0.kind && covers_block found.0.piece f b) refl law
 
   pub last_law : (history : List Event) → NothingRaced history → is_legal plan history ≡ true → are_fine history ≡ true → LastLaw history f b

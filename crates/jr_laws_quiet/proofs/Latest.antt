@@ -1,10 +1,9 @@
 -- While a group is open, a write of it is intact just where no later write of its group overlaps it.
 use Rattle.std.proofs.Common.{◌≡◌, ℕ, zero, suc, ◌+◌, ◌-◌, ◌*◌, ◌/◌, ◌%◌, ◌<◌, ◌≤◌, min, max, List, [], ◌∷◌, ◌++◌, Bool, true, false, cond, ◌&&◌, not, refl, sym, ◌∙◌, ap, subst, arith, inl, inr, append-nil}
-use Rattle.std.specs.Prelude.{◌⊎◌, Option, Some, None, slice_get, filter, nat_lt, nat_le, ◌==◌, All}
-use Rattle.std.specs.List.{list_any, list_all, cons_option, range_with_len}
-use Rattle.std.proofs.lemmas.Bool.{and_parts, and_from, and_left, and_right, eqb-true, eq-eqb, ne_eqb, lt-ltb, le-leb, ltb-true, cases_Bool, cases_lt, cases_order, not-true, not-false, or_left, or_right, or_cases, both_ways}
-use Rattle.std.proofs.lemmas.List.Elements.{All-get_or}
-use Rattle.std.proofs.lemmas.Option.{slice_get_within, get_or_from_slice_get}
+use Rattle.std.specs.Prelude.{◌⊎◌, Option, Some, None, slice_get, filter, nat_lt, nat_le, ◌==◌}
+use Rattle.std.specs.List.{list_any, list_all, cons_option}
+use Rattle.std.proofs.lemmas.Bool.{and_parts, and_from, and_left, and_right, eqb-true, eq-eqb, ne_eqb, lt-ltb, le-leb, ltb-true, cases_Bool, cases_lt, cases_order, not-true, not-false, both_ways}
+use Rattle.std.proofs.lemmas.Option.{slice_get_within}
 use Rattle.jr_model.specs.declared.limits.TheConstants.{SECTOR, LARGEST_BLOCK, LARGEST_END}
 use Rattle.jr_model.specs.declared.blocks.Piece.{Piece}
 use Rattle.jr_model.specs.declared.events.Event.{Event}
@@ -26,22 +25,22 @@ use Rattle.jr_model.specs.Tickets.{piece_fits}
 use Rattle.jr_model.specs.Words.{pass_words}
 use Rattle.jr_plan.specs.Files.{are_apart}
 use Rattle.jr_model.specs.PlanFacts.{IsPlanned}
+use Rattle.jr_model.proofs.PlaceLemmas.{any_found, any_at, all_from, got_ranged, ranged_at}
+use Rattle.jr_model.proofs.ListLemmas.{all_got}
+use Rattle.jr_model.proofs.PlanLemmas.{numbered_of}
+use Rattle.jr_model.proofs.HistoryLemmas.{started-more}
+use Rattle.jr_model.proofs.PieceLemmas.{shared_block, covers_parts}
+use Rattle.jr_model.proofs.LegalLaws.{number_of_draw}
 use Rattle.jr_laws_draws.specs.PassLaw.{PassLaw, IsInRegion}
 use Rattle.jr_laws_draws.proofs.TheLaw.{pass_law, drawable_of}
 use Rattle.jr_laws_quiet.specs.Quiet.{NothingRaced, last_issued, later_over, stays_last}
 use Rattle.jr_laws_quiet.proofs.Steps.{are_fine}
-use Rattle.jr_laws_quiet.proofs.Steps.{IsStep, along, each_legal, issue_of, probed_of, write_kind, started_push, got_push}
-use Rattle.jr_laws_quiet.proofs.Issues.{MayIssue, MayTakeUp, its_issue, its_marks, issued_same, got_range, all_at}
-use Rattle.jr_laws_quiet.proofs.LastWrites.{last_issued_push, covers_parts, overlap_from, found_flying, FliesOver, last_law}
-use Rattle.jr_laws_quiet.proofs.Groups.{number_is, got_filter}
+use Rattle.jr_laws_quiet.proofs.Steps.{IsStep, along, each_legal, issue_of, probed_of, write_kind, got_push}
+use Rattle.jr_laws_quiet.proofs.Issues.{MayIssue, MayTakeUp, its_issue, its_marks, issued_same, all_at}
+use Rattle.jr_laws_quiet.proofs.LastWrites.{last_issued_push, found_flying, FliesOver, last_law}
+use Rattle.jr_laws_quiet.proofs.Groups.{got_filter}
 use Rattle.jr_laws_quiet.proofs.Members.{InGroup, in_own_group, member_is, full_issued, index_mono}
 use Rattle.jr_laws_quiet.proofs.Phases.{NextIssue, none_at, issue_cases, count_grows, passes_in_turn, groups_in_turn, no_later_pass, IsOpen, open_parts}
-
-pub numbers_of : (plan : Plan) → IsPlanned plan → IsNumbered plan
-numbers_of plan planned i job at = (planned.drafted.placed i job at).number
-
-pub all_got : {X : Type 0} (P : X → Type 0) (xs : List X) (k : ℕ) (x : X) → All P xs → slice_get xs k ≡ Some x → P x
-all_got P xs k x all at = subst P (get_or_from_slice_get xs k x x at) (All-get_or P xs k x (slice_get_within xs k x at) all)
 
 -- two clones of one file are one
 pub one_file : (jobs : List SubJob) (i j : ℕ) (a b : SubJob) → are_apart jobs ≡ true → slice_get jobs i ≡ Some a → slice_get jobs j ≡ Some b → a.file ≡ b.file → i ≡ j
@@ -107,17 +106,6 @@ pub covers_own : (p : Piece) → InSectors p → (j : ℕ) → j < p.len / SECTO
 covers_own p whole j below =
     covers_from p p.file (p.offset / SECTOR + j) refl (block_low p.offset j whole.offset) (block_high p.offset p.len j whole.offset whole.len below)
 
-pub range_got : (a n k x : ℕ) → slice_get (range_with_len a n) k ≡ Some x → (x ≡ a + k) × (k < n)
-range_got a zero k x at = cc
-range_got a (suc n) zero x at =
-    let same : a ≡ x = cc in
-    (omega (arith, same), omega arith)
-range_got a (suc n) (suc k) x at =
-    let rest = range_got (a + 1) n k x at in
-    let there = rest.0 in
-    let below = rest.1 in
-    (omega (arith, there), omega (arith, below))
-
 -- a block that both pieces cover, by its place in the first
 pub record CommonBlock (p q : Piece) : Type 0 where
   pub place : ℕ
@@ -142,32 +130,12 @@ common_block p q one two overlap =
       covers = covers_from q p.file (p.offset / SECTOR + common.0) (sym (eqb-true p.file q.file parts.0)) common.2 common.3;
     }
 
-pub all_from : {X : Type 0} (p : X → Bool) (xs : List X) → ((k : ℕ) (x : X) → slice_get xs k ≡ Some x → p x ≡ true) → list_all p xs ≡ true
-all_from p [] each = refl
-all_from {X = X} p (x ∷ xs) each =
-    and_from (p x) (list_all p xs) (each 0 x refl) (all_from p xs (λ (k : ℕ) (y : X) (at : slice_get xs k ≡ Some y). each (suc k) y at))
-
 pub not_all : {X : Type 0} (p : X → Bool) (xs : List X) (k : ℕ) (x : X) → slice_get xs k ≡ Some x → p x ≡ false → list_all p xs ≡ false
 not_all p [] k x at fails = cc
 not_all {X = X} p (y ∷ xs) zero x at fails =
     let same : y ≡ x = cc in
     and_left (p y) (list_all p xs) (ap p same ∙ fails)
 not_all p (y ∷ xs) (suc k) x at fails = and_right (p y) (list_all p xs) (not_all p xs k x at fails)
-
-pub any_at : {X : Type 0} (p : X → Bool) (xs : List X) → list_any p xs ≡ true → (k : ℕ) × (x : X) × (slice_get xs k ≡ Some x) × (p x ≡ true)
-any_at p [] h = cc
-any_at {X = X} p (x ∷ xs) h =
-    elim (or_cases (p x) (list_any p xs) h) [
-      | inl first ↦ (0, x, refl, first)
-      | inr rest ↦ let found = any_at p xs rest in (suc found.0, found.1, found.2, found.3)
-    ]
-
-pub any_from : {X : Type 0} (p : X → Bool) (xs : List X) (k : ℕ) (x : X) → slice_get xs k ≡ Some x → p x ≡ true → list_any p xs ≡ true
-any_from p [] k x at passes = cc
-any_from {X = X} p (y ∷ xs) zero x at passes =
-    let same : y ≡ x = cc in
-    or_left (p y) (list_any p xs) (ap p same ∙ passes)
-any_from p (y ∷ xs) (suc k) x at passes = or_right (p y) (list_any p xs) (any_from p xs k x at passes)
 
 -- what was started is of a draw of the plan
 pub record IsOfDraw (plan : Plan) (s : Started) : Type 0 where
@@ -199,7 +167,7 @@ module _ (plan : Plan) (numbered : IsNumbered plan) where
       each_legal plan (λ (h : List Event). (id : ℕ) (s : Started) → slice_get (started h) id ≡ Some s → IsOfDraw plan s) (λ id s at. cc) step history legal
     where
       step : (h : List Event) (e : Event) → is_legal plan h ≡ true → may_happen plan h e ≡ true → ((id : ℕ) (s : Started) → slice_get (started h) id ≡ Some s → IsOfDraw plan s) → (id : ℕ) (s : Started) → slice_get (started (h ++ e ∷ [])) id ≡ Some s → IsOfDraw plan s
-      step h e so_far may before id s at = by_start (started_by e) refl (subst (λ (ios : List Started). slice_get ios id ≡ Some s) (started_push h e) at)
+      step h e so_far may before id s at = by_start (started_by e) refl (subst (λ (ios : List Started). slice_get ios id ≡ Some s) (started-more h e) at)
         where
           by_start : (o : Option Started) → started_by e ≡ o → slice_get (started h ++ cons_option o []) id ≡ Some s → IsOfDraw plan s
           by_start None is there = before id s (subst (λ (ios : List Started). slice_get ios id ≡ Some s) (append-nil (started h)) there)
@@ -219,15 +187,15 @@ no_probe ticket.ReadCheck writes probes = cc
 -- while no issue of the clone flies, no write of its file does
 pub none_over : (plan : Plan) → IsPlanned plan → are_apart plan.clones ≡ true → (c : ℕ) (job : SubJob) → clone_of plan c ≡ Some job → (h : List Event) → is_legal plan h ≡ true → no_issue_flies h job.clone ≡ true → (b id : ℕ) (s : Started) → FliesOver h job.file b id s → ⊥
 none_over plan planned_all apart c job planned h legal still b id s over =
-    let its = started_of_draw plan (numbers_of plan planned_all) h legal id s over.at in
+    let its = started_of_draw plan (numbered_of plan planned_all) h legal id s over.at in
     let file : its.job.file ≡ job.file =
     sym (file_of plan planned_all s.write.clone its.job its.planned s.write.pass s.write.number its.draw its.drawn)
     ∙ ap (λ (p : Piece). p.file) its.piece
     ∙ (covers_parts s.piece job.file b over.covers).file in
     let own : s.write.clone ≡ job.clone =
-    one_file plan.clones s.write.clone c its.job job apart its.planned planned file ∙ sym (numbers_of plan planned_all c job planned) in
+    one_file plan.clones s.write.clone c its.job job apart its.planned planned file ∙ sym (numbered_of plan planned_all c job planned) in
     let writes : Started → Bool = λ (io : Started). is_of_clone job.clone io && is_write io.kind in
-    let found = any_at writes (in_flight h)
+    let found = any_found writes (in_flight h)
     (found_flying h writes id s over.at over.flying (and_from (s.write.clone == job.clone) (is_write s.kind) (eq-eqb s.write.clone job.clone own) over.writes)) in
     let parts = and_parts (is_of_clone job.clone found.1) (is_write found.1.kind) found.3 in
     let place = got_filter (is_of_clone job.clone) (in_flight h) found.0 found.1 found.2 parts.0 in
@@ -272,7 +240,7 @@ module _ (plan : Plan) (planned_all : IsPlanned plan) (apart : are_apart plan.cl
     last = same ∙ was.last;
     clone = was.clone;
     after = was.after;
-    issued = omega (arith, was.issued, count_grows plan (numbers_of plan planned_all) c job planned h e step was.write.pass);
+    issued = omega (arith, was.issued, count_grows plan (numbered_of plan planned_all) c job planned h e step was.write.pass);
     drawn = was.drawn;
     writes = was.writes;
     covers = was.covers;
@@ -281,7 +249,7 @@ module _ (plan : Plan) (planned_all : IsPlanned plan) (apart : are_apart plan.cl
   -- a draw that is issued by now was so before, or this event issues it
   issued_before : (h : List Event) (e : Event) → IsStep plan h e → (p k : ℕ) (d : Draw) → slice_get (draws_of_job job p) k ≡ Some d → k < issued_count (h ++ e ∷ []) (pass_of job p) → (k < issued_count h (pass_of job p)) ⊎ ((worker : ℕ) × (write : WriteId) × (e ≡ Issue worker (issued_as job d.dir) write d.piece))
   issued_before h e step p k d at now =
-      elim (issue_cases plan (numbers_of plan planned_all) c job planned h e step p) [
+      elim (issue_cases plan (numbered_of plan planned_all) c job planned h e step p) [
         | inl same ↦ inl (omega (arith, same, now))
         | inr next ↦ by_number next (cases_lt k next.write.number)
       ]
@@ -314,7 +282,7 @@ module _ (plan : Plan) (planned_all : IsPlanned plan) (apart : are_apart plan.cl
       both_ways (is_write (kind_for kind) && covers_block piece f b) miss
       (and_from (is_write (kind_for kind)) (covers_block piece f b) (ap (λ (x : IssueKind). is_write (kind_for x)) kinds ∙ write_kind job d ∙ writes) (ap (λ (x : Piece). covers_block x f b) pieces ∙ covers)))
   latest_issue h worker kind write piece step law f b p k d at now writes covers true hit =
-      let numbered = numbers_of plan planned_all in
+      let numbered = numbered_of plan planned_all in
       let e = Issue worker kind write piece in
       let hits = and_parts (is_write (kind_for kind)) (covers_block piece f b) hit in
       let any = issue_of plan h worker kind write piece numbered step.may in
@@ -346,7 +314,7 @@ module _ (plan : Plan) (planned_all : IsPlanned plan) (apart : are_apart plan.cl
       in_order {draw = draw} may drawn number more (inr (inr beyond)) =
           let kept : issued_count (h ++ Issue worker kind write piece ∷ []) (pass_of job p) ≡ issued_count h (pass_of job p) =
           issued_same h (Issue worker kind write piece) (pass_of job p) (and_right (write.clone == job.clone) (write.pass == p) (ne_eqb write.pass p (λ equal. absurd (omega (arith, equal, beyond))))) in
-          let past = passes_in_turn plan (numbers_of plan planned_all) c job planned h step.legal step.quiet write.pass p beyond (omega (arith, kept, now)) in
+          let past = passes_in_turn plan (numbered_of plan planned_all) c job planned h step.legal step.quiet write.pass p beyond (omega (arith, kept, now)) in
           absurd (omega (arith, past.issued, may.next, number, slice_get_within (draws_of_job job write.pass) write.number draw drawn))
 
   latest_step : (h : List Event) (e : Event) → IsStep plan h e → LatestLaw job h → LatestLaw job (h ++ e ∷ [])
@@ -368,7 +336,7 @@ module _ (plan : Plan) (planned_all : IsPlanned plan) (apart : are_apart plan.cl
   -- while its group is open: the latest write of a block of the draw's is of its group
   module _ (h : List Event) (raceless : NothingRaced h) (legal : is_legal plan h ≡ true) (quiet : are_fine h ≡ true) (p k : ℕ) (draw : Draw) (drawn : slice_get (draws_of_job job p) k ≡ Some draw) (may : MayTakeUp plan h (pass_of job p) draw) where
     number : draw.number ≡ k
-    number = number_is job p k draw drawn
+    number = number_of_draw job p k draw drawn
 
     abbrev own : ℕ
     own = group_index (pass_of job p) draw.number
@@ -395,7 +363,7 @@ module _ (plan : Plan) (planned_all : IsPlanned plan) (apart : are_apart plan.cl
         by_pass latest =
             elim latest.after [
               | inl later ↦
-                  absurd (no_later_pass plan (numbers_of plan planned_all) c job planned h legal quiet p latest.write.pass own may.rounds member.1 group_is_open.not_closed later (omega (arith, latest.issued)))
+                  absurd (no_later_pass plan (numbered_of plan planned_all) c job planned h legal quiet p latest.write.pass own may.rounds member.1 group_is_open.not_closed later (omega (arith, latest.issued)))
               | inr here ↦
                   let Issued : ℕ → Type 0 = λ (q : ℕ). latest.write.number < issued_count h (pass_of job q) in
                   let Drawn : ℕ → Type 0 = λ (q : ℕ). slice_get (draws_of_job job q) latest.write.number ≡ Some latest.draw in
@@ -427,7 +395,7 @@ module _ (plan : Plan) (planned_all : IsPlanned plan) (apart : are_apart plan.cl
         elim (cases_lt own (group_index (pass_of job p) n)) [
           | inl beyond ↦
               both_ways (is_closed h (pass_of job p) own) group_is_open.not_closed
-              (groups_in_turn plan (numbers_of plan planned_all) c job planned h legal quiet p n own may.rounds latest.issued beyond)
+              (groups_in_turn plan (numbered_of plan planned_all) c job planned h legal quiet p n own may.rounds latest.issued beyond)
           | inr within ↦
               let same : group_index (pass_of job p) n ≡ own = omega (arith, after, within) in
               let its = (in_own_group job p n latest.draw latest.drawn latest.writes).0 in
@@ -435,17 +403,17 @@ module _ (plan : Plan) (planned_all : IsPlanned plan) (apart : are_apart plan.cl
               subst (λ (g : ℕ). slice_get (group_of (pass_of job p) g) its.place ≡ Some latest.draw) same its.at in
               let hit : later_over draw latest.draw ≡ true =
               and_from (nat_lt draw.number latest.draw.number) (pieces_overlap draw.piece latest.draw.piece)
-              (lt-ltb draw.number latest.draw.number (omega (arith, number, later, number_is job p n latest.draw latest.drawn)))
-              (overlap_from draw.piece latest.draw.piece draw.piece.file b over latest.covers) in
+              (lt-ltb draw.number latest.draw.number (omega (arith, number, later, number_of_draw job p n latest.draw latest.drawn)))
+              (shared_block draw.piece latest.draw.piece draw.piece.file b over latest.covers) in
               both_ways (list_any (later_over draw) (group_of (pass_of job p) own)) (not-true (list_any (later_over draw) (group_of (pass_of job p) own)) stays)
-              (any_from (later_over draw) (group_of (pass_of job p) own) its.place latest.draw there hit)
+              (any_at (later_over draw) (group_of (pass_of job p) own) its.place latest.draw there hit)
         ]
 
     stays_from : stays_last (pass_of job p) draw ≡ true → is_intact h (write_id (pass_of job p) draw) draw.piece ≡ true
     stays_from stays =
         all_from (λ (b : ℕ). is_this_write (write_id (pass_of job p) draw) (last_write h draw.piece.file b)) (blocks_of draw.piece)
         (λ (j b : ℕ) (at : slice_get (blocks_of draw.piece) j ≡ Some b).
-        let place = range_got (draw.piece.offset / SECTOR) (draw.piece.len / SECTOR) j b at in
+        let place = got_ranged (draw.piece.offset / SECTOR) (draw.piece.len / SECTOR) j b at in
         let over : covers_block draw.piece draw.piece.file b ≡ true =
         subst (λ (x : ℕ). covers_block draw.piece draw.piece.file x ≡ true) (sym place.0) (covers_own draw.piece sectors j place.1) in
         let latest = own_latest b k draw over drawn (omega (arith, number, issued_now)) may.writes over in
@@ -467,7 +435,7 @@ module _ (plan : Plan) (planned_all : IsPlanned plan) (apart : are_apart plan.cl
 
     fails_from : stays_last (pass_of job p) draw ≡ false → is_intact h (write_id (pass_of job p) draw) draw.piece ≡ false
     fails_from fails =
-        let some = any_at (later_over draw) (group_of (pass_of job p) own) (not-false (list_any (later_over draw) (group_of (pass_of job p) own)) fails) in
+        let some = any_found (later_over draw) (group_of (pass_of job p) own) (not-false (list_any (later_over draw) (group_of (pass_of job p) own)) fails) in
         let d = some.1 in
         let parts = and_parts (nat_lt draw.number d.number) (pieces_overlap draw.piece d.piece) some.3 in
         let inside : InGroup job p own d = record { place = some.0; at = some.2 } in
@@ -477,7 +445,7 @@ module _ (plan : Plan) (planned_all : IsPlanned plan) (apart : are_apart plan.cl
         let b = draw.piece.offset / SECTOR + common.place in
         let over : covers_block draw.piece draw.piece.file b ≡ true = covers_own draw.piece sectors common.place common.within in
         not_all (λ (x : ℕ). is_this_write (write_id (pass_of job p) draw) (last_write h draw.piece.file x)) (blocks_of draw.piece) common.place b
-        (got_range (draw.piece.offset / SECTOR) (draw.piece.len / SECTOR) common.place common.within)
+        (ranged_at (draw.piece.offset / SECTOR) (draw.piece.len / SECTOR) common.place common.within)
         (overwritten_at b d.number (ltb-true draw.number d.number parts.0) (own_latest b d.number d over its.drawn issued its.writes common.covers))
 
     pub intact_is_last : is_intact h (write_id (pass_of job p) draw) draw.piece ≡ stays_last (pass_of job p) draw

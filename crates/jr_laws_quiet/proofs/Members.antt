@@ -14,9 +14,11 @@ use Rattle.jr_model.specs.Pieces.{pieces_overlap}
 use Rattle.jr_model.specs.Plan.{SubJob}
 use Rattle.jr_model.specs.Quiet.{checked_among, checks_of_pass}
 use Rattle.jr_model.specs.Rounds.{pass_of, is_write_draw, issued_count, all_issued, issued_among, writes_of, group_of, group_count, group_index, is_full}
+use Rattle.jr_model.proofs.PlaceLemmas.{got_filtered}
+use Rattle.jr_model.proofs.LegalLaws.{number_of_draw}
 use Rattle.jr_laws_quiet.specs.Quiet.{later_over, is_last_in, stays_last}
 use Rattle.jr_laws_quiet.proofs.Tallies.{total, upto, total-filter, total_same, total_same_at, sum_map-total, total_upto, count_by-total, total-append, upto_same_below}
-use Rattle.jr_laws_quiet.proofs.Groups.{Rising, rising_take, rising_drop, rank, rank_at, rank_self, rank_le_length, at_least, got_filter, filtered, got_take, got_drop, take_within, number_is, writes_rise, group_place, index_is, index_is_none, group_is, group_is_all, count_is, count_is_one, positive}
+use Rattle.jr_laws_quiet.proofs.Groups.{Rising, rising_take, rising_drop, rank, rank_at, rank_self, rank_le_length, at_least, got_filter, got_take, got_drop, take_within, writes_rise, group_place, index_is, index_is_none, group_is, group_is_all, count_is, count_is_one, positive}
 
 -- it stands in group g of the pass
 pub record InGroup (job : SubJob) (p g : ℕ) (d : Draw) : Type 0 where
@@ -32,7 +34,7 @@ in_own_group job p k d at write = by_backlog (cases_Bool (job.backlog == 0))
 
     rank_is : rank (writes_of (pass_of job p)) k ≡ found.0
     rank_is =
-        ap (rank (writes_of (pass_of job p))) (sym (number_is job p k d at))
+        ap (rank (writes_of (pass_of job p))) (sym (number_of_draw job p k d at))
         ∙ rank_self 0 (writes_of (pass_of job p)) found.0 d (writes_rise job p) found.1
 
     fits : (i b n : ℕ) → 0 < b → i < n → suc (i / b) * b ≤ n + b - 1
@@ -74,8 +76,8 @@ member_is job p g d member below = by_backlog (cases_Bool (job.backlog == 0))
   where
     as_draw : (i : ℕ) → slice_get (writes_of (pass_of job p)) i ≡ Some d → (slice_get (draws_of_job job p) d.number ≡ Some d) × (is_write_draw d ≡ true)
     as_draw i at =
-        let found = filtered is_write_draw (draws_of_job job p) i d at in
-        (ap (slice_get (draws_of_job job p)) (number_is job p found.0 d found.1) ∙ found.1, found.2)
+        let found = got_filtered is_write_draw (draws_of_job job p) i d at in
+        (ap (slice_get (draws_of_job job p)) (number_of_draw job p found.0 d found.1) ∙ found.1, found.2)
 
     by_backlog : ((job.backlog == 0) ≡ true) ⊎ ((job.backlog == 0) ≡ false) → IsMember job p g d
     by_backlog (inl none) =

@@ -18,15 +18,19 @@ use Rattle.jr_model.specs.History.{started, started_by}
 use Rattle.jr_model.specs.Legal.{is_legal}
 use Rattle.jr_model.specs.Plan.{Plan, SubJob, IsNumbered, clone_of, issued_as}
 use Rattle.jr_model.specs.Rounds.{Pass, pass_of, passes_of, write_id, issued_count, all_issued, issued_among, is_probe_of, settles, is_settled, is_full, is_closed, is_open, no_issue_flies, rounds_closed, pass_finished, has_rounds, group_of, group_count, group_index, writes_of}
+use Rattle.jr_model.proofs.ListLemmas.{all_weaker}
+use Rattle.jr_model.proofs.PlaceLemmas.{got_longer, ranged_at}
+use Rattle.jr_model.proofs.HistoryLemmas.{started-more}
+use Rattle.jr_model.proofs.PlanLemmas.{pass_at}
 use Rattle.jr_laws_quiet.proofs.Steps.{are_fine}
 use Rattle.jr_laws_quiet.proofs.Tallies.{count_by-total}
-use Rattle.jr_laws_quiet.proofs.Steps.{IsStep, along, refers, all_refer, started_push, got_within, Agrees, all_weaker}
-use Rattle.jr_laws_quiet.proofs.Issues.{MayIssue, issued_same, its_issue, its_marks, other_clone, all_at, got_pass, got_range, finished_parts}
+use Rattle.jr_laws_quiet.proofs.Steps.{IsStep, along, refers, all_refer, Agrees}
+use Rattle.jr_laws_quiet.proofs.Issues.{MayIssue, issued_same, its_issue, its_marks, other_clone, all_at, finished_parts}
 use Rattle.jr_laws_quiet.proofs.Groups.{rank, rank_le_length, group_is, got_take}
 use Rattle.jr_laws_quiet.proofs.Members.{before_full, rank_mono}
 
 pub settles_agrees : (w : WriteId) → Agrees (λ (ios : List Started). λ (e : Event). settles ios w e)
-settles_agrees w ios more (End worker io outcome) h = ap (is_probe_of w) (got_within ios more io (ltb-true io (length ios) h))
+settles_agrees w ios more (End worker io outcome) h = ap (is_probe_of w) (got_longer ios more io (ltb-true io (length ios) h))
 settles_agrees w ios more (Issue worker kind write piece) h = refl
 settles_agrees w ios more (Probe worker write piece) h = refl
 settles_agrees w ios more (Skip worker write) h = refl
@@ -45,7 +49,7 @@ settled_more plan h e w step settled =
     let ios = started (h ++ e ∷ []) in
     list_any-append (settles ios w) h (e ∷ [])
     ∙ or_left (list_any (settles ios w) h) (list_any (settles ios w) (e ∷ []))
-    (ap (λ (s : List Started). list_any (settles s w) h) (started_push h e)
+    (ap (λ (s : List Started). list_any (settles s w) h) (started-more h e)
     ∙ any_agrees w (started h) (cons_option (started_by e) []) h (all_refer plan h step.legal step.quiet)
     ∙ settled)
 
@@ -183,7 +187,7 @@ module _ (plan : Plan) (numbered : IsNumbered plan) (c : ℕ) (job : SubJob) (pl
         | inl same ↦ past_more h e step p (turns p q before (omega (arith, same, some)))
         | inr next ↦
             let done = all_at (pass_finished h) (take q (passes_of job)) p (pass_of job p) next.may.earlier
-            (got_take q (passes_of job) p before ∙ got_pass job p (omega (arith, before, next.may.below))) in
+            (got_take q (passes_of job) p before ∙ pass_at job p (omega (arith, before, next.may.below))) in
             let parts = finished_parts h (pass_of job p) done in
             past_more h e step p (record { issued = parts.issued; closed = parts.closed })
       ]
@@ -207,7 +211,7 @@ module _ (plan : Plan) (numbered : IsNumbered plan) (c : ℕ) (job : SubJob) (pl
           let waits : list_any (λ (i : ℕ). is_full h (pass_of job p) i && not (is_closed h (pass_of job p) i)) (range_with_len 0 (group_count (pass_of job p))) ≡ false =
           second (has_rounds job) _ rounds next.may.proceeds in
           let here = none_at (λ (i : ℕ). is_full h (pass_of job p) i && not (is_closed h (pass_of job p) i)) (range_with_len 0 (group_count (pass_of job p))) g g waits
-          (got_range 0 (group_count (pass_of job p)) g full.1 ∙ ap Some (zero-add g)) in
+          (ranged_at 0 (group_count (pass_of job p)) g full.1 ∙ ap Some (zero-add g)) in
           not-false (is_closed h (pass_of job p) g) (second (is_full h (pass_of job p) g) _ full.0 here)
         where
           second : (a b : Bool) → a ≡ true → (a && b) ≡ false → b ≡ false
@@ -227,7 +231,7 @@ module _ (plan : Plan) (numbered : IsNumbered plan) (c : ℕ) (job : SubJob) (pl
         | inr all ↦
             both_ways (is_closed h (pass_of job p) g) not_closed
             (all_at (λ (i : ℕ). is_closed h (pass_of job p) i) (range_with_len 0 (group_count (pass_of job p))) g g all
-            (got_range 0 (group_count (pass_of job p)) g below ∙ ap Some (zero-add g)))
+            (ranged_at 0 (group_count (pass_of job p)) g below ∙ ap Some (zero-add g)))
       ]
 
 -- while a group is open

@@ -24,9 +24,13 @@ use Rattle.jr_model.specs.Pieces.{pieces_overlap}
 use Rattle.jr_model.specs.Plan.{Plan, SubJob, IsNumbered, clone_of}
 use Rattle.jr_model.specs.Races.{writes_over, writes_over_io, races_by, has_raced}
 use Rattle.jr_model.specs.Rounds.{is_write_draw, pass_of}
-use Rattle.jr_model.proofs.RaceLaws.{overlap_turned, raced_push, raced_other, raced_for_good}
-use Rattle.jr_laws_quiet.specs.Quiet.{none_declines, NothingRaced, is_calm, is_quiet}
-use Rattle.jr_laws_quiet.proofs.Steps.{is_fine, are_fine, each_legal, legal_is_well, issue_of, probed_of, write_kind, started_push, got_within}
+use Rattle.jr_model.proofs.RaceLaws.{raced_push, raced_other, raced_for_good}
+use Rattle.jr_model.proofs.PieceLemmas.{overlap_turned}
+use Rattle.jr_model.proofs.PlaceLemmas.{got_longer}
+use Rattle.jr_model.proofs.HistoryLemmas.{legal_is_well, started-more}
+use Rattle.jr_laws_quiet.specs.Quiet.{NothingRaced, is_calm, is_quiet}
+use Rattle.jr_laws_quiet.specs.Declining.{none_declines}
+use Rattle.jr_laws_quiet.proofs.Steps.{is_fine, are_fine, each_legal, issue_of, probed_of, write_kind}
 use Rattle.jr_laws_quiet.proofs.Issues.{may_issue_parts, may_take_up_parts}
 use Rattle.jr_laws_quiet.proofs.Flights.{is_free, clear_is_free, found_flying}
 use Rattle.jr_laws_quiet.proofs.Ends.{has_ended}
@@ -192,7 +196,7 @@ module _ (plan : Plan) (h : List Event) (legal : is_legal plan h ≡ true) (e : 
       let below : io < length (started h) = by_outcome (outcome_of h io) refl ended in
       let rests : flies h io ≡ false = ap (λ (n : Bool). nat_lt io (length (started h)) && n) ended ∙ and_none (nat_lt io (length (started h))) in (
         raced_for_good h e io below rests,
-        ap (λ (ios : List Started). slice_get ios io) (started_push h e) ∙ got_within (started h) (cons_option (started_by e) []) io below,
+        ap (λ (ios : List Started). slice_get ios io) (started-more h e) ∙ got_longer (started h) (cons_option (started_by e) []) io below,
       )
     where
       by_outcome : (o : Option Outcome) → outcome_of h io ≡ o → is_none o ≡ false → io < length (started h)
@@ -208,7 +212,7 @@ module _ (plan : Plan) (h : List Event) (legal : is_legal plan h ≡ true) (e : 
   stays_started io nothing = (
     raced_other h e io nothing,
     ap (λ (ios : List Started). slice_get ios io)
-        (started_push h e ∙ ap (λ (o : Option Started). started h ++ cons_option o []) nothing ∙ append-nil (started h)),
+        (started-more h e ∙ ap (λ (o : Option Started). started h ++ cons_option o []) nothing ∙ append-nil (started h)),
   )
 
 -- so what a history's events make of a block's last write is the same after one more event

@@ -28,15 +28,17 @@ use Rattle.jr_model.specs.Totals.{is_read, moved, bytes_of, is_verdict_of, is_sk
 use Rattle.jr_plan.specs.Files.{are_apart}
 use Rattle.jr_model.specs.PlanFacts.{IsPlanned}
 use Rattle.jr_laws_quiet.proofs.Races.{unraced, quiet_is_fine}
-use Rattle.jr_laws_quiet.specs.Quiet.{is_quiet, none_declines, NothingRaced}
+use Rattle.jr_laws_quiet.specs.Quiet.{is_quiet, NothingRaced}
+use Rattle.jr_laws_quiet.specs.Declining.{none_declines}
 use Rattle.jr_model.specs.Races.{has_raced}
+use Rattle.jr_model.proofs.PlanLemmas.{numbered_of}
+use Rattle.jr_model.proofs.HistoryLemmas.{started-more}
 use Rattle.jr_laws_quiet.proofs.Steps.{is_fine, are_fine}
 use Rattle.jr_laws_quiet.proofs.Tallies.{total, got, upto, total-filter, total-filter_map, total_same, total_zero, total-sum, total-map, total_upto, sum_map-total, count_by-total, length-total, upto_same_below, upto-sum}
-use Rattle.jr_laws_quiet.proofs.Steps.{IsStep, along, started_push, write_kind}
+use Rattle.jr_laws_quiet.proofs.Steps.{IsStep, along, write_kind}
 use Rattle.jr_laws_quiet.proofs.Ends.{verdict_worth, verdict_worth_agrees, one_more, verdicts_in_all}
 use Rattle.jr_laws_quiet.proofs.Issues.{issue_worth, draw_worth, issues_in_all, total_calm, moved_is_drawn, drawn_in_all, clone_is}
 use Rattle.jr_laws_quiet.proofs.Members.{checks_are}
-use Rattle.jr_laws_quiet.proofs.Latest.{numbers_of}
 use Rattle.jr_laws_quiet.proofs.Checks.{worth_where, is_kept, probe_worth, is_overwritten, probes_counted, skips_counted}
 
 -- one for an I/O of the clone, and for a check or checked read of it
@@ -61,7 +63,7 @@ module _ (plan : Plan) (f g : Started → ℕ) (agree : (s : Started) → is_jud
   verdict_agrees h (Skip worker write) step = refl
   verdict_agrees h (End worker io outcome) step = refl
   verdict_agrees h (Verdict worker io verdict) step =
-      subst (λ (ios : List Started). got f (slice_get ios io) ≡ got g (slice_get ios io)) (sym (started_push h (Verdict worker io verdict) ∙ append-nil (started h)))
+      subst (λ (ios : List Started). got f (slice_get ios io) ≡ got g (slice_get ios io)) (sym (started-more h (Verdict worker io verdict) ∙ append-nil (started h)))
       (by_io (slice_get (started h) io) (and_parts (ended_whole (outcome_of h io) && not (is_judged h io)) (verdict_fits plan (has_raced h io) verdict (slice_get (started h) io)) step.may).1)
     where
       by_io : (o : Option Started) → verdict_fits plan (has_raced h io) verdict o ≡ true → got f o ≡ got g o
@@ -247,7 +249,7 @@ skips_drawn job = by_rounds (has_rounds job) refl
 module _ (plan : Plan) (planned_all : IsPlanned plan) (apart : are_apart plan.clones ≡ true) (history : List Event) (raceless : NothingRaced history) (legal : is_legal plan history ≡ true) (complete : is_complete plan history ≡ true) (quiet : are_fine history ≡ true) (c : ℕ) (job : SubJob) (planned : clone_of plan c ≡ Some job) where
   moved_total : (test : TicketKind → Bool) (no_check : test ticket.Probe ≡ false) (p : Draw → Bool) (same : (d : Draw) → test (kind_for (issued_as job d.dir)) ≡ p d) (g : Piece → ℕ) → total (λ (s : Started). g s.piece) (moved history test c) ≡ total (λ (d : Draw). g d.piece) (filter p (all_draws job))
   moved_total test no_check p same g =
-      moved_is_drawn plan (numbers_of plan planned_all) c job planned test no_check g history legal quiet complete
+      moved_is_drawn plan (numbered_of plan planned_all) c job planned test no_check g history legal quiet complete
       ∙ upto_same_below (λ (q : ℕ). total (λ (d : Draw). cond (test (kind_for (issued_as job d.dir))) (g d.piece) 0) (draws_of_job job q)) (λ (q : ℕ). total (λ (d : Draw). cond (p d) (g d.piece) 0) (draws_of_job job q)) job.passes
       (λ (q : ℕ) (below : q < job.passes).
       total_same (λ (d : Draw). cond (test (kind_for (issued_as job d.dir))) (g d.piece) 0) (λ (d : Draw). cond (p d) (g d.piece) 0) (draws_of_job job q)
@@ -279,7 +281,7 @@ module _ (plan : Plan) (planned_all : IsPlanned plan) (apart : are_apart plan.cl
       ∙ total-sum (probe_worth c) (issue_worth checked_worth c) history
       ∙ ap (λ (n : ℕ). n + total (issue_worth checked_worth c) history) (probes_counted plan planned_all apart c job planned history raceless legal quiet complete)
       ∙ ap (λ (n : ℕ). upto (λ (p : ℕ). total (worth_where job (is_kept job) p) (draws_of_job job p)) job.passes + n)
-      (issues_in_all plan history (numbers_of plan planned_all) c job planned checked_worth legal quiet complete)
+      (issues_in_all plan history (numbered_of plan planned_all) c job planned checked_worth legal quiet complete)
     where
       both_true : (a b : Bool) → b ≡ true → ◌≡◌ {A = ℕ} (cond (a && b) 1 0) (cond a 1 0)
       both_true true true e = refl
@@ -397,7 +399,7 @@ quiet_run_unraced plan history planned_all raceless apart legal complete calm =
     let totals : all_totals plan history ≡ map quiet_totals plan.clones =
     map_same_at (λ (job : SubJob). totals_of history job.clone) quiet_totals plan.clones
     (λ (k : ℕ) (job : SubJob) (at : slice_get plan.clones k ≡ Some job).
-    ap (totals_of history) (clone_is plan (numbers_of plan planned_all) k job at) ∙ clone_totals plan planned_all apart history raceless legal complete quiet k job at) in
+    ap (totals_of history) (clone_is plan (numbered_of plan planned_all) k job at) ∙ clone_totals plan planned_all apart history raceless legal complete quiet k job at) in
     let none : in_order plan (miscompares history) ≡ [] = ap (in_order plan) (no_miscompares (started history) history quiet) ∙ none_in_order plan in
     ap (λ (ts : List Totals). totals_lines plan ts ++ flat_map (miscompare_line plan) (in_order plan (miscompares history))) totals
     ∙ ap (λ (found : List Miscompare). quiet_report plan ++ flat_map (miscompare_line plan) found) none
@@ -406,4 +408,4 @@ quiet_run_unraced plan history planned_all raceless apart legal complete calm =
 -- so where no clone declines, it is the report of every complete run in which nothing goes wrong
 pub quiet_run : (plan : Plan) (history : List Event) → IsPlanned plan → none_declines plan ≡ true → are_apart plan.clones ≡ true → is_legal plan history ≡ true → is_complete plan history ≡ true → is_quiet history ≡ true → report_of plan history ≡ quiet_report plan
 quiet_run plan history planned_all undeclined apart legal complete quiet =
-    quiet_run_unraced plan history planned_all (unraced plan (numbers_of plan planned_all) undeclined history legal) apart legal complete quiet
+    quiet_run_unraced plan history planned_all (unraced plan (numbered_of plan planned_all) undeclined history legal) apart legal complete quiet

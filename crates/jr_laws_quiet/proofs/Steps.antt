@@ -3,7 +3,6 @@ use Rattle.std.proofs.Common.{◌≡◌, ℕ, zero, suc, ◌<◌, ◌≤◌, Lis
 use Rattle.std.specs.Prelude.{◌⊎◌, Option, Some, None, slice_get, nat_lt, is_none}
 use Rattle.std.specs.List.{list_all, cons_option}
 use Rattle.std.proofs.lemmas.Bool.{and_parts, and_from, lt-ltb, ltb-true}
-use Rattle.std.proofs.lemmas.List.Elements.{filter_map-append}
 use Rattle.std.proofs.lemmas.List.Folds.{list_all-append}
 use Rattle.jr_model.specs.declared.blocks.Dir.{Dir}
 use Rattle.jr_model.specs.declared.blocks.Dir.TheVariants as direction
@@ -12,14 +11,13 @@ use Rattle.jr_model.specs.declared.events.Event.{Event}
 use Rattle.jr_model.specs.declared.events.Event.TheVariants.{Issue, Probe, Skip, End, Verdict}
 use Rattle.jr_model.specs.declared.events.IssueKind.{IssueKind}
 use Rattle.jr_model.specs.declared.events.IssueKind.TheVariants as issue
-use Rattle.jr_model.specs.declared.events.Outcome.{Outcome}
 use Rattle.jr_model.specs.declared.events.Started.{Started}
 use Rattle.jr_model.specs.declared.events.Verdict.TheVariants.{Good, Bad, Void}
 use Rattle.jr_model.specs.declared.events.Outcome.TheVariants.{Whole}
 use Rattle.jr_model.specs.declared.events.WriteId.{WriteId}
 use Rattle.jr_model.specs.declared.workloads.Draw.{Draw}
 use Rattle.jr_model.specs.Draws.{draws_of_job, fresh_progress}
-use Rattle.jr_model.specs.History.{started, started_by, kind_for, outcome_of, flies, is_judged, is_probe, is_write, ended_whole, same_write, same_piece}
+use Rattle.jr_model.specs.History.{started, started_by, kind_for, outcome_of, flies, is_judged, is_write, ended_whole, same_write, same_piece}
 use Rattle.jr_model.specs.LastWrite.{is_intact}
 use Rattle.jr_model.specs.Legal.{is_fault, is_legal, legal_after, may_happen, end_fits, verdict_fits, may_issue, may_take_up, step_of_draw, step_of_clone, same_issue, is_this_issue, is_this_probe, is_this_skip}
 use Rattle.jr_model.specs.Plan.{Plan, SubJob, IsNumbered, clone_of, checks_reads, issued_as}
@@ -27,8 +25,10 @@ use Rattle.jr_model.specs.Races.{has_raced}
 use Rattle.jr_model.specs.Rounds.{Pass, pass_of, write_id, is_write_draw}
 use Rattle.jr_model.specs.Words.{pass_words}
 use Rattle.jr_model.proofs.LegalLaws.{is_legal-more, number-draws_from}
-use Rattle.jr_model.proofs.SerialLaws.{IsWell, well-more, whole_some}
+use Rattle.jr_model.proofs.SerialLaws.{IsWell, whole_some}
 use Rattle.jr_model.proofs.Equality.{eq_issue, eq_piece}
+use Rattle.jr_model.proofs.ListLemmas.{all_weaker}
+use Rattle.jr_model.proofs.HistoryLemmas.{legal_is_well, started-more, by_events}
 
 -- nothing goes wrong with the event, and its verdict, if it is one, is good
 abbrev pub is_fine : Event → Bool
@@ -61,17 +61,6 @@ legal_from plan P step before (e ∷ events) so_far legal start =
 pub each_legal : (plan : Plan) (P : List Event → Type 0) → P [] → ((h : List Event) (e : Event) → is_legal plan h ≡ true → may_happen plan h e ≡ true → P h → P (h ++ e ∷ [])) → (history : List Event) → is_legal plan history ≡ true → P history
 each_legal plan P start step history legal = legal_from plan P step [] history refl legal start
 
-pub legal_is_well : (plan : Plan) (history : List Event) → is_legal plan history ≡ true → IsWell plan history
-legal_is_well plan history legal =
-    each_legal plan (IsWell plan) (record { legal = refl; ends = λ io o h. none_some io o h; judged = λ io h. none_true io h })
-    (λ h e so_far may well. well-more plan h e well may) history legal
-  where
-    none_some : (io : ℕ) (o : Outcome) → None ≡ Some o → io < 0
-    none_some io o h = cc
-
-    none_true : (io : ℕ) → false ≡ true → io < 0
-    none_true io h = cc
-
 pub along_from : (plan : Plan) (P : List Event → Type 0) → ((h : List Event) (e : Event) → IsStep plan h e → P h → P (h ++ e ∷ [])) → (before events : List Event) → is_legal plan before ≡ true → legal_after plan before events ≡ true → are_fine before ≡ true → are_fine events ≡ true → P before → P (before ++ events)
 along_from plan P step before [] so_far legal quiet calm start = subst P (sym (append-nil before)) start
 along_from plan P step before (e ∷ events) so_far legal quiet calm start =
@@ -98,9 +87,6 @@ refers n (Issue worker kind write piece) = true
 refers n (Probe worker write piece) = true
 refers n (Skip worker write) = true
 
-pub started_push : (history : List Event) (e : Event) → started (history ++ e ∷ []) ≡ started history ++ cons_option (started_by e) []
-started_push history e = filter_map-append started_by history (e ∷ [])
-
 pub refers_more : (n m : ℕ) (e : Event) → n ≤ m → refers n e ≡ true → refers m e ≡ true
 refers_more n m (End worker io outcome) le h =
     let below : io < n = ltb-true io n h in
@@ -112,45 +98,35 @@ refers_more n m (Issue worker kind write piece) le h = refl
 refers_more n m (Probe worker write piece) le h = refl
 refers_more n m (Skip worker write) le h = refl
 
-pub all_weaker : {X : Type 0} (p q : X → Bool) (xs : List X) → ((x : X) → p x ≡ true → q x ≡ true) → list_all p xs ≡ true → list_all q xs ≡ true
-all_weaker p q [] weaker h = refl
-all_weaker p q (x ∷ xs) weaker h =
-    let parts = and_parts (p x) (list_all p xs) h in
-    and_from (q x) (list_all q xs) (weaker x parts.0) (all_weaker p q xs weaker parts.1)
-
 -- an I/O that is ended or judged was started
-pub refers_now : (plan : Plan) (h : List Event) (e : Event) → IsStep plan h e → refers (length (started h)) e ≡ true
-refers_now plan h (End worker io outcome) step =
-    (and_parts (nat_lt io (length (started h))) (is_none (outcome_of h io)) (and_parts (flies h io) (end_fits worker outcome (slice_get (started h) io)) step.may).0).0
-refers_now plan h (Verdict worker io verdict) step =
-    let parts = and_parts (ended_whole (outcome_of h io) && not (is_judged h io)) (verdict_fits plan (has_raced h io) verdict (slice_get (started h) io)) step.may in
+pub refers_next : (plan : Plan) (h : List Event) (e : Event) → is_legal plan h ≡ true → may_happen plan h e ≡ true → refers (length (started h)) e ≡ true
+refers_next plan h (End worker io outcome) legal may =
+    (and_parts (nat_lt io (length (started h))) (is_none (outcome_of h io)) (and_parts (flies h io) (end_fits worker outcome (slice_get (started h) io)) may).0).0
+refers_next plan h (Verdict worker io verdict) legal may =
+    let parts = and_parts (ended_whole (outcome_of h io) && not (is_judged h io)) (verdict_fits plan (has_raced h io) verdict (slice_get (started h) io)) may in
     let ended = and_parts (ended_whole (outcome_of h io)) (not (is_judged h io)) parts.0 in
-    lt-ltb io (length (started h)) ((well_of plan h step.legal step.quiet).ends io Whole (whole_some (outcome_of h io) ended.0))
-refers_now plan h (Issue worker kind write piece) step = refl
-refers_now plan h (Probe worker write piece) step = refl
-refers_now plan h (Skip worker write) step = refl
+    lt-ltb io (length (started h)) ((legal_is_well plan h legal).ends io Whole (whole_some (outcome_of h io) ended.0))
+refers_next plan h (Issue worker kind write piece) legal may = refl
+refers_next plan h (Probe worker write piece) legal may = refl
+refers_next plan h (Skip worker write) legal may = refl
 
-pub all_refer : (plan : Plan) (history : List Event) → is_legal plan history ≡ true → are_fine history ≡ true → list_all (refers (length (started history))) history ≡ true
-all_refer plan history legal quiet = along plan (λ (h : List Event). list_all (refers (length (started h))) h ≡ true) refl grows history legal quiet
+pub refers_now : (plan : Plan) (h : List Event) (e : Event) → IsStep plan h e → refers (length (started h)) e ≡ true
+refers_now plan h e step = refers_next plan h e step.legal step.may
+
+pub refer_all : (plan : Plan) (history : List Event) → is_legal plan history ≡ true → list_all (refers (length (started history))) history ≡ true
+refer_all plan history legal = by_events plan (λ (h : List Event). list_all (refers (length (started h))) h ≡ true) refl grows history legal
   where
-    grows : (h : List Event) (e : Event) → IsStep plan h e → list_all (refers (length (started h))) h ≡ true → list_all (refers (length (started (h ++ e ∷ [])))) (h ++ e ∷ []) ≡ true
-    grows h e step so_far =
+    grows : (h : List Event) (e : Event) → is_legal plan h ≡ true → list_all (refers (length (started h))) h ≡ true → may_happen plan h e ≡ true → list_all (refers (length (started (h ++ e ∷ [])))) (h ++ e ∷ []) ≡ true
+    grows h e legal_h so_far may =
         let n = length (started h) in
         let m = length (started (h ++ e ∷ [])) in
-        let le : n ≤ m = omega (arith, ap length (started_push h e), length-append (started h) (cons_option (started_by e) [])) in
+        let le : n ≤ m = omega (arith, ap length (started-more h e), length-append (started h) (cons_option (started_by e) [])) in
         list_all-append (refers m) h (e ∷ [])
         ∙ and_from (list_all (refers m) h) (refers m e && true) (all_weaker (refers n) (refers m) h (λ x. refers_more n m x le) so_far)
-        (and_from (refers m e) true (refers_more n m e le (refers_now plan h e step)) refl)
+        (and_from (refers m e) true (refers_more n m e le (refers_next plan h e legal_h may)) refl)
 
--- a place of a list, in a longer one
-pub got_within : {X : Type 0} (xs ys : List X) (k : ℕ) → k < length xs → slice_get (xs ++ ys) k ≡ slice_get xs k
-got_within [] ys k below = absurd (omega arith)
-got_within (x ∷ xs) ys zero below = refl
-got_within (x ∷ xs) ys (suc k) below = got_within xs ys k (omega (arith, below))
-
-pub got_at_end : {X : Type 0} (xs : List X) (x : X) → slice_get (xs ++ x ∷ []) (length xs) ≡ Some x
-got_at_end [] x = refl
-got_at_end (y ∷ xs) x = got_at_end xs x
+pub all_refer : (plan : Plan) (history : List Event) → is_legal plan history ≡ true → are_fine history ≡ true → list_all (refers (length (started history))) history ≡ true
+all_refer plan history legal quiet = refer_all plan history legal
 
 -- an I/O in a list with one more is that one, or an earlier one
 pub got_push : {X : Type 0} (xs : List X) (x y : X) (k : ℕ) → slice_get (xs ++ x ∷ []) k ≡ Some y → (slice_get xs k ≡ Some y) ⊎ ((k ≡ length xs) × (x ≡ y))
@@ -202,12 +178,6 @@ write_kind job d = by_dir d.dir
     by_dir : (dir : Dir) → is_write (kind_for (issued_as job dir)) ≡ is_write_draw (record { number = d.number; dir = dir; piece = d.piece; seed = d.seed })
     by_dir direction.Read = by_check (checks_reads job)
     by_dir direction.Write = refl
-
--- and it is no check of a write
-pub no_probe : (kind : IssueKind) → is_probe (kind_for kind) ≡ false
-no_probe issue.Read = refl
-no_probe issue.Write = refl
-no_probe issue.ReadCheck = refl
 
 -- a draw's issue
 pub record IsIssue (plan : Plan) (h : List Event) (kind : IssueKind) (write : WriteId) (piece : Piece) : Type 0 where

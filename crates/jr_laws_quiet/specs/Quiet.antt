@@ -1,4 +1,4 @@
--- Believed: the report of a run in which nothing goes wrong.
+-- Claimed: the report of a run in which nothing goes wrong.
 use Rattle.std.specs.Prelude.{◌≡◌, ℕ, nat_lt, Bool, true, false, not, ◌&&◌, List, Option, Some, None, slice_get, is_some, fold, if◌then◌else◌}
 use Rattle.std.specs.List.{list_any, list_all}
 use Rattle.jr_model.specs.declared.blocks.Piece.{Piece}
@@ -20,6 +20,7 @@ use Rattle.jr_model.specs.Rounds.{Pass, pass_of, group_of, group_index}
 use Rattle.jr_plan.specs.Files.{are_apart}
 use Rattle.jr_model.specs.PlanFacts.{IsPlanned}
 use Rattle.jr_model.specs.Races.{has_raced}
+use Rattle.jr_laws_quiet.specs.Declining.{none_declines}
 
 -- the event is no fault and no bad verdict
 abbrev pub is_calm : Event → Bool
@@ -61,10 +62,6 @@ is_last_in draws draw = not (list_any (later_over draw) draws)
 -- no later write of its group overlaps the write
 abbrev pub stays_last : Pass → Draw → Bool
 stays_last pass draw = is_last_in (group_of pass (group_index pass draw.number)) draw
-
--- no clone declines that its I/Os wait for those that they overlap
-abbrev pub none_declines : Plan → Bool
-none_declines plan = not (list_any (λ (job : SubJob). job.declines) plan.clones)
 
 -- nothing raced in the history
 abbrev pub NothingRaced : List Event → Type 0

@@ -3,16 +3,17 @@ use Rattle.std.proofs.Common.{◌≡◌, ℕ, zero, suc, ◌+◌, ◌<◌, ◌�
 use Rattle.std.specs.Prelude.{◌⊎◌, Option, Some, None, slice_get, is_none, nat_lt, filter_map}
 use Rattle.std.specs.List.{list_any, cons_option, enumerate_from}
 use Rattle.std.proofs.lemmas.Bool.{and_parts, and_from, false≢true, lt-ltb, or_cases}
-use Rattle.std.proofs.lemmas.Option.{slice_get_within}
+use Rattle.std.proofs.lemmas.Option.{slice_get_within, same_Some}
 use Rattle.jr_model.specs.declared.events.Event.{Event}
-use Rattle.jr_model.specs.declared.events.Event.TheVariants.{Issue, Probe, Skip, End, Verdict}
 use Rattle.jr_model.specs.declared.events.Outcome.{Outcome}
 use Rattle.jr_model.specs.declared.events.Started.{Started}
-use Rattle.jr_model.specs.History.{started, started_by, end_of, outcome_of, flies, if_flying, in_flight}
+use Rattle.jr_model.specs.History.{started, started_by, outcome_of, flies, if_flying, in_flight}
 use Rattle.jr_model.specs.Legal.{is_legal}
 use Rattle.jr_model.specs.Plan.{Plan}
-use Rattle.jr_laws_steps.proofs.Grown.{not_ended_yet, outcome_of-stays}
-use Rattle.jr_laws_steps.proofs.StartedLemmas.{same_some, started_next, started_stays}
+use Rattle.jr_model.proofs.HistoryLemmas.{outcome_of-stays, start_ends_none}
+use Rattle.jr_model.proofs.OptionLemmas.{none_by_test}
+use Rattle.jr_laws_steps.proofs.Grown.{not_ended_yet}
+use Rattle.jr_laws_steps.proofs.StartedLemmas.{started_next, started_stays}
 
 -- an I/O that was started, hasn't ended and passes the test
 pub record Passes (history : List Event) (test : Started → Bool) (n : ℕ) (ios : List Started) : Type 0 where
@@ -32,7 +33,7 @@ some_or_rest test (Some s) rest h =
     ]
 
 flying_parts : (o : Option Outcome) (io s : Started) → cond (is_none o) (Some io) None ≡ Some s → (o ≡ None) × (io ≡ s)
-flying_parts None io s h = (refl, same_some io s h)
+flying_parts None io s h = (refl, same_Some io s h)
 flying_parts (Some outcome) io s h = cc
 
 passes_from : (history : List Event) (test : Started → Bool) (n : ℕ) (ios : List Started)
@@ -67,14 +68,6 @@ passes_from history test n (io ∷ ios) h =
 pub passes : (history : List Event) (test : Started → Bool) → list_any test (in_flight history) ≡ true → Passes history test 0 (started history)
 passes history test h = passes_from history test 0 (started history) h
 
--- an event that starts an I/O ends none
-ends_none : (e : Event) (new : Started) (io : ℕ) → started_by e ≡ Some new → end_of io e ≡ None
-ends_none (Issue w k i p) new io h = refl
-ends_none (Probe w i p) new io h = refl
-ends_none (Skip w i) new io h = refl
-ends_none (End w i o) new io h = cc
-ends_none (Verdict w i v) new io h = refl
-
 -- what flew goes on, and what it starts flies
 pub flies_on : (history : List Event) (e : Event) (new s : Started) (io : ℕ) → started_by e ≡ Some new → slice_get (started history) io ≡ Some s
     → outcome_of history io ≡ None → flies (history ++ e ∷ []) io ≡ true
@@ -82,7 +75,7 @@ flies_on history e new s io starts at unended =
     let after = history ++ e ∷ [] in
     and_from (nat_lt io (length (started after))) (is_none (outcome_of after io))
     (lt-ltb io (length (started after)) (slice_get_within (started after) io s (started_stays history (e ∷ []) io s at)))
-    (ap is_none (outcome_of-stays history e io (ends_none e new io starts) ∙ unended))
+    (ap is_none (outcome_of-stays history e io (start_ends_none e new io starts) ∙ unended))
 
 pub flies_now : (plan : Plan) (history : List Event) (e : Event) (new : Started) → is_legal plan history ≡ true → started_by e ≡ Some new
     → flies (history ++ e ∷ []) (length (started history)) ≡ true
@@ -92,13 +85,9 @@ flies_now plan history e new legal starts =
     let least : n ≤ n = omega arith in
     and_from (nat_lt n (length (started after))) (is_none (outcome_of after n))
     (lt-ltb n (length (started after)) (slice_get_within (started after) n new (started_next history e new starts)))
-    (ap is_none (outcome_of-stays history e n (ends_none e new n starts) ∙ not_ended_yet plan history n legal least))
-
-none_of : (o : Option Outcome) → is_none o ≡ true → o ≡ None
-none_of None h = refl
-none_of (Some outcome) h = cc
+    (ap is_none (outcome_of-stays history e n (start_ends_none e new n starts) ∙ not_ended_yet plan history n legal least))
 
 -- what flies has been started and hasn't ended
 pub open_of : (history : List Event) (io : ℕ) → flies history io ≡ true → outcome_of history io ≡ None
 open_of history io h =
-    none_of (outcome_of history io) (and_parts (nat_lt io (length (started history))) (is_none (outcome_of history io)) h).1
+    none_by_test (outcome_of history io) (and_parts (nat_lt io (length (started history))) (is_none (outcome_of history io)) h).1

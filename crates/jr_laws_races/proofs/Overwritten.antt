@@ -1,9 +1,10 @@
 -- An I/O has raced where a write over its bytes was in flight beside it, and only there.
-use Rattle.std.proofs.Common.{◌≡◌, ℕ, ◌+◌, ◌<◌, List, [], ◌∷◌, ◌++◌, length, Bool, true, false, cond, ◌&&◌, ◌||◌, refl, sym, ◌∙◌, ap, subst, arith, inl, inr, append_assoc, append-nil}
+use Rattle.std.proofs.Common.{◌≡◌, ℕ, ◌+◌, ◌<◌, List, [], ◌∷◌, ◌++◌, length, Bool, true, cond, ◌&&◌, ◌||◌, refl, sym, ◌∙◌, ap, subst, arith, inl, inr, append_assoc, append-nil}
 use Rattle.std.specs.Prelude.{Option, Some, None, slice_get, is_none, nat_lt}
 use Rattle.std.specs.List.{list_any}
 use Rattle.std.proofs.lemmas.Bool.{and_parts, and_from, cases_Bool, cases_eq, eq-eqb, false≢true, lt-ltb, ltb-true, ne_eqb, or_cases}
 use Rattle.std.proofs.lemmas.Option.{slice_get_within}
+use Rattle.std.proofs.Math.Bool.{or-true}
 use Rattle.jr_model.specs.declared.events.Event.{Event}
 use Rattle.jr_model.specs.declared.events.Started.{Started}
 use Rattle.jr_model.specs.History.{started, started_by, outcome_of, flies, in_flight}
@@ -11,7 +12,8 @@ use Rattle.jr_model.specs.Legal.{is_legal, may_happen}
 use Rattle.jr_model.specs.Plan.{Plan}
 use Rattle.jr_model.specs.Races.{has_raced, races_by, writes_over, writes_over_io}
 use Rattle.jr_model.proofs.RaceLaws.{raced_push}
-use Rattle.jr_laws_steps.proofs.StartedLemmas.{by_events, got_within, started-append, started_next, started_stays}
+use Rattle.jr_model.proofs.HistoryLemmas.{by_events}
+use Rattle.jr_laws_steps.proofs.StartedLemmas.{got_within, started-append, started_next, started_stays}
 use Rattle.jr_laws_bytes.proofs.LastWrites.{started_cases, unended_before}
 use Rattle.jr_laws_bytes.proofs.Starts.{none_of_flying}
 use Rattle.jr_laws_races.specs.Beside.{RacedIsWrittenOver, WasWrittenOver, WereBeside, WrittenOverHasRaced}
@@ -109,10 +111,6 @@ raced_is_written_over plan history io legal raced =
 
 -- ---- what was written over has raced
 
-or_true : (b : Bool) → (b || true) ≡ true
-or_true true = refl
-or_true false = refl
-
 along : (P : List Event → Type 0) → ((h : List Event) (e : Event) → P h → P (h ++ e ∷ [])) → (before events : List Event) → P before
     → P (before ++ events)
 along P step before [] held = subst P (sym (append-nil before)) held
@@ -167,7 +165,7 @@ racing_more h e racing io other own write apart at there open_io open_other over
                 ∙ ap (λ (c : Bool). cond c any both) (ne_eqb n io (λ same. omega (arith, same, below)))
                 ∙ and_from (writes_over_io (slice_get (started h) io) write) (flies h io)
                 (ap (λ (o : Option Started). writes_over_io o write) old_io ∙ over) flies_io in
-                raced_push h e io ∙ ap (λ (b : Bool). has_raced h io || b) races ∙ or_true (has_raced h io)
+                raced_push h e io ∙ ap (λ (b : Bool). has_raced h io || b) races ∙ or-true (has_raced h io)
           ]
       | inr new_io ↦
           elim (started_cases h e other write there) [
@@ -178,7 +176,7 @@ racing_more h e racing io other own write apart at there open_io open_other over
                 ap (races_by h io) new_io.1
                 ∙ ap (λ (c : Bool). cond c any both) (eq-eqb n io (sym new_io.0))
                 ∙ some_flying h (writes_over own.piece) other write old_other free_other.0 over in
-                raced_push h e io ∙ ap (λ (b : Bool). has_raced h io || b) races ∙ or_true (has_raced h io)
+                raced_push h e io ∙ ap (λ (b : Bool). has_raced h io || b) races ∙ or-true (has_raced h io)
             | inr new_other ↦ absurd (apart (new_other.0 ∙ sym new_io.0))
           ]
     ]

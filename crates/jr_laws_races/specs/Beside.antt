@@ -1,4 +1,4 @@
--- Believed: what it is to be in flight beside a write over the same bytes (of this project).
+-- Claimed: what it is to be in flight beside a write over the same bytes (of this project).
 use Rattle.std.specs.Prelude.{◌≡◌, ℕ, true, List, ◌++◌, Some, slice_get}
 use Rattle.jr_model.specs.declared.events.Event.{Event}
 use Rattle.jr_model.specs.declared.events.Started.{Started}

@@ -13,12 +13,12 @@ use Rattle.jr_model.specs.Legal.{is_halted, has_room, may_take_up}
 use Rattle.jr_model.specs.Plan.{Plan, SubJob, clone_of}
 use Rattle.jr_model.specs.Rounds.{pass_of, write_id, issued_count, has_rounds, group_index, is_open, no_issue_flies, waits_for_round, pass_finished, is_current}
 use Rattle.jr_model.specs.PlanFacts.{IsPlanned}
+use Rattle.jr_model.proofs.PlanLemmas.{own_place}
 use Rattle.jr_backlog.specs.Rounds.{is_due, is_closed}
 use Rattle.jr_backlog.specs.CurrentRound.{current_round, last_issued}
 use Rattle.jr_laws_rounds.specs.Standing.{IsInPass, is_under_way, take_up_write, issue_of, next_issue, ChoiceByStanding}
 use Rattle.jr_laws_rounds.specs.Rounds.{HasRound, WaitsUnderWay, LeftInPass, LeftAreUnsettled}
 use Rattle.jr_laws_rounds.proofs.StandingDraws.{planned_draw}
-use Rattle.jr_laws_rounds.proofs.StandingFinished.{own_place}
 use Rattle.jr_laws_rounds.proofs.StandingPasses.{done_parts, none_taken, unbegun}
 use Rattle.jr_laws_rounds.proofs.StandingSteps.{finished_before, before_from}
 use Rattle.jr_laws_rounds.proofs.ChoiceSteps.{can_take, no_step_of, blocked_step, not_issued, done_not_current, later_not_current, unbegun_not_taken, unbegun_free, waits_unfinished, free_not_taken, no_choice_of, chosen_of, none_chosen, next_draw}

@@ -19,9 +19,9 @@ use Rattle.jr_model.proofs.Equality.{eq_write}
 use Rattle.jr_backlog.specs.CurrentRound.{is_left, round_up_to}
 use Rattle.jr_laws_steps.proofs.DrawnLaws.{takeable}
 use Rattle.jr_laws_steps.proofs.IssueLaws.{numbered_draws}
-use Rattle.jr_laws_steps.proofs.PlaceLemmas.{any_found, any_at, got_filtered, got_taken, got_dropped, got_made, made_at}
+use Rattle.jr_model.proofs.PlaceLemmas.{any_found, any_at, got_filtered, got_taken, got_dropped, got_made, made_at}
 use Rattle.jr_laws_quiet.proofs.Checks.{settled_taken}
-use Rattle.jr_laws_quiet.proofs.Groups.{Rising, rising_take, rising_drop, writes_rise, group_is, group_is_all}
+use Rattle.jr_laws_quiet.proofs.Groups.{group_is, group_is_all}
 use Rattle.jr_laws_quiet.proofs.Issues.{all_at}
 use Rattle.jr_laws_quiet.proofs.Members.{in_own_group}
 use Rattle.jr_laws_quiet.proofs.Phases.{open_parts}
@@ -29,16 +29,7 @@ use Rattle.jr_laws_rounds.specs.Standing.{take_up, take_up_write}
 use Rattle.jr_laws_rounds.proofs.StandingLists.{nothing_given, given_of_made, rising_kept, gives_same}
 use Rattle.jr_laws_rounds.proofs.StandingPasses.{at_number}
 use Rattle.jr_laws_rounds.proofs.ChoiceSteps.{can_issue, can_take, take_may, no_step_of}
-
--- the writes of a group rise, and are among the draws
-group_rises : (job : SubJob) (p g : ℕ) → Rising 0 (group_of (pass_of job p) g)
-group_rises job p g =
-    elim (cases_Bool (job.backlog == 0)) [
-      | inl none ↦ subst (Rising 0) (sym (group_is_all job p g none)) (writes_rise job p)
-      | inr some ↦
-          subst (Rising 0) (sym (group_is job p g some))
-          (rising_take 0 job.backlog (drop (g * job.backlog) (writes_of (pass_of job p))) (rising_drop 0 (g * job.backlog) (writes_of (pass_of job p)) (writes_rise job p)))
-    ]
+use Rattle.jr_laws_rounds.proofs.KeptLists.{group_rises}
 
 group_write_at : (job : SubJob) (p g j : ℕ) (draw : Draw) → slice_get (group_of (pass_of job p) g) j ≡ Some draw → (m : ℕ) × (slice_get (writes_of (pass_of job p)) m ≡ Some draw)
 group_write_at job p g j draw at =

@@ -12,26 +12,16 @@ use Rattle.jr_model.specs.Legal.{is_halted, has_room, is_clear, phase_is_open, t
 use Rattle.jr_model.specs.Plan.{Plan, SubJob, issued_as}
 use Rattle.jr_model.specs.Rounds.{Pass, pass_of, passes_of, write_id, is_write_draw, issued_count, has_rounds, group_count, group_index, is_full, is_closed, is_open, waits_for_round, pass_finished, is_current}
 use Rattle.jr_laws_steps.proofs.DrawnLaws.{takeable, full_needs_issue}
-use Rattle.jr_laws_steps.proofs.PlaceLemmas.{any_found, any_at, got_made, got_ranged}
-use Rattle.jr_laws_quiet.proofs.Groups.{number_is}
-use Rattle.jr_laws_quiet.proofs.Issues.{got_pass, got_range}
+use Rattle.jr_model.proofs.PlaceLemmas.{any_found, any_at, got_made, got_ranged, ranged_at}
+use Rattle.jr_model.proofs.PlanLemmas.{pass_at}
+use Rattle.jr_model.proofs.BoolLemmas.{same_truth, seven_parts}
+use Rattle.jr_model.proofs.LegalLaws.{number_of_draw}
 use Rattle.jr_laws_quiet.proofs.Members.{in_own_group}
 use Rattle.jr_laws_quiet.proofs.Phases.{open_parts}
 use Rattle.jr_laws_rounds.specs.Standing.{issue_of}
-use Rattle.jr_laws_rounds.proofs.StandingLists.{same_test, nothing_given, only_at}
+use Rattle.jr_laws_rounds.proofs.StandingLists.{nothing_given, only_at}
 use Rattle.jr_laws_rounds.proofs.StandingPasses.{done_parts, current_parts, group_closed, at_number}
 use Rattle.jr_laws_rounds.proofs.StandingSteps.{before_at}
-
--- seven tests that all pass
-seven_parts : (a b c d e f g : Bool) → (a && b && c && d && e && f && g) ≡ true → (a ≡ true) × (b ≡ true) × (c ≡ true) × (d ≡ true) × (e ≡ true) × (f ≡ true) × (g ≡ true)
-seven_parts a b c d e f g h =
-    let last = and_parts (a && b && c && d && e && f) g h in
-    let sixth = and_parts (a && b && c && d && e) f last.0 in
-    let fifth = and_parts (a && b && c && d) e sixth.0 in
-    let fourth = and_parts (a && b && c) d fifth.0 in
-    let third = and_parts (a && b) c fourth.0 in
-    let second = and_parts a b third.0 in
-    (second.0, second.1, third.1, fourth.1, fifth.1, sixth.1, last.1)
 
 seven_from : (a b c d e f g : Bool) → a ≡ true → b ≡ true → c ≡ true → d ≡ true → e ≡ true → f ≡ true → g ≡ true → (a && b && c && d && e && f && g) ≡ true
 seven_from a b c d e f g ha hb hc hd he hf hg =
@@ -177,7 +167,7 @@ free_not_taken plan h job p k draw at free = false_from_ne_true (may_take_up pla
         let opened = open_parts h pass g needs.opened in
         let same : 0 + g ≡ g = omega arith in
         let waits = and_from (has_rounds job) (list_any waiting (range_with_len 0 (group_count pass))) needs.rounds
-        (any_at waiting (range_with_len 0 (group_count pass)) g g (got_range 0 (group_count pass) g own.1 ∙ ap Some same)
+        (any_at waiting (range_with_len 0 (group_count pass)) g g (ranged_at 0 (group_count pass) g own.1 ∙ ap Some same)
         (and_from (is_full h pass g) (not (is_closed h pass g)) opened.full (not_from_false (is_closed h pass g) opened.not_closed))) in
         both_ways (waits_for_round h pass) (free needs.rounds) waits
 
@@ -196,7 +186,7 @@ pass_at_place job k pass at =
 -- where one pass alone has a choice, it is the clone's
 pub chosen_of : (plan : Plan) (h : List Event) (worker : ℕ) (job : SubJob) (q : ℕ) → q < job.passes → ((r : ℕ) → r < job.passes → (r ≡ q → ⊥) → choice_of_pass plan h worker (pass_of job r) ≡ None) → choice_of_clone plan h worker job ≡ choice_of_pass plan h worker (pass_of job q)
 chosen_of plan h worker job q within others =
-    only_at (choice_of_pass plan h worker) (passes_of job) q (pass_of job q) (got_pass job q within)
+    only_at (choice_of_pass plan h worker) (passes_of job) q (pass_of job q) (pass_at job q within)
     (λ k pass differs at.
     let is = pass_at_place job k pass at in
     subst (λ (x : Pass). choice_of_pass plan h worker x ≡ None) is.0 (others k is.1 differs))
@@ -222,7 +212,7 @@ next_draw plan h worker job q n count can = by_draw (slice_get (draws_of_job job
   where
     other_number : (k : ℕ) (draw : Draw) → slice_get (draws_of_job job q) k ≡ Some draw → (k ≡ n → ⊥) → step_of plan h worker (pass_of job q) draw ≡ None
     other_number k draw at differs =
-        let number = number_is job q k draw at in
+        let number = number_of_draw job q k draw at in
         no_step_of plan h worker (pass_of job q) draw (can.untaken k draw at)
         (false_from_ne_true (may_issue plan h (pass_of job q) draw) (λ may.
         let next : draw.number ≡ issued_count h (pass_of job q) = eqb-true draw.number (issued_count h (pass_of job q)) (can_issue plan h (pass_of job q) draw may).next in
@@ -234,9 +224,9 @@ next_draw plan h worker job q n count can = by_draw (slice_get (draws_of_job job
         let issue = Issue worker (issued_as job draw.dir) (write_id pass draw) draw.piece in
         let clear = is_clear plan h pass.job (is_write_draw draw) draw.piece in
         let opened = phase_is_open plan h job in
-        let number = number_is job q n draw at in
+        let number = number_of_draw job q n draw at in
         let same : may_issue plan h pass draw ≡ (clear && opened) =
-        same_test (may_issue plan h pass draw) (clear && opened)
+        same_truth (may_issue plan h pass draw) (clear && opened)
         (λ may. let parts = can_issue plan h pass draw may in and_from clear opened parts.clear parts.opened)
         (λ both.
         let parts = and_parts clear opened both in

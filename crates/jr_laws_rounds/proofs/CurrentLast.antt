@@ -3,7 +3,7 @@ use Rattle.std.proofs.Common.{◌≡◌, ℕ, suc, ◌<◌, ◌≤◌, List, [],
 use Rattle.std.specs.Prelude.{◌⊎◌, Option, Some, None, slice_get, ◌==◌}
 use Rattle.std.specs.Option.{option_or}
 use Rattle.std.proofs.lemmas.Bool.{and_from, and_right, and_left, eq-eqb, ne_eqb, cases_eq, cases_lt, cases_order, both_ways}
-use Rattle.std.proofs.lemmas.Option.{slice_get_within}
+use Rattle.std.proofs.lemmas.Option.{slice_get_within, same_Some}
 use Rattle.jr_model.specs.declared.blocks.Piece.{Piece}
 use Rattle.jr_model.specs.declared.events.Event.{Event}
 use Rattle.jr_model.specs.declared.events.Event.TheVariants.{Issue, Probe, Skip, End, Verdict}
@@ -16,8 +16,8 @@ use Rattle.jr_model.specs.History.{is_write, kind_for}
 use Rattle.jr_model.specs.Legal.{is_legal, may_happen}
 use Rattle.jr_model.specs.Plan.{Plan, SubJob, IsNumbered, clone_of, issued_as}
 use Rattle.jr_model.specs.Rounds.{pass_of, is_write_draw, issues_of, issued_count}
-use Rattle.jr_laws_steps.proofs.StartedLemmas.{by_events, same_some}
-use Rattle.jr_laws_quiet.proofs.Issues.{issued_push, issued_same}
+use Rattle.jr_model.proofs.HistoryLemmas.{issued_push, by_events}
+use Rattle.jr_laws_quiet.proofs.Issues.{issued_same}
 use Rattle.jr_laws_quiet.proofs.Steps.{write_kind}
 use Rattle.jr_backlog.specs.CurrentRound.{write_issued, last_issued}
 use Rattle.jr_laws_rounds.proofs.CurrentPhases.{IsIssued, BegunInTurn, IsLast, LastIs, last_issued-more, count_longer, its_draw, begun_in_turn}
@@ -84,7 +84,7 @@ module _ (plan : Plan) (numbered : IsNumbered plan) (job : SubJob) (planned : cl
           let counts : issued_count h (pass_of job p) ≡ issued_count h (pass_of job write.pass) = ap (λ (q : ℕ). issued_count h (pass_of job q)) same in
           let place : k ≡ write.number = omega (arith, issued, above, grown, counts, its.count) in
           let there : Some d ≡ Some its.draw = sym drawn ∙ ap (slice_get (draws_of_job job p)) place ∙ ap (λ (q : ℕ). slice_get (draws_of_job job q) write.number) same ∙ its.drawn in
-          let one : d ≡ its.draw = same_some d its.draw there in
+          let one : d ≡ its.draw = same_Some d its.draw there in
           absurd (both_ways (is_write_draw its.draw) reads (ap is_write_draw (sym one) ∙ writes))
 
   -- so it leaves the last one

@@ -10,12 +10,13 @@ use Rattle.jr_model.specs.Draws.{draws_of_job}
 use Rattle.jr_model.specs.History.{same_write}
 use Rattle.jr_model.specs.Plan.{Plan, SubJob, IsNumbered}
 use Rattle.jr_model.specs.Rounds.{pass_of, write_id, is_write_draw, issued_count, all_issued, issued_among, is_settled, is_full, is_closed, waits_for_round, rounds_closed, pass_finished, has_rounds, group_of, group_count, group_index}
-use Rattle.jr_model.proofs.LegalLaws.{same_write_refl}
+use Rattle.jr_model.proofs.LegalLaws.{same_write_refl, number_of_draw}
 use Rattle.jr_model.proofs.Equality.{eq_write}
-use Rattle.jr_laws_steps.proofs.IdleLaws.{numbered_of}
-use Rattle.jr_laws_steps.proofs.PlaceLemmas.{any_found, any_at, got_made, got_filtered, made_at}
-use Rattle.jr_laws_quiet.proofs.Issues.{all_at, got_range, finished_parts}
-use Rattle.jr_laws_quiet.proofs.Groups.{number_is, got_filter}
+use Rattle.jr_model.proofs.PlaceLemmas.{any_found, any_at, got_made, got_filtered, made_at, ranged_at}
+use Rattle.jr_model.proofs.PlanLemmas.{numbered_of}
+use Rattle.jr_model.proofs.BoolLemmas.{same_truth}
+use Rattle.jr_laws_quiet.proofs.Issues.{all_at, finished_parts}
+use Rattle.jr_laws_quiet.proofs.Groups.{got_filter}
 use Rattle.jr_laws_quiet.proofs.Members.{in_own_group, member_is, full_issued, index_mono}
 use Rattle.jr_laws_quiet.proofs.Phases.{GroupsInTurn}
 use Rattle.jr_backlog.specs.Rounds.{Round, is_due}
@@ -25,7 +26,7 @@ use Rattle.jr_laws_rounds.specs.Rounds.{HasRound}
 use Rattle.jr_laws_rounds.specs.Standing.{is_under_way}
 use Rattle.jr_laws_rounds.proofs.CurrentPhases.{IsLast, LastIs, all_finished, groups_turn}
 use Rattle.jr_laws_rounds.proofs.CurrentLast.{last_is}
-use Rattle.jr_laws_rounds.proofs.CurrentRounds.{round_in, iff_same, due_is_full, closed_is, closed_empties, member_settled, nothing_under_way, waited_for, waiting_group, waits_with}
+use Rattle.jr_laws_rounds.proofs.CurrentRounds.{round_in, due_is_full, closed_is, closed_empties, member_settled, nothing_under_way, waited_for, waiting_group, waits_with}
 
 -- the writes of a list of draws are of the pass
 all_in_pass : (job : SubJob) (p : ℕ) (draws : List Draw) → list_all (λ (write : WriteId). (write.clone == job.clone) && (write.pass == p)) (map (write_id (pass_of job p)) draws) ≡ true
@@ -76,7 +77,7 @@ module _ (h : List Event) (job : SubJob) (w : WriteId) (last : IsLast job h w) w
     -- where the pass of the last write waits
     own_waits : waits_for_round h (pass_of job w.pass) ≡ is_under_way (round_in job h w.pass (last_group job w))
     own_waits =
-        iff_same (waits_for_round h (pass_of job w.pass)) (is_under_way (round_in job h w.pass (last_group job w))) to from
+        same_truth (waits_for_round h (pass_of job w.pass)) (is_under_way (round_in job h w.pass (last_group job w))) to from
       where
         to : waits_for_round h (pass_of job w.pass) ≡ true → is_under_way (round_in job h w.pass (last_group job w)) ≡ true
         to waits =
@@ -108,7 +109,7 @@ module _ (h : List Event) (job : SubJob) (w : WriteId) (last : IsLast job h w) w
         → (is_due (round_in job h w.pass (last_group job w)) && list_any (same_write (write_id (pass_of job w.pass) draw)) (round_in job h w.pass (last_group job w)).to_check)
         ≡ (is_full h (pass_of job w.pass) (group_index (pass_of job w.pass) draw.number) && not (is_settled h (write_id (pass_of job w.pass) draw)))
     own_left k draw at writes =
-        iff_same (is_due (round_in job h w.pass own) && list_any (same_write name) (round_in job h w.pass own).to_check)
+        same_truth (is_due (round_in job h w.pass own) && list_any (same_write name) (round_in job h w.pass own).to_check)
         (is_full h (pass_of job w.pass) (group_index (pass_of job w.pass) draw.number) && not (is_settled h name)) to from
       where
         own : ℕ
@@ -121,7 +122,7 @@ module _ (h : List Event) (job : SubJob) (w : WriteId) (last : IsLast job h w) w
         group = group_of (pass_of job w.pass) own
 
         drawn : slice_get (draws_of_job job w.pass) draw.number ≡ Some draw
-        drawn = ap (slice_get (draws_of_job job w.pass)) (number_is job w.pass k draw at) ∙ at
+        drawn = ap (slice_get (draws_of_job job w.pass)) (number_of_draw job w.pass k draw at) ∙ at
 
         to : (is_due (round_in job h w.pass own) && list_any (same_write name) (round_in job h w.pass own).to_check) ≡ true → (is_full h (pass_of job w.pass) (group_index (pass_of job w.pass) draw.number) && not (is_settled h name)) ≡ true
         to both =
@@ -180,7 +181,7 @@ none_left h job p k draw round empty none at writes =
     let pass = pass_of job p in
     let name = write_id pass draw in
     let g = group_index pass draw.number in
-    let drawn : slice_get (draws_of_job job p) draw.number ≡ Some draw = ap (slice_get (draws_of_job job p)) (number_is job p k draw at) ∙ at in
+    let drawn : slice_get (draws_of_job job p) draw.number ≡ Some draw = ap (slice_get (draws_of_job job p)) (number_of_draw job p k draw at) ∙ at in
     let inside = in_own_group job p draw.number draw drawn writes in
     and_right (is_due round) (list_any (same_write name) round.to_check) (ap (list_any (same_write name)) empty)
     ∙ sym (false_from_ne_true (is_full h pass g && not (is_settled h name))
@@ -214,7 +215,7 @@ module _ (plan : Plan) (h : List Event) (job : SubJob) (pass : ℕ) (has : HasRo
       let gs = range_with_len 0 (group_count (pass_of job p)) in
       elim (or_cases (not (has_rounds job)) (list_all closed gs) (finished_parts h (pass_of job p) (earlier_done p before)).closed) [
         | inl none ↦ absurd (both_ways (not (has_rounds job)) (not_from_true (has_rounds job) has.rounds) none)
-        | inr all ↦ all_at closed gs g g all (got_range 0 (group_count (pass_of job p)) g below ∙ ap Some (omega arith))
+        | inr all ↦ all_at closed gs g g all (ranged_at 0 (group_count (pass_of job p)) g below ∙ ap Some (omega arith))
       ]
 
   -- the last write is of this pass, or of one before that has nothing left

@@ -7,6 +7,7 @@ use Rattle.std.specs.List.{list_any, list_all, cons_option, range_with_len}
 use Rattle.std.proofs.lemmas.Bool.{and_parts, and_from, eqb-true, eq-eqb, ne_eqb, ltb-true, cases_lt, cases_Bool, not-false, or_left, or_right, or_cases, false≢true}
 use Rattle.std.proofs.lemmas.List.Elements.{filter_map-append}
 use Rattle.std.proofs.lemmas.List.Folds.{list_any-append}
+use Rattle.std.proofs.lemmas.Option.{same_Some}
 use Rattle.jr_model.specs.declared.blocks.Piece.{Piece}
 use Rattle.jr_model.specs.declared.events.Event.{Event}
 use Rattle.jr_model.specs.declared.events.Event.TheVariants.{Issue, Probe, Skip, End, Verdict}
@@ -21,11 +22,15 @@ use Rattle.jr_model.specs.Plan.{Plan, SubJob, IsNumbered, clone_of, issued_as}
 use Rattle.jr_model.specs.Rounds.{Pass, pass_of, passes_of, write_id, is_write_draw, issues_of, issued_count, all_issued, issued_among, is_probe_of, settles, is_settled, is_full, is_closed, pass_finished, has_rounds, group_of, group_count, writes_of}
 use Rattle.jr_model.proofs.LegalLaws.{is_legal-more}
 use Rattle.jr_model.proofs.MachineLaws.{got_front}
-use Rattle.jr_laws_steps.proofs.StartedLemmas.{by_events, started-append, same_some}
+use Rattle.jr_model.proofs.ListLemmas.{all_weaker}
+use Rattle.jr_model.proofs.PlaceLemmas.{got_last, ranged_at}
+use Rattle.jr_model.proofs.PlanLemmas.{pass_at}
+use Rattle.jr_model.proofs.HistoryLemmas.{issued_push, by_events}
+use Rattle.jr_laws_steps.proofs.StartedLemmas.{started-append}
 use Rattle.jr_laws_steps.proofs.IssueLaws.{issued_at_most}
 use Rattle.jr_laws_quiet.proofs.Tallies.{count_by-total}
-use Rattle.jr_laws_quiet.proofs.Steps.{IsNamed, issue_of, all_weaker, got_at_end}
-use Rattle.jr_laws_quiet.proofs.Issues.{MayIssue, may_issue_parts, issued_push, issued_same, all_at, got_pass, got_range, finished_parts}
+use Rattle.jr_laws_quiet.proofs.Steps.{IsNamed, issue_of}
+use Rattle.jr_laws_quiet.proofs.Issues.{MayIssue, may_issue_parts, issued_same, all_at, finished_parts}
 use Rattle.jr_laws_quiet.proofs.Groups.{rank, rank_le_length, group_is, got_take}
 use Rattle.jr_laws_quiet.proofs.Members.{before_full, rank_mono}
 use Rattle.jr_laws_quiet.proofs.Phases.{GroupsInTurn, none_at}
@@ -110,7 +115,7 @@ last_more : {X : Type 0} (xs : List X) (o : Option X) → slice_get (xs ++ cons_
 last_more xs None = let same : xs ++ [] ≡ xs = append-nil xs in ap (λ ys. slice_get ys (length ys - 1)) same
 last_more xs (Some x) =
     let place : length (xs ++ x ∷ []) - 1 ≡ length xs = omega (arith, length-append xs (x ∷ [])) in
-    ap (slice_get (xs ++ x ∷ [])) place ∙ got_at_end xs x
+    ap (slice_get (xs ++ x ∷ [])) place ∙ got_last xs x
 
 -- the write that is issued last after one more event
 pub last_issued-more : (c : ℕ) (h : List Event) (e : Event) → last_issued c (h ++ e ∷ []) ≡ option_or (write_issued c e) (last_issued c h)
@@ -126,14 +131,14 @@ count_longer h e pass = omega (arith, issued_push h e pass)
 pub all_finished : (h : List Event) (job : SubJob) (p q : ℕ) → p < q → q ≤ job.passes → list_all (pass_finished h) (take q (passes_of job)) ≡ true → pass_finished h (pass_of job p) ≡ true
 all_finished h job p q before within all =
     all_at (pass_finished h) (take q (passes_of job)) p (pass_of job p) all
-    (got_take q (passes_of job) p before ∙ got_pass job p (omega (arith, before, within)))
+    (got_take q (passes_of job) p before ∙ pass_at job p (omega (arith, before, within)))
 
 module _ (plan : Plan) (numbered : IsNumbered plan) (job : SubJob) (planned : clone_of plan job.clone ≡ Some job) where
   -- an issue of the clone is of its next draw
   pub its_draw : (h : List Event) (worker : ℕ) (kind : IssueKind) (write : WriteId) (piece : Piece) → may_happen plan h (Issue worker kind write piece) ≡ true → write.clone ≡ job.clone → IsIssued plan job h kind write
   its_draw h worker kind write piece happens same =
       let issue = issue_of plan h worker kind write piece numbered happens in
-      let one : issue.job ≡ job = same_some issue.job job (sym issue.names.planned ∙ ap (clone_of plan) same ∙ planned) in
+      let one : issue.job ≡ job = same_Some issue.job job (sym issue.names.planned ∙ ap (clone_of plan) same ∙ planned) in
       let names : IsNamed plan write job issue.draw = subst (λ (j : SubJob). IsNamed plan write j issue.draw) one issue.names in
       let may : MayIssue plan h (pass_of job write.pass) issue.draw =
       subst (λ (j : SubJob). MayIssue plan h (pass_of j write.pass) issue.draw) one (may_issue_parts plan h (pass_of issue.job write.pass) issue.draw issue.may) in
@@ -241,7 +246,7 @@ module _ (plan : Plan) (numbered : IsNumbered plan) (job : SubJob) (planned : cl
           let waits : list_any (λ (i : ℕ). is_full h (pass_of job p) i && not (is_closed h (pass_of job p) i)) (range_with_len 0 (group_count (pass_of job p))) ≡ false =
           second (has_rounds job) _ rounds next.may.proceeds in
           let here = none_at (λ (i : ℕ). is_full h (pass_of job p) i && not (is_closed h (pass_of job p) i)) (range_with_len 0 (group_count (pass_of job p))) g g waits
-          (got_range 0 (group_count (pass_of job p)) g full.1 ∙ ap Some (zero-add g)) in
+          (ranged_at 0 (group_count (pass_of job p)) g full.1 ∙ ap Some (zero-add g)) in
           not-false (is_closed h (pass_of job p) g) (second (is_full h (pass_of job p) g) _ full.0 here)
 
   pub groups_turn : (history : List Event) → is_legal plan history ≡ true → GroupsInTurn job history

@@ -4,15 +4,17 @@ use Rattle.std.specs.Prelude.{◌⊎◌, Some, slice_get, nat_lt, ◌==◌, filt
 use Rattle.std.specs.List.{list_any, list_all, range_with_len}
 use Rattle.std.proofs.lemmas.Bool.{and_parts, and_from, and_right, eqb-true, eq-eqb, ne_eqb, lt-ltb, le-ltb, cases_lt, cases_Bool, not-true, not_from_true, not_from_false, false≢true}
 use Rattle.std.proofs.lemmas.Option.{slice_get_within}
+use Rattle.std.proofs.Math.Bool.{or-false, or_comm}
 use Rattle.jr_model.specs.declared.events.Event.{Event}
 use Rattle.jr_model.specs.declared.events.WriteId.{WriteId}
 use Rattle.jr_model.specs.declared.workloads.Draw.{Draw}
 use Rattle.jr_model.specs.Draws.{draws_of_job}
 use Rattle.jr_model.specs.Plan.{SubJob}
 use Rattle.jr_model.specs.Rounds.{pass_of, write_id, is_write_draw, issued_count, all_issued, issued_among, is_settled, is_full, is_closed, waits_for_round, has_rounds, group_of, group_count, group_index, writes_of}
-use Rattle.jr_laws_steps.proofs.PlaceLemmas.{all_from, first_fails, any_found, any_at, got_ranged, made_at}
+use Rattle.jr_model.proofs.PlaceLemmas.{all_from, first_fails, any_found, any_at, got_ranged, made_at, ranged_at}
+use Rattle.jr_model.proofs.BoolLemmas.{same_truth}
 use Rattle.jr_laws_quiet.proofs.Tallies.{count_by-total}
-use Rattle.jr_laws_quiet.proofs.Issues.{all_at, got_range}
+use Rattle.jr_laws_quiet.proofs.Issues.{all_at}
 use Rattle.jr_laws_quiet.proofs.Groups.{rank, rank_le_length, group_is, got_filter}
 use Rattle.jr_laws_quiet.proofs.Members.{InGroup, member_is, full_issued}
 use Rattle.jr_backlog.specs.Rounds.{Round, is_due}
@@ -31,21 +33,6 @@ round_in job h p g =
       exhausted = all_issued h pass;
       to_check = map (write_id pass) (filter (is_left h pass) group);
     }
-
-pub iff_same : (a b : Bool) → (a ≡ true → b ≡ true) → (b ≡ true → a ≡ true) → a ≡ b
-iff_same true b to from = sym (to refl)
-iff_same false true to from = from refl
-iff_same false false to from = refl
-
-or_swap : (a b : Bool) → (a || b) ≡ (b || a)
-or_swap true true = refl
-or_swap true false = refl
-or_swap false true = refl
-or_swap false false = refl
-
-or_false : (a : Bool) → (a || false) ≡ a
-or_false true = refl
-or_false false = refl
 
 second_fails : (a b : Bool) → a ≡ true → (a && b) ≡ false → b ≡ false
 second_fails true b one g = g
@@ -76,11 +63,11 @@ due_is_full h job p g = by_backlog (cases_lt 0 job.backlog)
         let few : count ≤ job.backlog = few_issued h job p g some in
         let least : min job.backlog count ≡ count = omega (arith, few) in
         ap (λ (m : ℕ). (nat_lt 0 job.backlog && (m == job.backlog)) || all) least
-        ∙ or_swap (nat_lt 0 job.backlog && (count == job.backlog)) all
+        ∙ or_comm (nat_lt 0 job.backlog && (count == job.backlog)) all
     by_backlog (inr none) =
         let none_wanted : nat_lt 0 job.backlog ≡ false = le-ltb 0 job.backlog none in
         ap (λ (b : Bool). (b && (min job.backlog count == job.backlog)) || all) none_wanted
-        ∙ sym (ap (λ (b : Bool). all || (b && (count == job.backlog))) none_wanted ∙ or_false all)
+        ∙ sym (ap (λ (b : Bool). all || (b && (count == job.backlog))) none_wanted ∙ or-false all)
 
 pub filter_none : {X : Type 0} (p : X → Bool) (xs : List X) → ((k : ℕ) (x : X) → slice_get xs k ≡ Some x → p x ≡ false) → filter p xs ≡ []
 filter_none p [] each = refl
@@ -118,7 +105,7 @@ nothing_under_way round none =
 pub closed_is : (h : List Event) (job : SubJob) (p g : ℕ) → g < group_count (pass_of job p) → is_full h (pass_of job p) g ≡ true → kept.is_closed (round_in job h p g) ≡ is_closed h (pass_of job p) g
 closed_is h job p g below full =
     ap (λ (b : Bool). b && (length writes == 0)) (due_is_full h job p g ∙ full)
-    ∙ iff_same (length writes == 0) (list_all settled group) to from
+    ∙ same_truth (length writes == 0) (list_all settled group) to from
     ∙ sym (ap (λ (b : Bool). b && list_all settled group) full)
   where
     group : List Draw
@@ -200,5 +187,5 @@ waits_with h job p g rounds below full still =
     let pass = pass_of job p in
     let test : ℕ → Bool = λ (i : ℕ). is_full h pass i && not (is_closed h pass i) in
     and_from (has_rounds job) (list_any test (range_with_len 0 (group_count pass))) rounds
-    (any_at test (range_with_len 0 (group_count pass)) g g (got_range 0 (group_count pass) g below ∙ ap Some (zero-add g))
+    (any_at test (range_with_len 0 (group_count pass)) g g (ranged_at 0 (group_count pass) g below ∙ ap Some (zero-add g))
     (and_from (is_full h pass g) (not (is_closed h pass g)) full (not_from_false (is_closed h pass g) still)))

@@ -1,7 +1,7 @@
 -- Each pass of a planned clone has a draw.
 use Rattle.std.proofs.Common.{◌≡◌, ℕ, zero, suc, ◌+◌, ◌-◌, ◌*◌, ◌<◌, ◌≤◌, List, [], ◌∷◌, length, Bool, true, false, cond, sym, ap, subst, arith}
-use Rattle.std.specs.Prelude.{Some, None, is_none, ◌==◌, replicate}
-use Rattle.std.proofs.lemmas.Bool.{lt-ltb, ne_eqb}
+use Rattle.std.specs.Prelude.{Some, None, is_none, replicate}
+use Rattle.std.proofs.lemmas.Bool.{lt-ltb}
 use Rattle.std.proofs.lemmas.List.{length-replicate}
 use Rattle.jr_model.specs.declared.workloads.IoType.{IoType}
 use Rattle.jr_model.specs.declared.workloads.IoType.TheVariants as io
@@ -9,24 +9,22 @@ use Rattle.jr_model.specs.CellSet.{first_free, no_cells}
 use Rattle.jr_model.specs.Draws.{PassProgress, all_drawn, random_places, fresh_places, fresh_progress, pass_over, chosen_cells, draw_at, progress_after, draws_from, draws_of_job}
 use Rattle.jr_model.specs.Plan.{SubJob}
 use Rattle.jr_model.specs.Words.{seeded, pass_seed, words_from}
+use Rattle.jr_model.proofs.NumberLemmas.{some_by_test}
 
 some_free : (cells : ℕ) → 0 < cells → is_none (first_free (no_cells cells)) ≡ false
 some_free zero some = absurd (omega (arith, some))
 some_free (suc n) some =
     ap (λ (b : Bool). is_none {T = ℕ} (cond b (Some 0) None)) (lt-ltb 0 (length (replicate (suc n) false)) (omega (arith, length-replicate (suc n) false)))
 
-some_left : (left : ℕ) → 0 < left → (left == 0) ≡ false
-some_left left some = ne_eqb left 0 (λ same. absurd (omega (arith, some, same)))
-
 random_left : (has_map : Bool) (cells left : ℕ) → 0 < cells → 0 < left → all_drawn (random_places has_map cells) left ≡ false
 random_left true cells left some more = some_free cells some
-random_left false cells left some more = some_left left more
+random_left false cells left some more = some_by_test left more
 
 -- no pass is over at its start
 not_over : (kind : IoType) (has_map : Bool) (cells left : ℕ) → 0 < cells → 0 < left → all_drawn (fresh_places kind has_map cells) left ≡ false
-not_over io.Read has_map cells left some more = some_left left more
-not_over io.Write has_map cells left some more = some_left left more
-not_over io.ReadWrite has_map cells left some more = some_left left more
+not_over io.Read has_map cells left some more = some_by_test left more
+not_over io.Write has_map cells left some more = some_by_test left more
+not_over io.ReadWrite has_map cells left some more = some_by_test left more
 not_over io.RandRead has_map cells left some more = random_left has_map cells left some more
 not_over io.RandWrite has_map cells left some more = random_left has_map cells left some more
 not_over io.RandRw has_map cells left some more = random_left has_map cells left some more

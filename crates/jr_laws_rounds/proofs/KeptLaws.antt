@@ -3,6 +3,7 @@ use Rattle.std.proofs.Common.{◌≡◌, ℕ, ◌≤◌, List, [], ◌∷◌, �
 use Rattle.std.specs.Prelude.{◌⊎◌, Option, Some, None, slice_get, ◌==◌}
 use Rattle.std.specs.Option.{option_or}
 use Rattle.std.proofs.lemmas.Bool.{and_from, and_left, and_right, cases_eq, eq-eqb, ne_eqb, false≢true}
+use Rattle.std.proofs.Math.Bool.{or-false}
 use Rattle.jr_model.specs.declared.blocks.Piece.{Piece}
 use Rattle.jr_model.specs.declared.events.Event.{Event}
 use Rattle.jr_model.specs.declared.events.Event.TheVariants.{Issue, Probe, Skip, End, Verdict}
@@ -18,8 +19,9 @@ use Rattle.jr_model.specs.Legal.{is_legal, may_happen, is_fault, is_io_of, is_ha
 use Rattle.jr_model.specs.Plan.{Plan, SubJob, IsNumbered, clone_of}
 use Rattle.jr_model.specs.Rounds.{pass_of, issued_count, all_issued, has_rounds, is_probe_of, is_settled}
 use Rattle.jr_model.specs.PlanFacts.{IsPlanned}
-use Rattle.jr_laws_steps.proofs.IdleLaws.{numbered_of}
-use Rattle.jr_laws_steps.proofs.StartedLemmas.{by_events}
+use Rattle.jr_model.proofs.HistoryLemmas.{by_events}
+use Rattle.jr_model.proofs.PlanLemmas.{numbered_of}
+use Rattle.jr_model.proofs.Equality.{other_name}
 use Rattle.jr_laws_quiet.proofs.Issues.{issued_same}
 use Rattle.jr_backlog.specs.Rounds.{Round, new_round, with_passed, with_exhausted}
 use Rattle.jr_backlog.specs.CurrentRound.{write_issued, last_issued, round_up_to, current_round}
@@ -28,14 +30,8 @@ use Rattle.jr_backlog.proofs.KeptFacts.{rounds_of-more}
 use Rattle.jr_laws_rounds.proofs.CurrentPhases.{last_issued-more, its_draw}
 use Rattle.jr_laws_rounds.proofs.CurrentLast.{issued_by_other, last_is}
 use Rattle.jr_laws_rounds.proofs.KeptFirst.{has_draw}
-use Rattle.jr_laws_rounds.proofs.KeptSettled.{or_false, settled_after, ran_before, last_runs}
+use Rattle.jr_laws_rounds.proofs.KeptSettled.{settled_after, ran_before, last_runs}
 use Rattle.jr_laws_rounds.proofs.KeptRounds.{round_settles, round_same, read_round, write_round}
-
--- a write of another clone
-other_name : (a b : WriteId) (c : ℕ) → (a.clone ≡ c → ⊥) → b.clone ≡ c → same_write a b ≡ false
-other_name a b c apart own =
-    and_left ((a.clone == b.clone) && (a.pass == b.pass)) (a.number == b.number)
-    (and_left (a.clone == b.clone) (a.pass == b.pass) (ne_eqb a.clone b.clone (λ same. apart (same ∙ own))))
 
 -- what didn't end whole is a fault
 not_whole : (outcome : Outcome) → ended_whole (Some outcome) ≡ false → is_fault outcome ≡ true
@@ -54,7 +50,7 @@ module _ (plan : Plan) (numbered : IsNumbered plan) (job : SubJob) (planned : cl
       → ((w : WriteId) → w.clone ≡ job.clone → is_settled (h ++ e ∷ []) w ≡ (is_settled h w || false))
       → current_round job h ≡ round_up_to job (h ++ e ∷ []) (last_issued job.clone h)
   stays h e legal happens counts settled =
-      sym (round_same job h (h ++ e ∷ []) (last_issued job.clone h) counts (λ w own. settled w own ∙ or_false (is_settled h w)))
+      sym (round_same job h (h ++ e ∷ []) (last_issued job.clone h) counts (λ w own. settled w own ∙ or-false (is_settled h w)))
 
   module _ (h : List Event) (legal : is_legal plan h ≡ true) where
     skip_moves : (worker : ℕ) (write : WriteId) → may_happen plan h (Skip worker write) ≡ true → (write.clone ≡ job.clone) ⊎ (write.clone ≡ job.clone → ⊥) → Moves h (Skip worker write)

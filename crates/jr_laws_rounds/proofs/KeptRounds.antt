@@ -5,6 +5,7 @@ use Rattle.std.specs.List.{list_all, range_with_len}
 use Rattle.std.proofs.lemmas.Bool.{and_parts, and_left, eq-eqb, ne_eqb, lt-ltb, ltb-true, cases_lt, not_from_true, not_from_false, or_right, or_cases, both_ways, false_from_ne_true, true_from_ne_false}
 use Rattle.std.proofs.lemmas.List.{map-append}
 use Rattle.std.proofs.lemmas.Option.{slice_get_within}
+use Rattle.std.proofs.Math.Bool.{or-false}
 use Rattle.jr_model.specs.declared.blocks.Piece.{Piece}
 use Rattle.jr_model.specs.declared.events.Event.{Event}
 use Rattle.jr_model.specs.declared.events.Event.TheVariants.{Issue}
@@ -17,16 +18,18 @@ use Rattle.jr_model.specs.History.{is_write, kind_for}
 use Rattle.jr_model.specs.Legal.{is_legal, may_happen}
 use Rattle.jr_model.specs.Plan.{Plan, SubJob, IsNumbered, clone_of}
 use Rattle.jr_model.specs.Rounds.{pass_of, write_id, issued_count, all_issued, is_settled, is_full, is_closed, waits_for_round, pass_finished, has_rounds, group_of, group_count, group_index}
-use Rattle.jr_laws_quiet.proofs.Issues.{all_at, got_range, finished_parts}
+use Rattle.jr_model.proofs.PlaceLemmas.{ranged_at}
+use Rattle.jr_model.proofs.BoolLemmas.{same_truth}
+use Rattle.jr_laws_quiet.proofs.Issues.{all_at, finished_parts}
 use Rattle.jr_laws_quiet.proofs.Members.{InGroup, in_own_group, IsMember, member_is, full_issued, before_full, index_mono}
 use Rattle.jr_backlog.specs.Rounds.{Round, is_due, new_round, filling, with_written, with_exhausted}
 use Rattle.jr_backlog.specs.Rounds as kept
 use Rattle.jr_backlog.specs.CurrentRound.{is_left, round_up_to}
 use Rattle.jr_laws_rounds.proofs.CurrentPhases.{IsIssued, IsLast, LastIs, count_longer, all_finished, begun_in_turn}
 use Rattle.jr_laws_rounds.proofs.CurrentLast.{issued_here, issued_elsewhere, way_writes, read_fewer}
-use Rattle.jr_laws_rounds.proofs.CurrentRounds.{round_in, iff_same, due_is_full, closed_is, filter_none, waits_with}
+use Rattle.jr_laws_rounds.proofs.CurrentRounds.{round_in, due_is_full, closed_is, filter_none, waits_with}
 use Rattle.jr_laws_rounds.proofs.KeptLists.{filter_same, count_same, count_none, filter_made, group_rises, next_left, next_count}
-use Rattle.jr_laws_rounds.proofs.KeptSettled.{or_false, settled_after, next_unsettled}
+use Rattle.jr_laws_rounds.proofs.KeptSettled.{settled_after, next_unsettled}
 
 -- a round by its parts: so many writes issued, and these left
 abbrev made_round : SubJob → ℕ → ℕ → Bool → List Draw → Round
@@ -151,11 +154,11 @@ module _ (plan : Plan) (numbered : IsNumbered plan) (job : SubJob) (planned : cl
         | inr above ↦
             let same : write.pass ≡ q = omega (arith, within, above) in
             subst (λ (r : ℕ). all_issued next (pass_of job r) ≡ (all_now || all_issued h (pass_of job r))) same
-            (sym (ap (λ (b : Bool). all_now || b) not_all ∙ or_false all_now))
+            (sym (ap (λ (b : Bool). all_now || b) not_all ∙ or-false all_now))
       ]
 
   settled_same : (w : WriteId) → is_settled next w ≡ is_settled h w
-  settled_same w = settled_after plan h (Issue worker kind write piece) w legal happens ∙ or_false (is_settled h w)
+  settled_same w = settled_after plan h (Issue worker kind write piece) w legal happens ∙ or-false (is_settled h w)
 
   -- the last write is of this pass, or of one before
   last_pass : (w : WriteId) → IsLast job h w → w.pass ≤ write.pass
@@ -193,7 +196,7 @@ module _ (plan : Plan) (numbered : IsNumbered plan) (job : SubJob) (planned : cl
       λ k d at.
       let is = member_is job p (group_index pass w.number) d (record { place = k; at = at }) below in
       let longer = count_longer h (Issue worker kind write piece) pass in
-      iff_same (nat_lt d.number m) (nat_lt d.number n)
+      same_truth (nat_lt d.number m) (nat_lt d.number n)
       (λ now. lt-ltb d.number n (read_fewer plan numbered job planned h worker kind write piece no_write its clone p d.number d is.drawn is.writes (ltb-true d.number m now)))
       (λ was. let low = ltb-true d.number n was in lt-ltb d.number m (omega (arith, low, longer))) in
       let each : (k : ℕ) (d : Draw) → slice_get group k ≡ Some d → is_left after_read pass d ≡ is_left h pass d =
@@ -261,7 +264,7 @@ module _ (plan : Plan) (numbered : IsNumbered plan) (job : SubJob) (planned : cl
       let finished = finished_parts h (pass_of job q) (done plan numbered job planned h legal worker issue.Write write piece happens its clone q before) in
       elim (or_cases (not (has_rounds job)) (list_all closed gs) finished.closed) [
         | inl none ↦ absurd (both_ways (not (has_rounds job)) (not_from_true (has_rounds job) rounds) none)
-        | inr all ↦ all_at closed gs g g all (got_range 0 (group_count (pass_of job q)) g below ∙ ap Some (omega arith))
+        | inr all ↦ all_at closed gs g g all (ranged_at 0 (group_count (pass_of job q)) g below ∙ ap Some (omega arith))
       ]
 
   closed_fills : (q g : ℕ) → g < group_count (pass_of job q) → is_closed h (pass_of job q) g ≡ true → filling (round_in job h q g) ≡ new_round job.backlog
@@ -363,7 +366,7 @@ module _ (plan : Plan) (numbered : IsNumbered plan) (job : SubJob) (planned : cl
       let made : ℕ → Bool → List WriteId → Round = λ (c : ℕ) (b : Bool) (ws : List WriteId). record { limit = job.backlog; count = c; exhausted = b; to_check = ws } in
       ap (λ (c : ℕ). made c (all_written || all_issued h pass) (map (write_id pass) (filter (is_left h pass) group) ++ write ∷ [])) count
       ∙ ap (λ (b : Bool). made (min job.backlog (counted (issued_count after_write pass) group)) b (map (write_id pass) (filter (is_left h pass) group) ++ write ∷ []))
-      (ap (λ (b : Bool). all_written || b) unfinished ∙ or_false all_written)
+      (ap (λ (b : Bool). all_written || b) unfinished ∙ or-false all_written)
       ∙ ap (made (min job.backlog (counted (issued_count after_write pass) group)) all_written) writes
     where
       one_more : (limit n m : ℕ) → m ≡ n + 1 → min limit (min limit n + 1) ≡ min limit m

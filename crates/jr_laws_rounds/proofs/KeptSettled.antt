@@ -4,6 +4,8 @@ use Rattle.std.specs.Prelude.{Option, Some, None, slice_get, nat_lt, is_none}
 use Rattle.std.specs.List.{list_any, list_all}
 use Rattle.std.proofs.lemmas.Bool.{and_parts, and_from, lt-ltb, ltb-true, or_left, or_right, or_cases, false_from_ne_true, false≢true}
 use Rattle.std.proofs.lemmas.List.Folds.{list_any-append, list_all-append}
+use Rattle.std.proofs.lemmas.Option.{same_Some}
+use Rattle.std.proofs.Math.Bool.{or-false}
 use Rattle.jr_model.specs.declared.events.Event.{Event}
 use Rattle.jr_model.specs.declared.events.Event.TheVariants.{Issue, Probe, Skip, End, Verdict}
 use Rattle.jr_model.specs.declared.events.Started.{Started}
@@ -15,17 +17,16 @@ use Rattle.jr_model.specs.Plan.{Plan, SubJob, IsNumbered, clone_of}
 use Rattle.jr_model.specs.Rounds.{pass_of, issued_count, is_probe_of, settles, is_settled, group_index}
 use Rattle.jr_model.proofs.MachineLaws.{got_front}
 use Rattle.jr_model.proofs.Equality.{eq_write}
-use Rattle.jr_laws_steps.proofs.StartedLemmas.{by_events, started-append, same_some}
+use Rattle.jr_model.proofs.ListLemmas.{all_weaker}
+use Rattle.jr_model.proofs.PlaceLemmas.{got_longer}
+use Rattle.jr_model.proofs.HistoryLemmas.{by_events}
+use Rattle.jr_laws_steps.proofs.StartedLemmas.{started-append}
 use Rattle.jr_laws_steps.proofs.DrawnLaws.{takeable}
-use Rattle.jr_laws_quiet.proofs.Steps.{IsTakeUp, probe_of, skip_of, all_weaker, got_within}
+use Rattle.jr_laws_quiet.proofs.Steps.{IsTakeUp, probe_of, skip_of}
 use Rattle.jr_laws_quiet.proofs.Members.{in_own_group, full_issued}
 use Rattle.jr_laws_quiet.proofs.Phases.{open_parts}
 use Rattle.jr_laws_quiet.proofs.Checks.{settled_taken}
 use Rattle.jr_laws_rounds.proofs.CurrentPhases.{count_longer}
-
-pub or_false : (b : Bool) → (b || false) ≡ b
-or_false true = refl
-or_false false = refl
 
 -- an end speaks of one of the first n that were started
 abbrev ends_within : ℕ → Event → Bool
@@ -66,7 +67,7 @@ all_end_within plan history legal =
         (and_from (ends_within m e) true (ends_weaker n m e le (ends_now plan h e happens)) refl)
 
 settles_same : (w : WriteId) (ios more : List Started) (e : Event) → ends_within (length ios) e ≡ true → settles (ios ++ more) w e ≡ settles ios w e
-settles_same w ios more (End worker io outcome) h = ap (is_probe_of w) (got_within ios more io (ltb-true io (length ios) h))
+settles_same w ios more (End worker io outcome) h = ap (is_probe_of w) (got_longer ios more io (ltb-true io (length ios) h))
 settles_same w ios more (Issue worker kind write piece) h = refl
 settles_same w ios more (Probe worker write piece) h = refl
 settles_same w ios more (Skip worker write) h = refl
@@ -87,7 +88,7 @@ settled_after plan h e w legal happens =
     ∙ ap (λ (ios : List Started). list_any (settles ios w) h || (settles ios w e || false)) (started-append h (e ∷ []))
     ∙ ap (λ (b : Bool). b || (settles (started h ++ more) w e || false)) (any_same w (started h) more h (all_end_within plan h legal))
     ∙ ap (λ (b : Bool). is_settled h w || (b || false)) (settles_same w (started h) more e (ends_now plan h e happens))
-    ∙ ap (λ (b : Bool). is_settled h w || b) (or_false (settles (started h) w e))
+    ∙ ap (λ (b : Bool). is_settled h w || b) (or-false (settles (started h) w e))
 
 -- what is halted stays so
 halts_longer : (job : SubJob) (ios more : List Started) (e : Event) → halts ios job e ≡ true → halts (ios ++ more) job e ≡ true
@@ -140,7 +141,7 @@ module _ (plan : Plan) (numbered : IsNumbered plan) (job : SubJob) (planned : cl
   -- what may be checked or skipped was issued
   takes_issued : (h : List Event) (intact : Bool) (write : WriteId) → IsTakeUp plan h intact write → write.clone ≡ job.clone → write.number < issued_count h (pass_of job write.pass)
   takes_issued h intact write step clone =
-      let one : step.job ≡ job = same_some step.job job (sym step.names.planned ∙ ap (clone_of plan) clone ∙ planned) in
+      let one : step.job ≡ job = same_Some step.job job (sym step.names.planned ∙ ap (clone_of plan) clone ∙ planned) in
       let pass = pass_of step.job write.pass in
       let takes = takeable plan h pass step.draw step.may in
       let full = (open_parts h pass (group_index pass step.draw.number) takes.opened).full in
@@ -173,7 +174,7 @@ module _ (plan : Plan) (numbered : IsNumbered plan) (job : SubJob) (planned : cl
       let longer = count_longer h e (pass_of job w.pass) in
       elim (or_cases (list_any (takes_up w) h) (takes_up w e || false) (sym (list_any-append (takes_up w) h (e ∷ [])) ∙ taken)) [
         | inl before ↦ let was = below w clone before in omega (arith, was, longer)
-        | inr now ↦ let is = taken_now h e w happens clone (sym (or_false (takes_up w e)) ∙ now) in omega (arith, is, longer)
+        | inr now ↦ let is = taken_now h e w happens clone (sym (or-false (takes_up w e)) ∙ now) in omega (arith, is, longer)
       ])
       history legal
 

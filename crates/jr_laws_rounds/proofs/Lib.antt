@@ -15,5 +15,6 @@ pub mod StandingDraws
 pub mod StandingFinished
 pub mod StandingFlights
 pub mod StandingLists
+pub mod StandingOver
 pub mod StandingPasses
 pub mod StandingSteps

@@ -2,6 +2,7 @@
 use Rattle.std.proofs.Common.{◌≡◌, ℕ, suc, List, [], ◌∷◌, Bool, true, false, ◌&&◌, refl, sym, ◌∙◌, ap, subst, ◌/◌}
 use Rattle.std.specs.Prelude.{Some, slice_get}
 use Rattle.std.specs.List.{list_all}
+use Rattle.std.proofs.lemmas.Option.{same_Some}
 use Rattle.jr_model.specs.declared.limits.TheConstants.{SECTOR}
 use Rattle.jr_model.specs.declared.events.Event.{Event}
 use Rattle.jr_model.specs.declared.events.WriteId.{WriteId}
@@ -12,14 +13,15 @@ use Rattle.jr_model.specs.Legal.{is_legal}
 use Rattle.jr_model.specs.Plan.{Plan, SubJob, clone_of}
 use Rattle.jr_model.specs.Rounds.{pass_of}
 use Rattle.jr_model.specs.PlanFacts.{IsPlanned}
-use Rattle.jr_laws_steps.proofs.StartedLemmas.{same_some}
+use Rattle.jr_model.proofs.PlaceLemmas.{got_ranged}
+use Rattle.jr_model.proofs.PlanLemmas.{numbered_of}
 use Rattle.jr_laws_quiet.specs.Quiet.{is_quiet, last_issued}
 use Rattle.jr_laws_quiet.proofs.Issues.{may_take_up_parts}
 use Rattle.jr_laws_quiet.proofs.Phases.{open_parts}
 use Rattle.jr_laws_quiet.proofs.LastWrites.{last_law, barred}
-use Rattle.jr_laws_quiet.proofs.Latest.{numbers_of, none_over, sectors_of, covers_own, range_got}
+use Rattle.jr_laws_quiet.proofs.Latest.{none_over, sectors_of, covers_own}
 use Rattle.jr_laws_quiet.proofs.Steps.{IsTakeUp, probe_of, skip_of}
-use Rattle.jr_laws_quiet.specs.Quiet.{none_declines}
+use Rattle.jr_laws_quiet.specs.Declining.{none_declines}
 use Rattle.jr_laws_quiet.proofs.Flights.{clear_is_free}
 use Rattle.jr_laws_quiet.proofs.Races.{unraced, quiet_is_fine}
 use Rattle.jr_laws_rounds.specs.Latest.{OpenIsLatest, is_latest, TakenUpIsLatest}
@@ -33,25 +35,25 @@ all_alike p q (x ∷ xs) each =
 
 pub open_latest : OpenIsLatest
 open_latest = λ plan history job pass g block planned undeclined apart legal quiet there opened.
-    let raceless = unraced plan (numbers_of plan planned) undeclined history legal in
+    let raceless = unraced plan (numbered_of plan planned) undeclined history legal in
     (last_law plan job.file block history raceless legal (quiet_is_fine plan history raceless legal quiet)).landed
     (none_over plan planned apart job.clone job there history legal (open_parts history (pass_of job pass) g opened).still block)
 
 -- a write that may be taken up is intact just where it was issued last
 taken_latest : (plan : Plan) (history : List Event) (write : WriteId) (job : SubJob) (draw : Draw) (intact : Bool) → IsPlanned plan → none_declines plan ≡ true → is_legal plan history ≡ true → is_quiet history ≡ true → clone_of plan write.clone ≡ Some job → slice_get (draws_of_job job write.pass) write.number ≡ Some draw → IsTakeUp plan history intact write → is_latest history write draw.piece ≡ intact
 taken_latest plan history write job draw intact planned undeclined legal quiet there drawn take =
-    let job_is : take.job ≡ job = same_some take.job job (sym take.names.planned ∙ there) in
-    let draw_is : take.draw ≡ draw = same_some take.draw draw (sym take.names.drawn ∙ ap (λ (j : SubJob). slice_get (draws_of_job j write.pass) write.number) job_is ∙ drawn) in
+    let job_is : take.job ≡ job = same_Some take.job job (sym take.names.planned ∙ there) in
+    let draw_is : take.draw ≡ draw = same_Some take.draw draw (sym take.names.drawn ∙ ap (λ (j : SubJob). slice_get (draws_of_job j write.pass) write.number) job_is ∙ drawn) in
     let sectors = sectors_of plan planned write.clone take.job take.names.planned write.pass write.number take.draw take.names.drawn in
     let clear = clear_is_free plan history write.clone take.job false take.draw.piece undeclined take.names.planned
     (may_take_up_parts plan history (pass_of take.job write.pass) take.draw take.may).clear in
-    let raceless = unraced plan (numbers_of plan planned) undeclined history legal in
+    let raceless = unraced plan (numbered_of plan planned) undeclined history legal in
     let fine = quiet_is_fine plan history raceless legal quiet in
     let piece = take.draw.piece in
     let each : is_latest history write piece ≡ is_intact history write piece =
     all_alike (λ b. is_this_write write (last_issued history piece.file b)) (λ b. is_this_write write (last_write history piece.file b)) (blocks_of piece)
     (λ j b at.
-    let place = range_got (piece.offset / SECTOR) (piece.len / SECTOR) j b at in
+    let place = got_ranged (piece.offset / SECTOR) (piece.len / SECTOR) j b at in
     let covers : covers_block piece piece.file b ≡ true = subst (λ x. covers_block piece piece.file x ≡ true) (sym place.0) (covers_own piece sectors j place.1) in
     ap (is_this_write write) (sym ((last_law plan piece.file b history raceless legal fine).landed
     (λ id s over. barred history false piece id s piece.file b clear over.at over.flying over.writes over.covers covers)))) in
@@ -62,6 +64,6 @@ taken_latest plan history write job draw intact planned undeclined legal quiet t
 
 pub taken_up_latest : TakenUpIsLatest
 taken_up_latest = λ plan history worker write piece job draw planned undeclined legal quiet there drawn. (
-  λ may. taken_latest plan history write job draw true planned undeclined legal quiet there drawn (probe_of plan history worker write piece (numbers_of plan planned) may),
-  λ may. taken_latest plan history write job draw false planned undeclined legal quiet there drawn (skip_of plan history worker write (numbers_of plan planned) may),
+  λ may. taken_latest plan history write job draw true planned undeclined legal quiet there drawn (probe_of plan history worker write piece (numbered_of plan planned) may),
+  λ may. taken_latest plan history write job draw false planned undeclined legal quiet there drawn (skip_of plan history worker write (numbered_of plan planned) may),
 )

@@ -12,20 +12,17 @@ use Rattle.jr_model.specs.Rounds.{Pass, pass_of, passes_of, all_issued, has_roun
 use Rattle.jr_model.specs.PlanFacts.{IsPlanned}
 use Rattle.jr_backlog.specs.Rounds.{is_closed}
 use Rattle.jr_backlog.specs.CurrentRound.{current_round}
-use Rattle.jr_laws_steps.proofs.IdleLaws.{numbered_of}
-use Rattle.jr_laws_steps.proofs.PlaceLemmas.{all_from, got_made, got_ranged}
-use Rattle.jr_laws_steps.proofs.RestLaws.{none_by_length}
-use Rattle.jr_laws_quiet.proofs.Issues.{all_at, got_pass}
+use Rattle.jr_model.proofs.PlaceLemmas.{all_from, got_made, got_ranged}
+use Rattle.jr_model.proofs.PlanLemmas.{pass_at, own_place}
+use Rattle.jr_model.proofs.ListLemmas.{none_by_length}
+use Rattle.jr_model.proofs.BoolLemmas.{same_truth}
+use Rattle.jr_laws_quiet.proofs.Issues.{all_at}
 use Rattle.jr_laws_rounds.specs.Standing.{IsInPass, FinishedByStanding, CloneFinishedByStanding}
 use Rattle.jr_laws_rounds.specs.Rounds.{ClosedAtEnd}
-use Rattle.jr_laws_rounds.proofs.StandingLists.{same_test, any_of_some}
+use Rattle.jr_laws_rounds.proofs.StandingLists.{any_of_some}
 use Rattle.jr_laws_rounds.proofs.StandingFlights.{FliesOf, flies_found, flies_there}
 use Rattle.jr_laws_rounds.proofs.StandingPasses.{done_parts, started_counts, unbegun}
 use Rattle.jr_laws_rounds.proofs.StandingSteps.{finished_before}
-
--- a planned clone stands at its number
-pub own_place : (plan : Plan) (c : ℕ) (job : SubJob) → IsPlanned plan → clone_of plan c ≡ Some job → clone_of plan job.clone ≡ Some job
-own_place plan c job planned at = subst (λ (n : ℕ). clone_of plan n ≡ Some job) (sym (numbered_of plan planned c job at)) at
 
 module _ (plan : Plan) (planned : IsPlanned plan) (job : SubJob) (there : clone_of plan job.clone ≡ Some job) (h : List Event) (legal : is_legal plan h ≡ true) (p : ℕ) (in_pass : IsInPass h job p) where
   -- what flies of the clone is of its pass
@@ -50,7 +47,7 @@ module _ (plan : Plan) (planned : IsPlanned plan) (job : SubJob) (there : clone_
 
   -- so nothing of the pass flies exactly where nothing of the clone does
   pub flies_alike : nothing_flies_in h (pass_of job p) ≡ nothing_flies_of h job.clone
-  flies_alike = same_test (nothing_flies_in h (pass_of job p)) (nothing_flies_of h job.clone) of_clone of_pass
+  flies_alike = same_truth (nothing_flies_in h (pass_of job p)) (nothing_flies_of h job.clone) of_clone of_pass
     where
       of_clone : nothing_flies_in h (pass_of job p) ≡ true → nothing_flies_of h job.clone ≡ true
       of_clone rests =
@@ -88,8 +85,8 @@ module _ (plan : Plan) (planned : IsPlanned plan) (job : SubJob) (there : clone_
   clone_in_pass =
       elim (cases_Bool (suc p == job.passes)) [
         | inl last ↦
-            same_test (clone_finished h job) (pass_finished h (pass_of job p))
-            (λ all. all_at (pass_finished h) (passes_of job) p (pass_of job p) all (got_pass job p in_pass.within))
+            same_truth (clone_finished h job) (pass_finished h (pass_of job p))
+            (λ all. all_at (pass_finished h) (passes_of job) p (pass_of job p) all (pass_at job p in_pass.within))
             (λ done. all_from (pass_finished h) (passes_of job) (λ k pass at. one (eqb-true (suc p) job.passes last) done k pass at))
             ∙ sym (ap (λ (b : Bool). b && pass_finished h (pass_of job p)) last)
         | inr more ↦
@@ -116,7 +113,7 @@ module _ (plan : Plan) (planned : IsPlanned plan) (job : SubJob) (there : clone_
           elim (cases_lt (suc p) job.passes) [
             | inl within ↦
                 both_ways (pass_finished h (pass_of job (suc p))) (unbegun plan planned job there h (suc p) (in_pass.after (suc p) (omega arith)))
-                (all_at (pass_finished h) (passes_of job) (suc p) (pass_of job (suc p)) all (got_pass job (suc p) within))
+                (all_at (pass_finished h) (passes_of job) (suc p) (pass_of job (suc p)) all (pass_at job (suc p) within))
             | inr beyond ↦ more (omega (arith, beyond, in_pass.within))
           ]
 

@@ -1,27 +1,25 @@
 -- What flies of a clone: an I/O that was started and hasn't ended. What an event changes of it, and of what is settled.
-use Rattle.std.proofs.Common.{◌≡◌, ℕ, ◌+◌, ◌<◌, ◌≤◌, List, [], ◌∷◌, ◌++◌, length, Bool, true, false, cond, ◌&&◌, not, refl, sym, ◌∙◌, ap, subst, arith, inl, inr, length-append}
-use Rattle.std.specs.Prelude.{◌⊎◌, Option, Some, None, slice_get, nat_lt, is_none}
+use Rattle.std.proofs.Common.{◌≡◌, ℕ, ◌+◌, List, [], ◌∷◌, ◌++◌, Bool, true, cond, refl, sym, ◌∙◌, ap, subst, arith, inl, inr}
+use Rattle.std.specs.Prelude.{◌⊎◌, Option, Some, None, slice_get, is_none}
 use Rattle.std.specs.Option.{option_or}
-use Rattle.std.specs.List.{list_any, list_all, cons_option, enumerate_from}
-use Rattle.std.proofs.lemmas.Bool.{and_parts, and_from, eqb-true, eq-eqb, lt-ltb, or_left}
-use Rattle.std.proofs.lemmas.List.Folds.{list_all-append, list_any-append}
+use Rattle.std.specs.List.{list_any, cons_option, enumerate_from}
+use Rattle.std.proofs.lemmas.Bool.{eqb-true, eq-eqb, or_left}
+use Rattle.std.proofs.lemmas.List.Folds.{list_any-append}
 use Rattle.std.proofs.lemmas.Option.{same_Some}
 use Rattle.jr_model.specs.declared.events.Event.{Event}
-use Rattle.jr_model.specs.declared.events.Event.TheVariants.{Issue, Probe, Skip, End, Verdict}
 use Rattle.jr_model.specs.declared.events.Outcome.{Outcome}
-use Rattle.jr_model.specs.declared.events.Outcome.TheVariants.{Whole}
 use Rattle.jr_model.specs.declared.events.Started.{Started}
 use Rattle.jr_model.specs.declared.events.WriteId.{WriteId}
-use Rattle.jr_model.specs.History.{started, started_by, end_of, outcome_of, flies, if_flying, in_flight, in_flight_of, is_of_clone, is_judged, ended_whole}
-use Rattle.jr_model.specs.Legal.{is_legal, may_happen, end_fits, verdict_fits}
+use Rattle.jr_model.specs.History.{started, started_by, end_of, outcome_of, if_flying, in_flight, in_flight_of, is_of_clone}
+use Rattle.jr_model.specs.Legal.{is_legal}
 use Rattle.jr_model.specs.Plan.{Plan}
-use Rattle.jr_model.specs.Races.{has_raced}
 use Rattle.jr_model.specs.Rounds.{settles, is_settled}
-use Rattle.jr_model.proofs.SerialLaws.{IsWell, well-more, whole_some, first_given-append}
-use Rattle.jr_laws_steps.proofs.PlaceLemmas.{any_found, any_at, got_filtered, kept_at}
-use Rattle.jr_laws_steps.proofs.StartedLemmas.{by_events, got_more, started-starts, started-other}
+use Rattle.jr_model.proofs.SerialLaws.{first_given-append}
+use Rattle.jr_model.proofs.PlaceLemmas.{any_found, any_at, got_filtered, kept_at}
+use Rattle.jr_model.proofs.HistoryLemmas.{started-more}
+use Rattle.jr_laws_steps.proofs.StartedLemmas.{got_more, started-starts, started-other}
 use Rattle.jr_laws_quiet.proofs.Groups.{got_filter}
-use Rattle.jr_laws_quiet.proofs.Steps.{refers, refers_more, started_push, all_weaker}
+use Rattle.jr_laws_quiet.proofs.Steps.{refer_all}
 use Rattle.jr_laws_quiet.proofs.Phases.{any_agrees}
 use Rattle.jr_laws_rounds.proofs.StandingLists.{got_kept, numbered_at}
 
@@ -91,47 +89,12 @@ flew_or_starts history e c test f = by_start (started_by e) refl
           | inr last ↦ inr (f.io, starts ∙ ap Some (sym last.1), f.clone, f.passes)
         ]
 
--- an I/O that is ended or judged was started
-pub well_legal : (plan : Plan) (history : List Event) → is_legal plan history ≡ true → IsWell plan history
-well_legal plan history legal =
-    by_events plan (IsWell plan) (record { legal = refl; ends = λ io o h. none_some io o h; judged = λ io h. none_true io h })
-    (λ h e legal_h well may. well-more plan h e well may) history legal
-  where
-    none_some : (io : ℕ) (o : Outcome) → None ≡ Some o → io < 0
-    none_some io o h = cc
-
-    none_true : (io : ℕ) → false ≡ true → io < 0
-    none_true io h = cc
-
-refers_next : (plan : Plan) (h : List Event) (e : Event) → is_legal plan h ≡ true → may_happen plan h e ≡ true → refers (length (started h)) e ≡ true
-refers_next plan h (End worker io outcome) legal may =
-    (and_parts (nat_lt io (length (started h))) (is_none (outcome_of h io)) (and_parts (flies h io) (end_fits worker outcome (slice_get (started h) io)) may).0).0
-refers_next plan h (Verdict worker io verdict) legal may =
-    let parts = and_parts (ended_whole (outcome_of h io) && not (is_judged h io)) (verdict_fits plan (has_raced h io) verdict (slice_get (started h) io)) may in
-    let ended = and_parts (ended_whole (outcome_of h io)) (not (is_judged h io)) parts.0 in
-    lt-ltb io (length (started h)) ((well_legal plan h legal).ends io Whole (whole_some (outcome_of h io) ended.0))
-refers_next plan h (Issue worker kind write piece) legal may = refl
-refers_next plan h (Probe worker write piece) legal may = refl
-refers_next plan h (Skip worker write) legal may = refl
-
-refer_all : (plan : Plan) (history : List Event) → is_legal plan history ≡ true → list_all (refers (length (started history))) history ≡ true
-refer_all plan history legal = by_events plan (λ (h : List Event). list_all (refers (length (started h))) h ≡ true) refl grows history legal
-  where
-    grows : (h : List Event) (e : Event) → is_legal plan h ≡ true → list_all (refers (length (started h))) h ≡ true → may_happen plan h e ≡ true → list_all (refers (length (started (h ++ e ∷ [])))) (h ++ e ∷ []) ≡ true
-    grows h e legal_h so_far may =
-        let n = length (started h) in
-        let m = length (started (h ++ e ∷ [])) in
-        let le : n ≤ m = omega (arith, ap length (started_push h e), length-append (started h) (cons_option (started_by e) [])) in
-        list_all-append (refers m) h (e ∷ [])
-        ∙ and_from (list_all (refers m) h) (refers m e && true) (all_weaker (refers n) (refers m) h (λ x. refers_more n m x le) so_far)
-        (and_from (refers m e) true (refers_more n m e le (refers_next plan h e legal_h may)) refl)
-
 -- what is settled stays so
 pub stays_settled : (plan : Plan) (h : List Event) (e : Event) (w : WriteId) → is_legal plan h ≡ true → is_settled h w ≡ true → is_settled (h ++ e ∷ []) w ≡ true
 stays_settled plan h e w legal settled =
     let ios = started (h ++ e ∷ []) in
     list_any-append (settles ios w) h (e ∷ [])
     ∙ or_left (list_any (settles ios w) h) (list_any (settles ios w) (e ∷ []))
-    (ap (λ (s : List Started). list_any (settles s w) h) (started_push h e)
+    (ap (λ (s : List Started). list_any (settles s w) h) (started-more h e)
     ∙ any_agrees w (started h) (cons_option (started_by e) []) h (refer_all plan h legal)
     ∙ settled)

@@ -9,14 +9,8 @@ use Rattle.std.proofs.lemmas.Option.{same_Some}
 use Rattle.jr_model.specs.declared.workloads.Draw.{Draw}
 use Rattle.jr_model.specs.History.{first_given}
 use Rattle.jr_laws_steps.proofs.GroupLaws.{AreNumbered}
-use Rattle.jr_laws_steps.proofs.PlaceLemmas.{none_given}
+use Rattle.jr_model.proofs.PlaceLemmas.{none_given}
 use Rattle.jr_laws_quiet.proofs.Groups.{Rising, rising_weaker, rank, rank_at, rank_self}
-
--- two tests of which each gives the other are one
-pub same_test : (a b : Bool) → (a ≡ true → b ≡ true) → (b ≡ true → a ≡ true) → a ≡ b
-same_test true b there back = sym (there refl)
-same_test false true there back = back refl
-same_test false false there back = refl
 
 -- where nothing is given of any item, the search gives nothing
 pub nothing_given : {X Y : Type 0} (f : X → Option Y) (xs : List X) → ((k : ℕ) (x : X) → slice_get xs k ≡ Some x → f x ≡ None) → first_given f xs ≡ None

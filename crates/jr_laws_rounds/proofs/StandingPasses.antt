@@ -18,18 +18,19 @@ use Rattle.jr_model.specs.History.{started, started_by, in_flight_of, is_probe, 
 use Rattle.jr_model.specs.Legal.{is_legal, may_happen, may_issue, may_take_up}
 use Rattle.jr_model.specs.Plan.{Plan, SubJob, clone_of}
 use Rattle.jr_model.specs.Rounds.{Pass, pass_of, passes_of, write_id, issues_of, issued_count, all_issued, issued_among, has_rounds, group_of, group_count, group_index, is_full, is_settled, is_closed, rounds_closed, nothing_flies_in, pass_finished, is_current}
-use Rattle.jr_model.proofs.LegalLaws.{is_legal-more}
+use Rattle.jr_model.proofs.LegalLaws.{is_legal-more, number_of_draw}
 use Rattle.jr_model.specs.PlanFacts.{IsPlanned}
+use Rattle.jr_model.proofs.ListLemmas.{all_weaker}
+use Rattle.jr_model.proofs.HistoryLemmas.{issue_is_no_probe, issued_push}
+use Rattle.jr_model.proofs.PlaceLemmas.{ranged_at}
+use Rattle.jr_model.proofs.PlanLemmas.{numbered_of}
 use Rattle.jr_laws_steps.proofs.DrawnLaws.{issuable, takeable, full_needs_issue}
-use Rattle.jr_laws_steps.proofs.IdleLaws.{numbered_of}
 use Rattle.jr_laws_steps.proofs.IssueLaws.{issued_at_most}
 use Rattle.jr_laws_steps.proofs.OnceLaws.{is_counted}
 use Rattle.jr_laws_steps.proofs.StartedLemmas.{is_started_legally}
 use Rattle.jr_laws_steps.proofs.StepLaws.{MayTakeUp, may_issue_of, may_probe_of}
-use Rattle.jr_laws_quiet.proofs.Groups.{number_is}
-use Rattle.jr_laws_quiet.proofs.Issues.{all_at, got_range, issued_push}
+use Rattle.jr_laws_quiet.proofs.Issues.{all_at}
 use Rattle.jr_laws_quiet.proofs.Members.{in_own_group}
-use Rattle.jr_laws_quiet.proofs.Steps.{all_weaker, no_probe}
 use Rattle.jr_laws_quiet.proofs.Phases.{open_parts}
 use Rattle.jr_laws_rounds.proofs.StandingDraws.{planned_draw}
 use Rattle.jr_laws_rounds.proofs.StandingFlights.{FliesOf, flies_found, flies_there, flew_or_starts, stays_settled}
@@ -73,12 +74,12 @@ group_closed h job p g rounds closed below =
       | inl none ↦ absurd (both_ways (not (has_rounds job)) (not_from_true (has_rounds job) rounds) none)
       | inr all ↦
           all_at (λ (i : ℕ). is_closed h (pass_of job p) i) groups g g all
-          (got_range 0 (group_count (pass_of job p)) g below ∙ ap Some (zero-add g))
+          (ranged_at 0 (group_count (pass_of job p)) g below ∙ ap Some (zero-add g))
     ]
 
 -- a draw stands at its number
 pub at_number : (job : SubJob) (p k : ℕ) (draw : Draw) → slice_get (draws_of_job job p) k ≡ Some draw → slice_get (draws_of_job job p) draw.number ≡ Some draw
-at_number job p k draw at = ap (slice_get (draws_of_job job p)) (number_is job p k draw at) ∙ at
+at_number job p k draw at = ap (slice_get (draws_of_job job p)) (number_of_draw job p k draw at) ∙ at
 
 -- where all rounds of a pass are closed none of its writes is taken up
 pub none_taken : (plan : Plan) (h : List Event) (job : SubJob) (p k : ℕ) (draw : Draw) → slice_get (draws_of_job job p) k ≡ Some draw → rounds_closed h (pass_of job p) ≡ true → may_take_up plan h (pass_of job p) draw ≡ false
@@ -227,7 +228,7 @@ module _ (plan : Plan) (planned : IsPlanned plan) (job : SubJob) (there : clone_
   check_counts : (h : List Event) (e : Event) (io : Started) → may_happen plan h e ≡ true → started_by e ≡ Some io → is_probe io.kind ≡ true → io.write.clone ≡ job.clone → 0 < issued_count h (pass_of job io.write.pass)
   check_counts h (Issue worker kind write piece) io may starts check clone =
       let s : Started = record { worker = worker; kind = kind_for kind; write = write; piece = piece } in
-      absurd (both_ways (is_probe (kind_for kind)) (no_probe kind) (ap (λ (x : Started). is_probe x.kind) (same_Some s io starts) ∙ check))
+      absurd (both_ways (is_probe (kind_for kind)) (issue_is_no_probe kind) (ap (λ (x : Started). is_probe x.kind) (same_Some s io starts) ∙ check))
   check_counts h (Probe worker write piece) io may starts check clone =
       let s : Started = record { worker = worker; kind = ticket.Probe; write = write; piece = piece } in
       let same : write ≡ io.write = ap (λ (x : Started). x.write) (same_Some s io starts) in

@@ -13,10 +13,11 @@ use Rattle.jr_model.specs.Plan.{Plan, SubJob, clone_of}
 use Rattle.jr_model.specs.Rounds.{Pass, pass_of, passes_of, issues_of, pass_finished}
 use Rattle.jr_model.specs.PlanFacts.{IsPlanned}
 use Rattle.jr_laws_steps.proofs.DrawnLaws.{issuable}
-use Rattle.jr_laws_steps.proofs.PlaceLemmas.{all_from, got_taken, got_made, got_ranged}
-use Rattle.jr_laws_steps.proofs.StartedLemmas.{by_events}
+use Rattle.jr_model.proofs.PlaceLemmas.{all_from, got_taken, got_made, got_ranged}
+use Rattle.jr_model.proofs.PlanLemmas.{pass_at}
+use Rattle.jr_model.proofs.HistoryLemmas.{by_events}
 use Rattle.jr_laws_quiet.proofs.Groups.{got_take}
-use Rattle.jr_laws_quiet.proofs.Issues.{all_at, got_pass, issued_same}
+use Rattle.jr_laws_quiet.proofs.Issues.{all_at, issued_same}
 use Rattle.jr_laws_rounds.specs.Standing.{IsInPass}
 use Rattle.jr_laws_rounds.proofs.StandingPasses.{current_parts, issue_in, stays_finished, unbegun}
 
@@ -34,7 +35,7 @@ before_from h job p each = all_from (pass_finished h) (take p (passes_of job)) o
 -- and the other way round
 pub before_at : (h : List Event) (job : SubJob) (p q : ℕ) → list_all (pass_finished h) (take p (passes_of job)) ≡ true → q < p → q < job.passes → pass_finished h (pass_of job q) ≡ true
 before_at h job p q before below within =
-    all_at (pass_finished h) (take p (passes_of job)) q (pass_of job q) before (got_take p (passes_of job) q below ∙ got_pass job q within)
+    all_at (pass_finished h) (take p (passes_of job)) q (pass_of job q) before (got_take p (passes_of job) q below ∙ pass_at job q within)
 
 -- those before the pass that a clone is in are finished
 pub finished_before : (h : List Event) (job : SubJob) (p q : ℕ) → IsInPass h job p → q < p → pass_finished h (pass_of job q) ≡ true

@@ -1,4 +1,4 @@
--- Believed: what an open round says of the latest writes, where nothing goes wrong (of this project).
+-- Claimed: what an open round says of the latest writes, where nothing goes wrong (of this project).
 use Rattle.std.specs.Prelude.{◌≡◌, ℕ, Bool, true, false, List, Some, slice_get}
 use Rattle.std.specs.List.{list_all}
 use Rattle.jr_model.specs.declared.blocks.Piece.{Piece}
@@ -13,7 +13,8 @@ use Rattle.jr_model.specs.Plan.{Plan, SubJob, clone_of}
 use Rattle.jr_model.specs.Rounds.{pass_of, is_open}
 use Rattle.jr_plan.specs.Files.{are_apart}
 use Rattle.jr_model.specs.PlanFacts.{IsPlanned}
-use Rattle.jr_laws_quiet.specs.Quiet.{is_quiet, last_issued, none_declines}
+use Rattle.jr_laws_quiet.specs.Quiet.{is_quiet, last_issued}
+use Rattle.jr_laws_quiet.specs.Declining.{none_declines}
 
 -- where no clone declines, no two have one file and a round of a clone is open, the last write of each block of its file is the one that
 -- was issued last

@@ -1,4 +1,4 @@
--- Believed: what the current round of a clone says of its groups (of this project).
+-- Claimed: what the current round of a clone says of its groups (of this project).
 use Rattle.std.specs.Prelude.{◌≡◌, ◌==◌, ℕ, true, false, not, ◌&&◌, List, slice_get, Some}
 use Rattle.std.specs.List.{list_any, list_all}
 use Rattle.jr_model.specs.declared.events.Event.{Event}

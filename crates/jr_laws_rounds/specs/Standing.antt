@@ -1,4 +1,4 @@
--- Believed: what a clone may do next, by where it stands: the pass that it is in, its current round, and what it has in
+-- Claimed: what a clone may do next, by where it stands: the pass that it is in, its current round, and what it has in
 -- flight (of this project).
 use Rattle.std.specs.Prelude.{◌≡◌, ◌<◌, ◌==◌, ℕ, suc, nat_lt, Bool, true, false, not, ◌&&◌, ◌||◌, List, take, slice_get, Option, Some, None, if◌then◌else◌}
 use Rattle.std.specs.List.{list_any, list_all}

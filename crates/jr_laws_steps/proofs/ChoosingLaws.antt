@@ -1,5 +1,5 @@
 -- What may be started has a step in its clone's pass, so it isn't passed over by a choice.
-use Rattle.std.proofs.Common.{◌≡◌, ℕ, zero, suc, ◌<◌, List, [], ◌∷◌, Bool, true, false, cond, ◌&&◌, ◌||◌, refl, sym, ◌∙◌, ap, subst, arith, inl, inr, zero-add}
+use Rattle.std.proofs.Common.{◌≡◌, ℕ, zero, suc, ◌<◌, List, [], ◌∷◌, true, false, ◌&&◌, ◌||◌, refl, sym, ◌∙◌, ap, subst, arith, inl, inr, zero-add}
 use Rattle.std.specs.Prelude.{Option, Some, None, slice_get, nat_lt, ◌==◌}
 use Rattle.std.specs.List.{range_with_len}
 use Rattle.std.specs.Option.{option_or}
@@ -20,18 +20,12 @@ use Rattle.jr_model.specs.Rounds.{Pass, pass_of, passes_of, write_id}
 use Rattle.jr_model.proofs.LegalLaws.{cases_step_of}
 use Rattle.jr_model.specs.PlanFacts.{IsPlanned}
 use Rattle.jr_laws_steps.specs.Choosing.{named_by, stands_before}
-use Rattle.jr_laws_steps.proofs.CountLemmas.{pass_at}
 use Rattle.jr_laws_steps.proofs.DrawnLaws.{issuable, current_pass, taken_up_within}
-use Rattle.jr_laws_steps.proofs.IdleLaws.{numbered_of}
 use Rattle.jr_laws_steps.proofs.IssueLaws.{numbered_draws}
-use Rattle.jr_laws_steps.proofs.PlaceLemmas.{none_given, got_made, got_ranged}
+use Rattle.jr_model.proofs.PlaceLemmas.{none_given, got_made, got_ranged}
+use Rattle.jr_model.proofs.PlanLemmas.{numbered_of, pass_at}
+use Rattle.jr_model.proofs.OptionLemmas.{neither_chosen}
 use Rattle.jr_laws_steps.proofs.StepLaws.{MayIssue, MayTakeUp, may_issue_of, may_probe_of, may_skip_of}
-
--- where no step may happen, neither of the two may
-neither_step : (takes may : Bool) (x y : Event) → cond takes (Some x) (cond may (Some y) None) ≡ None → (takes ≡ false) × (may ≡ false)
-neither_step true may x y h = cc
-neither_step false true x y h = cc
-neither_step false false x y h = (refl, refl)
 
 -- draw k of pass p of clone c has a step, whoever the worker is
 record HasStep (plan : Plan) (history : List Event) (c p k : ℕ) : Type 0 where
@@ -52,7 +46,7 @@ issue_has_step plan history write dir piece m =
       within = current_pass history pass (issuable plan history pass m.draw m.may).current;
       drawn = m.named.drawn;
       some = λ w none.
-          let neither = neither_step (may_take_up plan history pass m.draw) (may_issue plan history pass m.draw) (check_or_skip history w pass m.draw) (Issue w (issued_as pass.job m.draw.dir) (write_id pass m.draw) m.draw.piece) none in
+          let neither = neither_chosen (may_take_up plan history pass m.draw) (may_issue plan history pass m.draw) (check_or_skip history w pass m.draw) (Issue w (issued_as pass.job m.draw.dir) (write_id pass m.draw) m.draw.piece) none in
           let e : true ≡ false = sym m.may ∙ neither.1 in
           cc;
     }
@@ -67,7 +61,7 @@ take_up_has_step plan history write legal m =
       within = taken_up_within plan history write m legal;
       drawn = m.named.drawn;
       some = λ w none.
-          let neither = neither_step (may_take_up plan history pass m.draw) (may_issue plan history pass m.draw) (check_or_skip history w pass m.draw) (Issue w (issued_as pass.job m.draw.dir) (write_id pass m.draw) m.draw.piece) none in
+          let neither = neither_chosen (may_take_up plan history pass m.draw) (may_issue plan history pass m.draw) (check_or_skip history w pass m.draw) (Issue w (issued_as pass.job m.draw.dir) (write_id pass m.draw) m.draw.piece) none in
           let e : true ≡ false = sym m.may ∙ neither.0 in
           cc;
     }

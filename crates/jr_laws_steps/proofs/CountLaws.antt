@@ -1,9 +1,8 @@
 -- The laws of how much a run can start, and of what a take can append.
-use Rattle.std.proofs.Common.{◌≡◌, ℕ, zero, suc, ◌+◌, ◌*◌, ◌<◌, ◌≤◌, List, [], ◌∷◌, ◌++◌, length, Bool, true, false, refl, sym, ◌∙◌, ap, subst, arith, inl, inr, append_assoc, append-nil, length-append}
+use Rattle.std.proofs.Common.{◌≡◌, ℕ, zero, suc, ◌+◌, ◌*◌, ◌<◌, ◌≤◌, List, [], ◌∷◌, ◌++◌, length, Bool, true, false, refl, sym, ◌∙◌, ap, subst, arith, inl, inr, append_assoc, append-nil}
 use Rattle.std.specs.Prelude.{Option, Some, None}
 use Rattle.std.specs.Bool.{MatchBool}
 use Rattle.std.proofs.lemmas.Bool.{and_parts, cond_both, cases_Bool}
-use Rattle.std.proofs.lemmas.List.Elements.{filter_map-append}
 use Rattle.std.proofs.lemmas.List.Sums.{count_by-le-length}
 use Rattle.std.proofs.lemmas.Option.{same_Some}
 use Rattle.jr_model.specs.declared.events.Event.{Event}
@@ -21,12 +20,11 @@ use Rattle.jr_model.specs.Words.{pass_words}
 use Rattle.jr_model.proofs.LegalLaws.{is_legal-more, choice_may_happen, choice_is_step, cases_step_of}
 use Rattle.jr_model.proofs.SerialLaws.{IsRested, well_choice}
 use Rattle.jr_model.specs.PlanFacts.{IsPlanned}
+use Rattle.jr_model.proofs.PlanLemmas.{numbered_of}
+use Rattle.jr_model.proofs.HistoryLemmas.{started_count-more}
 use Rattle.jr_laws_draws.proofs.TheLaw.{pass_law, drawable_of}
 use Rattle.jr_laws_steps.proofs.CountLemmas.{sum_of_plan_within}
 use Rattle.jr_laws_steps.proofs.CountSteps.{IssuedWithin, issued_within-more, unissued, is_untaken, untaken, all_unissued, all_untaken, all_unissued_most, all_untaken_most, issue_falls, probe_falls, skip_falls}
-
-pub numbered_of : (plan : Plan) → IsPlanned plan → IsNumbered plan
-numbered_of plan planned i job at = (planned.drafted.placed i job at).number
 
 -- what an event that may happen keeps, a legal history has
 pub along_legal : (plan : Plan) (P : List Event → Type 0) → ((history : List Event) (e : Event) → P history → may_happen plan history e ≡ true → P (history ++ e ∷ [])) → (before events : List Event) → P before → legal_after plan before events ≡ true → P (before ++ events)
@@ -67,27 +65,23 @@ unissued_first plan planned =
     sum_of_plan_within (unissued []) plan
     (λ (c : ℕ) (job : SubJob) (p : ℕ) (at : clone_of plan c ≡ Some job). omega (arith, draws_within plan c p job planned at))
 
-started_push : (history : List Event) (e : Event) → length (started (history ++ e ∷ [])) ≡ length (started history) + length (started (e ∷ []))
-started_push history e =
-    ap length (filter_map-append started_by history (e ∷ [])) ∙ length-append (started history) (started (e ∷ []))
-
 -- what is started next is no longer left
 pub started_and_left : (plan : Plan) (history : List Event) (e : Event) → IssuedWithin plan history → may_happen plan history e ≡ true → length (started (history ++ e ∷ [])) + left plan (history ++ e ∷ []) ≤ length (started history) + left plan history
 started_and_left plan history (Issue worker dir write piece) within may =
     let e = Issue worker dir write piece in
-    omega (arith, started_push history e, issue_falls plan history worker dir write piece may, all_untaken_most plan history (e ∷ []))
+    omega (arith, started_count-more history e, issue_falls plan history worker dir write piece may, all_untaken_most plan history (e ∷ []))
 started_and_left plan history (Probe worker write piece) within may =
     let e = Probe worker write piece in
-    omega (arith, started_push history e, probe_falls plan history worker write piece within may, all_unissued_most plan history (e ∷ []))
+    omega (arith, started_count-more history e, probe_falls plan history worker write piece within may, all_unissued_most plan history (e ∷ []))
 started_and_left plan history (Skip worker write) within may =
     let e = Skip worker write in
-    omega (arith, started_push history e, all_untaken_most plan history (e ∷ []), all_unissued_most plan history (e ∷ []))
+    omega (arith, started_count-more history e, all_untaken_most plan history (e ∷ []), all_unissued_most plan history (e ∷ []))
 started_and_left plan history (End worker io outcome) within may =
     let e = End worker io outcome in
-    omega (arith, started_push history e, all_untaken_most plan history (e ∷ []), all_unissued_most plan history (e ∷ []))
+    omega (arith, started_count-more history e, all_untaken_most plan history (e ∷ []), all_unissued_most plan history (e ∷ []))
 started_and_left plan history (Verdict worker io verdict) within may =
     let e = Verdict worker io verdict in
-    omega (arith, started_push history e, all_untaken_most plan history (e ∷ []), all_unissued_most plan history (e ∷ []))
+    omega (arith, started_count-more history e, all_untaken_most plan history (e ∷ []), all_unissued_most plan history (e ∷ []))
 
 -- what was started and what is left are no more than two for each draw
 record IsFew (plan : Plan) (history : List Event) : Type 0 where

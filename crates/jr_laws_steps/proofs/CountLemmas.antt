@@ -1,14 +1,14 @@
 -- Sums over the passes of a plan: they fall where one term falls, and are at most the plan's work.
-use Rattle.std.proofs.Common.{◌≡◌, ℕ, zero, suc, ◌*◌, ◌<◌, ◌≤◌, List, [], ◌∷◌, length, Bool, true, false, cond, refl, sym, ◌∙◌, ap, subst, arith, zero-add}
+use Rattle.std.proofs.Common.{◌≡◌, ℕ, zero, suc, ◌*◌, ◌<◌, ◌≤◌, List, [], ◌∷◌, length, Bool, true, false, cond, refl, sym, subst, arith}
 use Rattle.std.specs.Prelude.{Some, slice_get, count_by, map}
 use Rattle.std.specs.List.{range_with_len, sum_by}
-use Rattle.std.specs.Option.{option_map}
-use Rattle.std.proofs.lemmas.List.FromFn.{length-range_with_len, get_or-range_with_len}
+use Rattle.std.proofs.lemmas.List.FromFn.{length-range_with_len}
 use Rattle.std.proofs.lemmas.List.Sums.{sum_by-cons, sum_by-le-sum_by, sum-map}
-use Rattle.std.proofs.lemmas.Option.{same_Some, slice_get-get_or, slice_get-map}
+use Rattle.std.proofs.lemmas.Option.{same_Some}
 use Rattle.jr_model.specs.Machine.{work_of}
 use Rattle.jr_model.specs.Plan.{Plan, SubJob, clone_of}
 use Rattle.jr_model.specs.Rounds.{Pass, pass_of, passes_of}
+use Rattle.jr_model.proofs.PlanLemmas.{pass_at}
 
 -- a sum is less where no term is more and one is less
 pub sum_by_less : {X : Type 0} (f g : X → ℕ) (xs : List X) (k : ℕ) (x : X) → ((y : X) → f y ≤ g y) → slice_get xs k ≡ Some x → f x < g x → sum_by f xs < sum_by g xs
@@ -46,15 +46,6 @@ sum_of_clone f job = sum_by f (passes_of job)
 
 abbrev pub sum_of_plan : (Pass → ℕ) → Plan → ℕ
 sum_of_plan f plan = sum_by (sum_of_clone f) plan.clones
-
--- pass p stands at place p
-pub pass_at : (job : SubJob) (p : ℕ) → p < job.passes → slice_get (passes_of job) p ≡ Some (pass_of job p)
-pass_at job p below =
-    let numbers = range_with_len 0 job.passes in
-    let within : p < length numbers = omega (arith, below, length-range_with_len 0 job.passes) in
-    let number : slice_get numbers p ≡ Some p =
-    slice_get-get_or numbers p 0 within ∙ ap Some (get_or-range_with_len 0 job.passes p 0 below ∙ zero-add p) in
-    slice_get-map (pass_of job) numbers p ∙ ap (option_map (pass_of job)) number
 
 -- the sum is no more where no pass has more, and less where one of the plan's has less
 pub sum_of_plan_most : (f g : Pass → ℕ) (plan : Plan) → ((pass : Pass) → f pass ≤ g pass) → sum_of_plan f plan ≤ sum_of_plan g plan

@@ -1,11 +1,11 @@
 -- What may happen, and how much of a plan is left after it: an issue takes a draw that was not issued, and a check or
 -- skip a write that was neither checked nor skipped.
-use Rattle.std.proofs.Common.{◌≡◌, ℕ, ◌+◌, ◌-◌, ◌*◌, ◌<◌, ◌≤◌, List, [], ◌∷◌, ◌++◌, length, Bool, true, false, cond, not, ◌&&◌, ◌||◌, refl, sym, ◌∙◌, ap, subst, arith, inl, inr, zero-add}
+use Rattle.std.proofs.Common.{◌≡◌, ℕ, ◌+◌, ◌-◌, ◌<◌, ◌≤◌, List, [], ◌∷◌, ◌++◌, length, Bool, true, false, cond, not, ◌&&◌, ◌||◌, refl, sym, ◌∙◌, ap, subst, arith, inl, inr}
 use Rattle.std.specs.Prelude.{◌⊎◌, Option, Some, None, slice_get, count_by, nat_lt, ◌==◌}
 use Rattle.std.specs.List.{list_any}
 use Rattle.std.proofs.lemmas.Bool.{and_parts, and_from, or_cases, or_parts, or_left, or_right, not-true, not_from_true, not_from_false, cases_cond, eqb-true, eq-eqb, ltb-true, le-ltb, cases_eq, cases_Bool}
 use Rattle.std.proofs.lemmas.List.Folds.{list_any-append}
-use Rattle.std.proofs.lemmas.List.Sums.{sum_by-append, sum_by-cons, sum_by_push}
+use Rattle.std.proofs.lemmas.List.Sums.{sum_by-append, sum_by-cons}
 use Rattle.std.proofs.lemmas.Option.{same_Some, slice_get_within}
 use Rattle.jr_model.specs.declared.blocks.Piece.{Piece}
 use Rattle.jr_model.specs.declared.events.Event.{Event}
@@ -13,14 +13,13 @@ use Rattle.jr_model.specs.declared.events.Event.TheVariants.{Issue, Probe, Skip,
 use Rattle.jr_model.specs.declared.events.IssueKind.{IssueKind}
 use Rattle.jr_model.specs.declared.events.WriteId.{WriteId}
 use Rattle.jr_model.specs.declared.workloads.Draw.{Draw}
-use Rattle.jr_model.specs.Draws.{draws_of_job, fresh_progress}
+use Rattle.jr_model.specs.Draws.{draws_of_job}
 use Rattle.jr_model.specs.History.{same_write, same_piece}
 use Rattle.jr_model.specs.LastWrite.{is_intact}
 use Rattle.jr_model.specs.Legal.{may_happen, may_take_up, may_issue, takes_up, is_halted, has_room, is_clear, phase_is_open, check_or_skip, step_of, step_of_draw, step_of_clone, step_at, same_issue, is_this_issue, is_this_probe, is_this_skip}
 use Rattle.jr_model.specs.Plan.{Plan, SubJob, IsNumbered, clone_of, issued_as}
-use Rattle.jr_model.specs.Rounds.{Pass, pass_of, write_id, is_write_draw, issues_of, issued_count, issued_among, all_issued, has_rounds, group_of, group_index, is_full, is_closed, no_issue_flies, is_open, is_current, pass_finished, waits_for_round}
-use Rattle.jr_model.specs.Words.{pass_words}
-use Rattle.jr_model.proofs.LegalLaws.{number-draws_from}
+use Rattle.jr_model.specs.Rounds.{Pass, pass_of, write_id, is_write_draw, issues_of, issued_count, issued_among, all_issued, has_rounds, group_of, group_index, is_full, is_open, is_current, pass_finished, waits_for_round}
+use Rattle.jr_model.proofs.HistoryLemmas.{issued_push, open_is_full}
 use Rattle.jr_laws_steps.proofs.CountLemmas.{count_by_most, count_by_less, sum_of_plan, sum_of_plan_most, sum_of_plan_less}
 
 -- one name twice, by its parts
@@ -68,11 +67,6 @@ of_clone plan history worker write e (Some job) planned step =
 
 pub step_at_is : (plan : Plan) (history : List Event) (worker : ℕ) (write : WriteId) (e : Event) → step_at plan history worker write ≡ Some e → IsStepOf plan history worker write e
 step_at_is plan history worker write e h = of_clone plan history worker write e (clone_of plan write.clone) refl h
-
--- the draw has the number of its place
-pub number_of_draw : (job : SubJob) (p k : ℕ) (draw : Draw) → slice_get (draws_of_job job p) k ≡ Some draw → draw.number ≡ k
-number_of_draw job p k draw h =
-    number-draws_from job (fresh_progress job) (pass_words job p (4 * job.cells)) k draw h ∙ zero-add k
 
 -- a step of a draw is its check or skip where that may be, else its issue where that may be
 two_conds : (a b : Bool) (x y z : Event) → cond a (Some x) (cond b (Some y) None) ≡ Some z → ((a ≡ true) × (z ≡ x)) ⊎ ((b ≡ true) × (z ≡ y))
@@ -260,10 +254,6 @@ full_is_issued history pass g k draw at full =
           | inr some ↦ omega arith
         ]
 
-pub open_is_full : (history : List Event) (pass : Pass) (g : ℕ) → is_open history pass g ≡ true → is_full history pass g ≡ true
-open_is_full history pass g h =
-    (and_parts (is_full history pass g) (not (is_closed history pass g)) (and_parts (is_full history pass g && not (is_closed history pass g)) (no_issue_flies history pass.job.clone) h).0).0
-
 -- what is left
 
 -- the draws of a pass that were not issued
@@ -330,9 +320,6 @@ issue_within plan history (Probe worker write piece) c p job numbered may at hit
 issue_within plan history (Skip worker write) c p job numbered may at hit = cc
 issue_within plan history (End worker io outcome) c p job numbered may at hit = cc
 issue_within plan history (Verdict worker io verdict) c p job numbered may at hit = cc
-
-issued_push : (history : List Event) (e : Event) (pass : Pass) → issued_count (history ++ e ∷ []) pass ≡ issued_count history pass + cond (issues_of pass e) 1 0
-issued_push history e pass = sum_by_push (λ (x : Event). cond (issues_of pass x) 1 0) history e
 
 pub issued_within-more : (plan : Plan) (history : List Event) (e : Event) → IsNumbered plan → IssuedWithin plan history → may_happen plan history e ≡ true → IssuedWithin plan (history ++ e ∷ [])
 issued_within-more plan history e numbered within may c p job at some =

@@ -22,8 +22,9 @@ use Rattle.jr_model.specs.Replies.{FileBytes}
 use Rattle.jr_model.specs.Serial.{carried_out, ends_as, followed_by, memory_after, goes_on, serial_after, serial_history}
 use Rattle.jr_model.proofs.SerialLaws.{first_given-append, any-append, legal_serial}
 use Rattle.jr_model.specs.PlanFacts.{IsPlanned}
-use Rattle.jr_laws_steps.proofs.PlaceLemmas.{keeps_none}
-use Rattle.jr_laws_steps.proofs.IdleLaws.{numbered_of, idle_is_over}
+use Rattle.jr_model.proofs.PlaceLemmas.{keeps_none}
+use Rattle.jr_model.proofs.PlanLemmas.{numbered_of}
+use Rattle.jr_laws_steps.proofs.IdleLaws.{idle_is_over}
 
 -- where the I/O of a number has ended, and, if it gets a verdict, has it, it is done
 abbrev pub is_done : List Event → ℕ → Started → Bool

@@ -1,10 +1,10 @@
 -- What was started is what was drawn, once each.
-use Rattle.std.proofs.Common.{◌≡◌, ℕ, ◌+◌, ◌*◌, ◌/◌, ◌%◌, ◌<◌, ◌≤◌, List, [], ◌∷◌, ◌++◌, length, Bool, true, false, cond, ◌&&◌, not, refl, sym, ◌∙◌, ap, subst, arith, inl, inr}
+use Rattle.std.proofs.Common.{◌≡◌, ℕ, ◌+◌, ◌*◌, ◌<◌, ◌≤◌, List, [], ◌∷◌, ◌++◌, length, Bool, true, false, cond, ◌&&◌, not, refl, sym, ◌∙◌, ap, subst, arith, inl, inr}
 use Rattle.std.specs.Prelude.{Some, slice_get, nat_lt, ◌==◌, count_by, take}
-use Rattle.std.specs.List.{list_all, list_any, All}
-use Rattle.std.proofs.lemmas.Bool.{and_parts, and_from, or_cases, eq-eqb, eqb-true, ltb-true, le-ltb, cases_lt, false_from_ne_true, false≢true}
+use Rattle.std.specs.List.{list_all, list_any}
+use Rattle.std.proofs.lemmas.Bool.{and_parts, or_cases, eqb-true, ltb-true, le-ltb, cases_lt, false_from_ne_true, false≢true}
 use Rattle.std.proofs.lemmas.List.Sums.{sum_by-append, sum_by-cons}
-use Rattle.std.proofs.lemmas.Option.{slice_get_within, get_or_from_slice_get}
+use Rattle.std.proofs.lemmas.Option.{slice_get_within, same_Some}
 use Rattle.jr_model.specs.declared.blocks.Dir.{Dir}
 use Rattle.jr_model.specs.declared.blocks.Dir.TheVariants as direction
 use Rattle.jr_model.specs.declared.blocks.Piece.{Piece}
@@ -23,31 +23,22 @@ use Rattle.jr_model.specs.History.{started, started_by, kind_for, is_judged_kind
 use Rattle.jr_model.specs.Legal.{may_happen, may_issue, may_take_up, takes_up, is_legal, is_halted, has_room, is_clear, phase_is_open}
 use Rattle.jr_model.specs.Pieces.{piece_end}
 use Rattle.jr_model.specs.Plan.{Plan, SubJob, FileSpec, clone_of, is_verified, checks_reads, issued_as}
-use Rattle.jr_model.specs.Rounds.{Pass, pass_of, passes_of, write_id, is_write_draw, issues_of, issued_count, all_issued, has_rounds, group_of, group_index, issued_among, is_full, is_closed, is_open, no_issue_flies, waits_for_round, pass_finished, is_current}
-use Rattle.jr_model.specs.Tickets.{piece_fits, has_whole_chunks, interval_fits}
-use Rattle.jr_model.specs.declared.limits.TheConstants.{SECTOR}
-use Rattle.jr_model.specs.declared.contents.VerifyKind.{VerifyKind}
+use Rattle.jr_model.specs.Rounds.{Pass, pass_of, passes_of, write_id, is_write_draw, issues_of, issued_count, all_issued, has_rounds, group_of, group_index, issued_among, is_full, is_open, waits_for_round, pass_finished, is_current}
+use Rattle.jr_model.specs.Tickets.{piece_fits}
 use Rattle.jr_model.specs.declared.contents.VerifyKind.TheVariants as verify
-use Rattle.std.proofs.Math.Nat.{zero-mod}
-use Rattle.std.proofs.lemmas.Nat.{div-add-mod', mul-mod_second}
 use Rattle.jr_model.specs.Words.{pass_words}
 use Rattle.jr_model.specs.PlanFacts.{IsPlanned}
+use Rattle.jr_model.proofs.HistoryLemmas.{by_events, open_is_full}
+use Rattle.jr_model.proofs.ListLemmas.{all_got}
+use Rattle.jr_model.proofs.BoolLemmas.{seven_parts}
+use Rattle.jr_model.proofs.PieceLemmas.{interval_of_cells}
+use Rattle.jr_model.proofs.LegalLaws.{is_legal-more}
 use Rattle.jr_laws_draws.specs.PassLaw.{IsInRegion}
 use Rattle.jr_laws_draws.proofs.TheLaw.{pass_law, drawable_of}
 use Rattle.jr_laws_steps.specs.Drawn.{is_kind_of, IsDrawn, FitsPlan}
-use Rattle.jr_laws_steps.proofs.StartedLemmas.{same_some, by_events, is_started_legally}
+use Rattle.jr_laws_steps.proofs.StartedLemmas.{is_started_legally, started_next}
 use Rattle.jr_laws_steps.proofs.StepLaws.{MayIssue, MayTakeUp, may_issue_of, may_probe_of}
-
--- seven tests that all pass
-seven_parts : (a b c d e f g : Bool) → (a && b && c && d && e && f && g) ≡ true → (a ≡ true) × (b ≡ true) × (c ≡ true) × (d ≡ true) × (e ≡ true) × (f ≡ true) × (g ≡ true)
-seven_parts a b c d e f g h =
-    let last = and_parts (a && b && c && d && e && f) g h in
-    let sixth = and_parts (a && b && c && d && e) f last.0 in
-    let fifth = and_parts (a && b && c && d) e sixth.0 in
-    let fourth = and_parts (a && b && c) d fifth.0 in
-    let third = and_parts (a && b) c fourth.0 in
-    let second = and_parts a b third.0 in
-    (second.0, second.1, third.1, fourth.1, fifth.1, sixth.1, last.1)
+use Rattle.jr_laws_steps.specs.Nexts.{IsNext}
 
 -- what issuing a draw asks for
 pub record IsIssuable (plan : Plan) (history : List Event) (pass : Pass) (draw : Draw) : Type 0 where
@@ -96,7 +87,7 @@ module _ (plan : Plan) (job : SubJob) (p : ℕ) (planned : clone_of plan job.clo
       let clone : write.clone ≡ job.clone = eqb-true write.clone job.clone parts.0 in
       let pass : write.pass ≡ p = eqb-true write.pass p parts.1 in
       let there : Some step.job ≡ Some job = sym step.named.planned ∙ ap (clone_of plan) clone ∙ planned in
-      let passes : step.job.passes ≡ job.passes = ap (λ (j : SubJob). j.passes) (same_some step.job job there) in
+      let passes : step.job.passes ≡ job.passes = ap (λ (j : SubJob). j.passes) (same_Some step.job job there) in
       let within = current_pass history (pass_of step.job write.pass) (issuable plan history (pass_of step.job write.pass) step.draw step.may).current in
       let below : write.pass < step.job.passes = within in
       omega (arith, below, passes, pass, past)
@@ -145,13 +136,6 @@ full_needs_issue history pass g k draw drawn none full =
           omega (arith, positive, sym zero_among ∙ same)
     ]
 
--- a group that is open is full
-open_is_full : (history : List Event) (pass : Pass) (g : ℕ) → is_open history pass g ≡ true → is_full history pass g ≡ true
-open_is_full history pass g h =
-    let parts = and_parts (is_full history pass g && not (is_closed history pass g)) (no_issue_flies history pass.job.clone) h in
-    let front = and_parts (is_full history pass g) (not (is_closed history pass g)) parts.0 in
-    front.0
-
 -- the write that is checked or skipped is of one of the clone's passes
 pub taken_up_within : (plan : Plan) (history : List Event) (write : WriteId) (step : MayTakeUp plan history write) → is_legal plan history ≡ true → write.pass < step.job.passes
 taken_up_within plan history write step legal =
@@ -195,7 +179,7 @@ starts_drawn plan history (Issue worker dir write piece) io legal may starts =
       piece = sym step.same_place;
       kind = subst (λ (k : IssueKind). is_kind_of (kind_for k) step.draw.dir step.job ≡ true) step.same_way (kind_for_draw step.draw.dir step.job);
     } in
-    (step.job, step.draw, subst (λ (s : Started). IsDrawn plan s step.job step.draw) (same_some _ io starts) drawn)
+    (step.job, step.draw, subst (λ (s : Started). IsDrawn plan s step.job step.draw) (same_Some _ io starts) drawn)
 starts_drawn plan history (Probe worker write piece) io legal may starts =
     let found = may_probe_of plan history worker write piece may in
     let step = found.0 in
@@ -209,7 +193,7 @@ starts_drawn plan history (Probe worker write piece) io legal may starts =
       piece = sym found.1;
       kind = subst (λ (d : Dir). is_kind_of ticket.Probe d step.job ≡ true) (sym way) checks.rounds;
     } in
-    (step.job, step.draw, subst (λ (s : Started). IsDrawn plan s step.job step.draw) (same_some _ io starts) drawn)
+    (step.job, step.draw, subst (λ (s : Started). IsDrawn plan s step.job step.draw) (same_Some _ io starts) drawn)
 starts_drawn plan history (Skip worker write) io legal may starts = cc
 starts_drawn plan history (End worker id outcome) io legal may starts = cc
 starts_drawn plan history (Verdict worker id verdict) io legal may starts = cc
@@ -218,11 +202,6 @@ pub started_are_drawn-law : (plan : Plan) (history : List Event) (id : ℕ) (io 
 started_are_drawn-law plan history id io planned legal at =
     let was = is_started_legally plan history id io legal at in
     starts_drawn plan was.moment.before was.moment.event io was.legal was.may was.moment.starts
-
--- what holds of each item holds of the one at a place
-pub all_at : {X : Type 0} (P : X → Type 0) (xs : List X) (k : ℕ) (x : X) → All P xs → slice_get xs k ≡ Some x → P x
-all_at P xs k x all at =
-    subst P (get_or_from_slice_get xs k x x at) (all k x (slice_get_within xs k x at))
 
 rounds_verify : (job : SubJob) → has_rounds job ≡ true → is_verified job.method.kind ≡ true
 rounds_verify job h =
@@ -239,28 +218,6 @@ check_is_verified ticket.ReadCheck direction.Read job h probe =
 check_is_verified ticket.Read d job h probe = absurd (false≢true probe)
 check_is_verified ticket.Write d job h probe = absurd (false≢true probe)
 
--- an interval that divides the cell divides whole cells
-chunks_of_cells : (interval cell len : ℕ) → len % cell ≡ 0 → has_whole_chunks interval cell ≡ true → has_whole_chunks interval len ≡ true
-chunks_of_cells interval cell len whole fits = by (interval == 0) fits
-  where
-    by : (b : Bool) → cond b true ((interval % SECTOR == 0) && (cell % interval == 0)) ≡ true → cond b true ((interval % SECTOR == 0) && (len % interval == 0)) ≡ true
-    by true h = refl
-    by false h =
-        let parts = and_parts (interval % SECTOR == 0) (cell % interval == 0) h in
-        let none : cell % interval ≡ 0 = eqb-true (cell % interval) 0 parts.1 in
-        let cells : len / cell * cell ≡ len = omega (arith, div-add-mod' len cell, whole) in
-        let left : len % interval ≡ 0 =
-        ap (λ (n : ℕ). n % interval) (sym cells) ∙ sym (mul-mod_second (len / cell) cell interval)
-        ∙ ap (λ (r : ℕ). (len / cell * r) % interval) none ∙ ap (λ (r : ℕ). r % interval) (let e : len / cell * 0 ≡ 0 = omega arith in e) ∙ zero-mod interval in
-        and_from (interval % SECTOR == 0) (len % interval == 0) parts.0 (eq-eqb (len % interval) 0 left)
-
-pub interval_of_cells : (kind : VerifyKind) (interval cell len : ℕ) → len % cell ≡ 0 → interval_fits kind interval cell ≡ true → interval_fits kind interval len ≡ true
-interval_of_cells verify.Plain interval cell len whole fits = refl
-interval_of_cells verify.Pattern interval cell len whole fits = refl
-interval_of_cells verify.Md5 interval cell len whole fits = chunks_of_cells interval cell len whole fits
-interval_of_cells verify.Sha1 interval cell len whole fits = chunks_of_cells interval cell len whole fits
-interval_of_cells verify.Sha256 interval cell len whole fits = chunks_of_cells interval cell len whole fits
-
 -- what is drawn can be carried out
 pub drawn_fits : (plan : Plan) (io : Started) (job : SubJob) (draw : Draw) → IsPlanned plan → IsDrawn plan io job draw → FitsPlan plan io job
 drawn_fits plan io job draw planned drawn =
@@ -270,8 +227,8 @@ drawn_fits plan io job draw planned drawn =
     let words = pass_words job io.write.pass (4 * job.cells) in
     let Fits : Draw → Type 0 = λ d. piece_fits d.piece ≡ true in
     let Placed : Draw → Type 0 = λ d. IsInRegion job d.piece in
-    let fits : piece_fits draw.piece ≡ true = all_at Fits (draws_over job words) io.write.number draw (law.fits words) drawn.drawn in
-    let there : IsInRegion job draw.piece = all_at Placed (draws_over job words) io.write.number draw (law.placed words) drawn.drawn in
+    let fits : piece_fits draw.piece ≡ true = all_got Fits (draws_over job words) io.write.number draw (law.fits words) drawn.drawn in
+    let there : IsInRegion job draw.piece = all_got Placed (draws_over job words) io.write.number draw (law.placed words) drawn.drawn in
     let region : IsInRegion job io.piece = subst (IsInRegion job) (sym drawn.piece) there in
     record {
       planned = drawn.planned;
@@ -295,3 +252,10 @@ pub started_fit-law : (plan : Plan) (history : List Event) (id : ℕ) (io : Star
 started_fit-law plan history id io planned legal at =
     let drawn = started_are_drawn-law plan history id io planned legal at in
     (drawn.0, drawn_fits plan io drawn.0 drawn.1 planned drawn.2)
+
+-- what is started is a piece of whole blocks
+pub start_fits : (plan : Plan) (history : List Event) (event : Event) (begun : Started) → IsNext plan history event
+    → started_by event ≡ Some begun → piece_fits begun.piece ≡ true
+start_fits plan h event begun next starts =
+    let legal = is_legal-more plan h event next.legal next.may in
+    (started_fit-law plan (h ++ event ∷ []) (length (started h)) begun next.planned legal (started_next h event begun starts)).1.fits

@@ -6,7 +6,7 @@ use Rattle.std.proofs.lemmas.List.Sums.{sum_by-cons}
 use Rattle.std.proofs.lemmas.Nat.{div-mul-add}
 use Rattle.jr_model.specs.declared.workloads.Draw.{Draw}
 use Rattle.jr_model.specs.Rounds.{Pass, is_write_draw, writes_of, group_of, group_count, group_index}
-use Rattle.jr_laws_steps.proofs.PlaceLemmas.{cases_place, got_filtered, got_taken, got_dropped}
+use Rattle.jr_model.proofs.PlaceLemmas.{cases_place, got_filtered, got_taken, got_dropped}
 
 -- the draws are numbered from n on
 abbrev pub AreNumbered : ℕ → List Draw → Type 0

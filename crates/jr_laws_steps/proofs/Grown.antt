@@ -1,67 +1,36 @@
 -- What one event more makes of what was started, ended and judged; and that an End and a Verdict name a started I/O.
-use Rattle.std.proofs.Common.{◌≡◌, ℕ, zero, suc, ◌+◌, ◌<◌, ◌≤◌, List, [], ◌∷◌, ◌++◌, length, Bool, true, false, cond, ◌&&◌, ◌||◌, not, refl, ◌∙◌, ap, arith, length-append}
+use Rattle.std.proofs.Common.{◌≡◌, ℕ, ◌+◌, ◌<◌, ◌≤◌, List, [], ◌∷◌, ◌++◌, length, Bool, true, false, cond, ◌&&◌, ◌||◌, not, refl, ◌∙◌, ap, arith, length-append}
 use Rattle.std.specs.Prelude.{Option, Some, None, slice_get, nat_lt, ◌==◌, is_none, filter_map, count_by}
-use Rattle.std.specs.Option.{option_or}
 use Rattle.std.specs.List.{list_all, list_any, cons_option}
-use Rattle.std.proofs.lemmas.Bool.{and_parts, and_from, eqb-true, eq-eqb, ne_eqb, lt-ltb, ltb-true, not-true}
+use Rattle.std.proofs.lemmas.Bool.{and_parts, and_from, eqb-true, eq-eqb, ne_eqb, lt-ltb, ltb-true, not-true, false_from_ne_true}
 use Rattle.std.proofs.lemmas.List.Elements.{filter_map-append}
 use Rattle.std.proofs.lemmas.List.Folds.{list_any-append, list_all-append}
 use Rattle.std.proofs.lemmas.List.Sums.{sum_by-cons, sum_by_push}
+use Rattle.std.proofs.Math.Bool.{or-false}
+use Rattle.std.proofs.lemmas.Option.{slice_get_within}
 use Rattle.jr_model.specs.declared.events.Event.{Event}
 use Rattle.jr_model.specs.declared.events.Event.TheVariants.{Issue, Probe, Skip, End, Verdict}
 use Rattle.jr_model.specs.declared.events.Outcome.{Outcome}
 use Rattle.jr_model.specs.declared.events.Outcome.TheVariants.{Whole}
 use Rattle.jr_model.specs.declared.events.Started.{Started}
 use Rattle.jr_model.specs.declared.events.Verdict.{Verdict as GivenVerdict}
-use Rattle.jr_model.specs.History.{started, started_by, end_of, outcome_of, flies, is_verdict_on, is_judged, is_judged_kind, ended_whole}
+use Rattle.jr_model.specs.History.{started, started_by, outcome_of, flies, is_verdict_on, is_judged, is_judged_kind, ended_whole}
 use Rattle.jr_model.specs.Legal.{is_legal, may_happen, end_fits, verdict_fits, outcome_fits, job_says, is_void}
 use Rattle.jr_model.specs.Plan.{Plan, clone_of}
 use Rattle.jr_model.specs.Races.{has_raced}
-use Rattle.jr_model.proofs.SerialLaws.{IsWell, well-more, whole_some, first_given-append, none_from, false_from}
-use Rattle.jr_laws_steps.proofs.StartedLemmas.{by_events}
-
--- what was started, after one event more
-pub started-more : (history : List Event) (e : Event) → started (history ++ e ∷ []) ≡ started history ++ cons_option (started_by e) []
-started-more history e = filter_map-append started_by history (e ∷ [])
-
--- how an I/O ended, after one event more
-or_none : {Y : Type 0} (o : Option Y) → option_or o None ≡ o
-or_none None = refl
-or_none (Some y) = refl
-
-pub outcome_of-more : (history : List Event) (e : Event) (io : ℕ) → outcome_of (history ++ e ∷ []) io ≡ option_or (outcome_of history io) (end_of io e)
-outcome_of-more history e io =
-    first_given-append (end_of io) history (e ∷ []) ∙ ap (option_or (outcome_of history io)) (or_none (end_of io e))
-
--- an event that isn't the I/O's End leaves it
-pub outcome_of-stays : (history : List Event) (e : Event) (io : ℕ) → end_of io e ≡ None → outcome_of (history ++ e ∷ []) io ≡ outcome_of history io
-outcome_of-stays history e io none =
-    outcome_of-more history e io ∙ ap (option_or (outcome_of history io)) none ∙ or_none (outcome_of history io)
+use Rattle.jr_model.proofs.SerialLaws.{whole_some}
+use Rattle.jr_model.proofs.OptionLemmas.{none_from}
+use Rattle.jr_model.proofs.HistoryLemmas.{started-more, outcome_of-stays, is_judged-more, legal_is_well, by_events}
+use Rattle.jr_model.proofs.ListLemmas.{all_weaker}
 
 -- the End of another I/O
 pub outcome_of-other : (history : List Event) (worker id : ℕ) (outcome : Outcome) (io : ℕ) → (id ≡ io → ⊥) → outcome_of (history ++ End worker id outcome ∷ []) io ≡ outcome_of history io
 outcome_of-other history worker id outcome io apart =
     outcome_of-stays history (End worker id outcome) io (ap {B = Option Outcome} (λ (b : Bool). cond b (Some outcome) None) (ne_eqb id io apart))
 
--- its own
-pub outcome_of-end : (history : List Event) (worker io : ℕ) (outcome : Outcome) → outcome_of history io ≡ None → outcome_of (history ++ End worker io outcome ∷ []) io ≡ Some outcome
-outcome_of-end history worker io outcome flying =
-    outcome_of-more history (End worker io outcome) io
-    ∙ ap (λ (o : Option Outcome). option_or o (end_of io (End worker io outcome))) flying
-    ∙ ap {B = Option Outcome} (λ (b : Bool). cond b (Some outcome) None) (eq-eqb io io refl)
-
--- whether a check has its verdict, after one event more
-or_false : (b : Bool) → (b || false) ≡ b
-or_false true = refl
-or_false false = refl
-
-pub is_judged-more : (history : List Event) (e : Event) (io : ℕ) → is_judged (history ++ e ∷ []) io ≡ (is_judged history io || is_verdict_on io e)
-is_judged-more history e io =
-    list_any-append (is_verdict_on io) history (e ∷ []) ∙ ap (λ (b : Bool). is_judged history io || b) (or_false (is_verdict_on io e))
-
 pub is_judged-stays : (history : List Event) (e : Event) (io : ℕ) → is_verdict_on io e ≡ false → is_judged (history ++ e ∷ []) io ≡ is_judged history io
 is_judged-stays history e io none =
-    is_judged-more history e io ∙ ap (λ (b : Bool). is_judged history io || b) none ∙ or_false (is_judged history io)
+    is_judged-more history e io ∙ ap (λ (b : Bool). is_judged history io || b) none ∙ or-false (is_judged history io)
 
 pub is_judged-other : (history : List Event) (worker id : ℕ) (verdict : GivenVerdict) (io : ℕ) → (id ≡ io → ⊥) → is_judged (history ++ Verdict worker id verdict ∷ []) io ≡ is_judged history io
 is_judged-other history worker id verdict io apart =
@@ -75,19 +44,6 @@ is_judged-verdict history worker io verdict =
     or_is_true true = refl
     or_is_true false = refl
 
--- in a legal history only what was started ended, or was judged
-pub legal_is_well : (plan : Plan) (history : List Event) → is_legal plan history ≡ true → IsWell plan history
-legal_is_well plan history legal =
-    by_events plan (IsWell plan)
-    (record { legal = refl; ends = λ io o h. none_some io o h; judged = λ io h. none_true io h })
-    (λ h e so_far well may. well-more plan h e well may) history legal
-  where
-    none_some : (io : ℕ) (o : Outcome) → None ≡ Some o → io < 0
-    none_some io o h = cc
-
-    none_true : (io : ℕ) → false ≡ true → io < 0
-    none_true io h = cc
-
 pub not_ended_yet : (plan : Plan) (history : List Event) (io : ℕ) → is_legal plan history ≡ true → length (started history) ≤ io → outcome_of history io ≡ None
 not_ended_yet plan history io legal past =
     none_from (outcome_of history io)
@@ -95,7 +51,7 @@ not_ended_yet plan history io legal past =
 
 pub not_judged_yet : (plan : Plan) (history : List Event) (io : ℕ) → is_legal plan history ≡ true → length (started history) ≤ io → is_judged history io ≡ false
 not_judged_yet plan history io legal past =
-    false_from (is_judged history io)
+    false_from_ne_true (is_judged history io)
     (λ (at : is_judged history io ≡ true). let below : io < length (started history) = (legal_is_well plan history legal).judged io at in omega (arith, below, past))
 
 -- an End that may happen names an I/O that was started by its worker and flies
@@ -158,24 +114,13 @@ known_more n m (Issue worker dir write piece) le h = refl
 known_more n m (Probe worker write piece) le h = refl
 known_more n m (Skip worker write) le h = refl
 
-all_weaker : {X : Type 0} (p q : X → Bool) (xs : List X) → ((x : X) → p x ≡ true → q x ≡ true) → list_all p xs ≡ true → list_all q xs ≡ true
-all_weaker p q [] weaker h = refl
-all_weaker p q (x ∷ xs) weaker h =
-    let parts = and_parts (p x) (list_all p xs) h in
-    and_from (q x) (list_all q xs) (weaker x parts.0) (all_weaker p q xs weaker parts.1)
-
-within : {X : Type 0} (xs : List X) (k : ℕ) (x : X) → slice_get xs k ≡ Some x → k < length xs
-within [] k x at = cc
-within (y ∷ xs) zero x at = omega arith
-within (y ∷ xs) (suc k) x at = omega (arith, within xs k x at)
-
 pub known_now : (plan : Plan) (history : List Event) (e : Event) → may_happen plan history e ≡ true → is_known (length (started history)) e ≡ true
 known_now plan history (End worker io outcome) may =
     let names = end_names plan history worker io outcome may in
-    lt-ltb io (length (started history)) (within (started history) io names.ended names.there)
+    lt-ltb io (length (started history)) (slice_get_within (started history) io names.ended names.there)
 known_now plan history (Verdict worker io verdict) may =
     let names = verdict_names plan history worker io verdict may in
-    lt-ltb io (length (started history)) (within (started history) io names.judged names.there)
+    lt-ltb io (length (started history)) (slice_get_within (started history) io names.judged names.there)
 known_now plan history (Issue worker dir write piece) may = refl
 known_now plan history (Probe worker write piece) may = refl
 known_now plan history (Skip worker write) may = refl
@@ -207,12 +152,6 @@ all_known-more plan history e legal may = known_and plan history e (all_known pl
 -- what is said of an event by the I/Os that were started is the same where more were started
 abbrev pub Agrees : {X : Type 0} → (List Started → Event → X) → Type 0
 Agrees F = (ios more : List Started) (e : Event) → is_known (length ios) e ≡ true → F (ios ++ more) e ≡ F ios e
-
--- a place of a list, in a longer one
-pub got_longer : {X : Type 0} (xs ys : List X) (k : ℕ) → k < length xs → slice_get (xs ++ ys) k ≡ slice_get xs k
-got_longer [] ys k below = absurd (omega arith)
-got_longer (x ∷ xs) ys zero below = refl
-got_longer (x ∷ xs) ys (suc k) below = got_longer xs ys k (omega (arith, below))
 
 kept_same : {X Y : Type 0} (known : X → Bool) (f g : X → Option Y) (xs : List X) → ((x : X) → known x ≡ true → f x ≡ g x) → list_all known xs ≡ true → filter_map f xs ≡ filter_map g xs
 kept_same known f g [] same h = refl
@@ -254,7 +193,7 @@ module _ (plan : Plan) (history : List Event) (e : Event) (legal : is_legal plan
       ap (λ (all : List Started). list_any (F all) (history ++ e ∷ [])) (started-more history e)
       ∙ any_same (is_known (length ios)) (F (ios ++ more)) (F ios) (history ++ e ∷ []) (λ x. agrees ios more x) (all_known-more plan history e legal may)
       ∙ list_any-append (F ios) history (e ∷ [])
-      ∙ ap (λ (b : Bool). list_any (F ios) history || b) (or_false (F ios e))
+      ∙ ap (λ (b : Bool). list_any (F ios) history || b) (or-false (F ios e))
 
   pub counted-more : (F : List Started → Event → Bool) → Agrees F → count_by (F (started (history ++ e ∷ []))) (history ++ e ∷ []) ≡ count_by (F (started history)) history + cond (F (started history) e) 1 0
   counted-more F agrees =

@@ -1,5 +1,5 @@
 -- Where nothing may be started and nothing flies, each clone is over.
-use Rattle.std.proofs.Common.{◌≡◌, ℕ, zero, suc, ◌+◌, ◌<◌, ◌≤◌, List, [], length, take, Bool, true, false, cond, ◌&&◌, ◌||◌, not, refl, sym, ◌∙◌, ap, subst, arith, inl, inr}
+use Rattle.std.proofs.Common.{◌≡◌, ℕ, zero, suc, ◌+◌, ◌<◌, ◌≤◌, List, [], length, take, Bool, true, false, ◌&&◌, ◌||◌, not, sym, ◌∙◌, ap, subst, arith, inl, inr}
 use Rattle.std.specs.Prelude.{Some, None, slice_get, nat_le, nat_lt, ◌==◌}
 use Rattle.std.specs.List.{list_any, list_all, range_with_len}
 use Rattle.std.proofs.lemmas.Bool.{and_parts, and_from, or_left, or_right, cases_Bool, not_from_false, not-true, false_from_ne_true, eq-eqb, le-leb, lt-ltb, cases_lt, both_ways}
@@ -9,19 +9,15 @@ use Rattle.jr_model.specs.declared.workloads.Draw.{Draw}
 use Rattle.jr_model.specs.Choice.{choice, choice_of_clone, choice_of_pass}
 use Rattle.jr_model.specs.History.{in_flight, awaiting, is_of_clone}
 use Rattle.jr_model.specs.Legal.{is_halted, is_over, is_at_rest, phase_is_open, has_room, is_clear, takes_up, may_take_up, may_issue, check_or_skip, step_of, is_legal, is_complete}
-use Rattle.jr_model.specs.Plan.{Plan, SubJob, IsNumbered, issued_as}
+use Rattle.jr_model.specs.Plan.{Plan, SubJob, issued_as}
 use Rattle.jr_model.specs.Rounds.{Pass, pass_of, passes_of, write_id, is_write_draw, issued_count, all_issued, issued_among, has_rounds, group_of, group_count, group_index, is_full, is_settled, is_closed, no_issue_flies, is_open, waits_for_round, rounds_closed, nothing_flies_of, nothing_flies_in, pass_finished, clone_finished, is_current}
 use Rattle.jr_model.specs.PlanFacts.{IsPlanned}
-use Rattle.jr_laws_steps.proofs.PlaceLemmas.{item_at, all_from, first_fails, any_found, any_at, none_given, got_ranged, ranged_at, got_made, made_at}
+use Rattle.jr_model.proofs.PlaceLemmas.{item_at, all_from, first_fails, any_found, any_at, none_given, got_ranged, ranged_at, got_made, made_at}
+use Rattle.jr_model.proofs.PlanLemmas.{numbered_of}
+use Rattle.jr_model.proofs.OptionLemmas.{neither_chosen}
 use Rattle.jr_laws_steps.proofs.GroupLaws.{AreNumbered, group_write}
 use Rattle.jr_laws_steps.proofs.IssueLaws.{numbered_draws, issued_at_most}
 use Rattle.jr_laws_steps.proofs.RestLaws.{length_by_none, room_at_rest, clear_at_rest, no_issue_at_rest, none_of_clone_at_rest, none_of_pass_at_rest, taken_up_settled}
-
--- where no step may happen, neither of the two may
-neither_step : (takes may : Bool) (x y : Event) → cond takes (Some x) (cond may (Some y) None) ≡ None → (takes ≡ false) × (may ≡ false)
-neither_step true may x y h = cc
-neither_step false true x y h = cc
-neither_step false false x y h = (refl, refl)
 
 -- a pass of a clone that isn't halted, whose phase is open, and of whose draws none may be started
 pub record IsStuck (plan : Plan) (history : List Event) (worker : ℕ) (pass : Pass) : Type 0 where
@@ -36,7 +32,7 @@ pub record IsStuck (plan : Plan) (history : List Event) (worker : ℕ) (pass : P
 module _ (plan : Plan) (history : List Event) (worker : ℕ) (pass : Pass) (stuck : IsStuck plan history worker pass) where
   no_step : (k : ℕ) (draw : Draw) → slice_get pass.draws k ≡ Some draw → (may_take_up plan history pass draw ≡ false) × (may_issue plan history pass draw ≡ false)
   no_step k draw at =
-      neither_step (may_take_up plan history pass draw) (may_issue plan history pass draw) (check_or_skip history worker pass draw) (Issue worker (issued_as pass.job draw.dir) (write_id pass draw) draw.piece) (stuck.none k draw at)
+      neither_chosen (may_take_up plan history pass draw) (may_issue plan history pass draw) (check_or_skip history worker pass draw) (Issue worker (issued_as pass.job draw.dir) (write_id pass draw) draw.piece) (stuck.none k draw at)
 
   -- a write of an open round may be taken up where it isn't settled
   may_take : (g : ℕ) (draw : Draw) → has_rounds pass.job ≡ true → is_full history pass g ≡ true → is_closed history pass g ≡ false → is_write_draw draw ≡ true → group_index pass draw.number ≡ g → is_settled history (write_id pass draw) ≡ false → may_take_up plan history pass draw ≡ true
@@ -160,10 +156,6 @@ module _ (plan : Plan) (history : List Event) (worker : ℕ) (pass : Pass) (stuc
             (and_from (all_issued history pass) (nothing_flies_in history pass) issued (none_of_pass_at_rest history stuck.rests pass))
             (all_closed issued free)
       ]
-
--- what a plan that is made from a job file promises: each clone stands at its number
-pub numbered_of : (plan : Plan) → IsPlanned plan → IsNumbered plan
-numbered_of plan planned i job at = (planned.drafted.placed i job at).number
 
 -- a legal history in which nothing flies and no verdict is missing, after which nothing may be started
 module _ (plan : Plan) (history : List Event) (worker : ℕ) (planned : IsPlanned plan) (legal : is_legal plan history ≡ true) (idle : choice plan history worker ≡ None) (rests : in_flight history ≡ []) (judged : awaiting history ≡ []) where

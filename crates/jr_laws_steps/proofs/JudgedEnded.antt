@@ -10,8 +10,8 @@ use Rattle.jr_model.specs.declared.events.Outcome.TheVariants.{Whole}
 use Rattle.jr_model.specs.History.{end_of, outcome_of, is_verdict_on, is_judged}
 use Rattle.jr_model.specs.Legal.{is_legal, may_happen}
 use Rattle.jr_model.specs.Plan.{Plan}
-use Rattle.jr_laws_steps.proofs.StartedLemmas.{by_events}
-use Rattle.jr_laws_steps.proofs.Grown.{outcome_of-more, is_judged-more, verdict_names}
+use Rattle.jr_model.proofs.HistoryLemmas.{outcome_of-more, is_judged-more, by_events}
+use Rattle.jr_laws_steps.proofs.Grown.{verdict_names}
 
 -- a check that has its verdict ended whole
 pub judged_ended : (plan : Plan) (history : List Event) (io : ℕ) → is_legal plan history ≡ true → is_judged history io ≡ true → outcome_of history io ≡ Some Whole

@@ -11,7 +11,6 @@ pub mod IssueLaws
 pub mod JudgedEnded
 pub mod Lists
 pub mod OnceLaws
-pub mod PlaceLemmas
 pub mod RestLaws
 pub mod StartedFew
 pub mod StartedLemmas

@@ -4,7 +4,7 @@ use Rattle.std.specs.Prelude.{Some, slice_get, nat_lt, ◌==◌}
 use Rattle.std.specs.List.{list_any, AllPairs}
 use Rattle.std.proofs.lemmas.Bool.{and_parts, and_from, or_left, or_right, eq-eqb, eqb-true, lt-ltb, ltb-true, cases_order, false_from_ne_true, false≢true, not-true, both_ways}
 use Rattle.std.proofs.lemmas.List.Sums.{sum_by-append, sum_by-cons}
-use Rattle.std.proofs.lemmas.Option.{slice_get_within, get_or_from_slice_get}
+use Rattle.std.proofs.lemmas.Option.{slice_get_within, get_or_from_slice_get, same_Some}
 use Rattle.jr_model.specs.declared.blocks.Piece.{Piece}
 use Rattle.jr_model.specs.declared.events.Event.{Event}
 use Rattle.jr_model.specs.declared.events.Event.TheVariants.{Issue, Probe, Skip, End, Verdict}
@@ -26,11 +26,12 @@ use Rattle.jr_model.proofs.SerialLaws.{any-append}
 use Rattle.jr_model.proofs.Equality.{eq_write}
 use Rattle.jr_words.proofs.WordLemmas.{length-words_from}
 use Rattle.jr_model.specs.PlanFacts.{IsPlanned}
-use Rattle.jr_model.proofs.RaceLaws.{overlap_turned}
+use Rattle.jr_model.proofs.PieceLemmas.{overlap_turned}
+use Rattle.jr_model.proofs.HistoryLemmas.{issue_is_no_probe}
 use Rattle.jr_laws_draws.specs.PassLaw.{is_mapped}
 use Rattle.jr_laws_draws.proofs.TheLaw.{pass_law, drawable_of}
 use Rattle.jr_laws_steps.specs.Drawn.{IsDrawn}
-use Rattle.jr_laws_steps.proofs.StartedLemmas.{same_some, got_within, started-append, is_started_by, is_started_legally}
+use Rattle.jr_laws_steps.proofs.StartedLemmas.{got_within, started-append, is_started_by, is_started_legally}
 use Rattle.jr_laws_steps.proofs.StepLaws.{MayIssue, may_issue_of, may_probe_of}
 use Rattle.jr_laws_steps.proofs.DrawnLaws.{issuable, takeable, started_are_drawn-law}
 
@@ -51,7 +52,7 @@ issue_is_counted : (plan : Plan) (before after : List Event) (worker : ℕ) (dir
 issue_is_counted plan before after worker dir write piece job step planned =
     let e = Issue worker dir write piece in
     let pass = pass_of step.job write.pass in
-    let jobs : step.job ≡ job = same_some step.job job (sym step.named.planned ∙ planned) in
+    let jobs : step.job ≡ job = same_Some step.job job (sym step.named.planned ∙ planned) in
     let counted : step.draw.number ≡ issued_count before pass = (issuable plan before pass step.draw step.may).number in
     let number : step.draw.number ≡ write.number = ap (λ (w : WriteId). w.number) step.named.name in
     let clone : step.job.clone ≡ write.clone = ap (λ (w : WriteId). w.clone) step.named.name in
@@ -70,13 +71,13 @@ counted_by : (plan : Plan) (before after : List Event) (e : Event) (a : Started)
 counted_by plan before after (Issue worker dir write piece) a job may starts issued planned =
     let e = Issue worker dir write piece in
     let s : Started = record { worker = worker; kind = kind_for dir; write = write; piece = piece } in
-    let same : s.write ≡ a.write = ap (λ (x : Started). x.write) (same_some s a starts) in
+    let same : s.write ≡ a.write = ap (λ (x : Started). x.write) (same_Some s a starts) in
     let here : clone_of plan write.clone ≡ Some job = ap (λ (w : WriteId). clone_of plan w.clone) same ∙ planned in
     subst (λ (w : WriteId). w.number < issued_count (before ++ e ∷ after) (pass_of job w.pass)) same
     (issue_is_counted plan before after worker dir write piece job (may_issue_of plan before worker dir write piece may) here)
 counted_by plan before after (Probe worker write piece) a job may starts issued planned =
     let s : Started = record { worker = worker; kind = ticket.Probe; write = write; piece = piece } in
-    let probe : true ≡ is_probe a.kind = ap (λ (x : Started). is_probe x.kind) (same_some s a starts) in
+    let probe : true ≡ is_probe a.kind = ap (λ (x : Started). is_probe x.kind) (same_Some s a starts) in
     absurd (false≢true (sym issued ∙ sym probe))
 counted_by plan before after (Skip worker write) a job may starts issued planned = cc
 counted_by plan before after (End worker id outcome) a job may starts issued planned = cc
@@ -94,21 +95,15 @@ is_counted plan history i a job legal at issued planned =
     subst (λ (h : List Event). a.write.number < issued_count h (pass_of job a.write.pass)) (sym was.moment.split)
     (counted_by plan was.moment.before was.moment.after was.moment.event a job was.may was.moment.starts issued planned)
 
--- an issue is no check
-issue_is_no_probe : (d : IssueKind) → is_probe (kind_for d) ≡ false
-issue_is_no_probe issue.Read = refl
-issue_is_no_probe issue.Write = refl
-issue_is_no_probe issue.ReadCheck = refl
-
 -- an event that starts a check of a write takes it up
 taken_by : (e : Event) (a : Started) → started_by e ≡ Some a → is_probe a.kind ≡ true → takes_up a.write e ≡ true
 taken_by (Issue worker dir write piece) a starts probe =
     let s : Started = record { worker = worker; kind = kind_for dir; write = write; piece = piece } in
-    let kind : is_probe (kind_for dir) ≡ is_probe a.kind = ap (λ (x : Started). is_probe x.kind) (same_some s a starts) in
+    let kind : is_probe (kind_for dir) ≡ is_probe a.kind = ap (λ (x : Started). is_probe x.kind) (same_Some s a starts) in
     absurd (false≢true (sym (issue_is_no_probe dir) ∙ kind ∙ probe))
 taken_by (Probe worker write piece) a starts probe =
     let s : Started = record { worker = worker; kind = ticket.Probe; write = write; piece = piece } in
-    let same : write ≡ a.write = ap (λ (x : Started). x.write) (same_some s a starts) in
+    let same : write ≡ a.write = ap (λ (x : Started). x.write) (same_Some s a starts) in
     subst (λ (w : WriteId). same_write write w ≡ true) same (same_write_refl write)
 taken_by (Skip worker write) a starts probe = cc
 taken_by (End worker id outcome) a starts probe = cc
@@ -137,7 +132,7 @@ not_again plan history (Issue worker dir write piece) i a b legal may starts at 
     let step = may_issue_of plan history worker dir write piece may in
     let pass = pass_of step.job write.pass in
     let s : Started = record { worker = worker; kind = kind_for dir; write = write; piece = piece } in
-    let is_b : s ≡ b = same_some s b starts in
+    let is_b : s ≡ b = same_Some s b starts in
     let writes : a.write ≡ write = same ∙ ap (λ (x : Started). x.write) (sym is_b) in
     let issued : is_probe a.kind ≡ false = kinds ∙ ap (λ (x : Started). is_probe x.kind) (sym is_b) ∙ issue_is_no_probe dir in
     let planned : clone_of plan a.write.clone ≡ Some step.job = ap (λ (w : WriteId). clone_of plan w.clone) writes ∙ step.named.planned in
@@ -150,7 +145,7 @@ not_again plan history (Probe worker write piece) i a b legal may starts at same
     let found = may_probe_of plan history worker write piece may in
     let step = found.0 in
     let s : Started = record { worker = worker; kind = ticket.Probe; write = write; piece = piece } in
-    let is_b : s ≡ b = same_some s b starts in
+    let is_b : s ≡ b = same_Some s b starts in
     let writes : a.write ≡ write = same ∙ ap (λ (x : Started). x.write) (sym is_b) in
     let probe : is_probe a.kind ≡ true = kinds ∙ ap (λ (x : Started). is_probe x.kind) (sym is_b) in
     let untaken = (takeable plan history (pass_of step.job write.pass) step.draw step.may).untaken in
@@ -254,7 +249,7 @@ drawn_of : (plan : Plan) (history : List Event) (id : ℕ) (io : Started) (job :
     → (draw : Draw) × IsDrawn plan io job draw
 drawn_of plan history id io job planned legal at of_job =
     let drawn = started_are_drawn-law plan history id io planned legal at in
-    (drawn.1, subst (λ (j : SubJob). IsDrawn plan io j drawn.1) (same_some drawn.0 job (sym drawn.2.planned ∙ of_job)) drawn.2)
+    (drawn.1, subst (λ (j : SubJob). IsDrawn plan io j drawn.1) (same_Some drawn.0 job (sym drawn.2.planned ∙ of_job)) drawn.2)
 
 pub no_block_twice-law : (plan : Plan) (history : List Event) (i j : ℕ) (a b : Started) (job : SubJob)
     → IsPlanned plan

@@ -1,5 +1,5 @@
 -- Histories with nothing in flight: there is room, nothing is in the way, and what was taken up is settled.
-use Rattle.std.proofs.Common.{◌≡◌, ℕ, suc, ◌+◌, ◌≤◌, List, [], ◌∷◌, length, Bool, true, false, cond, not, refl, sym, ◌∙◌, ap, subst, arith}
+use Rattle.std.proofs.Common.{◌≡◌, ℕ, ◌+◌, ◌≤◌, List, [], length, Bool, true, false, cond, not, refl, sym, ◌∙◌, ap, subst, arith}
 use Rattle.std.specs.Prelude.{Option, Some, None, slice_get, filter, nat_lt, ◌==◌, is_none}
 use Rattle.std.specs.List.{list_any, list_all}
 use Rattle.std.proofs.lemmas.Bool.{and_from, lt-ltb, eqb-true}
@@ -15,12 +15,7 @@ use Rattle.jr_model.specs.Legal.{has_room, waits_for, is_clear, takes_up}
 use Rattle.jr_model.specs.Plan.{Plan, SubJob}
 use Rattle.jr_model.specs.Rounds.{Pass, is_probe_of, settles, is_settled, no_issue_flies, nothing_flies_of, nothing_flies_in}
 use Rattle.jr_model.proofs.LegalLaws.{first_given-some}
-use Rattle.jr_laws_steps.proofs.PlaceLemmas.{any_found, any_at, kept_at, none_kept}
-
--- a list has no item where its length is 0, and only there
-pub none_by_length : {X : Type 0} (xs : List X) → (length xs == 0) ≡ true → xs ≡ []
-none_by_length [] h = refl
-none_by_length (x ∷ xs) h = let none : suc (length xs) ≡ 0 = eqb-true (suc (length xs)) 0 h in absurd (omega (arith, none))
+use Rattle.jr_model.proofs.PlaceLemmas.{any_found, any_at, kept_at, none_kept}
 
 pub length_by_none : {X : Type 0} (xs : List X) → xs ≡ [] → (length xs == 0) ≡ true
 length_by_none xs h = ap (λ ys. length ys == 0) h

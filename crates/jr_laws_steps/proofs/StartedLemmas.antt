@@ -4,15 +4,15 @@ use Rattle.std.specs.Prelude.{◌⊎◌, Option, Some, None, slice_get}
 use Rattle.std.specs.List.{cons_option}
 use Rattle.std.proofs.lemmas.Bool.{and_parts}
 use Rattle.std.proofs.lemmas.List.Elements.{filter_map-append}
-use Rattle.std.proofs.lemmas.Option.{slice_get_within}
+use Rattle.std.proofs.lemmas.Option.{slice_get_within, same_Some}
 use Rattle.jr_model.specs.declared.events.Event.{Event}
 use Rattle.jr_model.specs.declared.events.Started.{Started}
 use Rattle.jr_model.specs.History.{started, started_by}
 use Rattle.jr_model.specs.Legal.{may_happen, legal_after, is_legal}
 use Rattle.jr_model.specs.Plan.{Plan}
-use Rattle.jr_model.proofs.LegalLaws.{is_legal-more, legal_front}
+use Rattle.jr_model.proofs.LegalLaws.{legal_front}
 use Rattle.jr_model.proofs.MachineLaws.{got_front}
-use Rattle.jr_model.proofs.SerialLaws.{got_last}
+use Rattle.jr_model.proofs.PlaceLemmas.{got_last}
 
 -- an event that starts an I/O adds it at the end
 pub started-starts : (history : List Event) (e : Event) (io : Started) → started_by e ≡ Some io → started (history ++ e ∷ []) ≡ started history ++ io ∷ []
@@ -53,12 +53,9 @@ started_next history e io starts =
 pub started_below : (history : List Event) (id : ℕ) (io : Started) → slice_get (started history) id ≡ Some io → id < length (started history)
 started_below history id io at = slice_get_within (started history) id io at
 
-pub same_some : {X : Type 0} (x y : X) → Some x ≡ Some y → x ≡ y
-same_some x y h = cc
-
 -- an item of a list with one more is one of the list, or that one
 pub got_more : {X : Type 0} (xs : List X) (y : X) (k : ℕ) (x : X) → slice_get (xs ++ y ∷ []) k ≡ Some x → (slice_get xs k ≡ Some x) ⊎ ((k ≡ length xs) × (x ≡ y))
-got_more [] y zero x h = inr (refl, sym (same_some y x h))
+got_more [] y zero x h = inr (refl, sym (same_Some y x h))
 got_more [] y (suc k) x h = cc
 got_more (first ∷ xs) y zero x h = inl h
 got_more (first ∷ xs) y (suc k) x h =
@@ -145,26 +142,3 @@ is_started_legally plan history id io legal at =
       legal = legal_front plan [] moment.before (moment.event ∷ moment.after) whole;
       may = middle_may_happen plan [] moment.before moment.after moment.event whole;
     }
-
--- what holds after these events and holds on at each further one holds after all
-along : (plan : Plan) (P : List Event → Type 0)
-    → ((history : List Event) (e : Event) → is_legal plan history ≡ true → P history → may_happen plan history e ≡ true → P (history ++ e ∷ []))
-    → (before events : List Event)
-    → is_legal plan before ≡ true
-    → P before
-    → legal_after plan before events ≡ true
-    → P (before ++ events)
-along plan P step before [] legal here h = subst P (sym (append-nil before)) here
-along plan P step before (e ∷ events) legal here h =
-    let parts = and_parts (may_happen plan before e) (legal_after plan (before ++ e ∷ []) events) h in
-    subst P (append_assoc before (e ∷ []) events)
-    (along plan P step (before ++ e ∷ []) events (is_legal-more plan before e legal parts.0) (step before e legal here parts.0) parts.1)
-
--- what holds at the start, and holds on at each event that may happen, holds of each legal history
-pub by_events : (plan : Plan) (P : List Event → Type 0)
-    → P []
-    → ((history : List Event) (e : Event) → is_legal plan history ≡ true → P history → may_happen plan history e ≡ true → P (history ++ e ∷ []))
-    → (history : List Event)
-    → is_legal plan history ≡ true
-    → P history
-by_events plan P start step history legal = along plan P step [] history refl start legal

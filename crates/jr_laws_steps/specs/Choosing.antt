@@ -1,4 +1,4 @@
--- Believed: what a choice leaves out. Where there is none nothing may be started, and what may be started doesn't stand before it.
+-- Claimed: what a choice leaves out. Where there is none nothing may be started, and what may be started doesn't stand before it.
 use Rattle.std.specs.Prelude.{◌≡◌, ℕ, nat_lt, ◌==◌, Bool, true, false, ◌&&◌, ◌||◌, List, Option, Some, None}
 use Rattle.jr_model.specs.declared.events.Event.{Event}
 use Rattle.jr_model.specs.declared.events.Event.TheVariants.{Issue, Probe, Skip, End, Verdict}

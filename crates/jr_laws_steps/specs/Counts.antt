@@ -1,4 +1,4 @@
--- Believed: how much a run can start, and what a take can append.
+-- Claimed: how much a run can start, and what a take can append.
 use Rattle.std.specs.Prelude.{◌≡◌, ◌≤◌, ◌*◌, ℕ, true, List, length, None}
 use Rattle.jr_model.specs.declared.events.Event.{Event}
 use Rattle.jr_model.specs.Choice.{choice}

@@ -1,4 +1,4 @@
--- Believed: what was started is what was drawn.
+-- Claimed: what was started is what was drawn.
 use Rattle.std.specs.Prelude.{◌≡◌, ◌<◌, ◌≤◌, ℕ, Bool, true, false, not, List, length, Some, slice_get}
 use Rattle.jr_model.specs.declared.blocks.Dir.{Dir}
 use Rattle.jr_model.specs.declared.blocks.Dir.TheVariants as direction

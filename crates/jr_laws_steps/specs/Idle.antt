@@ -1,4 +1,4 @@
--- Believed: when nothing may be started.
+-- Claimed: when nothing may be started.
 use Rattle.std.specs.Prelude.{◌≡◌, ℕ, true, List, [], None}
 use Rattle.jr_model.specs.declared.events.Event.{Event}
 use Rattle.jr_model.specs.Choice.{choice}

@@ -5,15 +5,12 @@ use Rattle.std.specs.Int.{bit_at, bit_not, trailing_zeros, trailing_ones}
 use Rattle.std.proofs.Math.Nat.{div-le_self}
 use Rattle.std.proofs.lemmas.Bool.{cases_lt, cases_eq, eqb-true, eqb-false, ne_eqb, false≢true}
 use Rattle.std.proofs.lemmas.List.{get_or_default, get_or_past, get_or-replicate, get_or-set_same, get_or-set_other, length-set, length-replicate}
-use Rattle.std.proofs.lemmas.Nat.{shr-shr}
 use Rattle.std.proofs.lemmas.Nat.Bits.{bit_at-zero, bit_at-lt, bit_at_ones, bit_at_not, bit_at_above, bit_at-trailing_zeros, bit_at-trailing_ones, bit_at_mask_inside, bit_at_mask_below, ones_shl, same_from_bits_below}
+use Rattle.jr_model.proofs.NumberLemmas.{bit_at-shr, one_from_not}
 use Rattle.jr_map.specs.Words.{full_word, word_at, is_full, is_set, IsSetFrom, IsLeastClear, AllSetInWord}
 use Rattle.jr_map.specs.Levels.{words_for}
 
 -- ---- the bits of a number
-
-bit_at-shr : (n k i : ℕ) → bit_at (n / 2 ^ k) i ≡ bit_at n (k + i)
-bit_at-shr n k i = ap (λ (x : ℕ). x % 2) (shr-shr n k i)
 
 -- a number shifted down to 0 has no bit from there on
 pub none_from : (n k : ℕ) → n / 2 ^ k ≡ 0 → (j : ℕ) → k ≤ j → bit_at n j ≡ 0
@@ -44,9 +41,6 @@ lowest_from n k fits some =
           let e : k + (j - k) ≡ j = omega arith in
           ap (bit_at n) (sym e) ∙ sym (bit_at-shr n k (j - k)) ∙ lowest.2 (j - k) (omega arith);
     }
-
-one_from_not : (w j : ℕ) → w < 2 ^ 64 → j < 64 → bit_at (bit_not w64 w) j ≡ 0 → bit_at w j ≡ 1
-one_from_not w j fits within h = omega (arith, h, bit_at_not w64 w j fits within, bit_at-lt w j)
 
 zero_from_not : (w j : ℕ) → w < 2 ^ 64 → j < 64 → bit_at (bit_not w64 w) j ≡ 1 → bit_at w j ≡ 0
 zero_from_not w j fits within h = omega (arith, h, bit_at_not w64 w j fits within, bit_at-lt w j)

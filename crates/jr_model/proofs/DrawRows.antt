@@ -32,6 +32,7 @@ random io_type cell cells has_map size = record {
   backlog = 0;
   is_fatal = false;
   declines = false;
+  direct = false;
 }
 
 -- four words a draw: nothing for its direction, size and filler, and these for its place

@@ -39,6 +39,7 @@ sequential_writes cells method = record {
   backlog = 0;
   is_fatal = false;
   declines = false;
+  direct = false;
 }
 
 abbrev pub in_memory : List SubJob → ℕ → Plan

@@ -1,7 +1,6 @@
 -- Laws of legal histories: each prefix is legal, and a choice may happen.
 use Rattle.std.proofs.Common.{◌≡◌, ℕ, zero, suc, ◌+◌, ◌*◌, List, [], ◌∷◌, ◌++◌, Bool, true, false, cond, ◌&&◌, refl, sym, ◌∙◌, ap, subst, arith, inl, inr, append_assoc, append-nil, add-zero, zero-add}
 use Rattle.std.specs.Prelude.{◌⊎◌, Option, Some, None, slice_get, ◌==◌, map}
-use Rattle.std.specs.Option.{option_or}
 use Rattle.std.specs.List.{range_with_len, cons_option}
 use Rattle.std.proofs.lemmas.Bool.{and_parts, and_from, cases_cond, eq-eqb}
 use Rattle.jr_model.specs.declared.blocks.Piece.{Piece}
@@ -20,6 +19,7 @@ use Rattle.jr_model.specs.Legal.{may_happen, may_take_up, may_issue, legal_after
 use Rattle.jr_model.specs.Plan.{Plan, SubJob, IsNumbered, clone_of, issued_as}
 use Rattle.jr_model.specs.Rounds.{Pass, pass_of, passes_of, write_id}
 use Rattle.jr_model.specs.Words.{pass_words}
+use Rattle.jr_model.proofs.OptionLemmas.{or_some}
 
 -- a front of a legal history is legal
 pub legal_front : (plan : Plan) (before xs ys : List Event) → legal_after plan before (xs ++ ys) ≡ true → legal_after plan before xs ≡ true
@@ -42,15 +42,11 @@ legal_after-more plan before (x ∷ xs) e h may =
 pub is_legal-more : (plan : Plan) (history : List Event) (e : Event) → is_legal plan history ≡ true → may_happen plan history e ≡ true → is_legal plan (history ++ e ∷ []) ≡ true
 is_legal-more plan history e h may = legal_after-more plan [] history e h may
 
-pub option_or-some : {Y : Type 0} (o p : Option Y) (y : Y) → option_or o p ≡ Some y → (o ≡ Some y) ⊎ (p ≡ Some y)
-option_or-some None p y h = inr h
-option_or-some (Some x) p y h = inl h
-
 -- what is given is given of some item
 pub first_given-some : {X Y : Type 0} (f : X → Option Y) (xs : List X) (y : Y) → first_given f xs ≡ Some y → (k : ℕ) × (x : X) × (slice_get xs k ≡ Some x) × (f x ≡ Some y)
 first_given-some f [] y h = cc
 first_given-some f (x ∷ xs) y h =
-    elim (option_or-some (f x) (first_given f xs) y h) [
+    elim (or_some (f x) (first_given f xs) y h) [
       | inl e ↦ (0, x, refl, e)
       | inr e ↦ let found = first_given-some f xs y e in (suc found.0, found.1, found.2, found.3)
     ]
@@ -84,6 +80,11 @@ number-draws_from job done (a ∷ b ∷ c ∷ s ∷ words) (suc k) d h =
     let more = number-draws_from job (progress_after done chosen) words k d
     (from_cond (pass_over job done) (draw_at job done chosen s ∷ draws_from job (progress_after done chosen) words) (suc k) d h) in
     omega (arith, more)
+
+-- the number of a draw is its place among the draws of its pass
+pub number_of_draw : (job : SubJob) (p k : ℕ) (draw : Draw) → slice_get (draws_of_job job p) k ≡ Some draw → draw.number ≡ k
+number_of_draw job p k draw at =
+    number-draws_from job (fresh_progress job) (pass_words job p (4 * job.cells)) k draw at ∙ zero-add k
 
 pub same_write_refl : (w : WriteId) → same_write w w ≡ true
 same_write_refl w =

@@ -1,10 +1,19 @@
 mod DrawRows
+pub mod BoolLemmas
 pub mod CellFacts
 pub mod DigitLemmas
 pub mod Equality
 pub mod ExamplePlans
 pub mod ExampleRuns
+pub mod Halves
+pub mod HistoryLemmas
 pub mod LegalLaws
+pub mod ListLemmas
 pub mod MachineLaws
+pub mod NumberLemmas
+pub mod OptionLemmas
+pub mod PieceLemmas
+pub mod PlaceLemmas
+pub mod PlanLemmas
 pub mod RaceLaws
 pub mod SerialLaws

@@ -1,37 +1,19 @@
 -- What an event adds to what raced: nothing to what has ended, and nothing where nothing is in flight.
 use Rattle.std.proofs.Common.{◌≡◌, ℕ, zero, suc, ◌+◌, ◌<◌, ◌≤◌, List, [], ◌∷◌, ◌++◌, length, Bool, true, false, cond, ◌&&◌, ◌||◌, not, refl, sym, ◌∙◌, ap, subst, arith, inl, inr, append_assoc, append-nil, length-append}
-use Rattle.std.specs.Prelude.{Option, Some, None, slice_get, nat_lt, ◌==◌, is_none, filter_map, min, max}
+use Rattle.std.specs.Prelude.{Option, Some, None, slice_get, nat_lt, is_none, filter_map}
 use Rattle.std.specs.List.{list_any, cons_option, enumerate_from}
-use Rattle.std.proofs.lemmas.Bool.{and_parts, and_from, cases_eq, cases_lt, ne_eqb, eq-eqb, eqb-true, lt-ltb, ltb-true, le-ltb}
+use Rattle.std.proofs.lemmas.Bool.{cases_eq, cases_lt, ne_eqb, eq-eqb, le-ltb}
 use Rattle.std.proofs.lemmas.List.Elements.{filter_map-append}
 use Rattle.std.proofs.lemmas.Option.{slice_get_past}
-use Rattle.jr_model.specs.declared.blocks.Piece.{Piece}
+use Rattle.std.proofs.Math.Bool.{or-false, and-false}
 use Rattle.jr_model.specs.declared.events.Event.{Event}
 use Rattle.jr_model.specs.declared.events.Started.{Started}
 use Rattle.jr_model.specs.History.{started, started_by, outcome_of, flies, if_flying, in_flight}
-use Rattle.jr_model.specs.Pieces.{piece_end, pieces_overlap}
 use Rattle.jr_model.specs.Races.{writes_over, writes_over_io, races_by, races_after, has_raced}
-
--- sharing a byte goes both ways
-pub overlap_turned : (a b : Piece) → pieces_overlap a b ≡ true → pieces_overlap b a ≡ true
-overlap_turned a b h =
-    let parts = and_parts (a.file == b.file) (nat_lt (max a.offset b.offset) (min (piece_end a) (piece_end b))) h in
-    let shared : max a.offset b.offset < min (piece_end a) (piece_end b) = ltb-true (max a.offset b.offset) (min (piece_end a) (piece_end b)) parts.1 in
-    and_from (b.file == a.file) (nat_lt (max b.offset a.offset) (min (piece_end b) (piece_end a)))
-    (eq-eqb b.file a.file (sym (eqb-true a.file b.file parts.0)))
-    (lt-ltb (max b.offset a.offset) (min (piece_end b) (piece_end a)) (omega (arith, shared)))
 
 or_assoc_bool : (a b c : Bool) → (a || (b || c)) ≡ ((a || b) || c)
 or_assoc_bool true b c = refl
 or_assoc_bool false b c = refl
-
-or_false_bool : (b : Bool) → (b || false) ≡ b
-or_false_bool true = refl
-or_false_bool false = refl
-
-and_false : (b : Bool) → (b && false) ≡ false
-and_false true = refl
-and_false false = refl
 
 -- what races along a list raced along its front, or races along the rest
 races_append : (before xs ys : List Event) (io : ℕ) → races_after before (xs ++ ys) io ≡ (races_after before xs io || races_after (before ++ xs) ys io)
@@ -46,14 +28,14 @@ races_append before (x ∷ xs) ys io =
 pub raced_push : (history : List Event) (e : Event) (io : ℕ) → has_raced (history ++ e ∷ []) io ≡ (has_raced history io || races_by history io (started_by e))
 raced_push history e io =
     races_append [] history (e ∷ []) io
-    ∙ ap (λ (b : Bool). has_raced history io || b) (or_false_bool (races_by history io (started_by e)))
+    ∙ ap (λ (b : Bool). has_raced history io || b) (or-false (races_by history io (started_by e)))
 
 -- an event that starts nothing makes none
 pub raced_other : (history : List Event) (e : Event) (io : ℕ) → started_by e ≡ None → has_raced (history ++ e ∷ []) io ≡ has_raced history io
 raced_other history e io nothing =
     raced_push history e io
     ∙ ap (λ (o : Option Started). has_raced history io || races_by history io o) nothing
-    ∙ or_false_bool (has_raced history io)
+    ∙ or-false (has_raced history io)
 
 -- nor does any event one with what isn't in flight and isn't started by it
 pub races_with_none : (history : List Event) (io : ℕ) (new : Option Started) → (length (started history) ≡ io → ⊥) → flies history io ≡ false → races_by history io new ≡ false
@@ -62,7 +44,7 @@ races_with_none history io (Some s) apart rests =
     let ios = started history in
     ap (λ (b : Bool). cond b (list_any (writes_over s.piece) (in_flight history)) (writes_over_io (slice_get ios io) s && flies history io)) (ne_eqb (length ios) io apart)
     ∙ ap (λ (b : Bool). writes_over_io (slice_get ios io) s && b) rests
-    ∙ and_false (writes_over_io (slice_get ios io) s)
+    ∙ and-false (writes_over_io (slice_get ios io) s)
 
 -- so what has ended raced or not for good
 pub raced_for_good : (history : List Event) (e : Event) (io : ℕ) → io < length (started history) → flies history io ≡ false → has_raced (history ++ e ∷ []) io ≡ has_raced history io
@@ -70,7 +52,7 @@ raced_for_good history e io below rests =
     raced_push history e io
     ∙ ap (λ (b : Bool). has_raced history io || b)
     (races_with_none history io (started_by e) (λ same. omega (arith, same, below)) rests)
-    ∙ or_false_bool (has_raced history io)
+    ∙ or-false (has_raced history io)
 
 -- what isn't started yet has not raced
 not_yet : (before events : List Event) (io : ℕ) → length (started (before ++ events)) ≤ io → races_after before events io ≡ false
@@ -114,7 +96,7 @@ starts_unraced history e s starts rests =
 pub none_flies : (history : List Event) (io : ℕ) → ((id : ℕ) → id < length (started history) → is_none (outcome_of history id) ≡ false) → flies history io ≡ false
 none_flies history io ended =
     elim (cases_lt io (length (started history))) [
-      | inl below ↦ ap (λ (b : Bool). nat_lt io (length (started history)) && b) (ended io below) ∙ and_false (nat_lt io (length (started history)))
+      | inl below ↦ ap (λ (b : Bool). nat_lt io (length (started history)) && b) (ended io below) ∙ and-false (nat_lt io (length (started history)))
       | inr past ↦ ap (λ (b : Bool). b && is_none (outcome_of history io)) (le-ltb io (length (started history)) past)
     ]
 

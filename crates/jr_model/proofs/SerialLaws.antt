@@ -1,9 +1,9 @@
 -- The history of one worker over a right memory is legal.
 use Rattle.std.proofs.Common.{◌≡◌, ℕ, zero, suc, ◌*◌, ◌<◌, ◌≤◌, List, [], ◌∷◌, ◌++◌, length, Bool, true, false, cond, ◌&&◌, ◌||◌, not, refl, sym, ◌∙◌, ap, subst, arith, inl, inr, append_assoc, append-nil, length-append}
-use Rattle.std.specs.Prelude.{◌⊎◌, Option, Some, None, slice_get, nat_lt, ◌==◌, is_none}
+use Rattle.std.specs.Prelude.{Option, Some, None, slice_get, nat_lt, ◌==◌, is_none}
 use Rattle.std.specs.Option.{option_or}
 use Rattle.std.specs.List.{list_any, cons_option}
-use Rattle.std.proofs.lemmas.Bool.{and_parts, and_from, cases_eq, eq-eqb, eqb-true, lt-ltb, ltb-true}
+use Rattle.std.proofs.lemmas.Bool.{and_parts, and_from, cases_eq, eq-eqb, eqb-true, lt-ltb, ltb-true, false_from_ne_true, or_cases}
 use Rattle.std.proofs.lemmas.List.Elements.{filter_map-append}
 use Rattle.jr_model.specs.declared.blocks.Piece.{Piece}
 use Rattle.jr_model.specs.declared.events.Event.{Event}
@@ -29,6 +29,8 @@ use Rattle.jr_model.specs.Machine.{seed_of_draw, verdict_on, work_of}
 use Rattle.jr_model.specs.Draws.{draws_of}
 use Rattle.jr_model.specs.Replies.{FileBytes}
 use Rattle.jr_model.specs.Rounds.{pass_of, write_id}
+use Rattle.jr_model.proofs.OptionLemmas.{or_some, none_from}
+use Rattle.jr_model.proofs.PlaceLemmas.{got_last}
 
 -- an I/O that ended was started
 abbrev pub EndsWereStarted : List Event → Type 0
@@ -54,10 +56,6 @@ any-append f (x ∷ xs) ys = ap (λ b. f x || b) (any-append f xs ys) ∙ or_or 
     or_or : (a b c : Bool) → (a || (b || c)) ≡ ((a || b) || c)
     or_or true b c = refl
     or_or false b c = refl
-
-pub or_some : {Z : Type 0} (a b : Option Z) (z : Z) → option_or a b ≡ Some z → (a ≡ Some z) ⊎ (b ≡ Some z)
-or_some None b z h = inr h
-or_some (Some y) b z h = inl h
 
 -- what is started is only added to
 pub longer : (history : List Event) (e : Event) → length (started history) ≤ length (started (history ++ e ∷ []))
@@ -115,14 +113,10 @@ judge_was_started plan history (Verdict worker id verdict) io ends may h =
     or_false true g = refl
     or_false false g = g
 
-pub or_true : (a b : Bool) → (a || b) ≡ true → (a ≡ true) ⊎ (b ≡ true)
-or_true true b h = inl refl
-or_true false b h = inr h
-
 pub judged-more : (plan : Plan) (history : List Event) (e : Event) → EndsWereStarted history → JudgedWereStarted history → may_happen plan history e ≡ true → JudgedWereStarted (history ++ e ∷ [])
 judged-more plan history e ends judged may io h =
     let here : io < length (started history) =
-    elim (or_true (is_judged history io) (list_any (is_verdict_on io) (e ∷ [])) (sym (any-append (is_verdict_on io) history (e ∷ [])) ∙ h)) [
+    elim (or_cases (is_judged history io) (list_any (is_verdict_on io) (e ∷ [])) (sym (any-append (is_verdict_on io) history (e ∷ [])) ∙ h)) [
       | inl before ↦ judged io before
       | inr now ↦ judge_was_started plan history e io ends may now
     ] in
@@ -140,18 +134,6 @@ well-more plan history e well may = record {
   ends = ends-more plan history e well.ends may;
   judged = judged-more plan history e well.ends well.judged may;
 }
-
-pub got_last : (xs : List Started) (s : Started) → slice_get (xs ++ s ∷ []) (length xs) ≡ Some s
-got_last [] s = refl
-got_last (x ∷ xs) s = got_last xs s
-
-pub none_from : (o : Option Outcome) → ((p : Outcome) → o ≡ Some p → ⊥) → o ≡ None
-none_from None f = refl
-none_from (Some p) f = absurd (f p refl)
-
-pub false_from : (b : Bool) → (b ≡ true → ⊥) → b ≡ false
-false_from false f = refl
-false_from true f = absurd (f refl)
 
 -- all that was started has ended
 abbrev pub AllEnded : List Event → Type 0
@@ -230,7 +212,7 @@ module _ (plan : Plan) (history : List Event) (e : Event) (s : Started) (well : 
       ∙ ap (λ (b : Bool). b || (false || false))
       (any-append (is_verdict_on io) history (e ∷ [])
       ∙ ap (λ (b : Bool). b || (is_verdict_on io e || false))
-      (false_from (is_judged history io) (λ (h : is_judged history io ≡ true). let below : io < io = well.judged io h in omega (arith, below)))
+      (false_from_ne_true (is_judged history io) (λ (h : is_judged history io ≡ true). let below : io < io = well.judged io h in omega (arith, below)))
       ∙ ap (λ (b : Bool). false || (b || false)) unjudged)
 
   started_then : slice_get (started ((history ++ e ∷ []) ++ End 0 (length (started history)) Whole ∷ [])) (length (started history)) ≡ Some s

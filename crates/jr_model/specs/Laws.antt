@@ -1,4 +1,4 @@
--- Believed: laws over the definitions alone: what holds of every plan, history and list of steps.
+-- Claimed: laws over the definitions alone: what holds of every plan, history and list of steps.
 use Rattle.std.specs.Prelude.{◌≡◌, ◌≤◌, ℕ, true, List, [], ◌∷◌, ◌++◌, length, Option, Some}
 use Rattle.jr_model.specs.declared.blocks.Piece.{Piece}
 use Rattle.jr_model.specs.declared.contents.Method.{Method}

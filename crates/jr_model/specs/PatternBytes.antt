@@ -1,6 +1,5 @@
 -- Internal: how a pattern's 1 to 64 bytes lie in a fixed array (of this project).
-use Rattle.std.specs.Prelude.{◌≡◌, ℕ, ◌≤◌, ◌-◌, List, ◌++◌, length, take, replicate, nat_eq, Bool, false, Option, Some, None}
-use Rattle.std.specs.Cmp.Lexicographic.{pointwise}
+use Rattle.std.specs.Prelude.{◌≡◌, ℕ, ◌≤◌, ◌-◌, List, ◌++◌, length, take, replicate}
 use Rattle.std.proofs.Common.{arith, length-take}
 
 -- the bytes, and zeros up to 64
@@ -13,11 +12,6 @@ pub record IsPadded (n : ℕ) (bytes : List ℕ) : Type 0 where
   pub most : n ≤ 64
   pub size : length bytes ≡ 64
   pub rest : bytes ≡ padded (take n bytes)
-
--- the method's pattern is there, and has these bytes
-abbrev pub same_pattern : Option (List ℕ) → List ℕ → Bool
-same_pattern None bytes = false
-same_pattern (Some pattern) bytes = pointwise nat_eq pattern bytes
 
 -- the first n of such an array are n
 pub length-IsPadded : (n : ℕ) (bytes : List ℕ) → IsPadded n bytes → length (take n bytes) ≡ n

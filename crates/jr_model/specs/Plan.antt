@@ -34,6 +34,7 @@ pub record SubJob : Type 0 where
   pub backlog : ℕ
   pub is_fatal : Bool
   pub declines : Bool
+  pub direct : Bool
 
 -- one file of a run: its name, the least start in it, and the greatest end of a region
 pub record FileSpec : Type 0 where

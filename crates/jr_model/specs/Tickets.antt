@@ -1,5 +1,6 @@
 -- Believed: when a ticket can be carried out (of this project).
-use Rattle.std.specs.Prelude.{ℕ, ◌+◌, ◌%◌, nat_lt, nat_le, ◌==◌, Bool, true, false, ◌&&◌, Option, is_some, List, if◌then◌else◌}
+use Rattle.std.specs.Prelude.{ℕ, ◌+◌, ◌%◌, nat_lt, nat_le, nat_eq, ◌==◌, Bool, true, false, ◌&&◌, Option, Some, None, is_some, List, if◌then◌else◌}
+use Rattle.std.specs.Cmp.Lexicographic.{pointwise}
 use Rattle.jr_model.specs.declared.limits.TheConstants.{SECTOR, LARGEST_BLOCK, LARGEST_END, MOST_PASSES}
 use Rattle.jr_model.specs.declared.blocks.Piece.{Piece}
 use Rattle.jr_model.specs.declared.contents.VerifyKind.{VerifyKind}
@@ -10,7 +11,6 @@ use Rattle.jr_model.specs.declared.contents.Method.{Method}
 use Rattle.jr_model.specs.declared.tickets.TicketKind.{TicketKind}
 use Rattle.jr_model.specs.declared.tickets.TicketKind.TheVariants as ticket
 use Rattle.jr_model.specs.declared.tickets.Ticket.{Ticket}
-use Rattle.jr_model.specs.PatternBytes.{same_pattern}
 use Rattle.jr_model.specs.Plan.{is_verified}
 
 -- one or more whole 512-byte blocks, at most the largest block, that end within the largest region
@@ -51,6 +51,11 @@ is_seed (expected.Header h) = false
 -- what checks of a digest are judged by: one header, or those of the chunks
 abbrev pub is_of_interval : ℕ → Expected → Bool
 is_of_interval interval e = if interval == 0 then is_header e else is_seed e
+
+-- the method's pattern is there, and has these bytes
+abbrev pub same_pattern : Option (List ℕ) → List ℕ → Bool
+same_pattern None bytes = false
+same_pattern (Some pattern) bytes = pointwise nat_eq pattern bytes
 
 -- this very pattern is expected
 abbrev pub is_pattern : Option (List ℕ) → Expected → Bool

@@ -1,5 +1,9 @@
+ghost use Rattle.std.specs.Prelude.{◌≡◌};
+ghost use Rattle.jr_model.specs.Report.{part_text};
+
 use crate::blocks::Piece;
 use crate::tickets::TicketKind;
+use std::fmt;
 
 /// The number of an I/O or a check, counted from 0 over all that a run starts.
 pub type IoId = u32;
@@ -57,6 +61,40 @@ pub enum Part {
     Digest,
     /// The bytes after its header don't have the digest that was written.
     DataArea,
+}
+
+impl Part {
+    /// The word by which reports name it.
+    pub fn word(self) -> &'static str
+        ensures { result.now ≡ part_text self }
+    {
+        match self {
+            Part::Header => "header",
+            Part::Digest => "digest",
+            Part::DataArea => "data",
+        }
+    }
+}
+
+/// As reports have it: `header`, `digest`, `data`, `byte:PLACE`, or a part with its chunk, `data:CHUNK`.
+impl fmt::Display for What {
+    ghost use Rattle.std.specs.Prelude.{Some};
+    ghost use Rattle.jr_model.specs.Report.{what_text};
+
+    ghost output = { λ what. Some (what_text what) };
+
+    fn fmt<W: fmt::Write>(&self, f: &mut fmt::Formatter<W>) -> fmt::Result {
+        match self {
+            What::Header => f.write_str(Part::Header.word()),
+            What::Digest => f.write_str(Part::Digest.word()),
+            What::DataArea => f.write_str(Part::DataArea.word()),
+            What::Byte(place) => write!(f, "byte:{place}"),
+            What::Chunk(chunk, part) => {
+                let word = part.word();
+                write!(f, "{word}:{chunk}")
+            }
+        }
+    }
 }
 
 /// What is said of a check.

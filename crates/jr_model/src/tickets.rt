@@ -1,5 +1,5 @@
 ghost use Rattle.std.specs.Prelude.{◌≡◌};
-ghost use Rattle.jr_model.specs.PatternBytes.{same_pattern};
+ghost use Rattle.jr_model.specs.Tickets.{same_pattern};
 
 use crate::blocks::Piece;
 use crate::contents::{Expected, Method, Pattern, VerifyKind};

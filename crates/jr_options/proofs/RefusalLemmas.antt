@@ -6,6 +6,7 @@ use Rattle.std.specs.Option.{option_or}
 use Rattle.std.specs.Result.{result_err}
 use Rattle.std.proofs.lemmas.Bool.{cases_lt, eq-eqb, lt-ltb, le-ltb}
 use Rattle.std.proofs.lemmas.List.Sums.{sum_by-cons}
+use Rattle.std.proofs.Math.Bool.{or_assoc}
 use Rattle.jr_model.specs.History.{first_given}
 use Rattle.jr_model.specs.declared.workloads.EngineKind.{EngineKind}
 use Rattle.jr_model.proofs.SerialLaws.{first_given-append}
@@ -84,10 +85,6 @@ record Sums (t : Tally) (kind : EngineKind) (jobs : List JobAsked) (all : Tally)
   long : all.is_long ≡ (t.is_long || list_any is_long jobs)
   work : all.work ≡ min (t.work + sum_by work_in jobs) 1073741825
 
-either_group : (a b c : Bool) → ((a || b) || c) ≡ (a || (b || c))
-either_group true b c = refl
-either_group false b c = refl
-
 either_end : (a : Bool) → a ≡ (a || false)
 either_end true = refl
 either_end false = refl
@@ -108,10 +105,10 @@ sums_step t kind job jobs (Ok shape) shaped other engine none rest =
     let clones_then : (tally_from next jobs).clones ≡ min (min (t.clones + o.clones) 65 + sum_by clones_in jobs) 65 = h.clones in
     let work_then : (tally_from next jobs).work ≡ min (min (t.work + shape.cells * o.passes * o.clones) 1073741825 + sum_by work_in jobs) 1073741825 = h.work in
     record {
-      mixed = h.mixed ∙ ap (λ b. (t.is_mixed || b) || list_any (has_other_engine (engine_number kind)) jobs) other ∙ either_group t.is_mixed (has_other_engine (engine_number kind) job) (list_any (has_other_engine (engine_number kind)) jobs);
+      mixed = h.mixed ∙ ap (λ b. (t.is_mixed || b) || list_any (has_other_engine (engine_number kind)) jobs) other ∙ or_assoc t.is_mixed (has_other_engine (engine_number kind) job) (list_any (has_other_engine (engine_number kind)) jobs);
       clones = omega (arith, clones_then, clones);
-      far = h.far ∙ ap (λ (s : Shape). (t.is_far || nat_lt (2 ^ 50) (start_of o (o.clones - 1) + s.size)) || list_any is_far jobs) same ∙ either_group t.is_far (is_far job) (list_any is_far jobs);
-      long = h.long ∙ ap (λ (s : Shape). (t.is_long || nat_lt (2 ^ 24) s.cells) || list_any is_long jobs) same ∙ either_group t.is_long (is_long job) (list_any is_long jobs);
+      far = h.far ∙ ap (λ (s : Shape). (t.is_far || nat_lt (2 ^ 50) (start_of o (o.clones - 1) + s.size)) || list_any is_far jobs) same ∙ or_assoc t.is_far (is_far job) (list_any is_far jobs);
+      long = h.long ∙ ap (λ (s : Shape). (t.is_long || nat_lt (2 ^ 24) s.cells) || list_any is_long jobs) same ∙ or_assoc t.is_long (is_long job) (list_any is_long jobs);
       work = omega (arith, work_then, work, visits);
     }
 

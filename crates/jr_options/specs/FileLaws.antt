@@ -1,4 +1,4 @@
--- Believed: how far the files of a plan reach: from the least start to the greatest end of the clones that use them (of this
+-- Claimed: how far the files of a plan reach: from the least start to the greatest end of the clones that use them (of this
 -- project).
 use Rattle.std.specs.Prelude.{◌≡◌, ℕ, ◌+◌, ◌*◌, ◌≤◌, ◌==◌, List, map, filter, Option, Some, slice_get, All, Contains}
 use Rattle.jr_model.specs.Plan.{SubJob, FileSpec}

@@ -1,4 +1,4 @@
--- Believed: which file each clone of a plan works on (fio's manual, "filename", "directory"; the names of files that a job doesn't
+-- Claimed: which file each clone of a plan works on (fio's manual, "filename", "directory"; the names of files that a job doesn't
 -- name, and their order, are of this project).
 use Rattle.std.specs.Prelude.{◌≡◌, ◌↔◌, ℕ, List, [], ◌∷◌, ◌++◌, map, flat_map, fold, Option, Some, slice_get, if◌then◌else◌}
 use Rattle.std.specs.List.{list_any}

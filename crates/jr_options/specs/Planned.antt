@@ -20,4 +20,5 @@ workload_of job = record {
   backlog = job.options.backlog;
   is_fatal = job.options.is_fatal;
   declines = job.options.declines;
+  direct = job.options.direct;
 }

@@ -42,6 +42,7 @@ impl PlannedJob {
             backlog: options.backlog,
             is_fatal: options.is_fatal,
             declines: options.declines,
+            direct: options.direct,
         }
     }
 }

@@ -1,7 +1,6 @@
 -- What a workload that is taken keeps.
-use Rattle.std.proofs.Common.{◌≡◌, ℕ, ◌+◌, ◌-◌, ◌*◌, ◌%◌, ◌<◌, ◌≤◌, Bool, true, false, not, ◌||◌, cond, leb, ltb, eqb, List, [], ◌∷◌, length, Option, Some, None, arith, refl, inl, inr}
-use Rattle.std.specs.Option.{option_or}
-use Rattle.std.proofs.lemmas.Bool.{and_parts, or_cases, cases_lt, lt-ltb, le-ltb, leb-true, leb-false, ltb-false, eqb-true}
+use Rattle.std.proofs.Common.{◌≡◌, ℕ, ◌+◌, ◌-◌, ◌*◌, ◌%◌, ◌<◌, ◌≤◌, Bool, true, false, not, ◌||◌, leb, ltb, eqb, List, [], ◌∷◌, length, None, arith, refl, inl, inr}
+use Rattle.std.proofs.lemmas.Bool.{and_parts, or_cases, cases_lt, lt-ltb, le-ltb, leb-true, leb-false, ltb-false, eqb-true, not-false}
 use Rattle.std.proofs.lemmas.List.Sums.{sum_by-append}
 use Rattle.jr_model.specs.Directions.{has_reads, has_writes}
 use Rattle.jr_model.specs.Draws.{size_at}
@@ -11,6 +10,7 @@ use Rattle.jr_plan.specs.declared.workloads.Workload.{Workload}
 use Rattle.jr_plan.specs.Clones.{planned_clone}
 use Rattle.jr_plan.specs.Drafts.{Clones, clone_fault, limit_fault}
 use Rattle.jr_model.specs.PlanFacts.{SizesFit, KeepsLimits, work_of}
+use Rattle.jr_model.proofs.OptionLemmas.{none_chosen, neither}
 use Rattle.jr_plan.specs.Sizes.{entry_fits, split_fits}
 use Rattle.jr_plan.specs.SplitEntries.{percents_total}
 use Rattle.jr_plan.specs.Workloads.{is_cut, numbers_fit, workload_fault}
@@ -52,19 +52,6 @@ pub if_needed : (needed fits : Bool) → (not needed || fits) ≡ true → neede
 if_needed true fits h e = h
 if_needed false fits h e = absurd (cc)
 
--- a choice that comes out as none, and a test that doesn't fail
-none_chosen : {X : Type 0} (b : Bool) (x : X) (rest : Option X) → cond b (Some x) rest ≡ None → (b ≡ false) × (rest ≡ None)
-none_chosen true x rest e = absurd (cc)
-none_chosen false x rest e = (refl, e)
-
-neither : {X : Type 0} (a b : Option X) → option_or a b ≡ None → (a ≡ None) × (b ≡ None)
-neither None b e = (refl, e)
-neither (Some x) b e = absurd (cc)
-
-holds : (b : Bool) → not b ≡ false → b ≡ true
-holds true e = refl
-holds false e = absurd (cc)
-
 -- what is known of a clone that nothing speaks against
 pub record IsTaken (d : Clones) (w : Workload) (start : ℕ) : Type 0 where
   pub cut : is_cut w start ≡ true
@@ -86,9 +73,9 @@ taken_of d w start none =
     let b3 = none_chosen (ltb 16777216 w.cells) _ _ b2.1 in
     let b4 = none_chosen (ltb 1073741824 (work_of d.clones + w.cells * w.passes)) _ None b3.1 in
     record {
-      cut = holds _ a1.0;
-      numbers = holds _ a2.0;
-      pattern = holds _ a3.0;
+      cut = not-false _ a1.0;
+      numbers = not-false _ a2.0;
+      pattern = not-false _ a3.0;
       room = leb-false _ _ b1.0;
       region = ltb-false _ _ b2.0;
       cells = ltb-false _ _ b3.0;

@@ -24,3 +24,8 @@ flat_map-further {X = X} {A = A} f xs i x done next all at so_far is =
 pub added-three : {A : Type 0} (t0 t1 t2 t3 a b c : List A) → t1 ≡ t0 ++ a → t2 ≡ t1 ++ b → t3 ≡ t2 ++ c → t3 ≡ t0 ++ (a ++ b ++ c)
 added-three t0 t1 t2 t3 a b c e1 e2 e3 =
     e3 ∙ ap (λ t. t ++ c) (e2 ∙ ap (λ t. t ++ b) e1) ∙ simp append_assoc
+
+pub added-four : {A : Type 0} (t0 t1 t2 t3 t4 a b c d : List A) → t1 ≡ t0 ++ a → t2 ≡ t1 ++ b → t3 ≡ t2 ++ c → t4 ≡ t3 ++ d
+    → t4 ≡ t0 ++ (a ++ b ++ c ++ d)
+added-four t0 t1 t2 t3 t4 a b c d e1 e2 e3 e4 =
+    e4 ∙ ap (λ t. t ++ d) (e3 ∙ ap (λ t. t ++ c) (e2 ∙ ap (λ t. t ++ b) e1)) ∙ simp append_assoc

@@ -25,4 +25,5 @@ planned_clone w job number file start = record {
   backlog = w.backlog;
   is_fatal = w.is_fatal;
   declines = w.declines;
+  direct = w.direct;
 }

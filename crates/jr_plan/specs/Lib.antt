@@ -6,4 +6,5 @@ pub mod PlanText
 pub mod Seeds
 pub mod Sizes
 pub mod SplitEntries
+pub mod Wishes
 pub mod Workloads

@@ -29,6 +29,7 @@ plain_workload io_type block cells = record {
   backlog = 0;
   is_fatal = false;
   declines = false;
+  direct = false;
 }
 
 -- its region is whole blocks of 512 bytes and has cells, the sizes in use fit the cell, and the interval between headers does

@@ -1,6 +1,7 @@
 ghost use Rattle.std.specs.Prelude.{◌≡◌, IfOk};
 ghost use Rattle.jr_model.specs.Plan.{checks_reads, issued_as};
 ghost use Rattle.jr_model.specs.PlanFacts.{KeepsLimits};
+ghost use Rattle.jr_model.specs.Rounds.{has_rounds};
 ghost use Rattle.jr_plan.specs.Seeds.{moved_seed};
 
 use crate::splits::Split;
@@ -159,11 +160,18 @@ impl SubJob {
         self.workload.checks_writes
     }
 
+    /// Whether its blocks are verified: what it writes is read back, or if it writes nothing its reads are checked.
+    pub fn verifies(&self) -> bool
+        ensures { result ≡ has_rounds self.now }
+    {
+        self.method().kind.is_verified() && self.checks_writes()
+    }
+
     /// Whether it checks what it reads: it writes nothing, and its blocks are verified.
     pub fn checks_reads(&self) -> bool
         ensures { result ≡ checks_reads self.now }
     {
-        self.method().kind.is_verified() && self.checks_writes() && !self.io_type().has_writes()
+        self.verifies() && !self.io_type().has_writes()
     }
 
     /// What a draw of this direction is issued as.
@@ -196,6 +204,13 @@ impl SubJob {
         ensures { result ≡ self.now.declines }
     {
         self.workload.declines
+    }
+
+    /// Whether its I/O is to go past the system's cache (`direct`).
+    pub fn direct(&self) -> bool
+        ensures { result ≡ self.now.direct }
+    {
+        self.workload.direct
     }
 
     // The same clone with a seed that is so much further on.

@@ -8,6 +8,7 @@ mod files;
 mod plans;
 mod splits;
 mod texts;
+mod wishes;
 mod workloads;
 
 pub use clones::SubJob;
@@ -17,5 +18,6 @@ pub use files::FileSpec;
 pub use jr_model::EngineKind;
 pub use plans::Plan;
 pub use splits::{Split, mix};
-pub use texts::plan_text;
+pub use texts::{io_type_word, plan_text, verify_word};
+pub use wishes::Wish;
 pub use workloads::Workload;

@@ -2,10 +2,13 @@ ghost use Rattle.std.specs.Prelude.{◌≡◌, ◌≤◌, ◌<◌, ◌==◌, len
 ghost use Rattle.std.specs.List.{list_any};
 ghost use Rattle.jr_plan.specs.Files.{are_apart};
 ghost use Rattle.jr_plan.specs.Seeds.{moved_seed, reseeded};
+ghost use Rattle.jr_plan.specs.Wishes.{wish_of};
 ghost use Rattle.jr_model.specs.PlanFacts.{AreDrafted, IsPlanned, IsPlaced, KeepsLimits};
+ghost use Rattle.jr_model.specs.Report.{file_name};
 
 use crate::clones::SubJob;
 use crate::files::{FileSpec, copied_files};
+use crate::wishes::{Wish, wish_of};
 use jr_model::{EngineKind, MOST_VERIFIERS};
 use std::alloc::{AllocError, Global};
 use std::marker::Model;
@@ -84,6 +87,16 @@ impl Plan {
         self.files.as_slice()
     }
 
+    /// The name of the file of this number; nothing if there is no such file.
+    pub fn file_name(&self, file: u32) -> &str
+        ensures { result.now ≡ file_name self.now file }
+    {
+        match self.files.get(file as usize) {
+            Some(spec) => spec.name(),
+            None => "",
+        }
+    }
+
     /// What carries out the I/O of all clones.
     pub fn engine(&self) -> EngineKind
         ensures { result ≡ self.now.engine }
@@ -103,6 +116,13 @@ impl Plan {
         ensures { result ≡ are_apart self.now.clones }
     {
         are_apart(&self.clones)
+    }
+
+    /// What the jobs that work on the file of this number say of its I/O.
+    pub fn wish(&self, file: usize) -> Wish
+        ensures { result ≡ wish_of self.now.clones file }
+    {
+        wish_of(&self.clones, file)
     }
 
     /// The same plan with the seed of each clone so much further on, modulo 2^64: the same places are written with other data, and a random

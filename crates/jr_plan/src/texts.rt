@@ -69,7 +69,8 @@ fn push_work(text: &mut String, job: &SubJob) -> Result<(), AllocError>
     )
 }
 
-fn io_type_word(io_type: IoType) -> &'static str
+/// The word of `rw` by which a plan names it.
+pub fn io_type_word(io_type: IoType) -> &'static str
     ensures { result.now ≡ io_type_word io_type }
 {
     match io_type {
@@ -82,7 +83,8 @@ fn io_type_word(io_type: IoType) -> &'static str
     }
 }
 
-fn verify_word(kind: VerifyKind) -> &'static str
+/// The word of `verify` by which a plan names it, and `none` for nothing verified.
+pub fn verify_word(kind: VerifyKind) -> &'static str
     ensures { result.now ≡ verify_word kind }
 {
     match kind {

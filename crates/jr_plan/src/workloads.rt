@@ -39,6 +39,8 @@ pub struct Workload {
     pub is_fatal: bool,
     /// Whether its I/Os wait for none that they overlap, nor others for them (`serialize_overlap=0`).
     pub declines: bool,
+    /// Whether its I/O is to go past the system's cache (`direct`).
+    pub direct: bool,
 }
 
 impl Workload {
@@ -68,6 +70,7 @@ impl Workload {
             backlog: 0,
             is_fatal: false,
             declines: false,
+            direct: false,
         }
     }
 

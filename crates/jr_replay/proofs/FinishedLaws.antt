@@ -15,11 +15,11 @@ use Rattle.jr_model.specs.Rounds.{Pass, pass_of, passes_of, issued_count, all_is
 use Rattle.jr_laws_quiet.proofs.Issues.{all_at}
 use Rattle.jr_laws_rounds.specs.Standing.{IsInPass}
 use Rattle.jr_laws_rounds.proofs.StandingFinished.{flies_alike}
-use Rattle.jr_laws_rounds.proofs.StandingLists.{same_test}
 use Rattle.jr_laws_rounds.proofs.StandingPasses.{unbegun}
 use Rattle.jr_laws_rounds.proofs.StandingSteps.{always_in_pass, finished_before}
-use Rattle.jr_laws_steps.proofs.PlaceLemmas.{all_from}
-use Rattle.jr_laws_steps.proofs.RestLaws.{none_by_length}
+use Rattle.jr_model.proofs.PlaceLemmas.{all_from}
+use Rattle.jr_model.proofs.ListLemmas.{none_by_length}
+use Rattle.jr_model.proofs.BoolLemmas.{same_truth}
 use Rattle.jr_desk_totals.specs.Tallies.{flying_issues, flying_checks, awaited}
 use Rattle.jr_desk_totals.proofs.Compared.{is_at_rest-counts, is_complete-counts}
 use Rattle.jr_replay.proofs.PhaseLaws.{begun_after}
@@ -140,4 +140,4 @@ module _ (plan : Plan) (history : List Event) (planned : IsPlanned plan) (legal 
       (all_from (is_over history) plan.clones (λ k job at. (of_job k job at).over))
 
   pub whole_where_at_rest : list_all (is_at_rest history) plan.clones ≡ is_complete plan history
-  whole_where_at_rest = sym (same_test (is_complete plan history) (list_all (is_at_rest history) plan.clones) each_rests all_complete)
+  whole_where_at_rest = sym (same_truth (is_complete plan history) (list_all (is_at_rest history) plan.clones) each_rests all_complete)

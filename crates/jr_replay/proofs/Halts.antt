@@ -2,6 +2,7 @@
 use Rattle.std.proofs.Common.{◌≡◌, ℕ, List, [], ◌∷◌, Bool, true, false, refl, ap, ◌∙◌}
 use Rattle.std.specs.Prelude.{◌&&◌, ◌||◌, slice_get}
 use Rattle.std.specs.List.{list_any}
+use Rattle.std.proofs.Math.Bool.{and-false}
 use Rattle.jr_model.specs.declared.events.Event.{Event}
 use Rattle.jr_model.specs.declared.events.Event.TheVariants.{Issue, Probe, Skip, End, Verdict}
 use Rattle.jr_model.specs.declared.events.Started.{Started}
@@ -10,16 +11,12 @@ use Rattle.jr_model.specs.Legal.{is_io_of, is_fault, is_bad, halts, is_halted}
 use Rattle.jr_model.specs.Plan.{SubJob}
 use Rattle.jr_model.specs.Totals.{is_fault_of, is_verdict_of}
 
-never_both : (fatal : Bool) → (fatal && false) ≡ false
-never_both true = refl
-never_both false = refl
-
 -- an event by its fault and its bad verdict
 by_parts : (ios : List Started) (job : SubJob) (e : Event) → (is_fault_of ios job.clone e || (job.is_fatal && is_verdict_of ios is_bad job.clone e)) ≡ halts ios job e
-by_parts ios job (Issue worker kind write piece) = never_both job.is_fatal
-by_parts ios job (Probe worker write piece) = never_both job.is_fatal
-by_parts ios job (Skip worker write) = never_both job.is_fatal
-by_parts ios job (End worker io outcome) = or_never (is_io_of job.clone (slice_get ios io) && is_fault outcome) (job.is_fatal && false) (never_both job.is_fatal)
+by_parts ios job (Issue worker kind write piece) = and-false job.is_fatal
+by_parts ios job (Probe worker write piece) = and-false job.is_fatal
+by_parts ios job (Skip worker write) = and-false job.is_fatal
+by_parts ios job (End worker io outcome) = or_never (is_io_of job.clone (slice_get ios io) && is_fault outcome) (job.is_fatal && false) (and-false job.is_fatal)
   where
     or_never : (a b : Bool) → b ≡ false → (a || b) ≡ a
     or_never true b h = refl
@@ -42,7 +39,7 @@ one_more false false y true b = refl
 one_more false false y false b = refl
 
 all_halts : (ios : List Started) (job : SubJob) (events : List Event) → (list_any (is_fault_of ios job.clone) events || (job.is_fatal && list_any (is_verdict_of ios is_bad job.clone) events)) ≡ list_any (halts ios job) events
-all_halts ios job [] = never_both job.is_fatal
+all_halts ios job [] = and-false job.is_fatal
 all_halts ios job (e ∷ events) =
     let fault : Bool = is_fault_of ios job.clone e in
     let bad : Bool = is_verdict_of ios is_bad job.clone e in

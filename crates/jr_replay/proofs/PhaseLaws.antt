@@ -3,8 +3,6 @@ use Rattle.std.proofs.Common.{◌≡◌, ℕ, suc, ◌+◌, ◌<◌, List, [], �
 use Rattle.std.specs.Prelude.{◌⊎◌, ◌==◌, None, Some, slice_get, nat_le}
 use Rattle.std.specs.List.{list_any, list_all, range_with_len}
 use Rattle.std.proofs.lemmas.Bool.{and_parts, and_from, and_left, or_cases, or_left, or_right, cases_Bool, cases_eq, cases_lt, eqb-true, ne_eqb, not-true, false_from_ne_true, both_ways}
-use Rattle.std.proofs.lemmas.List.FromFn.{length-map-range_with_len}
-use Rattle.std.proofs.lemmas.Option.{same_Some, slice_get_within}
 use Rattle.jr_model.specs.declared.events.Event.{Event}
 use Rattle.jr_model.specs.declared.events.Event.TheVariants.{Issue, Probe, Skip, End, Verdict}
 use Rattle.jr_model.specs.declared.blocks.Piece.{Piece}
@@ -17,25 +15,27 @@ use Rattle.jr_model.specs.Legal.{is_io_of, is_legal, may_happen, may_take_up, is
 use Rattle.jr_model.specs.Plan.{Plan, SubJob, clone_of}
 use Rattle.jr_model.specs.Rounds.{Pass, pass_of, passes_of, write_id, is_write_draw, writes_of, issued_count, has_rounds, group_index, group_count, is_full, is_closed, no_issue_flies, is_open, waits_for_round, pass_finished, clone_finished}
 use Rattle.jr_model.specs.PlanFacts.{IsPlanned}
-use Rattle.jr_laws_steps.proofs.IdleLaws.{numbered_of}
-use Rattle.jr_laws_steps.proofs.PlaceLemmas.{all_from}
-use Rattle.jr_laws_steps.proofs.StartedLemmas.{by_events}
+use Rattle.jr_model.proofs.PlaceLemmas.{all_from, got_filtered}
+use Rattle.jr_model.proofs.PlanLemmas.{pass_at, numbered_of}
+use Rattle.jr_model.proofs.HistoryLemmas.{by_events}
+use Rattle.jr_model.proofs.BoolLemmas.{same_truth}
+use Rattle.jr_model.proofs.LegalLaws.{number_of_draw}
 use Rattle.jr_laws_steps.proofs.StepLaws.{may_probe_of}
 use Rattle.jr_desk_totals.specs.Tallies.{Tally, awaited, flying_checks, flying_issues, tally_of}
 use Rattle.jr_desk_totals.proofs.Bads.{ends_counted, verdicts_counted}
 use Rattle.jr_desk_totals.proofs.Compared.{is_at_rest-counts}
 use Rattle.jr_desk_totals.proofs.Counted.{tally-more, tally_after-other}
 use Rattle.jr_laws_quiet.proofs.Checks.{settled_taken}
-use Rattle.jr_laws_quiet.proofs.Groups.{filtered, got_filter, number_is}
-use Rattle.jr_laws_quiet.proofs.Issues.{all_at, got_pass, issued_same}
+use Rattle.jr_laws_quiet.proofs.Groups.{got_filter}
+use Rattle.jr_laws_quiet.proofs.Issues.{all_at, issued_same}
 use Rattle.jr_laws_quiet.proofs.Members.{in_own_group, index_mono}
 use Rattle.jr_laws_rounds.proofs.ChoiceSteps.{can_issue, can_take, unbegun_not_taken}
 use Rattle.jr_laws_rounds.proofs.CurrentLast.{issued_by_other}
-use Rattle.jr_laws_rounds.proofs.CurrentRounds.{iff_same, member_settled, waited_for, waiting_group, waits_with}
+use Rattle.jr_laws_rounds.proofs.CurrentRounds.{member_settled, waited_for, waiting_group, waits_with}
 use Rattle.jr_laws_rounds.proofs.CurrentPhases.{groups_turn}
-use Rattle.jr_laws_rounds.proofs.KeptSettled.{ran_before}
-use Rattle.jr_laws_rounds.proofs.StandingPasses.{current_parts, done_parts, issue_in, none_taken, stays_finished, take_in, unbegun}
+use Rattle.jr_laws_rounds.proofs.StandingPasses.{current_parts, done_parts, issue_in, none_taken, take_in, unbegun}
 use Rattle.jr_laws_rounds.proofs.StandingSteps.{always_in_pass, before_at, before_from, finished_before}
+use Rattle.jr_laws_rounds.proofs.StandingOver.{over_longer}
 use Rattle.jr_replay_passes.specs.Passes.{IsLastBelow, NoneBelow}
 use Rattle.jr_replay_passes.proofs.RankLemmas.{IsOwn}
 
@@ -43,7 +43,7 @@ use Rattle.jr_replay_passes.proofs.RankLemmas.{IsOwn}
 -- the draw stands at its number
 pub drawn_at : (pass : Pass) (k : ℕ) (draw : Draw) → IsOwn pass → slice_get pass.draws k ≡ Some draw → draw.number ≡ k
 drawn_at pass k draw own at =
-    number_is pass.job pass.number k draw (ap (λ (q : Pass). slice_get q.draws k) (sym own) ∙ at)
+    number_of_draw pass.job pass.number k draw (ap (λ (q : Pass). slice_get q.draws k) (sym own) ∙ at)
 
 -- its group isn't closed
 unclosed : (h : List Event) (job : SubJob) (p : ℕ) (draw : Draw) → slice_get (draws_of_job job p) draw.number ≡ Some draw → is_write_draw draw ≡ true → list_any (takes_up (write_id (pass_of job p) draw)) h ≡ false → is_closed h (pass_of job p) (group_index (pass_of job p) draw.number) ≡ false
@@ -73,7 +73,7 @@ open_is h pass draw own drawn writes fresh =
 module _ (plan : Plan) (planned : IsPlanned plan) (job : SubJob) (there : clone_of plan job.clone ≡ Some job) (h : List Event) (legal : is_legal plan h ≡ true) where
   -- the write that was issued last waits for its group's round, or none does
   waits_last : (p : ℕ) (last : Draw) → IsLastBelow (writes_of (pass_of job p)) (issued_count h (pass_of job p)) last → has_rounds job ≡ true → (is_full h (pass_of job p) (group_index (pass_of job p) last.number) && not (is_closed h (pass_of job p) (group_index (pass_of job p) last.number))) ≡ waits_for_round h (pass_of job p)
-  waits_last p last is rounds = iff_same _ (waits_for_round h pass) from to
+  waits_last p last is rounds = same_truth _ (waits_for_round h pass) from to
     where
       pass : Pass
       pass = pass_of job p
@@ -82,10 +82,10 @@ module _ (plan : Plan) (planned : IsPlanned plan) (job : SubJob) (there : clone_
       g = group_index pass last.number
 
       own : (k : ℕ) × (slice_get (draws_of_job job p) k ≡ Some last) × (is_write_draw last ≡ true)
-      own = filtered is_write_draw (draws_of_job job p) is.place last is.at
+      own = got_filtered is_write_draw (draws_of_job job p) is.place last is.at
 
       drawn : slice_get (draws_of_job job p) last.number ≡ Some last
-      drawn = ap (slice_get (draws_of_job job p)) (number_is job p own.0 last own.1) ∙ own.1
+      drawn = ap (slice_get (draws_of_job job p)) (number_of_draw job p own.0 last own.1) ∙ own.1
 
       from : (is_full h pass g && not (is_closed h pass g)) ≡ true → waits_for_round h pass ≡ true
       from both =
@@ -156,7 +156,7 @@ module _ (plan : Plan) (planned : IsPlanned plan) (job : SubJob) (there : clone_
   -- the passes before one are finished where the last of them is
   pub earlier_by_last : (p : ℕ) → p < job.passes → pass_finished h (pass_of job p) ≡ list_all (pass_finished h) (take (suc p) (passes_of job))
   earlier_by_last p within =
-      iff_same (pass_finished h (pass_of job p)) (list_all (pass_finished h) (take (suc p) (passes_of job)))
+      same_truth (pass_finished h (pass_of job p)) (list_all (pass_finished h) (take (suc p) (passes_of job)))
       (λ done. before_from h job (suc p) (λ (q : ℕ) (low : q < suc p). each done q low (cases_eq q p)))
       (λ all. before_at h job (suc p) p all (omega arith) within)
     where
@@ -173,26 +173,6 @@ module _ (plan : Plan) (planned : IsPlanned plan) (job : SubJob) (there : clone_
           ]
 
 -- ---- a clone at rest stays so
-over_longer : (plan : Plan) → IsPlanned plan → (other : SubJob) → clone_of plan other.clone ≡ Some other → (h : List Event) (e : Event) → is_legal plan h ≡ true → may_happen plan h e ≡ true → is_over h other ≡ true → is_over (h ++ e ∷ []) other ≡ true
-over_longer plan planned other there h e legal may over =
-    elim (or_cases (is_halted h other) (clone_finished h other) over) [
-      | inl halted ↦
-          elim (cases_Bool (is_halted (h ++ e ∷ []) other)) [
-            | inl still ↦ or_left (is_halted (h ++ e ∷ []) other) (clone_finished (h ++ e ∷ []) other) still
-            | inr runs ↦ absurd (both_ways (is_halted h other) (ran_before other h e runs) halted)
-          ]
-      | inr finished ↦
-          or_right (is_halted (h ++ e ∷ []) other) (clone_finished (h ++ e ∷ []) other)
-          (all_from (pass_finished (h ++ e ∷ [])) (passes_of other) (one finished))
-    ]
-  where
-    one : clone_finished h other ≡ true → (k : ℕ) (pass : Pass) → slice_get (passes_of other) k ≡ Some pass → pass_finished (h ++ e ∷ []) pass ≡ true
-    one finished k pass at =
-        let within : k < other.passes = omega (arith, slice_get_within (passes_of other) k pass at, length-map-range_with_len (pass_of other) 0 other.passes) in
-        let same : pass_of other k ≡ pass = same_Some (pass_of other k) pass (sym (got_pass other k within) ∙ at) in
-        subst (λ (q : Pass). pass_finished (h ++ e ∷ []) q ≡ true) same
-        (stays_finished plan planned other there h e k legal may
-        (subst (λ (q : Pass). pass_finished h q ≡ true) (sym same) (all_at (pass_finished h) (passes_of other) k pass finished at)))
 
 module _ (plan : Plan) (planned : IsPlanned plan) (other : SubJob) (there : clone_of plan other.clone ≡ Some other) (h : List Event) (legal : is_legal plan h ≡ true) (over : is_over h other ≡ true) where
   -- nothing more of a clone that is over is issued
@@ -206,7 +186,7 @@ module _ (plan : Plan) (planned : IsPlanned plan) (other : SubJob) (there : clon
         | inl halted ↦ both_ways (is_halted h other) (not-true (is_halted h other) can.going) halted
         | inr finished ↦
             both_ways (pass_finished h pass) now.unfinished
-            (all_at (pass_finished h) (passes_of other) write.pass pass finished (got_pass other write.pass now.within))
+            (all_at (pass_finished h) (passes_of other) write.pass pass finished (pass_at other write.pass now.within))
       ]
 
   -- nor checked
@@ -224,7 +204,7 @@ module _ (plan : Plan) (planned : IsPlanned plan) (other : SubJob) (there : clon
               | inl later ↦ unbegun_not_taken plan h other write.pass write.number take.draw take.drawn (now.1.after write.pass later)
               | inr within ↦
                   none_taken plan h other write.pass write.number take.draw take.drawn
-                  (done_parts h pass (all_at (pass_finished h) (passes_of other) write.pass pass finished (got_pass other write.pass (omega (arith, within, now.1.within))))).closed
+                  (done_parts h pass (all_at (pass_finished h) (passes_of other) write.pass pass finished (pass_at other write.pass (omega (arith, within, now.1.within))))).closed
             ])
             take.may
       ]

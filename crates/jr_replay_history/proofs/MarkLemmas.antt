@@ -7,7 +7,9 @@ use Rattle.std.specs.List.{list_any, cons_option}
 use Rattle.std.specs.Option.{option_or}
 use Rattle.std.proofs.lemmas.List.Elements.{filter-append, filter_map-append}
 use Rattle.std.proofs.lemmas.List.Sums.{sum_by-cons, sum_by-append, count_by-le-length}
-use Rattle.jr_model.proofs.SerialLaws.{any-append, first_given-append}
+use Rattle.std.proofs.Math.Bool.{or-false}
+use Rattle.std.proofs.lemmas.Bool.{or_parts}
+use Rattle.jr_model.proofs.SerialLaws.{any-append}
 use Rattle.jr_model.specs.declared.events.Event.{Event}
 use Rattle.jr_model.specs.declared.events.Event.TheVariants.{Issue, Probe, Skip, End, Verdict}
 use Rattle.jr_model.specs.declared.events.Outcome.{Outcome}
@@ -17,33 +19,18 @@ use Rattle.jr_model.specs.History.{started, started_by, end_of, outcome_of, is_v
 use Rattle.jr_model.specs.Legal.{is_io_of, is_fault, is_bad, takes_up}
 use Rattle.jr_model.specs.Rounds.{Pass, issues_of, issued_count, is_probe_of, settles}
 use Rattle.jr_model.specs.Totals.{is_fault_of, is_verdict_of}
+use Rattle.jr_model.proofs.HistoryLemmas.{outcome_of-more, started-more}
 use Rattle.jr_replay_history.specs.declared.marks.Marks.{Marks}
 use Rattle.jr_replay_history.specs.Marks.{IsMarked, IsMarkedBy, counted, is_issue_in, is_named, same_name}
 use Rattle.jr_replay_history.specs.Ledgers.{IsLedger}
 use Rattle.jr_replay_history.specs.Parts.{is_over_part}
 use Rattle.jr_replay_history.specs.WriteEnds.{if_write, write_end}
 
-or_nothing : (b : Bool) → (b || false) ≡ b
-or_nothing true = refl
-or_nothing false = refl
-
-or_none : {X : Type 0} (o : Option X) → option_or o None ≡ o
-or_none None = refl
-or_none (Some x) = refl
-
 any_more : {X : Type 0} (f : X → Bool) (xs : List X) (x : X) → list_any f (xs ++ x ∷ []) ≡ (list_any f xs || f x)
-any_more f xs x = any-append f xs (x ∷ []) ∙ ap (λ (b : Bool). list_any f xs || b) (or_nothing (f x))
+any_more f xs x = any-append f xs (x ∷ []) ∙ ap (λ (b : Bool). list_any f xs || b) (or-false (f x))
 
 count_more : {X : Type 0} (p : X → Bool) (xs : List X) (x : X) → count_by p (xs ++ x ∷ []) ≡ count_by p xs + cond (p x) 1 0
 count_more p xs x = let all = sum_by-append (λ y. cond (p y) 1 0) xs (x ∷ []) in omega (arith, all)
-
-pub outcome_more : (events : List Event) (e : Event) (io : ℕ) → outcome_of (events ++ e ∷ []) io ≡ option_or (outcome_of events io) (end_of io e)
-outcome_more events e io =
-    first_given-append (end_of io) events (e ∷ [])
-    ∙ ap (λ (o : Option Outcome). option_or (outcome_of events io) o) (or_none (end_of io e))
-
-pub judged_more : (events : List Event) (e : Event) (io : ℕ) → is_judged (events ++ e ∷ []) io ≡ (is_judged events io || is_verdict_on io e)
-judged_more events e io = any_more (is_verdict_on io) events e
 
 -- a look-up says of the events what it did, and of the next what it says of that alone
 found_more : {X : Type 0} (f : X → Bool) (xs : List X) (x : X) (new old : Bool) → new ≡ (old || f x) → old ≡ list_any f xs → new ≡ list_any f (xs ++ x ∷ [])
@@ -52,7 +39,7 @@ found_more f xs x new old by was = by ∙ ap (λ (b : Bool). b || f x) was ∙ s
 -- with one more event
 pub marked_more : (ios : List Started) (events : List Event) (e : Event) (old new : Marks) → IsMarked ios events old → IsMarkedBy ios e old new → IsMarked ios (events ++ e ∷ []) new
 marked_more ios events e old new was by = record {
-  outcomes = λ io. by.outcomes io ∙ ap (λ (o : Option Outcome). option_or o (end_of io e)) (was.outcomes io) ∙ sym (outcome_more events e io);
+  outcomes = λ io. by.outcomes io ∙ ap (λ (o : Option Outcome). option_or o (end_of io e)) (was.outcomes io) ∙ sym (outcome_of-more events e io);
   judged = λ io. found_more (is_verdict_on io) events e (contains nat_eq new.judged io) (contains nat_eq old.judged io) (by.judged io) (was.judged io);
   issued = λ key. by.issued key ∙ ap (λ (n : ℕ). n + cond (is_issue_in key e) 1 0) (was.issued key) ∙ sym (count_more (is_issue_in key) events e);
   taken_up = λ write. found_more (takes_up write) events e (contains same_name new.taken_up write) (contains same_name old.taken_up write) (by.taken_up write) (was.taken_up write);
@@ -89,9 +76,6 @@ issued_is pass (e ∷ events) =
     ∙ sym (sum_by-cons (λ x. cond (issues_of pass x) 1 0) e events)
 
 -- ---- one more I/O is started, which no event names
-or_parts : (a b : Bool) → (a || b) ≡ false → (a ≡ false) × (b ≡ false)
-or_parts true b h = (h, cc)
-or_parts false b h = (refl, h)
 
 neither_some : (a b : Option Outcome) → is_some (option_or a b) ≡ false → (is_some a ≡ false) × (is_some b ≡ false)
 neither_some None b h = (refl, h)
@@ -185,13 +169,11 @@ marked_started ios s events marks was unnamed =
     }
 
 -- ---- the ledger of one more event
-started_more : (history : List Event) (e : Event) → started (history ++ e ∷ []) ≡ started history ++ cons_option (started_by e) []
-started_more history e = filter_map-append started_by history (e ∷ [])
 
 -- where the event starts nothing
 pub ready_same : (history : List Event) (e : Event) (ios : List Started) (marks : Marks) → IsLedger history ios marks → started_by e ≡ None → (ios ≡ started (history ++ e ∷ [])) × IsMarked ios history marks
 ready_same history e ios marks ledger none = (
-  ledger.all_started ∙ sym (started_more history e ∙ ap (λ (o : Option Started). started history ++ cons_option o []) none ∙ append-nil (started history)),
+  ledger.all_started ∙ sym (started-more history e ∙ ap (λ (o : Option Started). started history ++ cons_option o []) none ∙ append-nil (started history)),
   subst (λ (xs : List Started). IsMarked xs history marks) (sym ledger.all_started) ledger.all_marked,
 )
 
@@ -199,7 +181,7 @@ ready_same history e ios marks ledger none = (
 pub ready_more : (history : List Event) (e : Event) (io : Started) (ios more : List Started) (marks : Marks) → IsLedger history ios marks → started_by e ≡ Some io → is_named marks (length ios) ≡ false → more ≡ ios ++ io ∷ [] → (more ≡ started (history ++ e ∷ [])) × IsMarked more history marks
 ready_more history e io ios more marks ledger some unnamed grown = (
   grown ∙ ap (λ (xs : List Started). xs ++ io ∷ []) ledger.all_started
-      ∙ sym (started_more history e ∙ ap (λ (o : Option Started). started history ++ cons_option o []) some),
+      ∙ sym (started-more history e ∙ ap (λ (o : Option Started). started history ++ cons_option o []) some),
   subst (λ (xs : List Started). IsMarked xs history marks) (sym grown)
       (marked_started ios io history marks (subst (λ (xs : List Started). IsMarked xs history marks) (sym ledger.all_started) ledger.all_marked) unnamed),
 )

@@ -5,6 +5,7 @@ use Rattle.std.specs.HashSet.{HashSet, contains}
 use Rattle.std.specs.List.{list_any, enumerate_from}
 use Rattle.std.proofs.lemmas.Bool.{eqb-true, lt-ltb, ne_eqb}
 use Rattle.std.proofs.lemmas.Option.{slice_get_past, slice_get_within}
+use Rattle.std.proofs.Math.Bool.{or-false, and-false}
 use Rattle.jr_model.specs.declared.events.Event.{Event}
 use Rattle.jr_model.specs.declared.events.Started.{Started}
 use Rattle.jr_model.specs.History.{started, started_by, outcome_of, flies, in_flight, if_flying, if_awaiting}
@@ -15,13 +16,6 @@ use Rattle.jr_replay_history.specs.Unfinished.{is_unfinished, unfinished}
 use Rattle.jr_replay_history.proofs.UnfinishedLemmas.{none_left}
 
 -- ---- tests
-or_false : (b : Bool) → (b || false) ≡ b
-or_false true = refl
-or_false false = refl
-
-and_false : (b : Bool) → (b && false) ≡ false
-and_false true = refl
-and_false false = refl
 
 any_step : {X : Type 0} (f : X → Bool) (x : X) (kept : List X) (all b : Bool) → (b ≡ false → f x ≡ false) → list_any f kept ≡ all → list_any f (cond b (x ∷ kept) kept) ≡ (f x || all)
 any_step f x kept all true none so = ap (λ (a : Bool). f x || a) so
@@ -51,7 +45,7 @@ any_at history new m zero k (io ∷ ios) is =
     let rest : Bool = list_any (is_overlaid_at history new k) (enumerate_from (m + 1) ios) in
     ap (λ (b : Bool). (b && is_overlaid history new (m, io)) || rest) (eq-eqb m k same)
     ∙ ap (λ (b : Bool). is_overlaid history new (m, io) || b) (none_at history new (m + 1) k ios (omega (arith, same)))
-    ∙ or_false (is_overlaid history new (m, io))
+    ∙ or-false (is_overlaid history new (m, io))
     ∙ ap (λ (n : ℕ). is_overlaid history new (n, io)) same
 any_at history new m (suc j) k (io ∷ ios) is =
     ap (λ (b : Bool). (b && is_overlaid history new (m, io)) || list_any (is_overlaid_at history new k) (enumerate_from (m + 1) ios)) (ne_eqb m k (λ same. omega (arith, same, is)))
@@ -71,8 +65,8 @@ not_overlaid : (history : List Event) (new : Started) (k : ℕ) (x : ℕ × Star
 unfolding is_unfinished
 not_overlaid history new k x h =
     ap (λ (b : Bool). nat_eq x.0 k && (writes_over x.1.piece new && b)) (some_unless (is_none (outcome_of history x.0)) x.1 (none_left (if_flying history x) (if_awaiting history x) h))
-    ∙ ap (λ (b : Bool). nat_eq x.0 k && b) (and_false (writes_over x.1.piece new))
-    ∙ and_false (nat_eq x.0 k)
+    ∙ ap (λ (b : Bool). nat_eq x.0 k && b) (and-false (writes_over x.1.piece new))
+    ∙ and-false (nat_eq x.0 k)
 
 -- the unfinished I/O of a number is overlaid where it is in flight and what starts writes where it lies
 overlaid_is : (history : List Event) (new : Started) (k : ℕ) → list_any (is_overlaid_at history new k) (unfinished history) ≡ (writes_over_io (slice_get (started history) k) new && flies history k)
@@ -83,8 +77,8 @@ overlaid_is history new k =
 
 -- ---- all that races by a start
 either : (old same own others : Bool) → (same ≡ true → others ≡ false) → ((old || others) || (same && own)) ≡ (old || cond same own others)
-either old true own others none = ap (λ (b : Bool). (old || b) || own) (none refl) ∙ ap (λ (b : Bool). b || own) (or_false old)
-either old false own others none = or_false (old || others)
+either old true own others none = ap (λ (b : Bool). (old || b) || own) (none refl) ∙ ap (λ (b : Bool). b || own) (or-false old)
+either old false own others none = or-false (old || others)
 
 none_new : (history : List Event) (new : Started) (k : ℕ) → nat_eq (length (started history)) k ≡ true → (writes_over_io (slice_get (started history) k) new && flies history k) ≡ false
 none_new history new k same =

@@ -1,15 +1,16 @@
 -- What is unfinished after one more event: only what was, and what the event starts.
-use Rattle.std.proofs.Common.{◌≡◌, ℕ, suc, ◌+◌, List, [], ◌∷◌, ◌++◌, length, Bool, true, false, cond, not, refl, sym, ap, ◌∙◌, arith, append-nil}
+use Rattle.std.proofs.Common.{◌≡◌, ℕ, ◌+◌, List, [], ◌∷◌, ◌++◌, length, Bool, true, false, cond, not, refl, sym, ap, ◌∙◌, arith, append-nil}
 use Rattle.std.specs.Prelude.{Option, Some, None, is_some, is_none, ◌||◌, ◌&&◌, filter, filter_map}
 use Rattle.std.specs.List.{cons_option, enumerate_from}
 use Rattle.std.specs.Option.{option_or}
-use Rattle.std.proofs.lemmas.List.Elements.{filter-append, filter_map-append}
+use Rattle.std.proofs.lemmas.List.Elements.{filter-append}
 use Rattle.jr_model.specs.declared.events.Event.{Event}
 use Rattle.jr_model.specs.declared.events.Outcome.{Outcome}
 use Rattle.jr_model.specs.declared.events.Started.{Started}
 use Rattle.jr_model.specs.History.{started, started_by, outcome_of, end_of, is_judged, is_verdict_on, is_judged_kind, ended_whole, if_flying, in_flight, if_awaiting, awaiting}
+use Rattle.jr_model.proofs.HistoryLemmas.{outcome_of-more, is_judged-more, started-more}
+use Rattle.jr_model.proofs.ListLemmas.{enumerate_more}
 use Rattle.jr_replay_history.specs.Unfinished.{is_unfinished, unfinished}
-use Rattle.jr_replay_history.proofs.MarkLemmas.{outcome_more, judged_more}
 
 -- ---- lists
 filter_step : {X : Type 0} (p : X → Bool) (x : X) (xs kept all : List X) (a b : Bool) → p x ≡ a → (a ≡ true → b ≡ true) → filter p kept ≡ all → filter p (cond b (x ∷ kept) kept) ≡ cond a (x ∷ all) all
@@ -31,13 +32,6 @@ given_step f x kept all false none so = so ∙ ap (λ o. cons_option o all) (sym
 given_of_kept : {X Y : Type 0} (f : X → Option Y) (p : X → Bool) → ((x : X) → p x ≡ false → f x ≡ None) → (xs : List X) → filter_map f (filter p xs) ≡ filter_map f xs
 given_of_kept f p none [] = refl
 given_of_kept f p none (x ∷ xs) = given_step f x (filter p xs) (filter_map f xs) (p x) (none x) (given_of_kept f p none xs)
-
-enumerate_more : {X : Type 0} (n : ℕ) (xs : List X) (x : X) → enumerate_from n (xs ++ x ∷ []) ≡ enumerate_from n xs ++ (n + length xs, x) ∷ []
-enumerate_more n [] x = let same : n ≡ n + 0 = omega arith in ap (λ (k : ℕ). (k, x) ∷ []) same
-enumerate_more {X} n (y ∷ ys) x =
-    let same : (n + 1) + length ys ≡ n + suc (length ys) = omega arith in
-    ap (λ (zs : List (ℕ × X)). (n, y) ∷ zs) (enumerate_more (n + 1) ys x)
-    ∙ ap (λ (k : ℕ). (n, y) ∷ (enumerate_from (n + 1) ys ++ (k, x) ∷ [])) same
 
 -- ---- one I/O
 pub none_left : {X : Type 0} (a b : Option X) → (is_some a || is_some b) ≡ false → a ≡ None
@@ -66,8 +60,8 @@ was_unfinished history e numbered h =
     let test : Option Outcome → Bool → Bool =
     λ o judged. is_some (cond (is_none o) (Some numbered.1) None) || is_some (cond (is_judged_kind numbered.1.kind && ended_whole o && not judged) (Some numbered.1) None) in
     was_open numbered.1 (outcome_of history numbered.0) (end_of numbered.0 e) (is_judged history numbered.0) (is_verdict_on numbered.0 e)
-    (ap (λ (o : Option Outcome). test o (is_judged history numbered.0 || is_verdict_on numbered.0 e)) (sym (outcome_more history e numbered.0))
-    ∙ ap (λ (b : Bool). test (outcome_of (history ++ e ∷ []) numbered.0) b) (sym (judged_more history e numbered.0))
+    (ap (λ (o : Option Outcome). test o (is_judged history numbered.0 || is_verdict_on numbered.0 e)) (sym (outcome_of-more history e numbered.0))
+    ∙ ap (λ (b : Bool). test (outcome_of (history ++ e ∷ []) numbered.0) b) (sym (is_judged-more history e numbered.0))
     ∙ h)
 
 -- ---- histories
@@ -81,15 +75,12 @@ unfolding is_unfinished
 waiting_is history =
     given_of_kept (if_awaiting history) (is_unfinished history) (λ x h. none_right (if_flying history x) (if_awaiting history x) h) (enumerate_from 0 (started history))
 
-pub started_more : (history : List Event) (e : Event) → started (history ++ e ∷ []) ≡ started history ++ cons_option (started_by e) []
-started_more history e = filter_map-append started_by history (e ∷ [])
-
 -- after an event that starts nothing
 pub unfinished_same : (history : List Event) (e : Event) → started_by e ≡ None → filter (is_unfinished (history ++ e ∷ [])) (unfinished history) ≡ unfinished (history ++ e ∷ [])
 unfinished_same history e none =
     let after : List Event = history ++ e ∷ [] in
     let same : started after ≡ started history =
-    started_more history e ∙ ap (λ (o : Option Started). started history ++ cons_option o []) none ∙ append-nil (started history) in
+    started-more history e ∙ ap (λ (o : Option Started). started history ++ cons_option o []) none ∙ append-nil (started history) in
     filter_twice (is_unfinished after) (is_unfinished history) (was_unfinished history e) (enumerate_from 0 (started history))
     ∙ ap (λ (ios : List Started). filter (is_unfinished after) (enumerate_from 0 ios)) (sym same)
 
@@ -98,7 +89,7 @@ pub unfinished_more : (history : List Event) (e : Event) (io : Started) (n : ℕ
 unfinished_more history e io n some is =
     let after : List Event = history ++ e ∷ [] in
     let more : started after ≡ started history ++ io ∷ [] =
-    started_more history e ∙ ap (λ (o : Option Started). started history ++ cons_option o []) some in
+    started-more history e ∙ ap (λ (o : Option Started). started history ++ cons_option o []) some in
     let place : n ≡ 0 + length (started history) = omega (arith, is) in
     let p : ℕ × Started → Bool = is_unfinished after in
     filter-append p (unfinished history) ((n, io) ∷ [])

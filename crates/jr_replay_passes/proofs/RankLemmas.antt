@@ -7,7 +7,7 @@ use Rattle.jr_model.specs.declared.workloads.Draw.{Draw}
 use Rattle.jr_model.specs.Rounds.{Pass, pass_of, writes_of, group_of}
 use Rattle.jr_laws_quiet.proofs.Groups.{Rising, rank_at, rising_take, rising_drop, writes_rise}
 use Rattle.jr_laws_quiet.proofs.Tallies.{count_by-total}
-use Rattle.jr_laws_steps.proofs.PlaceLemmas.{item_at}
+use Rattle.jr_model.proofs.PlaceLemmas.{item_at}
 use Rattle.jr_replay_passes.specs.Passes.{IsLastBelow, NoneBelow, is_below}
 
 -- it is a pass of its clone

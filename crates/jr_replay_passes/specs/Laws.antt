@@ -1,4 +1,4 @@
--- Believed: a law over the definitions alone: what holds of every plan and history.
+-- Claimed: a law over the definitions alone: what holds of every plan and history.
 use Rattle.std.specs.Prelude.{◌≡◌, ◌≤◌, ℕ, Bool, true, List, length}
 use Rattle.jr_model.specs.declared.events.Event.{Event}
 use Rattle.jr_model.specs.declared.tickets.TicketKind.{TicketKind}

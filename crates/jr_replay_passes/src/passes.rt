@@ -1,12 +1,11 @@
 ghost use Rattle.std.specs.Prelude.{◌≡◌, ◌==◌, ◌&&◌, IfOk, MatchOption, filter, count_by, nat_lt, slice_get};
 ghost use Rattle.jr_replay_passes.specs.Passes.{IsLastBelow, NoneBelow, is_below};
-ghost use Rattle.jr_model.specs.Plan.{is_verified};
 ghost use Rattle.jr_model.specs.declared.workloads.Draw.{Draw};
 ghost use Rattle.jr_model.specs.Rounds.{pass_of, passes_of, write_id, is_write_draw, writes_of, has_rounds, group_of};
 ghost use Rattle.jr_model.specs.Rounds.{group_count, group_index};
 
 use crate::draws::draws_of;
-use jr_model::{Dir, Draw, Memory, VerifyKind, WriteId};
+use jr_model::{Dir, Draw, Memory, WriteId};
 use jr_plan::SubJob;
 use std::alloc::Global;
 use std::marker::Model;
@@ -218,16 +217,9 @@ fn writes_among(alloc: Global, draws: &[Draw]) -> Result<Vec<Draw>, Memory>
     Ok(writes)
 }
 
-// Whether blocks are verified at all.
-fn is_verified(kind: VerifyKind) -> bool
-    ensures { result ≡ is_verified kind }
-{
-    kind != VerifyKind::Plain
-}
-
 /// Whether a clone's writes are checked in rounds.
 pub fn has_rounds(job: &SubJob) -> bool
     ensures { result ≡ has_rounds job.now }
 {
-    is_verified(job.method().kind) && job.checks_writes()
+    job.verifies()
 }

@@ -5,6 +5,7 @@ use Rattle.std.specs.List.{join_with_byte, slice_split}
 use Rattle.std.specs.Fmt.{decimal}
 use Rattle.std.proofs.lemmas.Bool.{and_from, and_parts, eqb-true}
 use Rattle.std.proofs.lemmas.List.Splits.{join_with_byte-slice_split}
+use Rattle.std.proofs.lemmas.Option.{same_Some}
 use Rattle.jr_model.specs.declared.events.Event.{Event}
 use Rattle.jr_model.specs.declared.events.Event.TheVariants.{Issue, Probe, Skip, End, Verdict}
 use Rattle.jr_model.specs.declared.events.Outcome.TheVariants.{Whole, Failed, Short}
@@ -18,6 +19,7 @@ use Rattle.jr_model.specs.History.{started}
 use Rattle.jr_model.specs.Legal.{is_complete, legal_after, may_happen}
 use Rattle.jr_model.specs.Plan.{Plan, SubJob, clone_of, issued_as}
 use Rattle.jr_model.specs.Report.{all_totals}
+use Rattle.jr_model.proofs.OptionLemmas.{made_of}
 use Rattle.jr_replay_traces.specs.declared.entries.Ending.{Ending}
 use Rattle.jr_replay_traces.specs.declared.entries.Ending.TheVariants as ending
 use Rattle.jr_replay_traces.specs.declared.entries.Entry.{Entry}
@@ -31,11 +33,8 @@ use Rattle.jr_replay_traces.specs.TraceChecks.{after, draw_of, entry_event, entr
 use Rattle.jr_replay_traces.specs.TraceLaws.{AcceptedIsATrace, ending_of, entry_of, finding_of, lines_fit, start_by}
 use Rattle.jr_replay_traces.specs.TraceLines.{read_line}
 use Rattle.jr_replay_traces.specs.Traces.{event_text, lines_after}
-use Rattle.jr_replay_traces.proofs.LineWriting.{entry_text, from_map, line_is_entry}
+use Rattle.jr_replay_traces.proofs.LineWriting.{entry_text, line_is_entry}
 use Rattle.jr_replay_traces.proofs.ReadingLemmas.{from_cond, from_if_legal, from_ok_or}
-
-same_some : {X : Type 0} (x y : X) → Some x ≡ Some y → x ≡ y
-same_some x y h = cc
 
 -- the parts of an entry, there and back
 ending_back : (e : Ending) → ending_of (outcome_of e) ≡ e
@@ -55,7 +54,7 @@ finding_back (finding.Chunk i found) = refl
 entry_of_issue : (o : Option SubJob) (worker io : ℕ) (write : WriteId) (e : Event) → issue_of o worker write ≡ Some e → entry.Issue (start_by worker io write) ≡ entry_of io e
 entry_of_issue None worker io write e h = cc
 entry_of_issue (Some job) worker io write e h =
-    ap (entry_of io) (from_map (λ (draw : Draw). Issue worker (issued_as job draw.dir) write draw.piece) (slice_get (draws_of_job job write.pass) write.number) e h).2
+    ap (entry_of io) (made_of (λ (draw : Draw). Issue worker (issued_as job draw.dir) write draw.piece) (slice_get (draws_of_job job write.pass) write.number) e h).2
 
 -- an event that an entry speaks of has that entry
 entry_of_event : (plan : Plan) (history : List Event) (x : Entry) (e : Event) → is_numbered history x ≡ true → event_of plan x ≡ Some e → x ≡ entry_of (length (started history)) e
@@ -68,17 +67,17 @@ entry_of_event plan history (entry.Issue start) e numbered h =
 entry_of_event plan history (entry.Probe start) e numbered h =
     let io = length (started history) in
     let write = write_of start.write in
-    let drawn = from_map (λ (draw : Draw). Probe start.worker write draw.piece) (draw_of plan write) e h in
+    let drawn = made_of (λ (draw : Draw). Probe start.worker write draw.piece) (draw_of plan write) e h in
     let made : ℕ → Start = λ n. record { worker = start.worker; io = n; write = start.write } in
     ap (λ (n : ℕ). entry.Probe (made n)) (eqb-true start.io io numbered) ∙ ap (entry_of io) drawn.2
 entry_of_event plan history (entry.Skip worker write) e numbered h =
-    ap (entry_of (length (started history))) (same_some (Skip worker (write_of write)) e h)
+    ap (entry_of (length (started history))) (same_Some (Skip worker (write_of write)) e h)
 entry_of_event plan history (entry.End worker io e) event numbered h =
     ap (λ (o : Ending). entry.End worker io o) (sym (ending_back e))
-    ∙ ap (entry_of (length (started history))) (same_some (End worker io (outcome_of e)) event h)
+    ∙ ap (entry_of (length (started history))) (same_Some (End worker io (outcome_of e)) event h)
 entry_of_event plan history (entry.Verdict by io f) event numbered h =
     ap (λ (v : Finding). entry.Verdict by io v) (sym (finding_back f))
-    ∙ ap (entry_of (length (started history))) (same_some (Verdict by io (verdict_of f)) event h)
+    ∙ ap (entry_of (length (started history))) (same_Some (Verdict by io (verdict_of f)) event h)
 
 -- what is joined at once, and what is appended part by part
 join_start : (t a b c d e : List ℕ) → join_with_byte 32 (t ∷ a ∷ b ∷ c ∷ d ∷ e ∷ []) ≡ ((t ++ 32 ∷ a) ++ 32 ∷ b) ++ ((32 ∷ c ++ 32 ∷ d) ++ 32 ∷ e)

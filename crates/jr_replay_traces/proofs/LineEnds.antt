@@ -3,7 +3,7 @@ use Rattle.std.proofs.Common.{◌≡◌, ℕ, suc, List, [], ◌∷◌, ◌++◌
 use Rattle.std.specs.Prelude.{codes, ◌==◌}
 use Rattle.std.specs.Fmt.{decimal}
 use Rattle.std.specs.List.{list_all}
-use Rattle.std.proofs.lemmas.Bool.{and_from, and_parts}
+use Rattle.std.proofs.lemmas.Bool.{and_from, and_parts, not-true}
 use Rattle.std.proofs.lemmas.List.Folds.{list_all-append}
 use Rattle.jr_model.specs.declared.events.Event.{Event}
 use Rattle.jr_model.specs.declared.events.Event.TheVariants.{Issue, Probe, Skip, End, Verdict}
@@ -14,11 +14,11 @@ use Rattle.jr_model.specs.declared.events.Verdict.TheVariants.{Good, Bad, Void}
 use Rattle.jr_model.specs.declared.events.Part.TheVariants as part
 use Rattle.jr_model.specs.declared.events.What.TheVariants.{Header, Digest, DataArea, Byte, Chunk}
 use Rattle.jr_model.specs.declared.events.WriteId.{WriteId}
+use Rattle.jr_model.proofs.ListLemmas.{All-from_test}
 use Rattle.jr_replay_traces.specs.TraceChecks.{ending_fits, entry_fits, finding_fits, is_newline, is_small, name_fits}
 use Rattle.jr_replay_traces.specs.TraceLaws.{ending_of, entry_of, finding_of, name_of}
 use Rattle.jr_replay_traces.specs.Traces.{draw_fields, event_text, outcome_fields, spaced, verdict_fields}
 use Rattle.jr_replay_traces.proofs.EntryReading.{small}
-use Rattle.jr_replay_traces.proofs.FieldLemmas.{All-from_test}
 use Rattle.jr_replay_traces.proofs.LineReading.{decimal_else}
 
 -- a text without a line feed
@@ -93,11 +93,7 @@ event_one_line io (Verdict worker id verdict) fits =
     let numbers = and_parts (is_small worker) (is_small id) parts.0 in
     two_lines ((codes "V" ++ spaced worker) ++ spaced id) (verdict_fields verdict) (head_line (codes "V") worker id refl numbers.0 numbers.1) (verdict_line verdict parts.1)
 
-not_true : (b : Bool) → not b ≡ true → b ≡ false
-not_true true h = cc
-not_true false h = refl
-
 pub no_newline : (io : ℕ) (e : Event) → entry_fits (entry_of io e) ≡ true → All (λ b. is_newline b ≡ false) (event_text io e)
 unfolding is_line
 no_newline io e fits k d l =
-    not_true (is_newline (get_or (event_text io e) k d)) (All-from_test (λ b. not (is_newline b)) (event_text io e) (event_one_line io e fits) k d l)
+    not-true (is_newline (get_or (event_text io e) k d)) (All-from_test (λ b. not (is_newline b)) (event_text io e) (event_one_line io e fits) k d l)

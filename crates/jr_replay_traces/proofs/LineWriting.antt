@@ -10,6 +10,7 @@ use Rattle.std.specs.Str.Parse.{digits_value}
 use Rattle.std.proofs.lemmas.Bool.{and_from, and_parts, eq-eqb, eqb-true, ltb-true}
 use Rattle.std.proofs.lemmas.Fmt.{decimal-digits_value}
 use Rattle.std.proofs.lemmas.List.Splits.{join_with_byte-slice_split}
+use Rattle.std.proofs.lemmas.Option.{same_Some}
 use Rattle.jr_replay_traces.specs.declared.entries.Ending.{Ending}
 use Rattle.jr_replay_traces.specs.declared.entries.Ending.TheVariants as ending
 use Rattle.jr_replay_traces.specs.declared.entries.Entry.{Entry}
@@ -18,6 +19,7 @@ use Rattle.jr_replay_traces.specs.declared.entries.Finding.{Finding}
 use Rattle.jr_replay_traces.specs.declared.entries.Finding.TheVariants as finding
 use Rattle.jr_model.specs.declared.events.Part.{Part}
 use Rattle.jr_model.specs.declared.events.Part.TheVariants as part
+use Rattle.jr_model.proofs.OptionLemmas.{made_of}
 use Rattle.jr_replay_traces.specs.declared.entries.Name.{Name}
 use Rattle.jr_replay_traces.specs.declared.entries.Start.{Start}
 use Rattle.jr_replay_traces.specs.TraceLines.{counted_finding, chunk_finding, part_of, end_in, end_of, ending_in, entry_in, field_at, fields_of, finding_in, is_numeral, is_word, name_at, named, number_at, number_in, read_line, skip_in, skip_of, start_in, start_of, verdict_in, verdict_of, word_finding}
@@ -57,17 +59,10 @@ entry_fields (entry.Skip worker write) = codes "S" ∷ decimal worker ∷ number
 entry_fields (entry.End worker io ending) = codes "E" ∷ decimal worker ∷ decimal io ∷ ending_fields ending
 entry_fields (entry.Verdict by io finding) = codes "V" ∷ decimal by ∷ decimal io ∷ finding_fields finding
 
-same_some : {X : Type 0} (x y : X) → Some x ≡ Some y → x ≡ y
-same_some x y h = cc
-
 -- either way
 cases_cond : {X : Type 0} (b : Bool) (x y o : Option X) → cond b x y ≡ o → ((b ≡ true) × (x ≡ o)) ⊎ (y ≡ o)
 cases_cond true x y o h = inl (refl, h)
 cases_cond false x y o h = inr h
-
-pub from_map : {X Y : Type 0} (f : X → Y) (o : Option X) (y : Y) → option_map f o ≡ Some y → (x : X) × (o ≡ Some x) × (f x ≡ y)
-from_map f None y h = cc
-from_map f (Some x) y h = (x, refl, same_some (f x) y h)
 
 -- a zero leads no numeral but 0
 leads : (a b : Bool) → (a || not b) ≡ true → b ≡ true → a ≡ true
@@ -88,7 +83,7 @@ number_written field n h =
     sym (decimal-digits_value digits_model field digits.1 (ltb-true 0 (length field) digits.0)
     (λ zero_first. eqb-true (length field) 1 (leads one first numeral.1 (eq-eqb (get_or field 0 0) 48 zero_first)))
     (ltb-true value (2 ^ 64) tests.1))
-    ∙ ap decimal (same_some value n read.1)
+    ∙ ap decimal (same_Some value n read.1)
 
 -- a list of so many fields, one by one
 fields_from : ℕ → ℕ → List (List ℕ) → List (List ℕ)
@@ -113,7 +108,7 @@ so_many fields n h =
 -- what is read of several numbers
 named_by : (a b c : Option ℕ) (write : Name) → named a b c ≡ Some write → (a ≡ Some write.clone) × (b ≡ Some write.pass) × (c ≡ Some write.number)
 named_by (Some x) (Some y) (Some z) write h =
-    let is = same_some (record { clone = x; pass = y; number = z }) write h in
+    let is = same_Some (record { clone = x; pass = y; number = z }) write h in
     (ap (λ (w : Name). Some w.clone) is, ap (λ (w : Name). Some w.pass) is, ap (λ (w : Name). Some w.number) is)
 named_by (Some x) (Some y) None write h = cc
 named_by (Some x) None c write h = cc
@@ -121,7 +116,7 @@ named_by None b c write h = cc
 
 start_by : (a b : Option ℕ) (c : Option Name) (start : Start) → start_of a b c ≡ Some start → (a ≡ Some start.worker) × (b ≡ Some start.io) × (c ≡ Some start.write)
 start_by (Some x) (Some y) (Some z) start h =
-    let is = same_some (record { worker = x; io = y; write = z }) start h in
+    let is = same_Some (record { worker = x; io = y; write = z }) start h in
     (ap (λ (s : Start). Some s.worker) is, ap (λ (s : Start). Some s.io) is, ap (λ (s : Start). Some s.write) is)
 start_by (Some x) (Some y) None start h = cc
 start_by (Some x) None c start h = cc
@@ -129,18 +124,18 @@ start_by None b c start h = cc
 
 -- what is read of a worker and a draw, of the end of an I/O, and of a verdict
 skip_by : (a : Option ℕ) (b : Option Name) (x : Entry) → skip_of a b ≡ Some x → (worker : ℕ) × (write : Name) × (a ≡ Some worker) × (b ≡ Some write) × (entry.Skip worker write ≡ x)
-skip_by (Some worker) (Some write) x h = (worker, write, refl, refl, same_some (entry.Skip worker write) x h)
+skip_by (Some worker) (Some write) x h = (worker, write, refl, refl, same_Some (entry.Skip worker write) x h)
 skip_by (Some worker) None x h = cc
 skip_by None b x h = cc
 
 end_by : (a b : Option ℕ) (c : Option Ending) (x : Entry) → end_of a b c ≡ Some x → (worker : ℕ) × (io : ℕ) × (ending : Ending) × (a ≡ Some worker) × (b ≡ Some io) × (c ≡ Some ending) × (entry.End worker io ending ≡ x)
-end_by (Some worker) (Some io) (Some ending) x h = (worker, io, ending, refl, refl, refl, same_some (entry.End worker io ending) x h)
+end_by (Some worker) (Some io) (Some ending) x h = (worker, io, ending, refl, refl, refl, same_Some (entry.End worker io ending) x h)
 end_by (Some worker) (Some io) None x h = cc
 end_by (Some worker) None c x h = cc
 end_by None b c x h = cc
 
 verdict_by : (a b : Option ℕ) (c : Option Finding) (x : Entry) → verdict_of a b c ≡ Some x → (by : ℕ) × (io : ℕ) × (finding : Finding) × (a ≡ Some by) × (b ≡ Some io) × (c ≡ Some finding) × (entry.Verdict by io finding ≡ x)
-verdict_by (Some by) (Some io) (Some finding) x h = (by, io, finding, refl, refl, refl, same_some (entry.Verdict by io finding) x h)
+verdict_by (Some by) (Some io) (Some finding) x h = (by, io, finding, refl, refl, refl, same_Some (entry.Verdict by io finding) x h)
 verdict_by (Some by) (Some io) None x h = cc
 verdict_by (Some by) None c x h = cc
 verdict_by None b c x h = cc
@@ -200,14 +195,14 @@ module _ (fields : List (List ℕ)) where
       elim (cases_cond (length fields == 4) _ _ (Some said) h) [
         | inl four ↦
             elim (cases_cond (is_word (field_at fields 3) (codes "whole")) _ _ (Some said) four.1) [
-              | inl whole ↦ word_last (codes "whole") four.0 whole.0 ∙ ap behind (same_some ending.Whole said whole.1)
+              | inl whole ↦ word_last (codes "whole") four.0 whole.0 ∙ ap behind (same_Some ending.Whole said whole.1)
               | inr other ↦
                   let failed = from_cond (is_word (field_at fields 3) (codes "failed")) (Some ending.Failed) said other in
-                  word_last (codes "failed") four.0 failed.0 ∙ ap behind (same_some ending.Failed said failed.1)
+                  word_last (codes "failed") four.0 failed.0 ∙ ap behind (same_Some ending.Failed said failed.1)
             ]
         | inr other ↦
             let short = from_cond (length fields == 5 && is_word (field_at fields 3) (codes "short")) (option_map ending.Short (number_at fields 4)) said other in
-            let count = from_map ending.Short (number_at fields 4) said short.1 in
+            let count = made_of ending.Short (number_at fields 4) said short.1 in
             number_last (codes "short") count.0 short.0 count.1 ∙ ap behind count.2
       ]
 
@@ -215,19 +210,19 @@ module _ (fields : List (List ℕ)) where
   finding_word said four h =
       let behind : Finding → List (List ℕ) = λ f. field_at fields 0 ∷ field_at fields 1 ∷ field_at fields 2 ∷ finding_fields f in
       elim (cases_cond (is_word (field_at fields 3) (codes "good")) _ _ (Some said) h) [
-        | inl good ↦ word_last (codes "good") four good.0 ∙ ap behind (same_some finding.Good said good.1)
+        | inl good ↦ word_last (codes "good") four good.0 ∙ ap behind (same_Some finding.Good said good.1)
         | inr not_good ↦
             elim (cases_cond (is_word (field_at fields 3) (codes "header")) _ _ (Some said) not_good) [
-              | inl header ↦ word_last (codes "header") four header.0 ∙ ap behind (same_some finding.Header said header.1)
+              | inl header ↦ word_last (codes "header") four header.0 ∙ ap behind (same_Some finding.Header said header.1)
               | inr not_header ↦
                   elim (cases_cond (is_word (field_at fields 3) (codes "digest")) _ _ (Some said) not_header) [
-                    | inl digest ↦ word_last (codes "digest") four digest.0 ∙ ap behind (same_some finding.Digest said digest.1)
+                    | inl digest ↦ word_last (codes "digest") four digest.0 ∙ ap behind (same_Some finding.Digest said digest.1)
                     | inr not_digest ↦
                         elim (cases_cond (is_word (field_at fields 3) (codes "data")) _ _ (Some said) not_digest) [
-                          | inl area ↦ word_last (codes "data") four area.0 ∙ ap behind (same_some finding.DataArea said area.1)
+                          | inl area ↦ word_last (codes "data") four area.0 ∙ ap behind (same_Some finding.DataArea said area.1)
                           | inr other ↦
                               let void = from_cond (is_word (field_at fields 3) (codes "void")) (Some finding.Void) said other in
-                              word_last (codes "void") four void.0 ∙ ap behind (same_some finding.Void said void.1)
+                              word_last (codes "void") four void.0 ∙ ap behind (same_Some finding.Void said void.1)
                         ]
                   ]
             ]
@@ -240,20 +235,20 @@ module _ (fields : List (List ℕ)) where
   part_is : (found : Part) → part_of (field_at fields 3) ≡ Some found → is_word (field_at fields 3) (part_word found) ≡ true
   part_is found h =
       elim (cases_cond (is_word (field_at fields 3) (codes "header")) _ _ (Some found) h) [
-        | inl header ↦ subst (λ (p : Part). is_word (field_at fields 3) (part_word p) ≡ true) (same_some part.Header found header.1) header.0
+        | inl header ↦ subst (λ (p : Part). is_word (field_at fields 3) (part_word p) ≡ true) (same_Some part.Header found header.1) header.0
         | inr not_header ↦
             elim (cases_cond (is_word (field_at fields 3) (codes "digest")) _ _ (Some found) not_header) [
-              | inl digest ↦ subst (λ (p : Part). is_word (field_at fields 3) (part_word p) ≡ true) (same_some part.Digest found digest.1) digest.0
+              | inl digest ↦ subst (λ (p : Part). is_word (field_at fields 3) (part_word p) ≡ true) (same_Some part.Digest found digest.1) digest.0
               | inr other ↦
                   let area = from_cond (is_word (field_at fields 3) (codes "data")) (Some part.DataArea) found other in
-                  subst (λ (p : Part). is_word (field_at fields 3) (part_word p) ≡ true) (same_some part.DataArea found area.1) area.0
+                  subst (λ (p : Part). is_word (field_at fields 3) (part_word p) ≡ true) (same_Some part.DataArea found area.1) area.0
             ]
       ]
 
   chunk_is : (said : Finding) (found : Option Part) (number : Option ℕ) → (length fields == 5) ≡ true → part_of (field_at fields 3) ≡ found → number_at fields 4 ≡ number → chunk_finding found number ≡ Some said → fields ≡ field_at fields 0 ∷ field_at fields 1 ∷ field_at fields 2 ∷ finding_fields said
   chunk_is said (Some found) (Some i) five word number h =
       number_last_is (part_word found) i five (part_is found word) number
-      ∙ ap (λ (f : Finding). field_at fields 0 ∷ field_at fields 1 ∷ field_at fields 2 ∷ finding_fields f) (same_some (finding.Chunk i found) said h)
+      ∙ ap (λ (f : Finding). field_at fields 0 ∷ field_at fields 1 ∷ field_at fields 2 ∷ finding_fields f) (same_Some (finding.Chunk i found) said h)
   chunk_is said (Some found) None five word number h = cc
   chunk_is said None number five word is h = cc
 
@@ -265,7 +260,7 @@ module _ (fields : List (List ℕ)) where
             let five = from_cond (length fields == 5) (counted_finding (field_at fields 3) (number_at fields 4)) said other in
             elim (cases_cond (is_word (field_at fields 3) (codes "byte")) _ _ (Some said) five.1) [
               | inl byte ↦
-                  let place = from_map finding.Byte (number_at fields 4) said byte.1 in
+                  let place = made_of finding.Byte (number_at fields 4) said byte.1 in
                   number_last_is (codes "byte") place.0 five.0 byte.0 place.1
                   ∙ ap (λ (f : Finding). field_at fields 0 ∷ field_at fields 1 ∷ field_at fields 2 ∷ finding_fields f) place.2
               | inr chunk ↦ chunk_is said (part_of (field_at fields 3)) (number_at fields 4) five.0 refl refl chunk
@@ -288,12 +283,12 @@ module _ (fields : List (List ℕ)) where
 
   issue_is : (x : Entry) → (is_word (field_at fields 0) (codes "I") && (length fields == 6)) ≡ true → option_map entry.Issue (start_in fields) ≡ Some x → fields ≡ entry_fields x
   issue_is x tests h =
-      let start = from_map entry.Issue (start_in fields) x h in
+      let start = made_of entry.Issue (start_in fields) x h in
       start_is (codes "I") start.0 tests start.1 ∙ ap entry_fields start.2
 
   probe_is : (x : Entry) → (is_word (field_at fields 0) (codes "P") && (length fields == 6)) ≡ true → option_map entry.Probe (start_in fields) ≡ Some x → fields ≡ entry_fields x
   probe_is x tests h =
-      let start = from_map entry.Probe (start_in fields) x h in
+      let start = made_of entry.Probe (start_in fields) x h in
       start_is (codes "P") start.0 tests start.1 ∙ ap entry_fields start.2
 
   -- the fields of a line are those of what it says

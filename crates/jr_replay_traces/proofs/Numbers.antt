@@ -33,8 +33,8 @@ use Rattle.jr_model.specs.PlanFacts.{IsPlanned}
 use Rattle.jr_laws_steps.proofs.CountLaws.{draws_within}
 use Rattle.jr_laws_steps.proofs.DrawnLaws.{current_pass, issuable, started_fit-law, taken_up_within}
 use Rattle.jr_laws_steps.proofs.StepLaws.{may_issue_of, may_probe_of, may_skip_of}
-use Rattle.jr_replay_traces.specs.TraceChecks.{ending_fits, entry_fits, finding_fits, is_small, name_fits}
-use Rattle.jr_replay_traces.specs.TraceLaws.{NumbersFit, ending_of, entry_of, finding_of, lines_fit, name_of, worker_of, workers_fit}
+use Rattle.jr_replay_traces.specs.TraceChecks.{ending_fits, entry_fits, finding_fits, is_small, name_fits, worker_of, workers_fit}
+use Rattle.jr_replay_traces.specs.TraceLaws.{NumbersFit, ending_of, entry_of, finding_of, lines_fit, name_of}
 use Rattle.jr_laws_steps.proofs.StartedFew.{started_small}
 
 -- where the rest holds

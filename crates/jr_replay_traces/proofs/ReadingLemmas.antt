@@ -1,31 +1,22 @@
 -- The reading of a trace, one line after another.
 use Rattle.std.proofs.Common.{◌≡◌, ℕ, ◌+◌, ◌<◌, ◌≤◌, ◌^◌, List, [], ◌∷◌, ◌++◌, length, Bool, true, false, cond, ◌&&◌, Result, Ok, refl, sym, ap, ◌∙◌, subst, arith, length-append}
 use Rattle.std.specs.Prelude.{Option, Some, None, ok_or, ◌==◌}
-use Rattle.std.specs.List.{slice_split, onto_first}
+use Rattle.std.specs.List.{slice_split}
 use Rattle.std.proofs.lemmas.Bool.{and_parts, eqb-true, ltb-true}
-use Rattle.std.proofs.lemmas.List.Elements.{filter_map-append}
 use Rattle.jr_model.specs.declared.events.Event.{Event}
 use Rattle.jr_model.specs.declared.events.Event.TheVariants.{Issue, Probe, Skip, End, Verdict}
-use Rattle.jr_model.specs.History.{started, started_by}
+use Rattle.jr_model.specs.History.{started}
 use Rattle.jr_model.specs.Legal.{is_legal, may_happen}
 use Rattle.jr_model.specs.Plan.{Plan}
 use Rattle.jr_model.proofs.LegalLaws.{is_legal-more}
+use Rattle.jr_model.proofs.ListLemmas.{first_part}
+use Rattle.jr_model.proofs.HistoryLemmas.{started_count-more}
 use Rattle.jr_replay_traces.specs.declared.entries.Entry.{Entry}
 use Rattle.jr_replay_traces.specs.declared.entries.Entry.TheVariants as entry
 use Rattle.jr_replay_traces.specs.declared.faults.TraceFault.{TraceFault}
 use Rattle.jr_replay_traces.specs.declared.faults.TraceFault.TheVariants.{Line, Illegal, Unfinished, Memory}
 use Rattle.jr_replay_traces.specs.TraceChecks.{IsRefusal, after, entry_event, entry_fits, event_of, if_legal, is_newline, is_numbered, is_small, legal_event, line_event, lines_read, name_fits}
 use Rattle.jr_replay_traces.specs.TraceLines.{read_line}
-
--- a list that is cut has a first part
-pub first_part : {X : Type 0} (p : X → Bool) (xs : List X) → (part : List X) × (parts : List (List X)) × (slice_split p xs ≡ part ∷ parts)
-first_part p [] = ([], [], refl)
-first_part {X} p (x ∷ xs) = by_test (p x) (slice_split p xs)
-  where
-    by_test : (b : Bool) (rest : List (List X)) → (part : List X) × (parts : List (List X)) × (cond b ([] ∷ rest) (onto_first x rest) ≡ part ∷ parts)
-    by_test true rest = ([], rest, refl)
-    by_test false [] = (x ∷ [], [], refl)
-    by_test false (part ∷ parts) = (x ∷ part, parts, refl)
 
 -- a line that is followed by others, or by nothing behind its line feed
 pub lines_read_next : (plan : Plan) (history : List Event) (n : ℕ) (line text : List ℕ) → lines_read plan history n (line ∷ slice_split is_newline text) ≡ after (line_event plan history n line) (λ event. lines_read plan (history ++ event ∷ []) (n + 1) (slice_split is_newline text))
@@ -70,10 +61,6 @@ started_most (Skip worker write) = omega arith
 started_most (End worker io outcome) = omega arith
 started_most (Verdict worker io verdict) = omega arith
 
-pub started_more : (history : List Event) (e : Event) → length (started (history ++ e ∷ [])) ≡ length (started history) + length (started (e ∷ []))
-started_more history e =
-    ap length (filter_map-append started_by history (e ∷ [])) ∙ length-append (started history) (started (e ∷ []))
-
 -- what a line's event may be
 pub from_cond : {X : Type 0} (b : Bool) (x : Option X) (y : X) → cond b x None ≡ Some y → (b ≡ true) × (x ≡ Some y)
 from_cond true x y h = (refl, h)
@@ -103,7 +90,7 @@ number_small history io small next =
     omega (arith, below, same)
 
 same_count : (plan : Plan) (history : List Event) (e : Event) → length (started (e ∷ [])) ≡ 0 → length (started history) ≤ 2 ^ 32 → length (started (history ++ e ∷ [])) ≤ 2 ^ 32
-same_count plan history e none few = omega (arith, none, few, started_more history e)
+same_count plan history e none few = omega (arith, none, few, started_count-more history e)
 
 few_after : (plan : Plan) (history : List Event) (x : Entry) (e : Event) → (entry_fits x && is_numbered history x) ≡ true → event_of plan x ≡ Some e → length (started history) ≤ 2 ^ 32 → length (started (history ++ e ∷ [])) ≤ 2 ^ 32
 few_after plan history (entry.Issue start) e fits named few =
@@ -111,13 +98,13 @@ few_after plan history (entry.Issue start) e fits named few =
     let numbers = and_parts (is_small start.worker && is_small start.io) (name_fits start.write) parts.0 in
     let small = and_parts (is_small start.worker) (is_small start.io) numbers.0 in
     let below = number_small history start.io small.1 parts.1 in
-    omega (arith, below, started_more history e, started_most e)
+    omega (arith, below, started_count-more history e, started_most e)
 few_after plan history (entry.Probe start) e fits named few =
     let parts = and_parts (is_small start.worker && is_small start.io && name_fits start.write) (start.io == length (started history)) fits in
     let numbers = and_parts (is_small start.worker && is_small start.io) (name_fits start.write) parts.0 in
     let small = and_parts (is_small start.worker) (is_small start.io) numbers.0 in
     let below = number_small history start.io small.1 parts.1 in
-    omega (arith, below, started_more history e, started_most e)
+    omega (arith, below, started_count-more history e, started_most e)
 few_after plan history (entry.Skip worker write) e fits named few = same_count plan history e (nothing e named) few
   where
     nothing : (x : Event) → event_of plan (entry.Skip worker write) ≡ Some x → length (started (x ∷ [])) ≡ 0

@@ -1,9 +1,9 @@
 -- The trace of a whole legal run is accepted.
 use Rattle.std.proofs.Common.{◌≡◌, ℕ, ◌+◌, List, [], ◌∷◌, ◌++◌, length, Bool, true, cond, ◌&&◌, Result, Ok, Err, Vec, Global, refl, sym, ap, ◌∙◌, subst, inl, inr, append_assoc, append-nil}
-use Rattle.std.specs.Prelude.{IfOk, Option, Some, None, codes, slice_get, ok_or, ◌==◌}
+use Rattle.std.specs.Prelude.{IfOk, Option, Some, None, codes, slice_get, ok_or}
 use Rattle.std.specs.List.{slice_split}
 use Rattle.std.specs.Option.{option_map}
-use Rattle.std.proofs.lemmas.Bool.{and_from, and_parts, eq-eqb, eqb-true}
+use Rattle.std.proofs.lemmas.Bool.{and_from, and_parts, eq-eqb}
 use Rattle.std.proofs.lemmas.List.Splits.{slice_split_at}
 use Rattle.jr_model.specs.declared.blocks.Piece.{Piece}
 use Rattle.jr_model.specs.declared.events.Event.{Event}
@@ -22,31 +22,18 @@ use Rattle.jr_model.specs.Legal.{is_complete, is_legal, is_this_issue, is_this_p
 use Rattle.jr_model.specs.Plan.{Plan, SubJob, clone_of, issued_as}
 use Rattle.jr_model.specs.Report.{all_totals}
 use Rattle.jr_model.specs.Rounds.{Pass, pass_of}
-use Rattle.jr_model.proofs.Equality.{eq_issue}
+use Rattle.jr_model.proofs.Equality.{eq_issue, eq_piece}
 use Rattle.jr_model.proofs.LegalLaws.{cases_step_of}
 use Rattle.jr_model.specs.PlanFacts.{IsPlanned}
 use Rattle.jr_replay_traces.specs.declared.faults.TraceFault.{TraceFault}
 use Rattle.jr_replay_traces.specs.declared.faults.TraceFault.TheVariants.{Illegal, Unfinished}
-use Rattle.jr_replay_traces.specs.TraceChecks.{after, check_of, entry_event, entry_fits, event_of, if_legal, is_newline, is_numbered, issue_of, legal_event, line_event, lines_read, outcome_of, verdict_of}
-use Rattle.jr_replay_traces.specs.TraceLaws.{TraceIsAccepted, ending_of, entry_of, finding_of, lines_fit, workers_fit}
+use Rattle.jr_replay_traces.specs.TraceChecks.{after, check_of, entry_event, entry_fits, event_of, if_legal, is_newline, is_numbered, issue_of, legal_event, line_event, lines_read, outcome_of, verdict_of, workers_fit}
+use Rattle.jr_replay_traces.specs.TraceLaws.{TraceIsAccepted, ending_of, entry_of, finding_of, lines_fit}
 use Rattle.jr_replay_traces.specs.Traces.{event_text, lines_after, trace_of}
 use Rattle.jr_replay_traces.proofs.EntryReading.{event_read}
 use Rattle.jr_replay_traces.proofs.LineEnds.{no_newline}
 use Rattle.jr_replay_traces.proofs.Numbers.{numbers_fit}
 use Rattle.jr_replay_traces.proofs.ReadingLemmas.{lines_read_next}
-
--- one piece
-same_piece_is : (a b : Piece) → same_piece a b ≡ true → a ≡ b
-same_piece_is a b h =
-    let parts = and_parts ((a.file == b.file) && (a.offset == b.offset)) (a.len == b.len) h in
-    let place = and_parts (a.file == b.file) (a.offset == b.offset) parts.0 in
-    let file = eqb-true a.file b.file place.0 in
-    let offset = eqb-true a.offset b.offset place.1 in
-    let len = eqb-true a.len b.len parts.1 in
-    let p : Piece = record { file = a.file; offset = a.offset; len = a.len } in
-    ap (λ (n : ℕ). let q : Piece = record { file = n; offset = a.offset; len = a.len } in q) file
-    ∙ ap (λ (n : ℕ). let q : Piece = record { file = b.file; offset = n; len = a.len } in q) offset
-    ∙ ap (λ (n : ℕ). let q : Piece = record { file = b.file; offset = b.offset; len = n } in q) len
 
 -- an issue that may happen is of its draw
 record IsDrawn (job : SubJob) (kind : IssueKind) (piece : Piece) (o : Option Draw) : Type 0 where
@@ -71,7 +58,7 @@ module _ (plan : Plan) (history : List Event) (worker : ℕ) (write : WriteId) w
       let parts = and_parts (same_issue k kind && same_write w write) (same_piece p piece) t in
       let ways = and_parts (same_issue k kind) (same_write w write) parts.0 in
       let same_k = eq_issue k kind ways.0 in
-      let same_p = same_piece_is p piece parts.1 in
+      let same_p = eq_piece p piece parts.1 in
       elim (cases_step_of plan history worker pass draw (Issue j k w p) h) [
         | inl probe ↦ cc
         | inr (inl skip) ↦ cc
@@ -103,7 +90,7 @@ module _ (plan : Plan) (history : List Event) (worker : ℕ) (write : WriteId) w
   probe_by_step piece pass draw (Some (Verdict k io verdict)) h t = cc
   probe_by_step piece pass draw (Some (Probe k w p)) h t =
       let parts = and_parts (same_write w write) (same_piece p piece) t in
-      let same_p = same_piece_is p piece parts.1 in
+      let same_p = eq_piece p piece parts.1 in
       elim (cases_step_of plan history worker pass draw (Probe k w p) h) [
         | inl probe ↦ let of_p : p ≡ draw.piece = cc in sym of_p ∙ same_p
         | inr (inl skip) ↦ cc

@@ -7,10 +7,9 @@ use Rattle.std.proofs.lemmas.List.Folds.{list_all-append}
 use Rattle.jr_model.specs.declared.events.Event.{Event}
 use Rattle.jr_model.specs.declared.events.Event.TheVariants.{Issue, Probe, Skip, End, Verdict}
 use Rattle.jr_model.specs.History.{started, started_by}
-use Rattle.jr_replay_traces.specs.TraceChecks.{is_small}
-use Rattle.jr_replay_traces.specs.TraceLaws.{worker_of, workers_fit}
+use Rattle.jr_model.proofs.HistoryLemmas.{started_count-more}
+use Rattle.jr_replay_traces.specs.TraceChecks.{is_small, worker_of, workers_fit}
 use Rattle.jr_replay_traces.specs.Traces.{event_line, event_text, lines_after, trace_of}
-use Rattle.jr_replay_traces.proofs.ReadingLemmas.{started_more}
 
 -- the next line, and those after it
 pub lines_more : (history : List Event) (i : ℕ) (d : Event) → i < length history → lines_after (take i history) (drop i history) ≡ event_line (length (started (take i history))) (get_or history i d) ++ lines_after (take (i + 1) history) (drop (i + 1) history)
@@ -35,13 +34,13 @@ starts_none (Verdict worker io verdict) h = refl
 -- how many are started with the next event
 pub starts_more : (history : List Event) (i : ℕ) (d : Event) → i < length history → is_some (started_by (get_or history i d)) ≡ true → length (started (take (i + 1) history)) ≡ length (started (take i history)) + 1
 starts_more history i d within starts =
-    let more = started_more (take i history) (get_or history i d) in
+    let more = started_count-more (take i history) (get_or history i d) in
     let one = starts_one (get_or history i d) starts in
     ap (λ (h : List Event). length (started h)) (take_more history i d within) ∙ omega (arith, more, one)
 
 pub starts_same : (history : List Event) (i : ℕ) (d : Event) → i < length history → is_some (started_by (get_or history i d)) ≡ false → length (started (take (i + 1) history)) ≡ length (started (take i history))
 starts_same history i d within starts =
-    let more = started_more (take i history) (get_or history i d) in
+    let more = started_count-more (take i history) (get_or history i d) in
     let none = starts_none (get_or history i d) starts in
     ap (λ (h : List Event). length (started h)) (take_more history i d within) ∙ omega (arith, more, none)
 

@@ -1,6 +1,6 @@
 -- Believed: what checking a trace finds: its first faulty line, or whether it is a whole legal run (of this project).
 use Rattle.std.specs.Prelude.{◌≡◌, ⊤, ℕ, ◌+◌, ◌^◌, ◌==◌, nat_lt, Bool, true, ◌&&◌, List, [], ◌∷◌, ◌++◌, length, slice_get, Option, Some, None, Result, Ok, Err, ok_or, if◌then◌else◌}
-use Rattle.std.specs.List.{slice_split}
+use Rattle.std.specs.List.{list_all, slice_split}
 use Rattle.std.specs.Option.{option_map}
 use Rattle.jr_model.specs.declared.events.Event.{Event}
 use Rattle.jr_model.specs.declared.events.Event.TheVariants as event
@@ -34,6 +34,18 @@ is_newline b = b == 10
 -- the numbers of events are below 2 to the power of 32
 abbrev pub is_small : ℕ → Bool
 is_small n = nat_lt n (2 ^ 32)
+
+-- the worker of an event
+abbrev pub worker_of : Event → ℕ
+worker_of (event.Issue worker kind write piece) = worker
+worker_of (event.Probe worker write piece) = worker
+worker_of (event.Skip worker write) = worker
+worker_of (event.End worker id outcome) = worker
+worker_of (event.Verdict worker id verdict) = worker
+
+-- the workers are numbered below 2 to the power of 32, as those of a desk are
+abbrev pub workers_fit : List Event → Bool
+workers_fit history = list_all (λ (event : Event). is_small (worker_of event)) history
 
 abbrev pub name_fits : Name → Bool
 name_fits write = is_small write.clone && is_small write.pass && is_small write.number

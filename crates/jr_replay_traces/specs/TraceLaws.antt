@@ -1,6 +1,5 @@
--- Believed: laws of traces: what is written of a whole legal run is accepted, with that run's totals, and nothing else is.
+-- Claimed: laws of traces: what is written of a whole legal run is accepted, with that run's totals, and nothing else is.
 use Rattle.std.specs.Prelude.{◌≡◌, ℕ, Bool, true, ◌&&◌, List, [], ◌∷◌, ◌++◌, length, Ok}
-use Rattle.std.specs.List.{list_all}
 use Rattle.jr_model.specs.declared.events.Event.{Event}
 use Rattle.jr_model.specs.declared.events.Event.TheVariants as event
 use Rattle.jr_model.specs.declared.events.Outcome.{Outcome}
@@ -24,7 +23,7 @@ use Rattle.jr_replay_traces.specs.declared.entries.Finding.{Finding}
 use Rattle.jr_replay_traces.specs.declared.entries.Finding.TheVariants as finding
 use Rattle.jr_replay_traces.specs.declared.entries.Name.{Name}
 use Rattle.jr_replay_traces.specs.declared.entries.Start.{Start}
-use Rattle.jr_replay_traces.specs.TraceChecks.{check_of, entry_fits, is_small}
+use Rattle.jr_replay_traces.specs.TraceChecks.{check_of, entry_fits, workers_fit}
 use Rattle.jr_replay_traces.specs.Traces.{trace_of}
 
 -- what the line of an event says, where so many I/Os and checks were started before it
@@ -64,18 +63,6 @@ abbrev pub lines_fit : List Event → List Event → Bool
 lines_fit before [] = true
 lines_fit before (event ∷ events) =
     entry_fits (entry_of (length (started before)) event) && lines_fit (before ++ event ∷ []) events
-
--- the worker of an event
-abbrev pub worker_of : Event → ℕ
-worker_of (event.Issue worker kind write piece) = worker
-worker_of (event.Probe worker write piece) = worker
-worker_of (event.Skip worker write) = worker
-worker_of (event.End worker id outcome) = worker
-worker_of (event.Verdict worker id verdict) = worker
-
--- the workers are numbered below 2 to the power of 32, as those of a desk are
-abbrev pub workers_fit : List Event → Bool
-workers_fit history = list_all (λ (event : Event). is_small (worker_of event)) history
 
 -- in a legal history of a plan all other numbers are small
 abbrev pub NumbersFit : Type 0

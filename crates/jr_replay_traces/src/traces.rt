@@ -1,7 +1,6 @@
 ghost use Rattle.std.specs.Prelude.{◌≡◌, ◌++◌, IfOk, OnOk, codes, is_some, true};
 ghost use Rattle.jr_model.specs.History.{started_by};
-ghost use Rattle.jr_replay_traces.specs.TraceChecks.{is_small};
-ghost use Rattle.jr_replay_traces.specs.TraceLaws.{worker_of, workers_fit};
+ghost use Rattle.jr_replay_traces.specs.TraceChecks.{is_small, worker_of, workers_fit};
 ghost use Rattle.jr_replay_traces.specs.Traces.{draw_fields, event_text, outcome_fields, part_fields, spaced, trace_of, verdict_fields, what_fields};
 
 use jr_model::{Event, Memory, Outcome, Part, Verdict, What, WriteId, push_number, push_text};

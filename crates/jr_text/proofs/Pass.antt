@@ -1,7 +1,8 @@
 -- The reader's pass over the lines, which adds one line after another.
-use Rattle.std.proofs.Common.{◌≡◌, ℕ, ◌+◌, ◌<◌, ◌≤◌, List, [], ◌∷◌, length, get_or, drop, Result, Ok, Err, Bool, true, false, IsUtf8, refl, ap, ◌∙◌, sym, arith}
+use Rattle.std.proofs.Common.{◌≡◌, ℕ, ◌+◌, ◌<◌, ◌≤◌, List, [], ◌∷◌, length, get_or, drop, Result, Ok, Err, Bool, IsUtf8, ap, ◌∙◌, sym, arith}
 use Rattle.std.specs.Str.{is_utf8}
 use Rattle.std.proofs.lemmas.Bool.Decides.{nat_tests}
+use Rattle.std.proofs.lemmas.Bool.{false_from_ne_true}
 use Rattle.std.proofs.lemmas.List.{at_drop_more, at_drop_all}
 use Rattle.std.proofs.lemmas.Str.{IsUtf8-from_is_utf8, is_utf8-from_IsUtf8}
 use Rattle.jr_model.specs.declared.limits.TheConstants.{LONGEST_TEXT}
@@ -60,10 +61,6 @@ pass_refused e found n lines line within here refused =
 pub pass_end : {S : Type 0} (step : S → ℕ × List ℕ → Result S TextFault) (found : S) (n : ℕ) (lines : List (List ℕ)) → length lines ≤ n → pass_by step found (n + 1) (drop n lines) ≡ Ok found
 pass_end step found n lines past = at_drop_all (λ rest. pass_by step found (n + 1) rest) lines n past
 
-not_true : (b : Bool) → (b ≡ true → ⊥) → b ≡ false
-not_true true h = absurd (h refl)
-not_true false h = refl
-
 -- what the length and UTF-8 say of a text
 pub sections_of-too_long : (text : List ℕ) → LONGEST_TEXT < length text → sections_of text ≡ Err TooLong
 unfolding sections_of
@@ -78,5 +75,5 @@ sections_of-lines text short utf8 =
 pub sections_of-not_utf8 : (text : List ℕ) → length text ≤ LONGEST_TEXT → (IsUtf8 text → ⊥) → sections_of text ≡ Err NotUtf8
 unfolding sections_of
 sections_of-not_utf8 text short other =
-    let test = not_true (is_utf8 text) (λ e. other (IsUtf8-from_is_utf8 text e)) in
+    let test = false_from_ne_true (is_utf8 text) (λ e. other (IsUtf8-from_is_utf8 text e)) in
     grind (arith, nat_tests)

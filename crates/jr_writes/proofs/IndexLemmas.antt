@@ -19,11 +19,13 @@ use Rattle.jr_model.specs.declared.events.WriteId.{WriteId}
 use Rattle.jr_model.specs.History.{same_write, write_order}
 use Rattle.jr_model.specs.Pieces.{pieces_overlap}
 use Rattle.jr_model.proofs.Equality.{eq_write, is_at-write_order, write_order_total}
+use Rattle.jr_model.proofs.BoolLemmas.{never_both}
+use Rattle.jr_model.proofs.PieceLemmas.{overlap_turned}
 use Rattle.jr_writes.specs.declared.kept.Kept.{Kept}
 use Rattle.jr_writes.specs.declared.spot.Spot.{Spot}
 use Rattle.jr_writes.specs.Index.{IsIndexed, NoneOverlaps, StandsHere, is_kept, kept_of, piece_at, place_of, place_order, spot_of, stays}
 use Rattle.jr_writes.proofs.EntryLemmas.{filter-insert_entry, filter-remove_entry}
-use Rattle.jr_writes.proofs.Overlaps.{overlap_back, same_place}
+use Rattle.jr_writes.proofs.Overlaps.{same_place, place_itself}
 
 pub place_order_total : IsTotalOrder place_order
 place_order_total =
@@ -35,17 +37,11 @@ write_itself a = ap is_eq (tied_itself write_order_total a)
 pub write_same : (a b : WriteId) → is_at (write_order a) b ≡ true → a ≡ b
 write_same a b h = eq_write a b (sym (is_at-write_order a b) ∙ h)
 
-pub place_itself : (a : ℕ × ℕ) → is_at (place_order a) a ≡ true
-place_itself a = ap is_eq (tied_itself place_order_total a)
-
 place_parts : (a b : ℕ × ℕ) → is_at (place_order a) b ≡ true → (a.0 ≡ b.0) × (a.1 ≡ b.1)
 place_parts a b h = grind (arith, nat_tests)
 
 pub place_same : (a b : ℕ × ℕ) → is_at (place_order a) b ≡ true → a ≡ b
 place_same a b h = let parts = place_parts a b h in same_place a b parts.0 parts.1
-
-both : (b : Bool) → b ≡ true → b ≡ false → ⊥
-both b x y = cc
 
 -- what is there where some are taken out
 left_at : {X : Type 0} (b : Bool) (o : Option X) (x : X) → cond b None o ≡ Some x → (b ≡ false) × (o ≡ Some x)
@@ -75,7 +71,7 @@ module _ (kept : Option WriteId) (entry_of left_of : WriteId → Option Kept) (s
       let same : place ≡ place_of entry.piece = place_same place (place_of entry.piece) here in
       let one : spot ≡ spot_of write entry.piece = cc in
       let named : spot.write ≡ write = ap (λ (s : Spot). s.write) one in
-      both (is_at (write_order spot.write) write) (ap (λ (w : WriteId). is_at (write_order spot.write) w) (sym named) ∙ write_itself spot.write) was.0) in
+      never_both (is_at (write_order spot.write) write) (ap (λ (w : WriteId). is_at (write_order spot.write) w) (sym named) ∙ write_itself spot.write) was.0) in
       gone (place_of entry.piece) ∙ ap (λ (b : Bool). cond b None (spot_in (place_of entry.piece))) other ∙ stood
 
   still_leads : (q : ℕ × ℕ) (t : Spot) → left_in q ≡ Some t → option_map (λ e. e.piece) (left_of t.write) ≡ Some (piece_at q t)
@@ -90,7 +86,7 @@ module _ (kept : Option WriteId) (entry_of left_of : WriteId → Option Kept) (s
       let pieces : piece_at place spot ≡ piece_at q t =
       same_Some (piece_at place spot) (piece_at q t) (sym here ∙ ap (λ (w : WriteId). option_map (λ (e : Kept). e.piece) (entry_of w)) one ∙ back) in
       let places : place ≡ q = same_place place q (ap (λ (x : Piece). x.file) pieces) (ap (λ (x : Piece). x.offset) pieces) in
-      both (is_at (place_order place) q) (ap (λ (x : ℕ × ℕ). is_at (place_order place) x) (sym places) ∙ place_itself place) was.0) in
+      never_both (is_at (place_order place) q) (ap (λ (x : ℕ × ℕ). is_at (place_order place) x) (sym places) ∙ place_itself place) was.0) in
       ap (λ (o : Option Kept). option_map (λ (e : Kept). e.piece) o)
       (without t.write ∙ ap (λ (b : Bool). cond b None (entry_of t.write)) other)
       ∙ back
@@ -156,7 +152,7 @@ module _ (entry_of new_of : WriteId → Option Kept) (spot_in new_in : ℕ × �
   older q t h other =
       ⊎_elim
       (λ (here : (is_at (place_order (place_of entry.piece)) q ≡ true) × (spot_of write entry.piece ≡ t)).
-      absurd (both (same_write write t.write) (ap (λ (s : Spot). same_write write s.write) (sym here.1) ∙ sym (is_at-write_order write write) ∙ write_itself write) other))
+      absurd (never_both (same_write write t.write) (ap (λ (s : Spot). same_write write s.write) (sym here.1) ∙ sym (is_at-write_order write write) ∙ write_itself write) other))
       (λ (there : (is_at (place_order (place_of entry.piece)) q ≡ false) × (spot_in q ≡ Some t)). there.1)
       (is_in q t h)
 
@@ -199,15 +195,15 @@ module _ (kept : Option WriteId) (piece : Piece) (entry_of : WriteId → Option 
       let one : piece_at p s ≡ piece_at q t = mine ∙ sym (here q t y b) in
       same_place p q (ap (λ (z : Piece). z.file) one) (ap (λ (z : Piece). z.offset) one))
       (λ (b : is_kept kept t.write ≡ false).
-      absurd (both (pieces_overlap piece (piece_at q t)) (ap (λ (z : Piece). pieces_overlap z (piece_at q t)) (sym mine) ∙ shared) (none q t y b)))
+      absurd (never_both (pieces_overlap piece (piece_at q t)) (ap (λ (z : Piece). pieces_overlap z (piece_at q t)) (sym mine) ∙ shared) (none q t y b)))
       (cases_Bool (is_kept kept t.write)))
       (λ (a : is_kept kept s.write ≡ false).
       ⊎_elim
       (λ (b : is_kept kept t.write ≡ true).
       let mine = here q t y b in
       absurd
-      (both (pieces_overlap piece (piece_at p s))
-      (ap (λ (z : Piece). pieces_overlap z (piece_at p s)) (sym mine) ∙ overlap_back (piece_at p s) (piece_at q t) shared)
+      (never_both (pieces_overlap piece (piece_at p s))
+      (ap (λ (z : Piece). pieces_overlap z (piece_at p s)) (sym mine) ∙ overlap_turned (piece_at p s) (piece_at q t) shared)
       (none p s x a)))
       (λ (b : is_kept kept t.write ≡ false). index.disjoint.apart p q s t x y a b shared)
       (cases_Bool (is_kept kept t.write)))
@@ -230,7 +226,7 @@ module _ (kept : Option WriteId) (piece : Piece) (entry_of : WriteId → Option 
     where
       by : (b c : Bool) → (b ≡ false → c ≡ false) → (b || not c) ≡ true
       by true c h = refl
-      by false true h = absurd (both true refl (h refl))
+      by false true h = absurd (never_both true refl (h refl))
       by false false h = refl
 
 -- and all entries stay
@@ -257,9 +253,9 @@ filter-removed kept piece es place spot back other shared =
     (ap (λ (p : Piece). pieces_overlap piece p) found.2 ∙ shared))
   where
     dropped : (b c : Bool) → b ≡ false → c ≡ true → (b || not c) ≡ false
-    dropped true c x y = absurd (both true refl x)
+    dropped true c x y = absurd (never_both true refl x)
     dropped false true x y = refl
-    dropped false false x y = absurd (both false y refl)
+    dropped false false x y = absurd (never_both false y refl)
 
 module _ (write : WriteId) (entry : Kept) (es : List (WriteId × Kept)) (ordered : IsStrictlySortedBy write_order (keys_of es)) (fresh : kept_of es write ≡ None) where
   -- what stays of the entries with a new one is the new one and what of the others lies apart from it

@@ -1,5 +1,5 @@
 -- The entries that are kept, through a step of the log.
-use Rattle.std.proofs.Common.{◌≡◌, ℕ, Result, Ok, Err, Bool, true, false, cond, List, [], ◌∷◌, Option, Some, None, arith, refl, sym, ap, subst, ◌∙◌, filter, map}
+use Rattle.std.proofs.Common.{◌≡◌, ℕ, Bool, true, false, cond, List, [], ◌∷◌, Option, Some, None, arith, refl, sym, ap, subst, ◌∙◌, filter, map}
 use Rattle.std.proofs.lemmas.List.Elements.{All-cons, All-filter, All-head, All-nil, All-tail, All-weaker}
 use Rattle.std.proofs.lemmas.Map.Made.{keys_of-map_values, lookup-map_values}
 use Rattle.std.proofs.lemmas.Option.{none-some, same_Some}
@@ -11,7 +11,6 @@ use Rattle.std.specs.List.Sorted.{IsStrictlySortedBy}
 use Rattle.std.specs.Map.{keys_of, lookup}
 use Rattle.std.specs.Option.{is_some, option_map}
 use Rattle.std.specs.Ordering.{match_ordering}
-use Rattle.std.specs.Result.{OnErr}
 use Rattle.jr_model.specs.declared.blocks.Piece.{Piece}
 use Rattle.jr_model.specs.declared.contents.Expected.{Expected}
 use Rattle.jr_model.specs.declared.contents.Expected.TheVariants.{Nothing, Header, Seed}
@@ -164,8 +163,3 @@ placed-found known test (e ∷ es) kept placed here = by (placed-found known tes
 
 pub placed-kept : (known : Known) (es : List (WriteId × Kept)) (write : WriteId) (kept : Kept) → kept_of es write ≡ Some kept → ArePlaced known es → IsPlaced known kept.place
 placed-kept known es write kept here placed = placed-found known (is_at (write_order write)) es kept placed here
-
--- what holds anyway holds of an error
-pub on_error : {T E : Type 0} (r : Result T E) (P : Type 0) → P → OnErr r P
-on_error (Ok x) P p = tt
-on_error (Err e) P p = p

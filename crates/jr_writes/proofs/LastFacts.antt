@@ -1,8 +1,9 @@
 -- The last place of a file before an end, found on its sheet or on one above.
-use Rattle.std.proofs.Common.{◌≡◌, ℕ, ◌+◌, ◌*◌, ◌/◌, ◌%◌, ◌<◌, ◌≤◌, Bool, true, false, List, Option, Some, None, IsSome, arith, refl, sym, ap, ◌∙◌, inl, inr}
+use Rattle.std.proofs.Common.{◌≡◌, ℕ, ◌+◌, ◌*◌, ◌/◌, ◌%◌, ◌<◌, ◌≤◌, false, List, Option, Some, None, IsSome, arith, refl, sym, ap, ◌∙◌, inl, inr}
 use Rattle.std.specs.declared.cmp.Ordering.TheVariants.{Less}
 use Rattle.std.specs.Ordering.{is_lt}
 use Rattle.std.proofs.lemmas.Bool.{cases_eq, cases_lt}
+use Rattle.jr_model.proofs.BoolLemmas.{never_both}
 use Rattle.jr_writes.specs.declared.sheets.Sheet.{Sheet}
 use Rattle.jr_writes.specs.declared.spot.Spot.{Spot}
 use Rattle.jr_writes.specs.Index.{place_order}
@@ -14,9 +15,6 @@ use Rattle.jr_writes.specs.Slots.{IsLastTaken}
 use Rattle.jr_writes.proofs.Overlaps.{before_by_file, before_from_parts, before_parts, some_is}
 use Rattle.jr_writes.proofs.PlaceFacts.{at_sector, off_sector}
 use Rattle.jr_writes.proofs.SheetFacts.{nothing_on}
-
-both : (b : Bool) → b ≡ true → b ≡ false → ⊥
-both b x y = cc
 
 module _ (es : List ((ℕ × ℕ) × Sheet Spot)) where
   pub no_sheet : (file q : ℕ) → sheet_at_place es (file, q / 4096) ≡ None → sector_at es (file, q) ≡ None
@@ -62,7 +60,7 @@ module _ (es : List ((ℕ × ℕ) × Sheet Spot)) where
         by None none = no_sheet name.0 q none
         by (Some sheet) there =
             absurd
-            (both (is_lt (place_order above (name.0, q / 4096))) (ap is_lt after)
+            (never_both (is_lt (place_order above (name.0, q / 4096))) (ap is_lt after)
             (between (name.0, q / 4096) (before_from_parts (name.0, q / 4096) name refl lt) (some_is (sheet_at_place es (name.0, q / 4096)) sheet there)))
 
     -- where it is of another file, the file has none

@@ -1,5 +1,4 @@
 pub mod EntryLemmas
-pub mod Halves
 pub mod IndexLemmas
 pub mod KeptLemmas
 pub mod LastFacts

@@ -1,6 +1,5 @@
 -- What look-ups find after a step of the log.
-use Rattle.std.proofs.Common.{◌≡◌, Bool, cond, List, Option, Some, None, arith, refl, ap, ◌∙◌}
-use Rattle.std.proofs.lemmas.Bool.Decides.{nat_tests}
+use Rattle.std.proofs.Common.{◌≡◌, Bool, cond, List, Option, Some, None, refl, ap, ◌∙◌}
 use Rattle.std.proofs.lemmas.Cmp.{eq_by_cmp_equiv}
 use Rattle.std.proofs.lemmas.Map.Entries.{lookup-filter-values, option_filter}
 use Rattle.std.proofs.lemmas.Map.Keys.{IsDistinct-from_sorted}
@@ -10,13 +9,10 @@ use Rattle.jr_model.specs.declared.blocks.Piece.{Piece}
 use Rattle.jr_model.specs.declared.contents.Expected.{Expected}
 use Rattle.jr_model.specs.declared.events.WriteId.{WriteId}
 use Rattle.jr_model.specs.History.{same_write, write_order}
-use Rattle.jr_model.proofs.Equality.{is_at-write_order, write_order_total}
+use Rattle.jr_model.proofs.Equality.{is_at-write_order, write_order_total, same_write_back}
 use Rattle.jr_writes.specs.declared.logs.Logged.{Logged}
 use Rattle.jr_writes.specs.LoggedWrites.{if_apart, lies_apart, logged, settled, unsettled}
 use Rattle.jr_writes.proofs.EntryLemmas.{lookup-insert_entry}
-
-same_write_back : (a b : WriteId) → same_write a b ≡ same_write b a
-same_write_back a b = grind (arith, nat_tests)
 
 filter_is : (piece : Piece) (o : Option Logged) → option_filter (lies_apart piece) o ≡ if_apart piece o
 filter_is piece None = refl

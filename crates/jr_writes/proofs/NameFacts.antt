@@ -1,9 +1,8 @@
 -- What is kept of the writes by their names, through a step of one sheet.
-use Rattle.std.proofs.Common.{◌≡◌, ℕ, ◌/◌, ◌%◌, Bool, true, false, ◌&&◌, cond, List, [], Option, None, arith, refl, sym, ap, ◌∙◌, inl, inr, eq-eqb}
+use Rattle.std.proofs.Common.{◌≡◌, ℕ, ◌/◌, ◌%◌, Bool, true, false, ◌&&◌, cond, List, [], Option, None, refl, sym, ap, ◌∙◌}
 use Rattle.std.specs.Prelude.{◌==◌}
 use Rattle.std.specs.BTreeMap.{is_at}
 use Rattle.std.specs.Map.{lookup}
-use Rattle.std.proofs.lemmas.Bool.{cases_eq, ne_eqb}
 use Rattle.jr_model.specs.declared.events.WriteId.{WriteId}
 use Rattle.jr_model.specs.History.{write_order}
 use Rattle.jr_model.proofs.Equality.{is_at-write_order}
@@ -12,29 +11,11 @@ use Rattle.jr_writes.specs.declared.sheets.Sheet.{Sheet}
 use Rattle.jr_writes.specs.Names.{in_sheet, name_at, sheet_name}
 use Rattle.jr_writes.proofs.IndexLemmas.{write_same}
 use Rattle.jr_writes.proofs.TableFacts.{table_same, table_step}
+use Rattle.jr_writes.proofs.PlaceFacts.{number_parts}
 
 -- the sheet of that name
 abbrev pub sheet_of : List (WriteId × Sheet Kept) → WriteId → Option (Sheet Kept)
 sheet_of sheets name = lookup (is_at (write_order name)) sheets
-
-number_parts : (n m : ℕ) → (n == m) ≡ ((n / 4096 == m / 4096) && (m % 4096 == n % 4096))
-number_parts n m =
-    elim (cases_eq n m) [
-      | inl same ↦
-          eq-eqb n m same
-          ∙ sym
-          (ap (λ (b : Bool). b && (m % 4096 == n % 4096)) (eq-eqb (n / 4096) (m / 4096) (ap (λ (x : ℕ). x / 4096) same))
-          ∙ eq-eqb (m % 4096) (n % 4096) (ap (λ (x : ℕ). x % 4096) (sym same)))
-      | inr other ↦
-          ne_eqb n m other
-          ∙ sym
-          (elim (cases_eq (n / 4096) (m / 4096)) [
-            | inl high ↦
-                ap (λ (b : Bool). b && (m % 4096 == n % 4096)) (eq-eqb (n / 4096) (m / 4096) high)
-                ∙ ne_eqb (m % 4096) (n % 4096) (λ low. other (omega arith))
-            | inr high ↦ ap (λ (b : Bool). b && (m % 4096 == n % 4096)) (ne_eqb (n / 4096) (m / 4096) high)
-          ])
-    ]
 
 -- two writes are one where their sheets are, and their places
 names_agree : (a b : WriteId) → is_at (write_order a) b ≡ (is_at (write_order (sheet_name a)) (sheet_name b) && (b.number % 4096 == a.number % 4096))

@@ -1,5 +1,5 @@
 -- Which pieces share bytes, by their places.
-use Rattle.std.proofs.Common.{◌≡◌, ℕ, IsSome, ◌+◌, ◌<◌, ◌≤◌, Bool, true, false, Option, Some, None, arith, refl, sym, ◌∙◌, ap, subst, ◌⊎◌, inl, inr}
+use Rattle.std.proofs.Common.{◌≡◌, ℕ, IsSome, ◌+◌, ◌<◌, ◌≤◌, true, false, Option, Some, None, arith, refl, sym, ◌∙◌, ap, subst, ◌⊎◌, inl, inr}
 use Rattle.std.proofs.lemmas.Bool.Decides.{nat_tests}
 use Rattle.std.proofs.lemmas.Bool.{cases_eq, cases_lt, false_from_ne_true}
 use Rattle.std.proofs.lemmas.Option.{none-some, same_Some}
@@ -9,6 +9,7 @@ use Rattle.std.specs.Ordering.{is_lt}
 use Rattle.jr_model.specs.declared.blocks.Piece.{Piece}
 use Rattle.jr_model.specs.declared.events.WriteId.{WriteId}
 use Rattle.jr_model.specs.Pieces.{piece_end, pieces_overlap}
+use Rattle.jr_model.proofs.BoolLemmas.{never_both}
 use Rattle.jr_writes.specs.declared.spot.Spot.{Spot}
 use Rattle.jr_writes.specs.Index.{AreDisjoint, NoneOverlaps, StandsHere, is_kept, piece_at, place_order}
 use Rattle.jr_writes.specs.Last.{IsLastBefore, IsLastOther, IsLastOverlapped, NoneOverlapsFrom, NoneOverlapsIn}
@@ -20,12 +21,6 @@ overlap_parts a b h = grind (arith, nat_tests)
 -- and the way back
 pub overlap_from_parts : (a b : Piece) → a.file ≡ b.file → a.offset < piece_end b → b.offset < piece_end a → a.offset < piece_end a → b.offset < piece_end b → pieces_overlap a b ≡ true
 overlap_from_parts a b file x y z w = grind (arith, nat_tests)
-
--- whether they share one doesn't depend on which comes first
-pub overlap_back : (a b : Piece) → pieces_overlap a b ≡ true → pieces_overlap b a ≡ true
-overlap_back a b h =
-    let parts = overlap_parts a b h in
-    overlap_from_parts b a (sym parts.0) parts.2 parts.1 parts.4 parts.3
 
 -- one place lies before another
 pub before_parts : (a b : ℕ × ℕ) → place_order a b ≡ Less → (a.0 < b.0) ⊎ ((a.0 ≡ b.0) × (a.1 < b.1))
@@ -39,8 +34,8 @@ not_before_parts a b h = grind (arith, nat_tests)
 pub before_from_parts : (a b : ℕ × ℕ) → a.0 ≡ b.0 → a.1 < b.1 → place_order a b ≡ Less
 before_from_parts a b file h = grind (arith, nat_tests)
 
-is_at_itself : (a : ℕ × ℕ) → is_at (place_order a) a ≡ true
-is_at_itself a = grind (arith, nat_tests)
+pub place_itself : (a : ℕ × ℕ) → is_at (place_order a) a ≡ true
+place_itself a = grind (arith, nat_tests)
 
 pub before_by_file : (a b : ℕ × ℕ) → a.0 < b.0 → place_order a b ≡ Less
 before_by_file a b h = grind (arith, nat_tests)
@@ -50,9 +45,6 @@ same_place a b x y = λ i. (x i, y i)
 
 pub some_is : {X : Type 0} (o : Option X) (x : X) → o ≡ Some x → IsSome o
 some_is o x e = subst (λ (v : Option _). IsSome v) (sym e) refl
-
-both : (b : Bool) → b ≡ true → b ≡ false → ⊥
-both b x y = cc
 
 module _ (kept : Option WriteId) (piece : Piece) (spot_in : ℕ × ℕ → Option Spot) where
   -- a spot of the piece's file at an offset is that at the pair
@@ -114,14 +106,14 @@ module _ (kept : Option WriteId) (piece : Piece) (spot_in : ℕ × ℕ → Optio
     shared,
     λ place spot at more lt other.
         false_from_ne_true (pieces_overlap piece (piece_at place spot))
-        (λ meets. both (is_kept kept spot.write) (last.3 place.1 spot (omega arith) lt (of_file place spot meets at)) other),
+        (λ meets. never_both (is_kept kept spot.write) (last.3 place.1 spot (omega arith) lt (of_file place spot meets at)) other),
   )
 
   -- there is no other
   pub none_other : (end : ℕ) → IsLastOther kept piece spot_in end None → NoneOverlapsIn kept piece spot_in 0 end
   none_other end none place spot at more lt other =
       false_from_ne_true (pieces_overlap piece (piece_at place spot))
-      (λ meets. both (is_kept kept spot.write) (none place.1 spot lt (of_file place spot meets at)) other)
+      (λ meets. never_both (is_kept kept spot.write) (none place.1 spot lt (of_file place spot meets at)) other)
 
   -- where the last other one shares no byte with the piece, none before it does
   pub none_overlaps : AreDisjoint kept spot_in → (end p : ℕ) (s : Spot) → end ≤ piece_end piece → IsLastOther kept piece spot_in end (Some (p, s)) → pieces_overlap piece (piece_at (piece.file, p) s) ≡ false → NoneOverlapsIn kept piece spot_in 0 end
@@ -136,7 +128,7 @@ module _ (kept : Option WriteId) (piece : Piece) (spot_in : ℕ × ℕ → Optio
           let before = last.1 in
           elim (cases_lt piece.offset (p + s.len)) [
             | inl h ↦
-                both (pieces_overlap piece (piece_at (piece.file, p) s))
+                never_both (pieces_overlap piece (piece_at (piece.file, p) s))
                 (overlap_from_parts piece (piece_at (piece.file, p) s) refl h (omega arith) parts.3 (omega arith)) apart
             | inr h ↦
                 let e = disjoint.apart (piece.file, p) place s spot last.0 at last.2 other
@@ -154,9 +146,9 @@ module _ (kept : Option WriteId) (piece : Piece) (spot_in : ℕ × ℕ → Optio
                   | inl same ↦
                       let one : spot ≡ s = same_Some spot s (sym (of_file place spot shared at) ∙ ap (λ (o : ℕ). spot_in (piece.file, o)) same ∙ last.0) in
                       let file = (overlap_parts piece (piece_at place spot) shared).0 in
-                      both (pieces_overlap piece (piece_at (piece.file, p) s))
+                      never_both (pieces_overlap piece (piece_at (piece.file, p) s))
                       (sym (λ i. pieces_overlap piece (piece_at (sym file i, same i) (one i))) ∙ shared) apart
-                  | inr ne ↦ both (is_kept kept spot.write) (last.3 place.1 spot (omega arith) lt (of_file place spot shared at)) other
+                  | inr ne ↦ never_both (is_kept kept spot.write) (last.3 place.1 spot (omega arith) lt (of_file place spot shared at)) other
                 ]
           ]
 
@@ -185,8 +177,8 @@ none_from_gone kept piece spot_in left_in end p s found from was place spot at l
             | inl same ↦
                 false_from_ne_true (pieces_overlap piece (piece_at place spot))
                 (λ shared.
-                both (is_at (place_order (piece.file, p)) place)
-                ((λ i. is_at (place_order (piece.file, p)) (sym (overlap_parts piece (piece_at place spot) shared).0 i, same i)) ∙ is_at_itself (piece.file, p))
+                never_both (is_at (place_order (piece.file, p)) place)
+                ((λ i. is_at (place_order (piece.file, p)) (sym (overlap_parts piece (piece_at place spot) shared).0 i, same i)) ∙ place_itself (piece.file, p))
                 old.0)
             | inr ne ↦ found.4 place spot old.1 (omega arith) h other
           ]

@@ -23,7 +23,7 @@ name_of at = (at.0, at.1 / 4096)
 is_at-place : (a b : ℕ × ℕ) → is_at (place_order a) b ≡ ((a.0 == b.0) && (a.1 == b.1))
 is_at-place a b = grind (arith, nat_tests)
 
-number_parts : (n m : ℕ) → (n == m) ≡ ((n / 4096 == m / 4096) && (m % 4096 == n % 4096))
+pub number_parts : (n m : ℕ) → (n == m) ≡ ((n / 4096 == m / 4096) && (m % 4096 == n % 4096))
 number_parts n m =
     elim (cases_eq n m) [
       | inl same ↦

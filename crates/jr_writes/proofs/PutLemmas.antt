@@ -13,8 +13,8 @@ use Rattle.jr_model.proofs.Equality.{is_at-write_order}
 use Rattle.jr_writes.specs.declared.kept.Kept.{Kept}
 use Rattle.jr_writes.specs.declared.spot.Spot.{Spot}
 use Rattle.jr_writes.specs.Index.{IsIndexed, StandsHere, kept_of, piece_at, place_of, place_order, spot_of, stays}
-use Rattle.jr_writes.proofs.IndexLemmas.{IsIndexed-inserted, IsIndexed-removed, StandsHere-inserted, filter-inserted, filter-removed, place_itself, write_same}
-use Rattle.jr_writes.proofs.Overlaps.{overlap_from_parts}
+use Rattle.jr_writes.proofs.IndexLemmas.{IsIndexed-inserted, IsIndexed-removed, StandsHere-inserted, filter-inserted, filter-removed, write_same}
+use Rattle.jr_writes.proofs.Overlaps.{overlap_from_parts, place_itself}
 
 turned : {X : Type 0} (b c : Bool) (y : X) (o : Option X) → (b ≡ true → c ≡ true → ⊥) → cond b None (cond c (Some y) o) ≡ cond c (Some y) (cond b None o)
 turned true true y o h = absurd (h refl refl)

@@ -11,6 +11,7 @@ use Rattle.std.proofs.lemmas.Bool.{cases_eq, cases_lt, eqb-false, ne_eqb}
 use Rattle.std.proofs.lemmas.Option.{slice_get_read}
 use Rattle.std.proofs.lemmas.Nat.{and_le_l, or_lt, mod-pow-add, ones_le_self, pow_pos, shr_split}
 use Rattle.std.proofs.lemmas.Nat.Bits.{bit_at-lt, bit_at-zero, bit_at_above, bit_at_cat_low, bit_at_set_same, bit_at_set_other, bit_at_clear_same, bit_at_clear_other}
+use Rattle.jr_model.proofs.PlaceLemmas.{got_set}
 use Rattle.jr_writes.specs.Slots.{IsLastTaken, slot_at}
 
 -- ---- an item of a list, through a step
@@ -44,11 +45,6 @@ slice_get-remove_above [] (suc i) k h = refl
 slice_get-remove_above (x ∷ xs) zero k h = refl
 slice_get-remove_above (x ∷ xs) (suc i) zero h = absurd (omega arith)
 slice_get-remove_above (x ∷ xs) (suc i) (suc k) h = slice_get-remove_above xs i k (omega arith)
-
-slice_get-set_same : {T : Type 0} (xs : List T) (i : ℕ) (y : T) → i < length xs → slice_get (set xs i y) i ≡ Some y
-slice_get-set_same [] i y h = absurd (omega arith)
-slice_get-set_same (x ∷ xs) zero y h = refl
-slice_get-set_same (x ∷ xs) (suc i) y h = slice_get-set_same xs i y (omega arith)
 
 slice_get-set_other : {T : Type 0} (xs : List T) (i : ℕ) (y : T) (k : ℕ) → (k ≡ i → ⊥) → slice_get (set xs i y) k ≡ slice_get xs k
 slice_get-set_other [] i y k ne = refl
@@ -290,7 +286,7 @@ slots_set w s items v one within k =
     by (inl same) =
         ap (slot_at w (set items (rank w s) v)) same
         ∙ taken_slot w (set items (rank w s) v) s one
-        ∙ slice_get-set_same items (rank w s) v (omega (arith, within, count_ones-low w s))
+        ∙ got_set items (rank w s) v (omega (arith, within, count_ones-low w s))
         ∙ sym (ap (λ (b : Bool). cond b (Some v) (slot_at w items k)) (eq-eqb k s same))
     by (inr other) =
         elim (bit_cases w k) [

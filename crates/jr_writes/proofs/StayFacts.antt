@@ -15,9 +15,6 @@ use Rattle.jr_writes.proofs.IndexLemmas.{found_piece, one_stays, write_same}
 use Rattle.jr_writes.proofs.Overlaps.{overlap_from_parts}
 use Rattle.jr_writes.proofs.PutLemmas.{older_differs}
 
-both : (b : Bool) → b ≡ true → b ≡ false → ⊥
-both b x y = cc
-
 -- with a new write, what stays of the others is what stayed, and the new one stays
 pub left_inserted : (write : WriteId) (entry : Kept) (old new : WriteId → Option Kept) → ((q : WriteId) → new q ≡ cond (is_at (write_order write) q) (Some entry) (old q)) → (q : WriteId) → left_of (Some write) entry.piece new q ≡ cond (is_at (write_order write) q) (Some entry) (left_of None entry.piece old q)
 left_inserted write entry old new step q =

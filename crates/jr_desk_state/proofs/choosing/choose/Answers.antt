@@ -2,7 +2,7 @@ use Rattle.std.proofs.Common.{◌≡◌, ◌+◌, ◌<◌, ◌≤◌, ℕ, true,
 use Rattle.std.specs.Prelude.{is_some, Some, None}
 use Rattle.jr_model.specs.Choice.{choice_of_clone}
 use Rattle.jr_model.specs.Plan.{Plan, SubJob, clone_of}
-use Rattle.jr_laws_steps.proofs.PlaceLemmas.{item_at}
+use Rattle.jr_model.proofs.PlaceLemmas.{item_at}
 use Rattle.jr_desk_state.specs.declared.board.Board.{Board}
 use Rattle.jr_desk_state.specs.declared.choosing.Chosen.{Chosen}
 use Rattle.jr_desk_state.specs.Boards.{IsBoard}

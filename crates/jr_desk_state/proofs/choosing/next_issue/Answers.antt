@@ -2,13 +2,13 @@ use Rattle.std.proofs.Common.{◌≡◌, ℕ, suc, ◌+◌, ◌<◌, ◌≤◌, 
 use Rattle.std.specs.Prelude.{Option, slice_get}
 use Rattle.std.specs.Option.{option_map}
 use Rattle.std.proofs.lemmas.Bool.{lt-ltb, le-ltb}
+use Rattle.std.proofs.lemmas.Option.{same_Some}
 use Rattle.jr_model.specs.declared.events.Event.{Event}
 use Rattle.jr_model.specs.declared.workloads.Draw.{Draw}
 use Rattle.jr_model.specs.Plan.{SubJob}
 use Rattle.jr_model.specs.Rounds.{pass_of}
 use Rattle.jr_laws_rounds.specs.Standing.{issue_of, next_issue}
-use Rattle.jr_laws_steps.proofs.PlaceLemmas.{item_at}
-use Rattle.jr_laws_steps.proofs.StartedLemmas.{same_some}
+use Rattle.jr_model.proofs.PlaceLemmas.{item_at}
 use Rattle.jr_desk_state.specs.declared.choosing.Chosen.{Chosen}
 use Rattle.jr_desk_state.specs.declared.standings.Standing.{Standing}
 use Rattle.jr_desk_state.proofs.ChoiceMoves.{next_here, next_later, next_none}
@@ -30,7 +30,7 @@ returns-then-not-pass_is_finished-clause-step c job standing there at =
     let board = c.args.board.now in
     let stood = c.index-standing.result.now in
     let here = standing_at plan board c.args.clone stood c.requires.board c.requires.there c.index-standing.ensures in
-    let same : stood ≡ standing = same_some stood standing (sym here ∙ at) in
+    let same : stood ≡ standing = same_Some stood standing (sym here ∙ at) in
     let unfinished = sym (c.pass_is_finished.ensures job stood there here) ∙ c.if-not-pass_is_finished.true in
     let step = option_map (λ (chosen : Chosen). chosen.event) c.issue_of.result in
     subst (λ (s : Standing). step ≡ next_issue plan board.history.items c.args.worker job s.pass) same
@@ -54,9 +54,9 @@ returns-then-next-passes-clause-step c job standing there at =
     let board = c.args.board.now in
     let stood = c.index-standing.result.now in
     let here = standing_at plan board c.args.clone stood c.requires.board c.requires.there c.index-standing.ensures in
-    let same : stood ≡ standing = same_some stood standing (sym here ∙ at) in
+    let same : stood ≡ standing = same_Some stood standing (sym here ∙ at) in
     let finished = sym (c.pass_is_finished.ensures job stood there here) ∙ c.if-not-pass_is_finished.false in
-    let same_job : c.clone_at.result.now ≡ job = same_some c.clone_at.result.now job (sym c.clone_at.ensures.value ∙ there) in
+    let same_job : c.clone_at.result.now ≡ job = same_Some c.clone_at.result.now job (sym c.clone_at.ensures.value ∙ there) in
     let last : job.passes ≤ suc stood.pass = subst (λ (j : SubJob). j.passes ≤ suc stood.pass) same_job
     (omega (arith, c.if-next-passes.true, c.passes.ensures)) in
     subst (λ (s : Standing). ◌≡◌ {A = Option Event} None (next_issue plan board.history.items c.args.worker job s.pass)) same
@@ -78,9 +78,9 @@ returns-in-Some-clause-step c job standing there at =
     let board = c.args.board.now in
     let stood = c.index-standing.result.now in
     let here = standing_at plan board c.args.clone stood c.requires.board c.requires.there c.index-standing.ensures in
-    let same : stood ≡ standing = same_some stood standing (sym here ∙ at) in
+    let same : stood ≡ standing = same_Some stood standing (sym here ∙ at) in
     let finished = sym (c.pass_is_finished.ensures job stood there here) ∙ c.if-not-pass_is_finished.false in
-    let same_job : c.clone_at.result.now ≡ job = same_some c.clone_at.result.now job (sym c.clone_at.ensures.value ∙ there) in
+    let same_job : c.clone_at.result.now ≡ job = same_Some c.clone_at.result.now job (sym c.clone_at.ensures.value ∙ there) in
     let follows : suc stood.pass < job.passes = subst (λ (j : SubJob). suc stood.pass < j.passes) same_job
     (omega (arith, c.if-next-passes.false, c.passes.ensures)) in
     let more : stood.pass + 1 ≡ suc stood.pass = omega arith in
@@ -100,7 +100,7 @@ returns-in-None-clause-step c job standing there at =
     let stood = c.index-standing.result.now in
     let here = standing_at plan board c.args.clone stood c.requires.board c.requires.there c.index-standing.ensures in
     let finished = sym (c.pass_is_finished.ensures job stood there here) ∙ c.if-not-pass_is_finished.false in
-    let same_job : c.clone_at.result.now ≡ job = same_some c.clone_at.result.now job (sym c.clone_at.ensures.value ∙ there) in
+    let same_job : c.clone_at.result.now ≡ job = same_Some c.clone_at.result.now job (sym c.clone_at.ensures.value ∙ there) in
     let follows : suc stood.pass < job.passes = subst (λ (j : SubJob). suc stood.pass < j.passes) same_job
     (omega (arith, c.if-next-passes.false, c.passes.ensures)) in
     absurd (later_made plan board c.requires.board c.args.clone job there stood here

@@ -1,9 +1,9 @@
 use Rattle.std.proofs.Common.{◌≡◌, ◌+◌, ◌<◌, ◌≤◌, true, false, ◌&&◌, sym, ◌∙◌, ap, subst, arith}
+use Rattle.std.proofs.lemmas.Option.{same_Some}
 use Rattle.jr_model.specs.Plan.{SubJob}
 use Rattle.jr_model.specs.Rounds.{has_rounds}
 use Rattle.jr_backlog.specs.CurrentRound.{current_round}
 use Rattle.jr_laws_rounds.specs.Standing.{is_under_way}
-use Rattle.jr_laws_steps.proofs.StartedLemmas.{same_some}
 use Rattle.jr_desk_state.proofs.ChoiceCounts.{standing_at, counts_at, few, runs_on, none_halted, none_full, waits_now, none_barred}
 use Rattle.jr_desk_state.proofs.ChoiceCounts.{checks_first, none_waits, no_rounds, issues_next, none_unopened}
 use Rattle.jr_desk_state.proofs.choosing.step_of_clone.Goals as goal
@@ -29,7 +29,7 @@ returns-then-counts-clause-step c job there =
     let stood = c.index-standing.result.now in
     let counts = c.index-counts.result.now in
     let own = c.clone_at-job.result.now in
-    let same : own ≡ job = same_some own job (sym c.clone_at-job.ensures.value ∙ there) in
+    let same : own ≡ job = same_Some own job (sym c.clone_at-job.ensures.value ∙ there) in
     let at = standing_at plan board c.args.clone stood c.requires.board c.requires.there c.index-standing.ensures in
     let counted = counts_at plan board c.args.clone counts c.requires.board c.requires.there c.index-counts.ensures in
     elim c.then-counts.branch [
@@ -56,7 +56,7 @@ returns-then-counts-gt0-clause-step c job there =
     let stood = c.index-standing.result.now in
     let counts = c.index-counts.result.now in
     let own = c.clone_at-job.result.now in
-    let same : own ≡ job = same_some own job (sym c.clone_at-job.ensures.value ∙ there) in
+    let same : own ≡ job = same_Some own job (sym c.clone_at-job.ensures.value ∙ there) in
     let at = standing_at plan board c.args.clone stood c.requires.board c.requires.there c.index-standing.ensures in
     let counted = counts_at plan board c.args.clone counts c.requires.board c.requires.there c.index-counts.ensures in
     let room : counts.issues + counts.checks < job.depth = subst (λ (j : SubJob). counts.issues + counts.checks < j.depth) same
@@ -83,7 +83,7 @@ returns-then-is_under_way-clause-step c job there =
     let stood = c.index-standing.result.now in
     let counts = c.index-counts.result.now in
     let own = c.clone_at-job.result.now in
-    let same : own ≡ job = same_some own job (sym c.clone_at-job.ensures.value ∙ there) in
+    let same : own ≡ job = same_Some own job (sym c.clone_at-job.ensures.value ∙ there) in
     let at = standing_at plan board c.args.clone stood c.requires.board c.requires.there c.index-standing.ensures in
     let counted = counts_at plan board c.args.clone counts c.requires.board c.requires.there c.index-counts.ensures in
     let room : counts.issues + counts.checks < job.depth = subst (λ (j : SubJob). counts.issues + counts.checks < j.depth) same
@@ -105,7 +105,7 @@ returns-then-phase-clause-step c job there =
     let stood = c.index-standing.result.now in
     let counts = c.index-counts.result.now in
     let own = c.clone_at-job.result.now in
-    let same : own ≡ job = same_some own job (sym c.clone_at-job.ensures.value ∙ there) in
+    let same : own ≡ job = same_Some own job (sym c.clone_at-job.ensures.value ∙ there) in
     let at = standing_at plan board c.args.clone stood c.requires.board c.requires.there c.index-standing.ensures in
     let counted = counts_at plan board c.args.clone counts c.requires.board c.requires.there c.index-counts.ensures in
     let room : counts.issues + counts.checks < job.depth = subst (λ (j : SubJob). counts.issues + counts.checks < j.depth) same
@@ -143,7 +143,7 @@ returns-clause-step c job there =
     let stood = c.index-standing.result.now in
     let counts = c.index-counts.result.now in
     let own = c.clone_at-job.result.now in
-    let same : own ≡ job = same_some own job (sym c.clone_at-job.ensures.value ∙ there) in
+    let same : own ≡ job = same_Some own job (sym c.clone_at-job.ensures.value ∙ there) in
     let at = standing_at plan board c.args.clone stood c.requires.board c.requires.there c.index-standing.ensures in
     let counted = counts_at plan board c.args.clone counts c.requires.board c.requires.there c.index-counts.ensures in
     let room : counts.issues + counts.checks < job.depth = subst (λ (j : SubJob). counts.issues + counts.checks < j.depth) same

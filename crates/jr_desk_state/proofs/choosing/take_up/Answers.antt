@@ -1,12 +1,12 @@
 use Rattle.std.proofs.Common.{◌≡◌, Bool, false, cond, length, sym, ◌∙◌, ap, arith}
 use Rattle.std.specs.Prelude.{Option, Some, None, is_some}
+use Rattle.std.proofs.lemmas.Option.{same_Some}
 use Rattle.jr_model.specs.declared.blocks.Piece.{Piece}
 use Rattle.jr_model.specs.declared.events.Event.{Event}
 use Rattle.jr_model.specs.declared.events.Event.TheVariants.{Probe, Skip}
 use Rattle.jr_model.specs.Legal.{is_clear}
 use Rattle.jr_writes.specs.declared.logs.Logged.{Logged}
 use Rattle.jr_writes.specs.LoggedWrites.{logged}
-use Rattle.jr_laws_steps.proofs.StartedLemmas.{same_some}
 use Rattle.jr_desk_state.proofs.ChoiceLists.{read_at}
 use Rattle.jr_desk_state.proofs.ChoiceMoves.{taken_already, barred, taken_now}
 use Rattle.jr_desk_state.proofs.ChoiceBoards.{handed_fits, entry_there, entry, piece_there, intact_is, some_mapped}
@@ -64,7 +64,7 @@ returns-then-not-is_clear-clause-step c clone job there at rounds declines runs 
     let its = entry plan board c.requires.board clone job there standing at rounds runs write left issued
     (read_at c.deref.result.now standing.issued.items write.number issued c.deref.ensures.value found.3.0 found.1) in
     let history = board.history.items in
-    let piece : c.in_ok-piece.piece ≡ its.draw.piece = same_some c.in_ok-piece.piece its.draw.piece
+    let piece : c.in_ok-piece.piece ≡ its.draw.piece = same_Some c.in_ok-piece.piece its.draw.piece
     (c.in_ok-piece.ensures plan history c.requires.board.tickets ∙ piece_there plan board c.requires.board clone job there standing at rounds runs write left issued its) in
     let unclear = ap (is_clear plan history job false) (sym piece) ∙ sym (c.if-not-is_clear.ensures plan history job c.requires.board.flying declines) in
     sym (barred plan history c.args.worker job write its.draw its.clone its.drawn unclear)
@@ -80,7 +80,7 @@ returns-in-Some-clause-step c clone job there at rounds declines runs left =
     let its = entry plan board c.requires.board clone job there standing at rounds runs write left issued
     (read_at c.deref.result.now standing.issued.items write.number issued c.deref.ensures.value found.3.0 found.1) in
     let history = board.history.items in
-    let piece : c.in_ok-piece.piece ≡ its.draw.piece = same_some c.in_ok-piece.piece its.draw.piece
+    let piece : c.in_ok-piece.piece ≡ its.draw.piece = same_Some c.in_ok-piece.piece its.draw.piece
     (c.in_ok-piece.ensures plan history c.requires.board.tickets ∙ piece_there plan board c.requires.board clone job there standing at rounds runs write left issued its) in
     let untaken = sym its.taken ∙ c.if-issued.false in
     let clear = ap (is_clear plan history job false) (sym piece) ∙ sym (c.if-not-is_clear.ensures plan history job c.requires.board.flying declines) in
@@ -102,7 +102,7 @@ returns-in-None-clause-step c clone job there at rounds declines runs left =
     let its = entry plan board c.requires.board clone job there standing at rounds runs write left issued
     (read_at c.deref.result.now standing.issued.items write.number issued c.deref.ensures.value found.3.0 found.1) in
     let history = board.history.items in
-    let piece : c.in_ok-piece.piece ≡ its.draw.piece = same_some c.in_ok-piece.piece its.draw.piece
+    let piece : c.in_ok-piece.piece ≡ its.draw.piece = same_Some c.in_ok-piece.piece its.draw.piece
     (c.in_ok-piece.ensures plan history c.requires.board.tickets ∙ piece_there plan board c.requires.board clone job there standing at rounds runs write left issued its) in
     let untaken = sym its.taken ∙ c.if-issued.false in
     let clear = ap (is_clear plan history job false) (sym piece) ∙ sym (c.if-not-is_clear.ensures plan history job c.requires.board.flying declines) in

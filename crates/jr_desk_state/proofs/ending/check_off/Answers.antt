@@ -7,9 +7,10 @@ use Rattle.jr_model.specs.declared.events.Outcome.TheVariants.{Whole, Failed, Sh
 use Rattle.jr_model.specs.declared.events.WriteId.{WriteId}
 use Rattle.jr_model.specs.History.{is_probe, ended_whole}
 use Rattle.jr_model.specs.Plan.{clone_of}
+use Rattle.jr_model.proofs.PlanLemmas.{own_place}
 use Rattle.jr_laws_steps.specs.Nexts.{IsNext, grown}
 use Rattle.jr_desk_state.specs.Standings.{IsStanding}
-use Rattle.jr_desk_state.proofs.StandingMoves.{clone_there, stays_end_fault, stays_end_halted, stays_end_issue}
+use Rattle.jr_desk_state.proofs.StandingMoves.{stays_end_fault, stays_end_halted, stays_end_issue}
 use Rattle.jr_desk_state.proofs.ending.check_off.Goals as goal
 use Rattle.jr_desk_state.proofs.ending.check_off.Goals.{else-eq-via-then-eq+then-eq-2+else-not-is_halted, else-eq-via-then-eq+else-eq-2, else-eq-via-else-eq}
 
@@ -30,7 +31,7 @@ returns-then-not-is_halted-clause-kept c plan history job worker id io next at k
 
 pub returns-else-eq-clause-kept : goal.returns-else-eq-clause-kept
 returns-else-eq-clause-kept c plan history job worker id io next at kind write planned halted was =
-    let there = clone_there plan io.write.clone job next.planned planned in
+    let there = own_place plan io.write.clone job next.planned planned in
     elim c.else-eq.branch [
       | else-eq-via-then-eq+then-eq-2+else-not-is_halted w ↦
           stays_end_halted plan history job c.args.standing.now was worker id c.args.outcome io next there at

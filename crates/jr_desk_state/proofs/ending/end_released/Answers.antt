@@ -12,6 +12,7 @@ use Rattle.jr_model.specs.Legal.{end_fits, is_halted}
 use Rattle.jr_model.specs.Plan.{Plan, SubJob, clone_of}
 use Rattle.jr_model.specs.Races.{has_raced}
 use Rattle.jr_model.specs.declared.blocks.Piece.{Piece}
+use Rattle.jr_model.proofs.PlaceLemmas.{got_set}
 use Rattle.jr_writes.specs.LoggedWrites.{logged}
 use Rattle.jr_laws_steps.specs.Nexts.{IsNext, grown}
 use Rattle.jr_desk_totals.specs.declared.tallies.Counts.{Counts}
@@ -25,7 +26,7 @@ use Rattle.jr_desk_state.specs.Standings.{IsPrepared, IsStanding}
 use Rattle.jr_desk_state.proofs.EndingBoards.{board_stays, own_below, parts_of}
 use Rattle.jr_desk_state.proofs.LogMoves.{file_there, log_fresh, own_fits}
 use Rattle.jr_desk_state.proofs.StandingMoves.{check_left}
-use Rattle.jr_desk_state.proofs.StandingSets.{got_set_here, left_passed, prepared_same, prepared_settled_now, read_after_set}
+use Rattle.jr_desk_state.proofs.StandingSets.{left_passed, prepared_same, prepared_settled_now, read_after_set}
 use Rattle.jr_desk_state.proofs.StandingSets.{standing_resettled, standings_set}
 use Rattle.jr_desk_state.proofs.StandingStays.{standings_ended}
 use Rattle.jr_desk_state.proofs.StartingBoards.{board_grows, clone_stands, next_of, stands_at, stands_now}
@@ -264,7 +265,7 @@ returns-clause-board c =
     (others_moved plan board.last_issued clone board.standings.items old new parts.job is.others parts.planned
     (stands_at plan board clone parts.job old is parts.planned c.index_mut.ensures.value)
     (prepared_settled_now parts.job old c.commit.new.self (ap is_committed c.in_ok-commit.ensures.ok)))
-    parts.planned (got_set_here board.standings.items clone new there)
+    parts.planned (got_set board.standings.items clone new there)
     (λ was. c.check_off-passed.ensures.prepared parts.job
     (subst (IsPrepared parts.job)
     (sym (read_after_set board.standings.items clone new c.index_mut-2.result.now there c.index_mut-2.ensures.value)) was)))

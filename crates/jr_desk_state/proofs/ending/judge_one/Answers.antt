@@ -1,10 +1,9 @@
 -- The index of each part takes the step that the verdict is, or stays.
 use Rattle.std.proofs.Common.{◌≡◌, List, refl, sym, ◌∙◌, ap, arith}
-use Rattle.std.proofs.lemmas.Option.{slice_get_within}
+use Rattle.std.proofs.lemmas.Option.{slice_get_within, same_Some}
 use Rattle.jr_model.specs.declared.events.Event.{Event}
 use Rattle.jr_model.specs.declared.events.Event.TheVariants.{Verdict as Judged}
 use Rattle.jr_model.specs.Plan.{SubJob}
-use Rattle.jr_laws_steps.proofs.StartedLemmas.{same_some}
 use Rattle.jr_laws_steps.specs.Nexts.{grown}
 use Rattle.jr_desk_totals.proofs.TallyMoves.{can_count, can_judge, tallied_same}
 use Rattle.jr_desk_state.proofs.EndingBoards.{board_stays, own_below, parts_of}
@@ -73,7 +72,7 @@ returns-clause-board c =
     let parts = parts_of plan board ticket is c.requires.own in
     let next = next_of plan board (Judged by ticket.id verdict) is c.requires.may in
     let fatal : parts.job.is_fatal ≡ c.is_fatal-is_fatal.result =
-    ap (λ (j : SubJob). j.is_fatal) (same_some parts.job c.clone_at.result.now (sym parts.planned ∙ c.clone_at.ensures.value))
+    ap (λ (j : SubJob). j.is_fatal) (same_Some parts.job c.clone_at.result.now (sym parts.planned ∙ c.clone_at.ensures.value))
     ∙ sym c.is_fatal-is_fatal.ensures in
     board_grows plan board _ (Judged by ticket.id verdict) is c.requires.may
     (c.push_reserved.ensures.items ∙ ap (λ (h : List Event). grown h (Judged by ticket.id verdict)) c.reserve.ensures.items)

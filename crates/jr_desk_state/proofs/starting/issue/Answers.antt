@@ -5,15 +5,16 @@ use Rattle.jr_model.specs.declared.events.Event.TheVariants.{Issue}
 use Rattle.jr_model.specs.declared.events.Started.{Started}
 use Rattle.jr_model.specs.History.{kind_for, started}
 use Rattle.jr_model.specs.Rounds.{has_rounds}
+use Rattle.jr_model.proofs.PlanLemmas.{own_place, own_number}
 use Rattle.jr_backlog.specs.Rounds.{comes_last, takes_writes}
 use Rattle.jr_laws_steps.specs.Nexts.{IsNext, grown}
 use Rattle.jr_laws_steps.proofs.StartedFew.{started_small}
+use Rattle.jr_laws_steps.proofs.DrawnLaws.{start_fits}
 use Rattle.jr_desk_totals.proofs.TallyMoves.{can_count}
 use Rattle.jr_desk_tickets.proofs.HandingMoves.{headers_within}
-use Rattle.jr_desk_state.proofs.FlyingMoves.{start_fits}
 use Rattle.jr_desk_state.proofs.LogMoves.{log_issue}
 use Rattle.jr_desk_state.proofs.IssueMoves.{issue_fills}
-use Rattle.jr_desk_state.proofs.StandingMoves.{clone_is, clone_there, stays_other_issue}
+use Rattle.jr_desk_state.proofs.StandingMoves.{stays_other_issue}
 use Rattle.jr_desk_state.proofs.StartingBoards.{board_grows, clone_stands, next_of, stands_at, stands_now}
 use Rattle.jr_desk_state.proofs.StartingStandings.{added_few, left_set, others_kept, others_prepared, standing_moves}
 use Rattle.jr_desk_state.proofs.StartingTickets.{declines_planned, issue_io, issue_ticket}
@@ -136,8 +137,8 @@ returns-clause-board c =
     (c.issue.ensures.kept plan history worker piece next planned id
     (stands_now plan board write.clone job c.index_mut.result.now is planned c.index_mut.ensures.value))
     (λ k other standing there apart stands.
-    stays_other_issue plan history other standing stands worker dir write piece next (clone_there plan k other is.planned there)
-    (λ (same : write.clone ≡ other.clone). apart (same ∙ sym (clone_is plan k other is.planned there))))) refl
+    stays_other_issue plan history other standing stands worker dir write piece next (own_place plan k other is.planned there)
+    (λ (same : write.clone ≡ other.clone). apart (same ∙ sym (own_number plan k other is.planned there))))) refl
     (waiting_grows plan history e board.waiting next (λ other marked. tt) is.waiting)
     (others_kept plan write.clone board.standings.items c.issue.new.self
     (others_prepared plan write.clone board.standings.items c.requires.ready.standings))

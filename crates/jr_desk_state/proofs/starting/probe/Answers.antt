@@ -1,6 +1,6 @@
 use Rattle.std.proofs.Common.{◌≡◌, length, refl, sym, ◌∙◌, ap, arith}
 use Rattle.std.specs.Prelude.{Option, unwrap_or}
-use Rattle.std.proofs.lemmas.Option.{slice_get_within}
+use Rattle.std.proofs.lemmas.Option.{slice_get_within, same_Some}
 use Rattle.jr_model.specs.declared.blocks.Dir.TheVariants.{Read}
 use Rattle.jr_model.specs.declared.contents.Expected.{Expected}
 use Rattle.jr_model.specs.declared.contents.Expected.TheVariants as expected
@@ -10,16 +10,16 @@ use Rattle.jr_model.specs.declared.tickets.TicketKind.TheVariants as kind
 use Rattle.jr_model.specs.History.{started}
 use Rattle.jr_model.specs.Plan.{SubJob}
 use Rattle.jr_model.specs.Rounds.{pass_of}
-use Rattle.jr_laws_steps.proofs.StartedLemmas.{same_some}
+use Rattle.jr_model.proofs.PlanLemmas.{own_place, own_number}
 use Rattle.jr_laws_steps.proofs.StepLaws.{may_probe_of}
 use Rattle.jr_laws_steps.specs.Nexts.{grown}
 use Rattle.jr_laws_steps.proofs.StartedFew.{started_small}
+use Rattle.jr_laws_steps.proofs.DrawnLaws.{start_fits}
 use Rattle.jr_laws_rounds.proofs.ChoiceSteps.{can_take}
 use Rattle.jr_desk_totals.proofs.TallyMoves.{can_count}
 use Rattle.jr_desk_tickets.proofs.HandingMoves.{headers_within}
-use Rattle.jr_desk_state.proofs.FlyingMoves.{start_fits}
 use Rattle.jr_desk_state.proofs.LogMoves.{log_probe}
-use Rattle.jr_desk_state.proofs.StandingMoves.{clone_is, clone_there, taken_up_here, stays_other_probe}
+use Rattle.jr_desk_state.proofs.StandingMoves.{taken_up_here, stays_other_probe}
 use Rattle.jr_desk_state.proofs.StartingBoards.{board_grows, clone_stands, next_of, stands_at, stands_now}
 use Rattle.jr_desk_state.proofs.StartingStandings.{left_same, others_moved, standing_moves}
 use Rattle.jr_desk_state.proofs.StartingTickets.{declines_planned, issue_io, method_planned, probe_expects, seed_kept, ticket_made}
@@ -93,7 +93,7 @@ returns-clause-ticket c =
     let next = next_of plan board (Probe worker write piece) is c.requires.may in
     let stands = stands_now plan board write.clone job standing is planned c.index_mut.ensures.value in
     let here = taken_up_here plan history job standing stands worker write piece next planned in
-    let read = same_some c.clone_at-job.result.now job (sym c.clone_at-job.ensures.value ∙ planned) in
+    let read = same_Some c.clone_at-job.result.now job (sym c.clone_at-job.ensures.value ∙ planned) in
     let at = stands_at plan board write.clone job standing is planned c.index_mut.ensures.value in
     ticket_made plan (length (started history)) worker kind.Probe write piece c.count-id.result c.seed_of.result c.method.result
     c.args.expected (c.count-id.ensures plan history is.tickets)
@@ -121,7 +121,7 @@ returns-clause-board c =
     let e = Probe worker write piece in
     let io : Started = record { worker = worker; kind = kind.Probe; write = write; piece = piece } in
     let next = next_of plan board e is c.requires.may in
-    let read = same_some c.clone_at-job.result.now job (sym c.clone_at-job.ensures.value ∙ planned) in
+    let read = same_Some c.clone_at-job.result.now job (sym c.clone_at-job.ensures.value ∙ planned) in
     let id = c.count-id.ensures plan history is.tickets in
     board_grows plan board _ e is c.requires.may c.push_reserved.ensures.items
     (c.hand.ensures plan history e io next refl (returns-clause-ticket c) is.tickets)
@@ -135,8 +135,8 @@ returns-clause-board c =
     (c.take_up-io.ensures.kept plan history job worker write piece next planned refl
     (stands_now plan board write.clone job standing is planned c.index_mut.ensures.value))
     (λ k other one there apart stands.
-    stays_other_probe plan history other one stands worker write piece next (clone_there plan k other is.planned there)
-    (λ (same : write.clone ≡ other.clone). apart (same ∙ sym (clone_is plan k other is.planned there))))) refl
+    stays_other_probe plan history other one stands worker write piece next (own_place plan k other is.planned there)
+    (λ (same : write.clone ≡ other.clone). apart (same ∙ sym (own_number plan k other is.planned there))))) refl
     (waiting_grows plan history e board.waiting next (λ other marked. tt) is.waiting)
     (others_moved plan board.last_issued write.clone board.standings.items standing c.take_up-io.new.self job is.others planned
     (stands_at plan board write.clone job standing is planned c.index_mut.ensures.value) (c.take_up-io.ensures.prepared job))

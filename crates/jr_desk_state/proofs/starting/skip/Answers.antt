@@ -1,12 +1,13 @@
 use Rattle.std.proofs.Common.{◌≡◌, refl, sym, ◌∙◌, arith}
 use Rattle.jr_model.specs.declared.events.Event.TheVariants.{Skip}
+use Rattle.jr_model.proofs.PlanLemmas.{own_place, own_number}
 use Rattle.jr_laws_steps.proofs.StepLaws.{may_skip_of}
 use Rattle.jr_laws_steps.specs.Nexts.{grown}
 use Rattle.jr_desk_totals.proofs.TallyMoves.{can_count}
 use Rattle.jr_desk_tickets.proofs.HandingMoves.{handed_skip}
 use Rattle.jr_desk_state.proofs.FlyingMoves.{flying_skip}
 use Rattle.jr_desk_state.proofs.LogMoves.{log_skip}
-use Rattle.jr_desk_state.proofs.StandingMoves.{clone_is, clone_there, skip_left, skipped_here, stays_other_skip}
+use Rattle.jr_desk_state.proofs.StandingMoves.{skip_left, skipped_here, stays_other_skip}
 use Rattle.jr_desk_state.proofs.StartingBoards.{board_grows, clone_stands, next_of, stands_at, stands_now}
 use Rattle.jr_desk_state.proofs.StartingStandings.{left_falls, others_prepared, prepared_moves, standing_moves}
 use Rattle.jr_desk_state.proofs.WaitingMoves.{waiting_grows}
@@ -126,8 +127,8 @@ returns-clause-board c =
     (c.skip.ensures.kept plan history job worker next planned
     (stands_now plan board write.clone job c.index_mut.result.now is planned c.index_mut.ensures.value))
     (λ k other standing there apart stands.
-    stays_other_skip plan history other standing stands worker write next (clone_there plan k other is.planned there)
-    (λ (same : write.clone ≡ other.clone). apart (same ∙ sym (clone_is plan k other is.planned there))))) refl
+    stays_other_skip plan history other standing stands worker write next (own_place plan k other is.planned there)
+    (λ (same : write.clone ≡ other.clone). apart (same ∙ sym (own_number plan k other is.planned there))))) refl
     (waiting_grows plan history (Skip worker write) board.waiting next (λ other marked. tt) is.waiting)
     (others_prepared plan board.last_issued _ (returns-clause-ready c).standings)
     (let fewer = returns-clause-fewer c in omega (arith, fewer, is.left)) (omega (arith, is.few))

@@ -1,5 +1,5 @@
 use Rattle.jr_header.proofs.content.joined.Goals as goal
-use Rattle.jr_header.proofs.Halves.{over_halves}
+use Rattle.jr_model.proofs.Halves.{over_halves}
 
 pub returns : goal.returns
 returns c =

@@ -1,10 +1,11 @@
 -- What starts is put into flight, what ends taken out, and whatever else happens changes nothing of it.
 use Rattle.std.proofs.Common.{◌≡◌, ◌&&◌, ◌||◌, ℕ, List, length, sym, ap, subst, ◌∙◌, arith}
-use Rattle.std.specs.Prelude.{Result, Ok, Err, OnOk, nat_eq}
+use Rattle.std.specs.Prelude.{nat_eq}
 use Rattle.std.specs.BTreeMap.{is_at}
 use Rattle.std.specs.HashSet.{contains}
 use Rattle.std.specs.Map.{remove_entry}
 use Rattle.std.specs.Ordering.{nat_cmp}
+use Rattle.std.proofs.lemmas.Result.{on_ok_weaker}
 use Rattle.jr_model.specs.declared.events.Event.{Event}
 use Rattle.jr_model.specs.declared.events.Started.{Started}
 use Rattle.jr_model.specs.History.{started}
@@ -12,15 +13,12 @@ use Rattle.jr_flight.specs.declared.ios.Ended.{Ended}
 use Rattle.jr_flight.specs.Flights.{flying_io, raced_so_far}
 use Rattle.jr_laws_steps.specs.Nexts.{IsNext, grown}
 use Rattle.jr_laws_steps.proofs.StartedFew.{started_small}
+use Rattle.jr_laws_steps.proofs.DrawnLaws.{start_fits}
 use Rattle.jr_laws_log.specs.Flying.{begun, flight_of, io_of}
 use Rattle.jr_laws_log.proofs.FlyingLaws.{ended_flies_no_more, next_flies, next_is_free}
 use Rattle.jr_replay.specs.Indexes.{AreRacedEnds}
-use Rattle.jr_replay.proofs.IndexLaws.{flies_on, raced_end, raced_other_event, raced_start, start_fits}
+use Rattle.jr_replay.proofs.IndexLaws.{flies_on, raced_end, raced_other_event, raced_start}
 use Rattle.jr_replay.proofs.indexes.fly.Goals as goal
-
-on_ok : {T E : Type 0} {A B : Type 0} (result : Result T E) → (A → B) → OnOk result A → OnOk result B
-on_ok (Ok x) f a = f a
-on_ok (Err e) f a = a
 
 -- ---- a start
 pub overflow_cast-started : goal.overflow_cast-started
@@ -43,7 +41,7 @@ returns-in-Some-clause-flight c =
     let plan = c.args.plan.now in
     let h = c.args.history.now in
     let io = c.in-Some.io in
-    on_ok c.begin.result
+    on_ok_weaker c.begin.result
     (λ now.
     now
     ∙ ap (λ (ios : List Started). begun (io_of plan (length ios) io) c.args.flight.now) c.started.ensures
@@ -53,7 +51,7 @@ returns-in-Some-clause-flight c =
 
 pub returns-in-Some-clause-raced : goal.returns-in-Some-clause-raced
 returns-in-Some-clause-raced c =
-    on_ok c.begin.result
+    on_ok_weaker c.begin.result
     (λ now.
     raced_start c.args.plan.now c.args.history.now c.args.event.now c.in-Some.io c.args.raced.now c.requires.next
     (sym c.started_by.ensures ∙ c.in-Some.is) c.requires.raced)
@@ -65,7 +63,7 @@ returns-in-End-clause-flight c =
     let plan = c.args.plan.now in
     let h = c.args.history.now in
     let i = c.in-End in
-    on_ok c.end.result
+    on_ok_weaker c.end.result
     (λ kept.
     subst (λ (e : Event). c.end.new.flight ≡ flight_of plan (grown h e)) (sym i.is)
     (c.end.ensures.flight
@@ -79,7 +77,7 @@ returns-in-End-clause-raced c =
     let h = c.args.history.now in
     let i = c.in-End in
     let old = c.args.raced.now in
-    on_ok c.end.result
+    on_ok_weaker c.end.result
     (λ kept.
     subst (λ (e : Event). AreRacedEnds (grown h e) c.end.new.raced) (sym i.is)
     (raced_end plan h i.worker i.io i.outcome old c.end.new.raced (subst (IsNext plan h) i.is c.requires.next)

@@ -2,12 +2,12 @@
 use Rattle.std.proofs.Common.{refl, sym, subst, ◌∙◌}
 use Rattle.std.proofs.lemmas.Option.{slice_get_within}
 use Rattle.jr_model.specs.declared.events.Event.{Event}
+use Rattle.jr_model.proofs.PieceLemmas.{fitting_is_small}
 use Rattle.jr_laws_steps.specs.Nexts.{IsNext, grown}
 use Rattle.jr_laws_steps.proofs.DrawnLaws.{started_fit-law}
 use Rattle.jr_laws_steps.proofs.StepLaws.{may_issue_of, may_probe_of, may_skip_of}
 use Rattle.jr_desk_totals.specs.Tallying.{IsTallied}
 use Rattle.jr_desk_totals.proofs.TallyMoves.{can_count, can_end, can_judge, tallied_same}
-use Rattle.jr_replay.proofs.IndexLaws.{fitting_is_small}
 use Rattle.jr_replay.proofs.indexes.tally.Goals as goal
 
 -- ---- a start, and a skip

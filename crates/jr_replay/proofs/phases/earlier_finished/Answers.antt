@@ -1,13 +1,10 @@
-use Rattle.std.proofs.Common.{◌≡◌, ℕ, suc, ◌-◌, ◌<◌, Bool, IfOk, take, refl, sym, ap, subst, ◌∙◌, arith}
+use Rattle.std.proofs.Common.{◌≡◌, ℕ, suc, ◌-◌, Bool, IfOk, take, refl, sym, ap, subst, ◌∙◌, arith}
 use Rattle.std.specs.List.{list_all}
 use Rattle.std.proofs.lemmas.Bool.{eqb-false, eqb-true}
 use Rattle.jr_model.specs.Rounds.{issued_count, pass_finished, pass_of, passes_of}
+use Rattle.jr_model.proofs.NumberLemmas.{some_by_name}
 use Rattle.jr_replay.proofs.PhaseLaws.{earlier_begun, earlier_by_last}
 use Rattle.jr_replay.proofs.phases.earlier_finished.Goals as goal
-
--- a number that isn't 0 is above it
-some_issued : (n : ℕ) → (n ≡ 0 → ⊥) → 0 < n
-some_issued n none = omega (arith, none)
 
 pub returns-then-not-has_not_begun : goal.returns-then-not-has_not_begun
 returns-then-not-has_not_begun c within =
@@ -15,7 +12,7 @@ returns-then-not-has_not_begun c within =
     let job = c.args.job.now in
     let pass = pass_of job c.args.number in
     earlier_begun c.args.plan.now c.requires.course.planned job c.requires.there h c.requires.course.legal pass refl refl
-    (some_issued (issued_count h pass) (eqb-false (issued_count h pass) 0 (sym c.has_not_begun.ensures ∙ c.if-not-has_not_begun.true)))
+    (some_by_name (issued_count h pass) (eqb-false (issued_count h pass) 0 (sym c.has_not_begun.ensures ∙ c.if-not-has_not_begun.true)))
 
 pub is_finished-requires-clause-last : goal.is_finished-requires-clause-last
 is_finished-requires-clause-last c =

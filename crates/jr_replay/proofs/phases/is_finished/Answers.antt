@@ -1,17 +1,14 @@
-use Rattle.std.proofs.Common.{◌≡◌, ◌<◌, ◌&&◌, ℕ, sym, ap, ◌∙◌, arith}
+use Rattle.std.proofs.Common.{◌&&◌, ℕ, sym, ap, ◌∙◌}
 use Rattle.std.specs.Prelude.{nat_eq}
 use Rattle.std.specs.HashMap.{get}
 use Rattle.std.proofs.lemmas.Bool.{eqb-true, eqb-false}
 use Rattle.jr_model.specs.Rounds.{Pass, all_issued, rounds_closed, issued_count, pass_of}
+use Rattle.jr_model.proofs.NumberLemmas.{some_by_name}
 use Rattle.jr_laws_rounds.proofs.StandingPasses.{unbegun}
 use Rattle.jr_replay.specs.Courses.{numbered}
 use Rattle.jr_replay.proofs.CourseLemmas.{kept_is}
 use Rattle.jr_replay.proofs.FinishedLaws.{finished_where_quiet, unfinished_in_flight}
 use Rattle.jr_replay.proofs.phases.is_finished.Goals as goal
-
--- a number that isn't 0 is above it
-some_issued : (n : ℕ) → (n ≡ 0 → ⊥) → 0 < n
-some_issued n none = omega (arith, none)
 
 pub returns-then-has_not_begun : goal.returns-then-has_not_begun
 returns-then-has_not_begun c =
@@ -25,7 +22,7 @@ returns-then-not-nothing_flies_of c =
     let h = c.args.course.now.history in
     let job = c.args.job.now in
     unfinished_in_flight c.args.plan.now c.requires.course.planned job c.requires.there h c.requires.course.legal c.args.number
-    (some_issued (issued_count h (pass_of job c.args.number))
+    (some_by_name (issued_count h (pass_of job c.args.number))
     (eqb-false (issued_count h (pass_of job c.args.number)) 0 (sym c.has_not_begun.ensures ∙ c.if-has_not_begun.false)))
     c.requires.last (sym c.nothing_flies_of.ensures ∙ c.if-not-nothing_flies_of.true)
 

@@ -1,17 +1,14 @@
-use Rattle.std.proofs.Common.{◌≡◌, ℕ, ◌<◌, sym, ◌∙◌, arith}
+use Rattle.std.proofs.Common.{sym, ◌∙◌}
 use Rattle.std.proofs.lemmas.Bool.{eqb-false}
 use Rattle.jr_model.specs.Rounds.{issued_count, pass_of}
+use Rattle.jr_model.proofs.NumberLemmas.{some_by_name}
 use Rattle.jr_replay.proofs.PhaseLaws.{phase_stays_open}
 use Rattle.jr_replay.proofs.phases.is_phase_open.Goals as goal
-
--- a number that isn't 0 is above it
-some_issued : (n : ℕ) → (n ≡ 0 → ⊥) → 0 < n
-some_issued n none = omega (arith, none)
 
 pub returns : goal.returns
 returns c =
     let h = c.args.course.now.history in
     let job = c.args.job.now in
     phase_stays_open c.args.plan.now c.requires.course.planned job c.requires.there h c.requires.course.legal
-    (some_issued (issued_count h (pass_of job 0))
+    (some_by_name (issued_count h (pass_of job 0))
     (eqb-false (issued_count h (pass_of job 0)) 0 (sym c.has_not_begun.ensures ∙ c.if-has_not_begun.false)))

@@ -1,6 +1,6 @@
-use Rattle.std.proofs.Common.{◌≡◌, ℕ, zero, suc, ◌+◌, ◌-◌, ◌<◌, List, [], ◌∷◌, ◌++◌, refl, ap, sym, ◌∙◌, arith, append_assoc, append-nil}
+use Rattle.std.proofs.Common.{◌≡◌, ℕ, zero, suc, ◌+◌, ◌-◌, ◌<◌, List, [], ◌∷◌, ◌++◌, ap, sym, ◌∙◌, arith, append_assoc, append-nil}
 use Rattle.jr_draw.specs.Drawing.{draws_left}
-use Rattle.jr_draw.specs.declared.drawer.Drawer.{Drawer}
+use Rattle.jr_draw.proofs.WordLaws.{none_of_no_words}
 use Rattle.jr_model.specs.declared.workloads.Draw.{Draw}
 use Rattle.jr_model.specs.Words.{words_from}
 use Rattle.jr_replay_passes.proofs.draws.draws_left.Goals as goal
@@ -34,11 +34,6 @@ returns-in-None c =
 pub loop-preserved : goal.loop-preserved
 loop-preserved c =
     given_more (draws_left words_from c.loop.drawer) (draws_left words_from c.next.new.self) c.args.most c.loop.counter c.in-Some.draw c.loop.draws.items c.push.new.self.items (draws_left words_from c.args.drawer c.args.most) c.loop-test.true c.in-Some.ensures.draws c.in_ok-push-in-Some.ensures.items c.loop.invariant
-
--- no draw comes of no words
-none_of_no_words : (drawer : Drawer (List ℕ)) → draws_left words_from drawer 0 ≡ []
-unfolding words_from
-none_of_no_words drawer = refl
 
 pub returns : goal.returns
 returns c =

@@ -2,8 +2,8 @@ use Rattle.std.proofs.Common.{◌≡◌, ℕ, ◌∷◌, ◌<◌, ◌+◌, List,
 use Rattle.std.specs.List.{slice_split, position_or_len}
 use Rattle.std.proofs.lemmas.List.Folds.{length-prefix_len}
 use Rattle.std.proofs.lemmas.List.Splits.{slice_split_first}
+use Rattle.jr_model.proofs.ListLemmas.{one_part}
 use Rattle.jr_replay_traces.specs.TraceChecks.{is_newline}
-use Rattle.jr_replay_traces.proofs.FieldLemmas.{one_part}
 use Rattle.jr_replay_traces.proofs.checks.next_line.Goals as goal
 
 -- where the line ends

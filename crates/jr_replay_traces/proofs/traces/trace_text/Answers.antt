@@ -1,6 +1,6 @@
 use Rattle.std.proofs.Common.{◌<◌, length, sym, ap, ◌∙◌, arith}
 use Rattle.std.proofs.lemmas.List.{take_all}
-use Rattle.jr_replay_traces.specs.TraceLaws.{workers_fit}
+use Rattle.jr_replay_traces.specs.TraceChecks.{workers_fit}
 use Rattle.jr_replay_traces.proofs.TraceLemmas.{counted_more, counted_same, line_written, worker_more}
 use Rattle.jr_replay_traces.proofs.traces.trace_text.Goals as goal
 use Rattle.jr_replay_traces.proofs.traces.trace_text.Goals.{then-starts, else-starts}

@@ -1,6 +1,6 @@
 use Rattle.std.proofs.Common.{◌≡◌, ◌++◌, ◌≤◌, length, take, drop, true}
 use Rattle.jr_model.specs.History.{started}
-use Rattle.jr_replay_traces.specs.TraceLaws.{workers_fit}
+use Rattle.jr_replay_traces.specs.TraceChecks.{workers_fit}
 use Rattle.jr_replay_traces.specs.Traces.{lines_after, trace_of}
 use Rattle.jr_replay_traces.proofs.traces.trace_text.Given as goal
 

@@ -1,5 +1,5 @@
 use Rattle.jr_writes.proofs.fronts.header_of_halves.Goals as goal
-use Rattle.jr_writes.proofs.Halves.{over_halves}
+use Rattle.jr_model.proofs.Halves.{over_halves}
 
 pub returns : goal.returns
 returns c =

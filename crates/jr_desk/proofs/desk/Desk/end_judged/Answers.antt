@@ -9,9 +9,10 @@ use Rattle.jr_model.specs.declared.tickets.TicketKind.{TicketKind}
 use Rattle.jr_model.specs.declared.tickets.TicketKind.TheVariants as ticket
 use Rattle.jr_model.specs.History.{outcome_of, is_judged, ended_whole}
 use Rattle.jr_model.specs.Legal.{is_legal}
+use Rattle.jr_model.proofs.HistoryLemmas.{outcome_of-end}
 use Rattle.jr_engines.specs.Answers.{AnswerParts}
 use Rattle.jr_header.specs.Served.{is_to_judge, is_whole_check}
-use Rattle.jr_laws_steps.proofs.Grown.{outcome_of-end, is_judged-stays}
+use Rattle.jr_laws_steps.proofs.Grown.{is_judged-stays}
 use Rattle.jr_laws_steps.proofs.JudgedEnded.{flying_unjudged}
 use Rattle.jr_desk_tickets.specs.Kept.{IsOwn}
 use Rattle.jr_desk_tickets.proofs.HandingMoves.{tickets_stay}

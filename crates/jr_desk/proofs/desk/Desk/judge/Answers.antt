@@ -1,5 +1,6 @@
 use Rattle.std.proofs.Common.{◌≡◌, length, true, false, arith, rules, refl, sym, ◌∙◌, ap, subst}
 use Rattle.std.specs.Prelude.{Ok, Err}
+use Rattle.std.proofs.lemmas.Bool.{false_from_ne_true}
 use Rattle.jr_model.specs.declared.events.Event.TheVariants.{Verdict}
 use Rattle.jr_model.specs.declared.events.Verdict.{Verdict as GivenVerdict}
 use Rattle.jr_model.specs.declared.tickets.Ticket.{Ticket}
@@ -14,7 +15,7 @@ use Rattle.jr_engines.specs.Answers.{AnswerParts}
 use Rattle.jr_desk_tickets.specs.Kept.{IsOwn}
 use Rattle.jr_desk.specs.DeskState.{DeskState}
 use Rattle.jr_desk_state.proofs.Keeping.{may_judge}
-use Rattle.jr_desk.proofs.Refusing.{judge_refused_twice, judge_refused_kind, judged_probe, judge_accepts, not_stopped}
+use Rattle.jr_desk.proofs.Refusing.{judge_refused_twice, judge_refused_kind, judged_probe, judge_accepts}
 use Rattle.jr_desk.proofs.desk.Desk.judge.Goals as goal
 
 ok_err : {A B : Type 0} {a : A} {b : B} → Ok a ≡ Err b → ⊥
@@ -67,7 +68,7 @@ returns-in_err-judge-clause-refused c =
     let same : t ≡ c.args.ruling.now.ticket = c.ticket-ticket.ensures.value ∙ ap (λ (a : AnswerParts). a.ticket) c.served.ensures.value in
     judge_accepts desk c.args.ruling.now.ticket _
     (subst (λ (x : Ticket). IsOwn desk.plan desk.history x) same c.in_ok-check_own.ensures.ok)
-    (not_stopped desk.is_stopped (λ (stopped : desk.is_stopped ≡ true). ok_err (c.in_ok-check_own.ensures.stopped stopped)))
+    (false_from_ne_true desk.is_stopped (λ (stopped : desk.is_stopped ≡ true). ok_err (c.in_ok-check_own.ensures.stopped stopped)))
     (subst (λ (x : Ticket). is_judged desk.history x.id ≡ false) same (sym c.is_judged.ensures ∙ c.if-is_judged.false))
     (subst (λ (x : Ticket). ended_whole (outcome_of desk.history x.id) ≡ true) same (sym c.has_ended_whole.ensures ∙ c.if-not-has_ended_whole.false))
 
@@ -78,7 +79,7 @@ returns-clause-refused c =
     let same : t ≡ c.args.ruling.now.ticket = c.ticket-ticket.ensures.value ∙ ap (λ (a : AnswerParts). a.ticket) c.served.ensures.value in
     judge_accepts desk c.args.ruling.now.ticket _
     (subst (λ (x : Ticket). IsOwn desk.plan desk.history x) same c.in_ok-check_own.ensures.ok)
-    (not_stopped desk.is_stopped (λ (stopped : desk.is_stopped ≡ true). ok_err (c.in_ok-check_own.ensures.stopped stopped)))
+    (false_from_ne_true desk.is_stopped (λ (stopped : desk.is_stopped ≡ true). ok_err (c.in_ok-check_own.ensures.stopped stopped)))
     (subst (λ (x : Ticket). is_judged desk.history x.id ≡ false) same (sym c.is_judged.ensures ∙ c.if-is_judged.false))
     (subst (λ (x : Ticket). ended_whole (outcome_of desk.history x.id) ≡ true) same (sym c.has_ended_whole.ensures ∙ c.if-not-has_ended_whole.false))
 

@@ -1,8 +1,8 @@
 -- What ends is what began last, or one of the others.
 use Rattle.std.proofs.Common.{◌≡◌, List, ℕ, Some, sym, ap, subst, ◌∙◌}
+use Rattle.std.proofs.lemmas.Option.{same_Some}
 use Rattle.jr_model.specs.declared.events.Event.TheVariants.{End}
 use Rattle.jr_flight.specs.declared.ios.Ended.{Ended}
-use Rattle.jr_laws_steps.proofs.StartedLemmas.{same_some}
 use Rattle.jr_laws_steps.specs.Nexts.{grown}
 use Rattle.jr_desk_state.specs.Flyings.{IsFlying}
 use Rattle.jr_desk_state.proofs.flying.Flying.end.Goals as goal
@@ -18,7 +18,7 @@ returns-in_default c plan history worker outcome next was =
     let other : (ended : Ended) → c.args.self.now.begun ≡ Some ended → ended.io.id ≡ c.args.id → ⊥ =
     elim c.in_default.branch [
       | in_default-via-in-Some+else-ended-id w ↦
-          λ ended is same. w.if-ended-id.false (ap (λ (x : Ended). x.io.id) (same_some w.in-Some.ended ended (sym w.in-Some.is ∙ is)) ∙ same)
+          λ ended is same. w.if-ended-id.false (ap (λ (x : Ended). x.io.id) (same_Some w.in-Some.ended ended (sym w.in-Some.is ∙ is)) ∙ same)
       | in_default-via-in_default w ↦ λ ended is same. w.in_default.not-Some ended is
     ] in
     subst

@@ -1,10 +1,10 @@
 use Rattle.std.proofs.Common.{◌≡◌, List, ℕ, sym, ◌∙◌, ap}
 use Rattle.std.specs.Prelude.{Option, Some, None, slice_get}
 use Rattle.std.specs.Option.{option_map}
+use Rattle.std.proofs.lemmas.Option.{same_Some}
 use Rattle.jr_model.specs.declared.tickets.Ticket.{Ticket}
 use Rattle.jr_model.specs.declared.events.Event.{Event}
 use Rattle.jr_model.specs.Plan.{Plan}
-use Rattle.jr_laws_steps.proofs.StartedLemmas.{same_some}
 use Rattle.jr_desk_tickets.specs.declared.launches.Launch.{Launch}
 use Rattle.jr_desk_tickets.specs.declared.table.TicketTable.{TicketTable}
 use Rattle.jr_desk_tickets.specs.Handing.{IsHanded, ticket_again}
@@ -36,6 +36,6 @@ pub returns-in-Some-clause-no : goal.returns-in-Some-clause-no
 returns-in-Some-clause-no c history is is_false own =
     c.is_of.ensures.no is_false
     (ap (λ (hs : List (List ℕ)). ticket_again c.args.plan.now hs c.args.ticket.now.id c.in-Some.launch.now) c.deref.ensures.value
-    ∙ same_some (ticket_again c.args.plan.now c.args.self.now.headers.items c.args.ticket.now.id c.in-Some.launch.now) c.args.ticket.now
+    ∙ same_Some (ticket_again c.args.plan.now c.args.self.now.headers.items c.args.ticket.now.id c.in-Some.launch.now) c.args.ticket.now
     (made_again c.args.plan.now history c.args.self.now c.args.ticket.now.id (Some c.in-Some.launch.now) is c.in-Some.ensures
     ∙ own))

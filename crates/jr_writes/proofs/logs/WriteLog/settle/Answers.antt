@@ -2,13 +2,14 @@ use Rattle.std.proofs.Common.{arith, ap, sym, subst, ◌∙◌}
 use Rattle.std.specs.List.Sorted.{IsStrictlySortedBy}
 use Rattle.std.specs.Map.{keys_of}
 use Rattle.jr_model.specs.History.{write_order}
+use Rattle.jr_model.proofs.OptionLemmas.{on_error}
 use Rattle.jr_writes.specs.declared.kept.Kept.{Kept}
 use Rattle.jr_writes.specs.KeptEntries.{entries_of}
 use Rattle.jr_writes.specs.KeptList.{IsWrite, all_kept}
 use Rattle.jr_writes.specs.LoggedWrites.{logged, settled}
 use Rattle.jr_writes.specs.Names.{name_at}
 use Rattle.jr_writes.proofs.LogLemmas.{logged-settled}
-use Rattle.jr_writes.proofs.KeptLemmas.{ArePlaced-step, entries_of-more, entries_of-step, kept_of-none, on_error, sorted-entries_of}
+use Rattle.jr_writes.proofs.KeptLemmas.{ArePlaced-step, entries_of-more, entries_of-step, kept_of-none, sorted-entries_of}
 use Rattle.jr_writes.proofs.ListFacts.{lookup_all, same_all_kept, settled_list, sorted_all}
 use Rattle.jr_writes.proofs.logs.WriteLog.settle.Goals as goal
 

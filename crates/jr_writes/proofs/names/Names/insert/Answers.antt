@@ -1,7 +1,7 @@
 use Rattle.std.proofs.Common.{ap, cond, sym, ◌∙◌, Some, None, ◌%◌}
 use Rattle.std.specs.BTreeMap.{is_at}
 use Rattle.jr_model.specs.History.{write_order}
-use Rattle.jr_writes.proofs.KeptLemmas.{on_error}
+use Rattle.jr_model.proofs.OptionLemmas.{on_error}
 use Rattle.jr_writes.proofs.Overlaps.{some_is}
 use Rattle.jr_writes.proofs.NameFacts.{name_same, name_step, sheet_of}
 use Rattle.jr_writes.proofs.TableFacts.{in_found, in_same}

@@ -1,8 +1,8 @@
 use Rattle.std.proofs.Common.{ℕ, ap, subst, cond, sym, refl, ◌∙◌, Some, None, eq-eqb, ◌/◌, ◌%◌}
 use Rattle.std.specs.BTreeMap.{is_at}
+use Rattle.jr_model.proofs.OptionLemmas.{on_error}
 use Rattle.jr_writes.specs.Index.{place_order}
 use Rattle.jr_writes.specs.Places.{HasNoEmptySheet, sheet_at_place}
-use Rattle.jr_writes.proofs.KeptLemmas.{on_error}
 use Rattle.jr_writes.proofs.Overlaps.{some_is}
 use Rattle.jr_writes.proofs.PlaceFacts.{at_spot, full_after, full_with, sheets_after, sheets_filled, spot_same, spot_step}
 use Rattle.jr_writes.proofs.TableFacts.{in_found, in_same}

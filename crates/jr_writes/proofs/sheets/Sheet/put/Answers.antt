@@ -1,7 +1,7 @@
 use Rattle.std.proofs.Common.{◌/◌, ◌%◌, arith, sym, ◌∙◌, Some}
 use Rattle.std.proofs.lemmas.Bool.{eqb-true}
+use Rattle.jr_model.proofs.OptionLemmas.{on_error}
 use Rattle.jr_writes.specs.Slots.{slot_at}
-use Rattle.jr_writes.proofs.KeptLemmas.{on_error}
 use Rattle.jr_writes.proofs.SlotFacts.{clear_bit, free_slot, rank_within}
 use Rattle.jr_writes.proofs.SheetFacts.{at_row, counted_set, filled_after, filled_step, in_slot_absent, in_slot_there, in_there, none_in_absent, not_empty_after, not_empty_one, row_there, rows_set, sheet_from_fields, sheet_same, sheet_step, with_row}
 use Rattle.jr_writes.proofs.sheets.Sheet.put.Goals as goal

@@ -1,5 +1,5 @@
 -- Lists read by place: what a test or a search over a list says of the item at a place.
-use Rattle.std.proofs.Common.{◌≡◌, ℕ, zero, suc, ◌+◌, ◌<◌, List, [], ◌∷◌, length, take, drop, Bool, true, false, cond, ◌&&◌, refl, sym, ◌∙◌, ap, subst, arith, inl, inr}
+use Rattle.std.proofs.Common.{◌≡◌, ℕ, zero, suc, ◌+◌, ◌<◌, List, [], ◌∷◌, ◌++◌, length, take, drop, set, Bool, true, false, cond, ◌&&◌, refl, sym, ◌∙◌, ap, subst, arith, inl, inr}
 use Rattle.std.specs.Prelude.{◌⊎◌, Option, Some, None, slice_get, map, filter, filter_map}
 use Rattle.std.specs.Option.{option_or, option_map}
 use Rattle.std.specs.List.{list_any, list_all, cons_option, range_with_len, enumerate_from}
@@ -164,3 +164,25 @@ keeps_none f n (y ∷ ys) each =
     let first : f (n, y) ≡ None = subst (λ (m : ℕ). f (m, y) ≡ None) start (each 0 y refl) in
     ap (λ o. cons_option o (filter_map f (enumerate_from (n + 1) ys))) first
     ∙ keeps_none f (n + 1) ys (λ k x at. let same : n + suc k ≡ (n + 1) + k = omega arith in subst (λ (m : ℕ). f (m, x) ≡ None) same (each (suc k) x at))
+
+-- a place of a list, in a longer one
+pub got_longer : {X : Type 0} (xs ys : List X) (k : ℕ) → k < length xs → slice_get (xs ++ ys) k ≡ slice_get xs k
+got_longer [] ys k below = absurd (omega (arith, below))
+got_longer (x ∷ xs) ys zero below = refl
+got_longer (x ∷ xs) ys (suc k) below = got_longer xs ys k (omega (arith, below))
+
+-- what was added last
+pub got_last : {X : Type 0} (xs : List X) (x : X) → slice_get (xs ++ x ∷ []) (length xs) ≡ Some x
+got_last [] x = refl
+got_last (y ∷ xs) x = got_last xs x
+
+-- what was written at a place
+pub got_set : {X : Type 0} (xs : List X) (k : ℕ) (x : X) → k < length xs → slice_get (set xs k x) k ≡ Some x
+got_set [] k x below = absurd (omega (arith, below))
+got_set (y ∷ xs) zero x below = refl
+got_set (y ∷ xs) (suc k) x below = got_set xs k x (omega (arith, below))
+
+-- no place of no items
+pub nothing_at : {X : Type 0} (xs : List X) (k : ℕ) (x : X) → xs ≡ [] → slice_get xs k ≡ Some x → ⊥
+nothing_at {X} xs k x none at =
+    let there : None ≡ Some x = sym (ap (λ (ys : List X). slice_get ys k) none) ∙ at in cc
