@@ -1,4 +1,4 @@
--- Believed: the rule of the hand-over, which holds at every step, of what the channel holds and of what all passes know.
+-- Claimed: the rule of the hand-over, which holds at every step, of what the channel holds and of what all passes know.
 use Rattle.std.specs.Prelude.{List, ◌++◌, flat_map}
 use Rattle.std.specs.List.Sorted.{IsPermutation}
 use Rattle.jr_crew_channel.specs.declared.parcel.Parcel.{Parcel}

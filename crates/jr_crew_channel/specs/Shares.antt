@@ -1,4 +1,5 @@
--- Internal: the parts that all passes hold add up to a whole, and a pass with no part has put and taken nothing.
+-- Claimed: the other half of that rule. The parts that all passes hold add up to a whole, and a pass with no part has put and taken
+-- nothing.
 use Rattle.std.specs.Prelude.{◌≡◌, ℕ, ◌*◌, ◌<◌, List, [], ◌∷◌, sum}
 use Rattle.jr_crew_channel.specs.declared.parcel.PassState.{PassState}
 

@@ -1,6 +1,6 @@
 -- The parts of the hand-over: how they are given to threads and taken in again, and that what was taken was put.
 use Rattle.std.proofs.Common.{◌≡◌, ℕ, suc, ◌+◌, ◌<◌, Bool, true, false, List, [], ◌∷◌, ◌++◌, length, map, flat_map, replicate, refl, sym, ◌∙◌, ap, subst, arith, append-nil, append_assoc, ⊎_elim, IsPermutation}
-use Rattle.std.specs.Prelude.{All, Contains, IfOk, OnOk, Result, Ok, Err, Some, slice_get, slice_index_or}
+use Rattle.std.specs.Prelude.{All, Contains, OnOk, Result, Ok, Err, Some, slice_get, slice_index_or}
 use Rattle.std.specs.Option.{option_map}
 use Rattle.std.proofs.lemmas.List.{map-append}
 use Rattle.std.proofs.lemmas.List.Elements.{All-contains, All-push, All-same, All-weaker, All-replicate, Contains-append_cases, Contains-append_left, Contains-append_right, Contains-push}
@@ -123,10 +123,6 @@ taken_was_put {B} items books n taken left put pass are balanced puts takens =
 pub on_ok : {X E : Type 0} (r : Result X E) (A B : Type 0) → (A → B) → OnOk r A → OnOk r B
 on_ok (Ok x) A B f a = f a
 on_ok (Err e) A B f a = tt
-
-pub if_ok : {X E : Type 0} (r : Result X E) (P Q : X → Type 0) → ((x : X) → P x → Q x) → IfOk r P → IfOk r Q
-if_ok (Ok x) P Q f p = f x p
-if_ok (Err e) P Q f p = tt
 
 -- what is made of one more
 pub map_on : {X Y : Type 0} (f : X → Y) (xs : List X) (x : X) (old new : List Y) → old ≡ map f xs → new ≡ old ++ f x ∷ [] → new ≡ map f (xs ++ x ∷ [])

@@ -37,5 +37,5 @@ fn writes_file(job: &SubJob, file: usize) -> bool
 fn checks_file(job: &SubJob, file: usize) -> bool
     ensures { result ≡ checks_file file job.now }
 {
-    job.file() as usize == file && job.method().kind.is_verified() && job.checks_writes()
+    job.file() as usize == file && job.verifies()
 }

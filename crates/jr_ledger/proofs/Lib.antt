@@ -1,3 +1,5 @@
 pub mod FieldLemmas
 pub mod ReadingLemmas
+pub mod SyncLaws
 pub mod WorkedLines
+pub mod WorkedSyncs

@@ -1,22 +1,13 @@
 -- The reading of a ledger, one line after another.
 use Rattle.std.proofs.Common.{◌≡◌, ℕ, ◌+◌, List, [], ◌∷◌, ◌++◌, length, Bool, true, false, cond, Result, Err, drop, refl, sym, ap, ◌∙◌, subst, arith, length-append}
 use Rattle.std.specs.Prelude.{Option, Some, None}
-use Rattle.std.specs.List.{slice_split, onto_first}
+use Rattle.std.specs.List.{slice_split}
+use Rattle.jr_model.proofs.ListLemmas.{first_part}
 use Rattle.jr_ledger.specs.declared.faults.LedgerFault.{LedgerFault}
 use Rattle.jr_ledger.specs.declared.faults.LedgerFault.TheVariants.{Line, OtherJob}
 use Rattle.jr_ledger.specs.declared.lines.LedgerLine.{LedgerLine}
 use Rattle.jr_ledger.specs.Fields.{is_word, read_line}
 use Rattle.jr_ledger.specs.Reading.{is_head, is_newline, lines_by, line_then, lines_read, lines_after, lines_among}
-
--- a list that is cut has a first part
-pub first_part : {X : Type 0} (p : X → Bool) (xs : List X) → (part : List X) × (parts : List (List X)) × (slice_split p xs ≡ part ∷ parts)
-first_part p [] = ([], [], refl)
-first_part {X} p (x ∷ xs) = by_test (p x) (slice_split p xs)
-  where
-    by_test : (b : Bool) (rest : List (List X)) → (part : List X) × (parts : List (List X)) × (cond b ([] ∷ rest) (onto_first x rest) ≡ part ∷ parts)
-    by_test true rest = ([], rest, refl)
-    by_test false [] = (x ∷ [], [], refl)
-    by_test false (part ∷ parts) = (x ∷ part, parts, refl)
 
 -- a line that is followed by others, or by what was cut
 pub lines_read_next : (above : List LedgerLine) (n : ℕ) (line text : List ℕ) → lines_read above n (line ∷ slice_split is_newline text) ≡ line_then n (read_line line) (λ found. lines_read (above ++ found ∷ []) (n + 1) (slice_split is_newline text))

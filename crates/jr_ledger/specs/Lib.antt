@@ -1,6 +1,9 @@
 pub mod FaultTexts
 pub mod Fields
 pub mod Identity
+pub mod Laws
 pub mod Lines
 pub mod Reading
 pub mod Recording
+pub mod SyncSteps
+pub mod Syncs

@@ -5,12 +5,16 @@
 mod faults;
 mod fields;
 mod identity;
+mod laws;
 mod lines;
 mod reader;
 mod recorder;
+mod syncs;
 
 pub use faults::LedgerFault;
 pub use identity::job_digest;
+pub use laws::only_sound_recorded;
 pub use lines::{LedgerLine, SyncId};
 pub use reader::read_lines;
 pub use recorder::Recorder;
+pub use syncs::Syncs;

@@ -1,4 +1,8 @@
-use jr_ledger::{Recorder, SyncId};
+ghost use Rattle.std.specs.Prelude.{◌≡◌, IsTrue, None, Some, IsSome};
+ghost use Rattle.std.specs.Option.{option_or};
+ghost use Rattle.jr_ledger.specs.SyncSteps.{has_failed};
+
+use jr_ledger::{Recorder, SyncId, Syncs};
 use jr_model::{Memory, Outcome, WriteId};
 use std::alloc::Global;
 use std::fs::File;
@@ -6,12 +10,13 @@ use std::io;
 use std::io::{ErrorKind, Write};
 use std::sync::MutexGuard;
 
-// What lies under the ledger's lock: what is recorded and hasn't gone out yet, where it goes, and the first error, if there was one. Behind
-// that nothing goes out any more: what arrives of a ledger is its front.
+// What lies under the ledger's lock: what is recorded and hasn't gone out yet, which syncs may be recorded, where the text goes, and the first
+// error, if there was one. After that nothing goes out any more: what arrives of a ledger is its front.
 #[derive(Drop)]
 pub(crate) struct Held {
     alloc: Global,
     recorder: Recorder,
+    syncs: Syncs,
     out: File,
     failed: Option<io::Error>,
 }
@@ -21,6 +26,7 @@ impl Held {
         Held {
             alloc,
             recorder,
+            syncs: Syncs::new(alloc),
             out,
             failed: None,
         }
@@ -32,19 +38,31 @@ impl Held {
     }
 
     // Adds the end of a write.
-    fn write_ended(&mut self, write: &WriteId, outcome: &Outcome) {
+    fn write_ended(&mut self, write: &WriteId, outcome: &Outcome)
+        ensures first { IsSome self.old.failed → self.new.failed ≡ self.old.failed }
+    {
         let added = self.recorder.write_ended(self.alloc, write, outcome);
         self.heed(added);
     }
 
-    // Adds the begin of a sync, if it can be recorded.
-    fn sync_begins(&mut self, file: u32) -> Option<SyncId> {
+    // Adds the begin of a sync, if it can be recorded. None of a file is once one has failed.
+    fn sync_begins(&mut self, file: u32) -> Option<SyncId>
+        ensures failed { IsTrue (has_failed self.old.syncs file) → result ≡ None }
+        ensures first { IsSome self.old.failed → self.new.failed ≡ self.old.failed }
+    {
+        if self.syncs.has_failed(file) {
+            return None;
+        }
         if !self.recorder.can_begin(file) {
             self.fail(io::Error::from(ErrorKind::InvalidInput));
             return None;
         }
         match self.recorder.sync_begins(self.alloc, file) {
-            Ok(sync) => Some(sync),
+            Ok(sync) => {
+                let begun = self.syncs.begins(&sync);
+                self.heed(begun);
+                Some(sync)
+            }
             Err(Memory) => {
                 self.fail(io::Error::from(ErrorKind::OutOfMemory));
                 None
@@ -52,14 +70,25 @@ impl Held {
         }
     }
 
-    // Adds the return of a sync.
-    fn sync_returned(&mut self, sync: &SyncId, is_well: bool) {
-        let added = self.recorder.sync_returned(self.alloc, sync, is_well);
-        self.heed(added);
+    // Adds the returns of all syncs that may be recorded now that this one has returned.
+    fn sync_returned(&mut self, sync: &SyncId, is_well: bool)
+        ensures first { IsSome self.old.failed → self.new.failed ≡ self.old.failed }
+    {
+        match self.syncs.returned(self.alloc, sync, is_well) {
+            Ok(recorded) => {
+                for one in recorded.iter() {
+                    let added = self.recorder.sync_returned(self.alloc, one, true);
+                    self.heed(added);
+                }
+            }
+            Err(Memory) => self.fail(io::Error::from(ErrorKind::OutOfMemory)),
+        }
     }
 
     // Writes out what was added.
-    fn send(&mut self) {
+    fn send(&mut self)
+        ensures first { IsSome self.old.failed → self.new.failed ≡ self.old.failed }
+    {
         if self.failed.is_none()
             && let Err(error) = self.out.write_all(self.recorder.text())
         {
@@ -68,13 +97,19 @@ impl Held {
         self.recorder.clear();
     }
 
-    fn heed(&mut self, added: Result<(), Memory>) {
+    fn heed(&mut self, added: Result<(), Memory>)
+        ensures first { IsSome self.old.failed → self.new.failed ≡ self.old.failed }
+    {
         if added.is_err() {
             self.fail(io::Error::from(ErrorKind::OutOfMemory));
         }
     }
 
-    fn fail(&mut self, error: io::Error) {
+    // The first error is the one that is told.
+    fn fail(&mut self, error: io::Error)
+        ensures told { self.new.failed ≡ option_or self.old.failed (Some error) }
+        ensures first { IsSome self.old.failed → self.new.failed ≡ self.old.failed }
+    {
         if self.failed.is_none() {
             self.failed = Some(error);
         }

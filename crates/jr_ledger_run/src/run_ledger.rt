@@ -1,3 +1,6 @@
+ghost use Rattle.std.specs.Prelude.{◌≡◌};
+ghost use Rattle.jr_ledger_run.specs.Syncing.{is_nth};
+
 use crate::lines::{Held, Lines};
 use jr_ledger::{Recorder, SyncId};
 use jr_model::Memory;
@@ -13,15 +16,14 @@ use std::{io, thread};
 pub struct RunLedger {
     lines: Option<Mutex<Held>>,
     every: Option<u32>,
-    files: Vec<LedgerFile>,
-    // Of which of the plan's files a sync has failed.
-    lost: Vec<AtomicBool>,
+    files: OnceLock<Vec<LedgerFile>>,
     is_cut: AtomicBool,
     cut_by: OnceLock<io::Error>,
     unsynced: OnceLock<(u32, io::Error)>,
 }
 
-// A file of the plan, opened to be synced, and how many of its writes have ended.
+// A file of the plan, opened to be synced, and how many of its writes have ended: counted without the lock, since most such runs keep no
+// ledger.
 #[derive(Drop)]
 struct LedgerFile {
     file: File,
@@ -29,22 +31,14 @@ struct LedgerFile {
 }
 
 impl RunLedger {
-    /// That of a run of the plan: its lines go there, if anywhere. Each of these files, which are the plan's in their order, is synced each
-    /// time that so many of its writes have ended, if that is asked for.
+    /// That of a run of the plan: its lines go there, if anywhere. A file that it syncs is synced each time that so many of its writes have
+    /// ended, if that is asked for.
     pub fn new(
         alloc: Global,
         plan: &Plan,
         out: Option<File>,
         every: Option<u32>,
-        files: Vec<File>,
     ) -> Result<RunLedger, Memory> {
-        let mut counted = Vec::new(alloc);
-        for file in files {
-            counted.push(LedgerFile {
-                file,
-                writes: AtomicU64::new(0),
-            })?;
-        }
         let lines = match out {
             Some(out) => Some(Mutex::new(Held::new(alloc, Recorder::new(alloc, plan)?, out))),
             None => None,
@@ -52,15 +46,27 @@ impl RunLedger {
         Ok(RunLedger {
             lines,
             every,
-            files: counted,
-            lost: none_lost(alloc, plan.files().len())?,
+            files: OnceLock::new(),
             is_cut: AtomicBool::new(false),
             cut_by: OnceLock::new(),
             unsynced: OnceLock::new(),
         })
     }
 
-    /// Writes out the first line, before the run begins.
+    /// Has these files, which are the plan's in their order, synced on the way. It is called once at most, before the run.
+    pub fn sync_these(&self, alloc: Global, files: Vec<File>) -> Result<(), Memory> {
+        let mut counted = Vec::new(alloc);
+        for file in files {
+            counted.push(LedgerFile {
+                file,
+                writes: AtomicU64::new(0),
+            })?;
+        }
+        let _ = self.files.try_set(counted);
+        Ok(())
+    }
+
+    /// Writes out the first line, before anything is done to the plan's files.
     pub fn begin(&self) {
         if let Some(lines) = self.lines_alone() {
             self.send(lines);
@@ -112,16 +118,19 @@ impl RunLedger {
 
     /// Counts a write of this file that has ended. Whether the file is to be synced now.
     pub fn is_due(&self, file: u32) -> bool {
-        let (Some(every), Some(one)) = (self.every, self.files.get(file as usize)) else {
-            return false;
-        };
-        let writes = one.writes.fetch_add(1, Ordering::Relaxed).wrapping_add(1);
-        writes.checked_rem(u64::from(every)) == Some(0)
+        match (self.every, self.file(file)) {
+            (Some(every), Some(one)) => is_nth(one.count(), every),
+            _ => false,
+        }
+    }
+
+    fn file(&self, file: u32) -> Option<&LedgerFile> {
+        self.files.get()?.get(file as usize)
     }
 
     /// Syncs this file, with its lines.
     pub fn sync(&self, file: u32) {
-        let Some(one) = self.files.get(file as usize) else {
+        let Some(one) = self.file(file) else {
             return;
         };
         let begun = self.sync_begins(file);
@@ -135,42 +144,34 @@ impl RunLedger {
     /// A sync of this file is about to be asked for. What it answers is handed back when that has returned. No sync is recorded once one of
     /// the file has failed: the system tells of what it lost once, and a later sync may return well.
     pub fn sync_begins(&self, file: u32) -> Option<SyncId> {
-        if self.is_lost(file) {
-            return None;
-        }
         let mut lines = self.lines_alone()?;
         let sync = lines.sync_begins(file);
         self.send(lines);
         sync
     }
 
-    /// It has returned, well or with a failure.
+    /// It has returned, well or with a failure. It is recorded if it returned well, once all of its file that were under way then have
+    /// returned, and if none of these has failed: it isn't known which of them the system tells of what it lost.
     pub fn sync_returned(&self, sync: Option<SyncId>, is_well: bool) {
-        let Some(sync) = sync else {
-            return;
-        };
-        if !is_well && let Some(lost) = self.lost.get(sync.file as usize) {
-            lost.store(true, Ordering::SeqCst);
-        }
-        if let Some(mut lines) = self.lines_alone() {
-            lines.sync_returned(&sync, is_well && !self.is_lost(sync.file));
+        if let Some(sync) = sync
+            && let Some(mut lines) = self.lines_alone()
+        {
+            lines.sync_returned(&sync, is_well);
             self.send(lines);
         }
     }
+}
 
-    // Whether a sync of this file has failed.
-    fn is_lost(&self, file: u32) -> bool {
-        self.lost
-            .get(file as usize)
-            .is_some_and(|lost| lost.load(Ordering::SeqCst))
+impl LedgerFile {
+    // Counts one more write that has ended: how many they are now.
+    fn count(&self) -> u64 {
+        self.writes.fetch_add(1, Ordering::Relaxed).wrapping_add(1)
     }
 }
 
-// A flag for each of so many files.
-fn none_lost(alloc: Global, files: usize) -> Result<Vec<AtomicBool>, Memory> {
-    let mut lost = Vec::new(alloc);
-    for _ in 0..files {
-        lost.push(AtomicBool::new(false))?;
-    }
-    Ok(lost)
+// Whether this many writes are once, twice or more often as many as that.
+fn is_nth(writes: u64, every: u32) -> bool
+    ensures { result ≡ is_nth writes every }
+{
+    writes.checked_rem(u64::from(every)) == Some(0)
 }

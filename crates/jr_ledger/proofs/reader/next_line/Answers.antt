@@ -2,8 +2,8 @@ use Rattle.std.proofs.Common.{◌≡◌, ℕ, ◌∷◌, ◌<◌, ◌+◌, List,
 use Rattle.std.specs.List.{slice_split, position_or_len}
 use Rattle.std.proofs.lemmas.List.Folds.{length-prefix_len}
 use Rattle.std.proofs.lemmas.List.Splits.{slice_split_first}
+use Rattle.jr_model.proofs.ListLemmas.{one_part}
 use Rattle.jr_ledger.specs.Reading.{is_newline}
-use Rattle.jr_ledger.proofs.FieldLemmas.{one_part}
 use Rattle.jr_ledger.proofs.reader.next_line.Goals as goal
 
 -- where the line ends
