@@ -4,7 +4,7 @@ use Rattle.std.proofs.Common.{◌≡◌, ℕ, suc, ◌+◌, ◌<◌, List, [], �
 use Rattle.std.specs.Prelude.{Option, Some, None, ◌==◌, ◌⊎◌}
 use Rattle.std.specs.Option.{option_map}
 use Rattle.std.specs.List.{list_any}
-use Rattle.std.proofs.lemmas.Bool.{and_parts, and_from, or_cases, or_left, or_right, or_from, cases_Bool, not-true, both_ways, eqb-true}
+use Rattle.std.proofs.lemmas.Bool.{and_parts, and_from, or_cases, or_left, or_right, or_from, cases_Bool, not-true, both_ways, eqb-true, false_from_ne_true}
 use Rattle.jr_model.specs.declared.events.WriteId.{WriteId}
 use Rattle.jr_model.specs.History.{same_write}
 use Rattle.jr_model.proofs.Equality.{eq_write}
@@ -22,10 +22,6 @@ eq_sync a b h =
     let file = eqb-true a.file b.file parts.0 in
     let number = eqb-true a.number b.number parts.1 in
     ap (λ (f : ℕ). record { file = f; number = a.number }) file ∙ ap (λ (n : ℕ). record { file = b.file; number = n }) number
-
-absent : (b c : Bool) → (b ≡ true → c ≡ true) → c ≡ false → b ≡ false
-absent true c h none = absurd (both_ways c none (h refl))
-absent false c h none = refl
 
 neither : (b c : Bool) → b ≡ false → (b || c) ≡ true → c ≡ true
 neither b c none h = elim (or_cases b c h) [ inl so ↦ absurd (both_ways b none so) | inr so ↦ so ]
@@ -188,8 +184,11 @@ module _ (meets : WriteId → WriteId → Bool) where
         | inl this ↦
             let both = and_parts (t.file == file) (list_any (is_return_of t) (lines_noted here)) this in
             let unbegun = not-true (list_any (is_begin t) past) parts.0 in
-            let unasked = absent (list_any (is_sync_asked t) past) (list_any (is_begin t) past) (closed.begun t) unbegun in
-            let none = absent (list_any (is_sync_returned t) past) (list_any (is_sync_asked t) past) (closed.was_asked t) unasked in
+            let unasked =
+            false_from_ne_true (list_any (is_sync_asked t) past) (λ is. both_ways (list_any (is_begin t) past) unbegun (closed.begun t is)) in
+            let none =
+            false_from_ne_true (list_any (is_sync_returned t) past)
+            (λ is. both_ways (list_any (is_sync_asked t) past) unasked (closed.was_asked t is)) in
             syncs_here t file (noted (line.Begun t) ∷ past) here later both.0 parts.1 unasked none both.1
         | inr more ↦ synced_here file (noted (line.Begun t) ∷ past) here later (closed_more past (noted (line.Begun t)) closed parts.0) parts.1 more
       ]
@@ -278,12 +277,13 @@ module _ (meets : WriteId → WriteId → Bool) (w kept : WriteId) (meet : meets
   earlier (m ∷ past) moments latest h i =
       elim (cases_Bool (is_asked kept m)) [
         | inl now ↦
-            let unlike = absent (is_asked w m) (same_write kept w) (λ also. asked_one kept w m now also) other in
+            let unlike = false_from_ne_true (is_asked w m) (λ also. both_ways (same_write kept w) other (asked_one kept w m now also)) in
             asked_before w kept past (m ∷ moments) (neither (is_asked w m) (list_any (is_asked w) past) unlike i)
             (or_left (is_asked kept m) (list_any (is_asked kept) moments) now)
         | inr before ↦
             let parts = latest_parts (is_asked kept m) (meets_asked meets kept m) (is_latest meets kept past) before latest in
-            let unlike = absent (is_asked w m) (meets_asked meets kept m) (λ also. meets_now meets kept w m also meet) parts.0 in
+            let unlike =
+            false_from_ne_true (is_asked w m) (λ also. both_ways (meets_asked meets kept m) parts.0 (meets_now meets kept w m also meet)) in
             earlier past (m ∷ moments) parts.1 (neither (is_asked kept m) (list_any (is_asked kept) past) before h)
             (neither (is_asked w m) (list_any (is_asked w) past) unlike i)
       ]

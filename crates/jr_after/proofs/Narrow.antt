@@ -1,8 +1,8 @@
 -- A chunk of a write, as a write of its own, has the same bytes.
-use Rattle.std.proofs.Common.{◌≡◌, ℕ, zero, suc, ◌+◌, ◌-◌, ◌*◌, ◌/◌, ◌%◌, ◌<◌, ◌≤◌, ◌^◌, Bool, true, false, ◌&&◌, cond, not, List, [], ◌∷◌, ◌++◌, length, take, drop, flat_map, refl, sym, ap, ◌∙◌, arith, zero-add, append-nil}
+use Rattle.std.proofs.Common.{◌≡◌, ℕ, zero, suc, ◌+◌, ◌-◌, ◌*◌, ◌/◌, ◌%◌, ◌<◌, ◌≤◌, ◌^◌, true, false, ◌&&◌, cond, List, [], ◌∷◌, ◌++◌, length, take, drop, flat_map, refl, sym, ap, ◌∙◌, arith, zero-add, append-nil}
 use Rattle.std.specs.Prelude.{nat_lt, nat_le, ◌==◌}
 use Rattle.std.specs.List.{range_with_len}
-use Rattle.std.proofs.lemmas.Bool.{and_parts, and_from, cond-false, eq-eqb, eqb-true, le-leb, leb-true, lt-ltb}
+use Rattle.std.proofs.lemmas.Bool.{and_parts, and_from, cond-false, eq-eqb, eqb-true, le-leb, leb-true, lt-ltb, not-true}
 use Rattle.std.proofs.lemmas.Nat.{div-add-mod', mul-mod}
 use Rattle.std.proofs.Math.Nat.{mod_self}
 use Rattle.std.proofs.lemmas.List.{drop-drop, drop-take, take-take}
@@ -21,17 +21,12 @@ use Rattle.jr_after.specs.declared.writes.PlannedWrite.{PlannedWrite}
 use Rattle.jr_after.specs.Parts.{IsInChunk, IsNarrowed, chunk_alone, is_cut, ticket_of}
 use Rattle.jr_after.specs.Writes.{bytes_in}
 
--- what is known of a kind that cuts its blocks
-not_zero : (b : Bool) → not b ≡ true → b ≡ false
-not_zero false h = refl
-not_zero true h = absurd (cc)
-
 some_interval : (kind : VerifyKind) (interval : ℕ) → is_cut kind interval ≡ true → (interval == 0) ≡ false
 some_interval verify.Plain interval cut = absurd (cc)
 some_interval verify.Pattern interval cut = absurd (cc)
-some_interval verify.Md5 interval cut = not_zero (interval == 0) cut
-some_interval verify.Sha1 interval cut = not_zero (interval == 0) cut
-some_interval verify.Sha256 interval cut = not_zero (interval == 0) cut
+some_interval verify.Md5 interval cut = not-true (interval == 0) cut
+some_interval verify.Sha1 interval cut = not-true (interval == 0) cut
+some_interval verify.Sha256 interval cut = not-true (interval == 0) cut
 
 abbrev all_chunks : Method → WriteId → Piece → ℕ → List ℕ
 all_chunks method write piece seed = flat_map (chunk_bytes method write piece seed) (range_with_len 0 (chunks_in method.interval piece))

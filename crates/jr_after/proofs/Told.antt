@@ -10,6 +10,7 @@ use Rattle.jr_model.specs.Judgement.{same_bytes}
 use Rattle.jr_model.specs.Pieces.{pieces_overlap, piece_end}
 use Rattle.jr_model.proofs.Equality.{eq_write}
 use Rattle.jr_model.proofs.LegalLaws.{same_write_refl}
+use Rattle.jr_model.proofs.PlaceLemmas.{any_at, any_found, made_at}
 use Rattle.jr_ledger.specs.declared.lines.LedgerLine.{LedgerLine}
 use Rattle.jr_after.specs.declared.findings.Finding.TheVariants.{Kept}
 use Rattle.jr_after.specs.declared.writes.PlannedWrite.{PlannedWrite}
@@ -33,14 +34,6 @@ any_kept {X} keep test other f (x ∷ xs) h = by_test (keep x) (f x) (any_kept k
           | inr later ↦ or_right (other x) (list_any other xs) (more later)
         ]
     by_test false g more i = or_right (other x) (list_any other xs) (more i)
-
-any_mapped : {X Y : Type 0} (f : X → Y) (test : X → Bool) (other : Y → Bool) → ((x : X) → test x ≡ true → other (f x) ≡ true) → (xs : List X) → list_any test xs ≡ true → list_any other (map f xs) ≡ true
-any_mapped f test other g [] h = cc
-any_mapped f test other g (x ∷ xs) h =
-    elim (or_cases (test x) (list_any test xs) h) [
-      | inl now ↦ or_left (other (f x)) (list_any other (map f xs)) (g x now)
-      | inr later ↦ or_right (other (f x)) (list_any other (map f xs)) (any_mapped f test other g xs later)
-    ]
 
 -- the number of a kept line
 number_is : (kept : ℕ) (o : Option ℕ) → 0 < kept_number kept o → (i : ℕ) × (o ≡ Some i) × (i < kept) × (kept_number kept o ≡ i + 1)
@@ -159,13 +152,14 @@ module _ (writes : List PlannedWrite) (chunk : Piece) (arrived later : List Mome
       let by_number : stands_by (at.0 + 1) (line_of (lines_noted arrived) w) ≡ true = stands got.0.write w at.0 got.1 may.0 at.1 unasked (line_of (lines_noted arrived) w) refl in
       let number : at.0 + 1 ≡ last = sym at.3 ∙ got.2 in
       let standing : stands_by last (line_of (lines_noted arrived) w) ≡ true = subst (λ (n : ℕ). stands_by n (line_of (lines_noted arrived) w) ≡ true) number by_number in
-      any_mapped (named_by (lines_noted arrived)) (λ (p : PlannedWrite). is_of w p && same_bytes bytes (bytes_in p chunk))
-      (λ (named : Named). may_stand last named && is_held chunk bytes named)
-      (λ p h.
-      let parts = and_parts (is_of w p) (same_bytes bytes (bytes_in p chunk)) h in
-      and_from (stands_by last (line_of (lines_noted arrived) p.write)) (same_bytes bytes (bytes_in p chunk))
-      (subst (λ (x : WriteId). stands_by last (line_of (lines_noted arrived) x) ≡ true) (sym (eq_write p.write w parts.0)) standing) parts.1)
-      (writes_over chunk writes) are
+      let name = named_by (lines_noted arrived) in
+      let found = any_found (λ (p : PlannedWrite). is_of w p && same_bytes bytes (bytes_in p chunk)) (writes_over chunk writes) are in
+      let parts = and_parts (is_of w found.1) (same_bytes bytes (bytes_in found.1 chunk)) found.3 in
+      any_at (λ (named : Named). may_stand last named && is_held chunk bytes named) (map name (writes_over chunk writes)) found.0 (name found.1)
+      (made_at name (writes_over chunk writes) found.0 found.1 found.2)
+      (and_from (stands_by last (line_of (lines_noted arrived) found.1.write)) (same_bytes bytes (bytes_in found.1 chunk))
+      (subst (λ (x : WriteId). stands_by last (line_of (lines_noted arrived) x) ≡ true) (sym (eq_write found.1.write w parts.0)) standing)
+      parts.1)
 
 -- a chunk whose bytes are kept, or of which nothing is kept
 quiet_by : (last : ℕ) (named : List Named) (chunk : Piece) (bytes : List ℕ) (o : Option Named) → is_kept last named chunk bytes ≡ true → is_quiet (finding_by last named chunk bytes o) ≡ true

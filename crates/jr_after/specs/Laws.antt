@@ -1,4 +1,4 @@
--- Believed: a storage that keeps its promise isn't blamed (of this project).
+-- Claimed: a storage that keeps its promise isn't blamed (of this project).
 use Rattle.std.specs.Prelude.{◌≡◌, ℕ, ◌<◌, Bool, true, ◌&&◌, List, [], ◌++◌, Option, Some, None}
 use Rattle.std.specs.List.{list_any}
 use Rattle.jr_model.specs.declared.blocks.Piece.{Piece}

@@ -50,8 +50,8 @@ fn is_chunk(interval: u32, piece: &Piece, chunk: &Piece) -> bool
     }
     chunk.len == interval
         && piece.offset <= chunk.offset
-        && (chunk.offset - piece.offset) % u64::from(interval) == 0
         && end_of(chunk) <= end_of(piece)
+        && (chunk.offset - piece.offset) % u64::from(interval) == 0
 }
 
 // The first offset past a piece, in bytes.

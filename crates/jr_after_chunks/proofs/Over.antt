@@ -4,16 +4,17 @@ use Rattle.std.specs.Prelude.{None, All, cond, nat_lt, nat_le, ◌==◌, ◌&&�
 use Rattle.std.proofs.lemmas.Bool.{and_parts, eqb-true, leb-true}
 use Rattle.std.proofs.lemmas.List.Elements.{All-nil, All-cons, All-head, All-tail, All-filter, filter_passes}
 use Rattle.jr_model.specs.declared.blocks.Piece.{Piece}
-use Rattle.jr_model.specs.declared.limits.TheConstants.{LARGEST_BLOCK, LARGEST_END, SECTOR, MOST_PASSES}
+use Rattle.jr_model.specs.declared.limits.TheConstants.{LARGEST_BLOCK, MOST_PASSES}
 use Rattle.jr_model.specs.Pieces.{piece_end}
 use Rattle.jr_model.specs.Tickets.{piece_fits, has_pattern, interval_fits}
+use Rattle.jr_model.proofs.PieceLemmas.{fitting_is_short}
 use Rattle.jr_ledger.specs.declared.lines.LedgerLine.{LedgerLine}
 use Rattle.jr_after.specs.declared.writes.Named.{Named}
 use Rattle.jr_after.specs.declared.writes.PlannedWrite.{PlannedWrite}
 use Rattle.jr_after.specs.Findings.{named_by}
 use Rattle.jr_after.specs.Parts.{CanHold}
 use Rattle.jr_after.specs.Writes.{has_chunk, is_chunk, writes_over}
-use Rattle.jr_after_chunks.specs.Judging.{CanBeNamed, is_over, named_over}
+use Rattle.jr_after_chunks.specs.Judging.{CanBeNamed, is_over, longest_of, named_over}
 
 -- what holds of each element by two facts of it
 pub all_both : {X : Type 0} (A B P : X → Type 0) → ((x : X) → A x → B x → P x) → (xs : List X) → All A xs → All B xs → All P xs
@@ -40,15 +41,6 @@ lies interval piece chunk is = by (interval == 0) is
         let low = and_parts (chunk.len == interval) (nat_le piece.offset chunk.offset) front.0 in
         record { from_there = leb-true piece.offset chunk.offset low.1; till = leb-true (piece_end chunk) (piece_end piece) parts.1 }
 
--- no piece that fits is longer than the largest block
-short : (piece : Piece) → piece_fits piece ≡ true → piece.len ≤ LARGEST_BLOCK
-short piece fits =
-    let p4 = and_parts (nat_lt 0 piece.len && nat_le piece.len LARGEST_BLOCK && (piece.len % SECTOR == 0) && (piece.offset % SECTOR == 0)) (nat_le (piece.offset + piece.len) LARGEST_END) fits in
-    let p3 = and_parts (nat_lt 0 piece.len && nat_le piece.len LARGEST_BLOCK && (piece.len % SECTOR == 0)) (piece.offset % SECTOR == 0) p4.0 in
-    let p2 = and_parts (nat_lt 0 piece.len && nat_le piece.len LARGEST_BLOCK) (piece.len % SECTOR == 0) p3.0 in
-    let p1 = and_parts (nat_lt 0 piece.len) (nat_le piece.len LARGEST_BLOCK) p2.0 in
-    leb-true piece.len LARGEST_BLOCK p1.1
-
 piece_of : (planned : PlannedWrite) → CanBeNamed (record { planned = planned; line = None }) → piece_fits planned.piece ≡ true
 piece_of planned fits =
     let method = planned.method in
@@ -61,18 +53,39 @@ piece_of planned fits =
     let p2 = and_parts (a && b) c p3.0 in
     (and_parts a b p2.0).0
 
-can_hold : (chunk : Piece) (room : ℕ) (named : Named) → LARGEST_BLOCK ≤ room → CanBeNamed named → is_over chunk named ≡ true → CanHold chunk room named
-can_hold chunk room named wide fits over =
+-- a block is no longer than a room
+abbrev pub IsNoLonger : ℕ → Named → Type 0
+IsNoLonger room named = named.planned.piece.len ≤ room
+
+block_is_short : (named : Named) → CanBeNamed named → named.planned.piece.len ≤ LARGEST_BLOCK
+block_is_short named fits = fitting_is_short named.planned.piece (piece_of named.planned fits)
+
+pub blocks_are_short : (named : List Named) (room : ℕ) → LARGEST_BLOCK ≤ room → All CanBeNamed named → longest_of named ≤ room
+blocks_are_short [] room wide fit = omega arith
+blocks_are_short (one ∷ named) room wide fit =
+    let size : one.planned.piece.len ≤ LARGEST_BLOCK = block_is_short one (All-head CanBeNamed one named fit) in
+    let rest : longest_of named ≤ room = blocks_are_short named room wide (All-tail CanBeNamed one named fit) in
+    omega (arith, size, rest, wide)
+
+none_longer : (named : List Named) (room : ℕ) → longest_of named ≤ room → All (IsNoLonger room) named
+none_longer [] room most = All-nil (IsNoLonger room)
+none_longer (one ∷ named) room most =
+    All-cons (IsNoLonger room) one named (omega (arith, most)) (none_longer named room (omega (arith, most)))
+
+can_hold : (chunk : Piece) (room : ℕ) (named : Named) → IsNoLonger room named → CanBeNamed named → is_over chunk named ≡ true → CanHold chunk room named
+can_hold chunk room named short fits over =
     let planned = named.planned in
     let within = lies planned.method.interval planned.piece chunk (and_parts (planned.piece.file == chunk.file) (is_chunk planned.method.interval planned.piece chunk) over).1 in
-    let size : planned.piece.len ≤ LARGEST_BLOCK = short planned.piece (piece_of planned fits) in
-    record { fits = fits; from = within.from_there; till = within.till; holds = omega (arith, size, wide) }
+    record { fits = fits; from = within.from_there; till = within.till; holds = short }
 
-pub all_can_hold : (chunk : Piece) (room : ℕ) (named : List Named) → LARGEST_BLOCK ≤ room → All CanBeNamed named → All (CanHold chunk room) (named_over chunk named)
-all_can_hold chunk room named wide fit =
+pub all_can_hold : (chunk : Piece) (room : ℕ) (named : List Named) → longest_of named ≤ room → All CanBeNamed named → All (CanHold chunk room) (named_over chunk named)
+all_can_hold chunk room named most fit =
     let Over : Named → Type 0 = λ one. is_over chunk one ≡ true in
-    all_both CanBeNamed Over (CanHold chunk room) (λ one fits over. can_hold chunk room one wide fits over) (named_over chunk named)
-    (All-filter (is_over chunk) CanBeNamed named fit) (filter_passes (is_over chunk) named)
+    let Short : Named → Type 0 = IsNoLonger room in
+    let Fitting : Named → Type 0 = λ one. CanBeNamed one × Short one in
+    all_both Fitting Over (CanHold chunk room) (λ one fits over. can_hold chunk room one fits.1 fits.0 over) (named_over chunk named)
+    (All-filter (is_over chunk) Fitting named (all_both CanBeNamed Short Fitting (λ one fits short. (fits, short)) named fit (none_longer named room most)))
+    (filter_passes (is_over chunk) named)
 
 named_step : (b : Bool) (one : Named) (planned : PlannedWrite) (lines : List LedgerLine) (over : List Named) (writes : List PlannedWrite) → one ≡ named_by lines planned → over ≡ map (named_by lines) writes → cond b (one ∷ over) over ≡ map (named_by lines) (cond b (planned ∷ writes) writes)
 named_step true one planned lines over writes same ih = cc

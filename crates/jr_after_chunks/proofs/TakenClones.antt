@@ -1,10 +1,11 @@
 -- What holds of the clones of a plan that is taken.
 use Rattle.std.proofs.Common.{◌≡◌, ℕ, zero, suc, ◌%◌, ◌<◌, List, [], ◌∷◌, slice_get, Bool, true, false, refl, ap, sym, ◌∙◌, inl, inr, arith}
 use Rattle.std.specs.Prelude.{Option, Some, None, cond, not, ◌==◌}
-use Rattle.std.specs.Option.{option_map, option_or}
-use Rattle.std.proofs.lemmas.Bool.{and_parts, cases_Bool, cond-true, cond-false, eqb-true, eqb-false, false≢true}
+use Rattle.std.specs.Option.{option_map}
+use Rattle.std.proofs.lemmas.Bool.{and_parts, cases_Bool, cond-true, cond-false, eqb-true, eqb-false, false≢true, not-false}
 use Rattle.jr_model.specs.Directions.{has_writes}
 use Rattle.jr_model.specs.Plan.{SubJob}
+use Rattle.jr_model.proofs.OptionLemmas.{none_chosen, neither}
 use Rattle.jr_after.specs.Findings.{first_such}
 use Rattle.jr_after_plans.specs.declared.faults.Refusal.{Refusal}
 use Rattle.jr_after_plans.specs.declared.faults.Refusal.TheVariants as refusal
@@ -21,10 +22,6 @@ pub record AreAlike (a b : SubJob) : Type 0 where
   pub len : chunk_len a ≡ chunk_len b
   pub start : a.start % chunk_len b ≡ b.start % chunk_len b
 
-neither : {X : Type 0} (a b : Option X) → option_or a b ≡ None → (a ≡ None) × (b ≡ None)
-neither None b e = (refl, e)
-neither (Some x) b e = absurd (cc)
-
 nothing_mapped : (job : SubJob) (why : Option Refusal) → option_map (fault_at job) why ≡ None → why ≡ None
 nothing_mapped job None e = refl
 nothing_mapped job (Some why) e = absurd (cc)
@@ -40,10 +37,6 @@ taken_at clones (other ∷ jobs) (suc k) job none at =
     let both = neither (option_map (fault_at other) (refusal_of clones other)) (fault_among clones jobs) none in
     taken_at clones jobs k job both.1 at
 
-not_chosen : {X : Type 0} (b : Bool) (x : X) (rest : Option X) → cond b (Some x) rest ≡ None → (b ≡ false) × (rest ≡ None)
-not_chosen true x rest e = absurd (cc)
-not_chosen false x rest e = (refl, e)
-
 passed : {X : Type 0} (b : Bool) (rest : Option X) → b ≡ true → cond (not b) None rest ≡ None → rest ≡ None
 passed true rest h e = e
 passed false rest h e = absurd (false≢true h)
@@ -52,10 +45,6 @@ not_last : {X : Type 0} (b : Bool) (x : X) → cond b None (Some x) ≡ None →
 not_last true x e = refl
 not_last false x e = absurd (cc)
 
-unnot : (b : Bool) → not b ≡ false → b ≡ true
-unnot true e = refl
-unnot false e = absurd (false≢true (sym e))
-
 pub taken_of : (clones : List SubJob) (job : SubJob) → has_writes job.io_type ≡ true → refusal_of clones job ≡ None → IsTaken clones job
 taken_of clones job writes none =
     let grid = is_on_grid (first_writer clones job.file) job in
@@ -63,12 +52,12 @@ taken_of clones job writes none =
     let sized : Option Refusal = cond (chunk_len job == 0) (Some refusal.SeveralSizes) last in
     let digested : Option Refusal = cond (not (has_digest job.method.kind)) (Some refusal.NoDigest) sized in
     let written : Option Refusal = cond (not (has_writes job.io_type)) None digested in
-    let ordered = not_chosen job.declines refusal.Unordered written none in
-    let d = not_chosen (not (has_digest job.method.kind)) refusal.NoDigest sized (passed (has_writes job.io_type) digested writes ordered.1) in
-    let s = not_chosen (chunk_len job == 0) refusal.SeveralSizes last d.1 in
+    let ordered = none_chosen job.declines refusal.Unordered written none in
+    let d = none_chosen (not (has_digest job.method.kind)) refusal.NoDigest sized (passed (has_writes job.io_type) digested writes ordered.1) in
+    let s = none_chosen (chunk_len job == 0) refusal.SeveralSizes last d.1 in
     let different = eqb-false (chunk_len job) 0 s.0 in
     record {
-      digest = unnot (has_digest job.method.kind) d.0;
+      digest = not-false (has_digest job.method.kind) d.0;
       some = omega arith;
       grid = not_last grid refusal.OtherGrid s.1;
     }

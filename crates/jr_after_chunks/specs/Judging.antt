@@ -1,5 +1,5 @@
 -- Believed: the finding on the bytes of a chunk, by all writes of a plan with their lines (of this project).
-use Rattle.std.specs.Prelude.{ℕ, Bool, List, [], ◌∷◌, filter, slice_get, Option, Some, None, if◌then◌else◌}
+use Rattle.std.specs.Prelude.{ℕ, max, Bool, List, [], ◌∷◌, filter, slice_get, Option, Some, None, if◌then◌else◌}
 use Rattle.jr_model.specs.declared.blocks.Piece.{Piece}
 use Rattle.jr_after.specs.declared.findings.Finding.{Finding}
 use Rattle.jr_after.specs.declared.writes.Named.{Named}
@@ -29,3 +29,8 @@ over_one chunk (Some named) = if is_over chunk named then named ∷ [] else []
 
 abbrev pub over_at : Piece → List Named → ℕ → List Named
 over_at chunk named place = over_one chunk (slice_get named place)
+
+-- the length of the longest block of these writes
+abbrev pub longest_of : List Named → ℕ
+longest_of [] = 0
+longest_of (named ∷ rest) = max named.planned.piece.len (longest_of rest)

@@ -1,4 +1,4 @@
--- Believed: in a plan that is taken no chunk is parts of two writes, and each chunk of a write comes (of this project).
+-- Claimed: in a plan that is taken no chunk is parts of two writes, and each chunk of a write comes (of this project).
 use Rattle.std.specs.Prelude.{◌≡◌, true, None, All}
 use Rattle.jr_model.specs.declared.blocks.Piece.{Piece}
 use Rattle.jr_model.specs.Pieces.{pieces_overlap}

@@ -1,6 +1,6 @@
 // The blocks of a file that chunks have bytes in.
 ghost use Rattle.std.specs.Prelude.{◌≡◌, ◌≤◌, ◌++◌, ◌∷◌, [], IfOk, OnOk, flat_map, map, filter};
-ghost use Rattle.jr_desk_totals.specs.Tallying.{miscompare_of};
+ghost use Rattle.jr_desk_totals.specs.Bads.{miscompare_of};
 ghost use Rattle.jr_after_report.specs.Counting.{is_fault};
 ghost use Rattle.jr_after_json.specs.Blocks.{AreChunkBlocks, fault_chunks, fault_chunks_of, place_of};
 ghost use Rattle.jr_after_json.specs.Bads.{bad_over};

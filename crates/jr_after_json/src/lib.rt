@@ -6,4 +6,5 @@ mod rows;
 mod texts;
 
 pub use blocks::{chunk_blocks, fault_chunks};
-pub use texts::{Judgement, judgement_text};
+pub use rows::{count_of, word_of};
+pub use texts::{Judgement, judgement_text, told_in};

@@ -1,6 +1,5 @@
 // The objects of a judgement, one at a time.
 ghost use Rattle.std.specs.Prelude.{◌≡◌, IfOk, count_by};
-ghost use Rattle.jr_model.specs.Report.{file_name};
 ghost use Rattle.serde_json.specs.View.{view};
 ghost use Rattle.jr_after_json.specs.Json.{file_json, found_json, is_of, kept_json, told_json, unread_json, word_of, write_json};
 
@@ -18,7 +17,7 @@ pub(crate) fn told_row(alloc: Global, plan: &Plan, one: &Judged) -> Result<Value
     let found = found_value(alloc, &one.finding)?;
     let kept = kept_value(alloc, &one.finding)?;
     json!(in alloc; {
-        "file": file_name(plan, one.chunk.file),
+        "file": plan.file_name(one.chunk.file),
         "found": found,
         "kept": kept,
         "length": one.chunk.len,
@@ -58,7 +57,8 @@ fn write_row(alloc: Global, write: &WriteId) -> Result<Value, AllocError>
     })
 }
 
-fn word_of(finding: &Finding) -> &'static str
+/// The word of a finding.
+pub fn word_of(finding: &Finding) -> &'static str
     ensures { result.now ≡ word_of finding.now }
 {
     match finding {
@@ -84,15 +84,15 @@ pub(crate) fn file_row(
         "broken": counts.broken,
         "kept": counts.kept,
         "lost": counts.lost,
-        "name": file_name(plan, found.file()),
+        "name": plan.file_name(found.file()),
         "open": counts.unpromised,
         "torn": counts.torn,
         "unread": count_of(unread, found.file())
     })
 }
 
-// How many of these chunks are of the file.
-fn count_of(unread: &[Piece], file: u32) -> u64
+/// How many of these chunks are of the file.
+pub fn count_of(unread: &[Piece], file: u32) -> u64
     ensures { result ≡ count_by (is_of file) unread.now }
 {
     unread.iter().filter(|chunk| is_of(chunk, file)).count() as u64
@@ -109,17 +109,8 @@ pub(crate) fn unread_row(alloc: Global, plan: &Plan, chunk: &Piece) -> Result<Va
     ensures { IfOk result (λ value. view value ≡ unread_json plan.now chunk.now) }
 {
     json!(in alloc; {
-        "file": file_name(plan, chunk.file),
+        "file": plan.file_name(chunk.file),
         "length": chunk.len,
         "offset": chunk.offset
     })
-}
-
-fn file_name(plan: &Plan, file: u32) -> &str
-    ensures { result.now ≡ file_name plan.now file }
-{
-    match plan.files().get(file as usize) {
-        Some(spec) => spec.name(),
-        None => "",
-    }
 }

@@ -102,8 +102,8 @@ fn push_back(
     Ok(())
 }
 
-// The chunks of all files of which something is told.
-fn told_in(alloc: Global, found: &[FileReport]) -> Result<Vec<Judged>, Memory>
+/// The chunks of all files of which something is told.
+pub fn told_in(alloc: Global, found: &[FileReport]) -> Result<Vec<Judged>, Memory>
     ensures { IfOk result (λ told. told.items ≡ flat_map told_in found.now) }
 {
     let mut told = Vec::new(alloc);

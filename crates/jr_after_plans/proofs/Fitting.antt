@@ -1,22 +1,19 @@
 -- Each write of a plan can be carried out.
-use Rattle.std.proofs.Common.{◌≡◌, ℕ, zero, suc, ◌+◌, ◌*◌, ◌/◌, ◌%◌, ◌<◌, List, [], ◌∷◌, slice_get, filter_map, flat_map, Bool, true, false, refl, ap, sym, ◌∙◌, subst, arith}
-use Rattle.std.specs.Prelude.{All, Option, Some, None, cond, nat_lt, ◌==◌, ◌&&◌}
+use Rattle.std.proofs.Common.{◌≡◌, ℕ, zero, suc, ◌+◌, ◌*◌, ◌<◌, List, [], ◌∷◌, slice_get, filter_map, flat_map, true, refl, subst, arith}
+use Rattle.std.specs.Prelude.{All, Option, Some, None, nat_lt, ◌&&◌}
 use Rattle.std.specs.List.{cons_option, range_with_len}
-use Rattle.std.proofs.Math.Nat.{zero-mod}
-use Rattle.std.proofs.lemmas.Bool.{and_parts, and_from, eq-eqb, eqb-true, lt-ltb}
+use Rattle.std.proofs.lemmas.Bool.{and_from, lt-ltb}
 use Rattle.std.proofs.lemmas.List.Elements.{All-nil, All-cons, All-append, All-head, All-tail}
-use Rattle.std.proofs.lemmas.Nat.{div-add-mod', mul-mod_second}
 use Rattle.jr_model.specs.declared.blocks.Dir.{Dir}
 use Rattle.jr_model.specs.declared.blocks.Dir.TheVariants as direction
-use Rattle.jr_model.specs.declared.contents.VerifyKind.{VerifyKind}
 use Rattle.jr_model.specs.declared.contents.VerifyKind.TheVariants as verify
-use Rattle.jr_model.specs.declared.limits.TheConstants.{SECTOR}
 use Rattle.jr_model.specs.declared.workloads.Draw.{Draw}
 use Rattle.jr_model.specs.Draws.{draws_of_job}
 use Rattle.jr_model.specs.Plan.{SubJob}
 use Rattle.jr_model.specs.PlanFacts.{KeepsLimits}
-use Rattle.jr_model.specs.Tickets.{piece_fits, has_pattern, has_whole_chunks, interval_fits}
+use Rattle.jr_model.specs.Tickets.{piece_fits, has_pattern, interval_fits}
 use Rattle.jr_model.specs.Words.{pass_words}
+use Rattle.jr_model.proofs.PieceLemmas.{interval_of_cells}
 use Rattle.jr_laws_draws.specs.PassLaw.{IsInRegion}
 use Rattle.jr_laws_draws.proofs.TheLaw.{drawable_of, pass_law}
 use Rattle.jr_after.specs.declared.writes.PlannedWrite.{PlannedWrite}
@@ -42,28 +39,6 @@ pub in_range : (a n k p : ℕ) → slice_get (range_with_len a n) k ≡ Some p �
 in_range a zero k p at = cc
 in_range a (suc n) zero p at = let e : a ≡ p = cc in omega (arith, e)
 in_range a (suc n) (suc k) p at = let h : p < a + 1 + n = in_range (a + 1) n k p at in omega (arith, h)
-
--- an interval that divides the cell divides whole cells
-chunks_of_cells : (interval cell len : ℕ) → len % cell ≡ 0 → has_whole_chunks interval cell ≡ true → has_whole_chunks interval len ≡ true
-chunks_of_cells interval cell len whole fits = by (interval == 0) fits
-  where
-    by : (b : Bool) → cond b true ((interval % SECTOR == 0) && (cell % interval == 0)) ≡ true → cond b true ((interval % SECTOR == 0) && (len % interval == 0)) ≡ true
-    by true h = refl
-    by false h =
-        let parts = and_parts (interval % SECTOR == 0) (cell % interval == 0) h in
-        let none : cell % interval ≡ 0 = eqb-true (cell % interval) 0 parts.1 in
-        let cells : len / cell * cell ≡ len = omega (arith, div-add-mod' len cell, whole) in
-        let left : len % interval ≡ 0 =
-        ap (λ (n : ℕ). n % interval) (sym cells) ∙ sym (mul-mod_second (len / cell) cell interval)
-        ∙ ap (λ (r : ℕ). (len / cell * r) % interval) none ∙ ap (λ (r : ℕ). r % interval) (let e : len / cell * 0 ≡ 0 = omega arith in e) ∙ zero-mod interval in
-        and_from (interval % SECTOR == 0) (len % interval == 0) parts.0 (eq-eqb (len % interval) 0 left)
-
-interval_of_cells : (kind : VerifyKind) (interval cell len : ℕ) → len % cell ≡ 0 → interval_fits kind interval cell ≡ true → interval_fits kind interval len ≡ true
-interval_of_cells verify.Plain interval cell len whole fits = refl
-interval_of_cells verify.Pattern interval cell len whole fits = refl
-interval_of_cells verify.Md5 interval cell len whole fits = chunks_of_cells interval cell len whole fits
-interval_of_cells verify.Sha1 interval cell len whole fits = chunks_of_cells interval cell len whole fits
-interval_of_cells verify.Sha256 interval cell len whole fits = chunks_of_cells interval cell len whole fits
 
 abbrev Fits : Draw → Type 0
 Fits d = piece_fits d.piece ≡ true

@@ -4,14 +4,7 @@ use Rattle.std.specs.Prelude.{Option, Some, None}
 use Rattle.std.specs.List.{range_with_len, cons_option}
 use Rattle.std.specs.Option.{option_to_list}
 use Rattle.std.proofs.lemmas.Grind.{flat_map-append}
-use Rattle.jr_draw.specs.Drawing.{draws_left}
-use Rattle.jr_draw.specs.declared.drawer.Drawer.{Drawer}
-use Rattle.jr_model.specs.Words.{words_from}
-
-range_more : (a n : ℕ) → range_with_len a (suc n) ≡ range_with_len a n ++ (a + n) ∷ []
-range_more a zero = ap (λ k. k ∷ []) (let e : a ≡ a + 0 = omega arith in e)
-range_more a (suc n) =
-    ap (λ (ks : List ℕ). a ∷ ks) (range_more (a + 1) n ∙ ap (λ k. range_with_len (a + 1) n ++ k ∷ []) (let e : a + 1 + n ≡ a + suc n = omega arith in e))
+use Rattle.jr_model.proofs.ListLemmas.{range_more}
 
 -- one number more
 pub range_further : {A : Type 0} (f : ℕ → List A) (n : ℕ) (first done next : List A) → done ≡ first ++ flat_map f (range_with_len 0 n) → next ≡ done ++ f n → next ≡ first ++ flat_map f (range_with_len 0 (n + 1))
@@ -50,8 +43,3 @@ given_more {X = X} {Y = Y} h left after most i x given more all within next push
     ∙ append_assoc given (option_to_list (h x)) (filter_map h (after n))
     ∙ ap (λ (ys : List Y). given ++ ys) (sym (kept_first h x (after n) (h x) refl) ∙ ap (filter_map h) (sym (next n) ∙ ap left one))
     ∙ so_far
-
--- no draw comes of no words
-pub none_of_no_words : (drawer : Drawer (List ℕ)) → draws_left words_from drawer 0 ≡ []
-unfolding words_from
-none_of_no_words drawer = refl

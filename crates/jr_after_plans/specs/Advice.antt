@@ -1,4 +1,4 @@
--- Believed: what the faults say to write helps (of this project).
+-- Claimed: what the faults say to write helps (of this project).
 use Rattle.std.specs.Prelude.{◌≡◌, true, false, None, All}
 use Rattle.jr_model.specs.Directions.{has_writes}
 use Rattle.jr_model.specs.Plan.{SubJob, Plan}

@@ -1,9 +1,9 @@
 -- A chunk is a fault where the counts say so.
-use Rattle.std.proofs.Common.{◌≡◌, ℕ, ◌+◌, List, [], ◌∷◌, true, false, refl, ap, ◌∙◌, arith, zero-add}
+use Rattle.std.proofs.Common.{◌≡◌, ℕ, ◌+◌, List, [], ◌∷◌, true, false, refl, ap, ◌∙◌, zero-add}
 use Rattle.std.specs.Prelude.{Bool, cond, not, ◌==◌, ◌&&◌, ◌||◌}
 use Rattle.std.specs.List.{list_any}
-use Rattle.std.proofs.lemmas.Bool.{ne_eqb}
 use Rattle.std.proofs.lemmas.List.Sums.{sum_by-cons}
+use Rattle.jr_model.proofs.NumberLemmas.{one_more_is_some}
 use Rattle.jr_after_report.specs.declared.lines.Judged.{Judged}
 use Rattle.jr_after_report.specs.Counting.{is_lost, is_broken, is_fault, counts_of}
 
@@ -11,12 +11,9 @@ and_false : (b : Bool) → not (b && false) ≡ true
 and_false true = refl
 and_false false = refl
 
-more_than_none : (n : ℕ) → (1 + n == 0) ≡ false
-more_than_none n = ne_eqb (1 + n) 0 (λ h. omega (arith, h))
-
 fault_step : (p q : Bool) (m n : ℕ) (any : Bool) → not ((m == 0) && (n == 0)) ≡ any → not ((cond p 1 0 + m == 0) && (cond q 1 0 + n == 0)) ≡ ((p || q) || any)
-fault_step true q m n any h = ap (λ (b : Bool). not (b && (cond q 1 0 + n == 0))) (more_than_none m)
-fault_step false true m n any h = ap (λ (b : Bool). not ((0 + m == 0) && b)) (more_than_none n) ∙ and_false (0 + m == 0)
+fault_step true q m n any h = ap (λ (b : Bool). not (b && (cond q 1 0 + n == 0))) (one_more_is_some m)
+fault_step false true m n any h = ap (λ (b : Bool). not ((0 + m == 0) && b)) (one_more_is_some n) ∙ and_false (0 + m == 0)
 fault_step false false m n any h =
     ap (λ (k : ℕ). not ((k == 0) && (0 + n == 0))) (zero-add m) ∙ ap (λ (k : ℕ). not ((m == 0) && (k == 0))) (zero-add n) ∙ h
 

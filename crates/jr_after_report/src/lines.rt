@@ -1,5 +1,4 @@
 ghost use Rattle.std.specs.Prelude.{◌≡◌, ◌++◌, OnOk};
-ghost use Rattle.jr_model.specs.Report.{file_name};
 ghost use Rattle.jr_after.specs.declared.findings.Finding.TheVariants.{Lost};
 ghost use Rattle.jr_after_report.specs.Lines.{line_of, place_text, told_text, write_name};
 
@@ -66,20 +65,11 @@ fn push_place(text: &mut Vec<u8>, plan: &Plan, chunk: &Piece, kept: &WriteId) ->
     ensures { OnOk result (text.new.items ≡ text.old.items ++ place_text plan.now chunk.now kept.now) }
 {
     push_text(text, " file=")?;
-    push_file_name(text, plan, chunk.file)?;
+    push_text(text, plan.file_name(chunk.file))?;
     push_field(text, "offset", chunk.offset)?;
     push_field(text, "length", u64::from(chunk.len))?;
     push_text(text, " kept=")?;
     push_write(text, kept)
-}
-
-pub(crate) fn push_file_name(text: &mut Vec<u8>, plan: &Plan, file: u32) -> Result<(), Memory>
-    ensures { OnOk result (text.new.items ≡ text.old.items ++ file_name plan.now file) }
-{
-    match plan.files().get(file as usize) {
-        None => Ok(()),
-        Some(spec) => push_text(text, spec.name()),
-    }
 }
 
 // Which write it is.

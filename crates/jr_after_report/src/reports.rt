@@ -5,7 +5,7 @@ ghost use Rattle.jr_after_report.specs.Reports.{FileFound, has_fault, lines_in, 
 ghost use Rattle.jr_after_report.specs.declared.lines.Judged.{Judged as JudgedRecord};
 
 use crate::counts::Counts;
-use crate::lines::{Judged, push_file_name, push_line};
+use crate::lines::{Judged, push_line};
 use jr_after::Finding;
 use jr_model::{Memory, push_field, push_text};
 use jr_plan::Plan;
@@ -132,7 +132,7 @@ fn push_totals(text: &mut Vec<u8>, plan: &Plan, file: &FileReport) -> Result<(),
     ensures { OnOk result (text.new.items ≡ text.old.items ++ totals_line plan.now file.now) }
 {
     push_text(text, "file=")?;
-    push_file_name(text, plan, file.file)?;
+    push_text(text, plan.file_name(file.file))?;
     push_field(text, "kept", file.counts.kept)?;
     push_field(text, "lost", file.counts.lost)?;
     push_field(text, "broken", file.counts.broken)?;

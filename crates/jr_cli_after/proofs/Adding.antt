@@ -15,7 +15,7 @@ use Rattle.jr_after_report.specs.Counting.{total_of}
 use Rattle.jr_after_report.specs.Reports.{FileState, state_of}
 use Rattle.jr_cli_after.specs.Found.{Asked, FileAfterState, UnreadState, found_by, judged_of, unread_by, unread_line, unread_of, unread_state}
 use Rattle.jr_cli_after.specs.Reading.{IsAdded}
-use Rattle.jr_cli_after.specs.Readings.{Reading, is_whole}
+use Rattle.jr_cli_after.specs.Readings.{Reading}
 
 -- one element more of a list
 one_more : {X Y : Type 0} (h : X → Option Y) (xs : List X) (x : X) (y : Y) → h x ≡ Some y → filter_map h (xs ++ x ∷ []) ≡ filter_map h xs ++ y ∷ []
@@ -32,19 +32,19 @@ module _ (asked : Asked) (reading : Reading) (chunk : Piece) (at : reading.chunk
   abbrev judged : List ℕ → Piece → Judged
   judged bytes place = record { chunk = place; finding = finding_on (writes_of asked.plan) asked.lines place bytes }
 
-  judged_whole : (bytes : List ℕ) → is_whole reading ≡ true → reading.bytes ≡ bytes → judged_of asked reading ≡ Some (judged bytes chunk)
+  judged_whole : (bytes : List ℕ) → reading.whole ≡ true → reading.bytes ≡ bytes → judged_of asked reading ≡ Some (judged bytes chunk)
   judged_whole bytes whole are =
       ap (λ (b : Bool). cond b (Some (judged reading.bytes reading.chunk)) None) whole
       ∙ ap (λ (l : List ℕ). Some (judged l reading.chunk)) are
       ∙ ap (λ (p : Piece). Some (judged bytes p)) at
 
-  judged_other : is_whole reading ≡ false → judged_of asked reading ≡ None
+  judged_other : reading.whole ≡ false → judged_of asked reading ≡ None
   judged_other other = ap (λ (b : Bool). cond b (Some (judged reading.bytes reading.chunk)) None) other
 
-  unread_whole : is_whole reading ≡ true → unread_of reading ≡ None
+  unread_whole : reading.whole ≡ true → unread_of reading ≡ None
   unread_whole whole = ap (λ (b : Bool). cond b None (Some reading.chunk)) whole
 
-  unread_other : is_whole reading ≡ false → unread_of reading ≡ Some chunk
+  unread_other : reading.whole ≡ false → unread_of reading ≡ Some chunk
   unread_other other = ap (λ (b : Bool). cond b None (Some reading.chunk)) other ∙ ap (λ (p : Piece). Some p) at
 
 abbrev both : FileState → UnreadState → FileAfterState

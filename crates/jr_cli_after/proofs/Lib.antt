@@ -1,3 +1,4 @@
 pub mod Adding
 pub mod Reports
+pub mod RowLemmas
 pub mod Walks

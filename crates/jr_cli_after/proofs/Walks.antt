@@ -1,21 +1,41 @@
--- Readings one after another.
-use Rattle.std.proofs.Common.{◌≡◌, ℕ, suc, ◌+◌, ◌≤◌, ◌<◌, List, [], ◌∷◌, ◌++◌, Some, None, length, map, refl, sym, ap, subst, ◌∙◌, arith}
-use Rattle.std.proofs.lemmas.List.{length-append, map-append}
+-- Rows of chunks that are read one after another.
+use Rattle.std.proofs.Common.{◌≡◌, ℕ, suc, ◌+◌, ◌≤◌, List, [], ◌∷◌, ◌++◌, Some, None, length, map, flat_map, cond, refl, sym, ap, subst, ◌∙◌, arith}
+use Rattle.std.proofs.lemmas.List.{append-nil, length-append, map-append}
+use Rattle.std.proofs.lemmas.Grind.{flat_map-append}
 use Rattle.jr_model.specs.declared.blocks.Piece.{Piece}
 use Rattle.jr_model.specs.Plan.{Plan}
 use Rattle.jr_model.specs.Replies.{EngineState}
 use Rattle.jr_after_report.specs.Reports.{FileState}
 use Rattle.jr_after_chunks.specs.Next.{next_chunk}
 use Rattle.jr_cli_after.specs.Found.{Asked, FileAfterState, UnreadState, after_state, state_found, state_unread}
-use Rattle.jr_cli_after.specs.Reading.{AreTold, IsFileAfter, IsStep, IsWalk, count_in}
-use Rattle.jr_cli_after.specs.Readings.{AreFilesRead, AreReadings, FileRead, IsFileRead, IsReading, Reading, end_of}
+use Rattle.jr_cli_after.specs.Reading.{AreTold, IsFileAfter, IsRow, IsStep, IsWalk, count_in}
+use Rattle.jr_cli_after.specs.Readings.{AreBeside, AreFilesRead, AreRowsRead, FileRead, IsFileRead, IsRowRead, Reading, RowRead, end_of, file_readings, is_split, piece_of, readings_by, readings_of}
+use Rattle.jr_cli_after.proofs.RowLemmas.{many}
 
--- one reading more
-pub read_on : (plan : Plan) (file : ℕ) (old : EngineState) (from : ℕ) (readings : List Reading) (at : ℕ) (mid : EngineState) (reading : Reading) → AreReadings plan file old from readings at mid → next_chunk plan.clones file at ≡ Some reading.chunk → IsReading mid reading → AreReadings plan file old from (readings ++ reading ∷ []) (end_of reading.chunk) reading.engine
-read_on plan file old from [] at mid reading done next is =
-    (ap (next_chunk plan.clones file) (sym done.0) ∙ next, subst (λ (e : EngineState). IsReading e reading) done.1 is, (refl, refl))
-read_on plan file old from (first ∷ readings) at mid reading done next is =
-    (done.0, done.1, read_on plan file first.engine (end_of first.chunk) readings at mid reading done.2 next is)
+-- one row more
+pub rows_on : (plan : Plan) (file : ℕ) (old : EngineState) (from : ℕ) (rows : List RowRead) (at : ℕ) (mid : EngineState) (row : RowRead) → AreRowsRead plan file old from rows at mid → IsRowRead plan file mid at row → AreRowsRead plan file old from (rows ++ row ∷ []) (end_of row.call.piece) row.engine
+rows_on plan file old from [] at mid row done is =
+    (subst (λ (n : ℕ). IsRowRead plan file old n row) done.0 (subst (λ (e : EngineState). IsRowRead plan file e at row) done.1 is), (refl, refl))
+rows_on plan file old from (first ∷ rows) at mid row done is =
+    (done.0, rows_on plan file first.engine (end_of first.call.piece) rows at mid row done.1 is)
+
+-- a row that was read by these calls
+abbrev row_read : (asked : Asked) (first piece : Piece) (chunks : List Piece) (old new : EngineState) (before after : FileAfterState) → IsRow asked.plan first chunks piece → IsStep asked chunks piece old before after new → RowRead
+row_read asked first piece chunks old new before after row step =
+    record { first = first; others = row.others; call = step.call; alone = step.alone; engine = new }
+
+row_is : (asked : Asked) (file from : ℕ) (first piece : Piece) (chunks : List Piece) (old new : EngineState) (before after : FileAfterState) (row : IsRow asked.plan first chunks piece) (step : IsStep asked chunks piece old before after new) → next_chunk asked.plan.clones file from ≡ Some first → first.file ≡ file → IsRowRead asked.plan file old from (row_read asked first piece chunks old new before after row step)
+row_is asked file from first piece chunks old new before after row step next in_file = record {
+  first = next;
+  others =
+      subst (λ (p : Piece). AreBeside asked.plan file (end_of first) row.others (end_of p)) (sym step.piece_is)
+      (subst (λ (f : ℕ). AreBeside asked.plan f (end_of first) row.others (end_of piece)) in_file row.beside);
+  in_file = ap (λ (p : Piece). p.file) step.piece_is ∙ row.in_file ∙ in_file;
+  begins = ap (λ (p : Piece). p.offset) step.piece_is ∙ row.begins;
+  call = step.is;
+  each = subst (λ (l : List Piece). map piece_of step.alone ≡ cond (is_split step.call l) l []) row.chunks_are step.each;
+  alone = step.are;
+}
 
 -- one file more
 pub files_on : (plan : Plan) (file : ℕ) (old : EngineState) (files : List FileRead) (mid : EngineState) (one : FileRead) → AreFilesRead plan file old files mid → one.file ≡ file + length files → IsFileRead plan mid one → AreFilesRead plan file old (files ++ one ∷ []) one.engine
@@ -26,27 +46,35 @@ files_on plan file old (first ∷ files) mid one done at is =
 -- a walk that has read nothing, and one more step of a walk
 pub walk_begins : (asked : Asked) (file : ℕ) (engine : EngineState) (told : FileAfterState) → told ≡ after_state asked file [] → IsWalk asked file engine 0 told engine
 walk_begins asked file engine told is = record {
-  readings = [];
+  rows = [];
   read = (refl, refl);
   told = is;
   few = omega (arith, ap count_in is);
 }
 
-pub walk_on : (asked : Asked) (file : ℕ) (old : EngineState) (from : ℕ) (before after : FileAfterState) (mid new : EngineState) (chunk : Piece) (end : ℕ) → end ≡ end_of chunk → IsWalk asked file old from before mid → next_chunk asked.plan.clones file from ≡ Some chunk → from ≤ chunk.offset → 0 < chunk.len → IsStep asked chunk mid before after new → IsWalk asked file old end after new
-walk_on asked file old from before after mid new chunk end ends walk next above some step = record {
-  readings = walk.readings ++ step.reading ∷ [];
+pub walk_on : (asked : Asked) (file : ℕ) (old : EngineState) (from : ℕ) (before after : FileAfterState) (mid new : EngineState) (first piece : Piece) (chunks : List Piece) (end : ℕ) → end ≡ end_of piece → IsWalk asked file old from before mid → next_chunk asked.plan.clones file from ≡ Some first → first.file ≡ file → from ≤ first.offset → IsRow asked.plan first chunks piece → IsStep asked chunks piece mid before after new → IsWalk asked file old end after new
+walk_on asked file old from before after mid new first piece chunks end ends walk next in_file above row step = record {
+  rows = walk.rows ++ read ∷ [];
   read =
-      subst (λ (e : EngineState). AreReadings asked.plan file old 0 (walk.readings ++ step.reading ∷ []) end e) step.engine_is
-      (subst (λ (n : ℕ). AreReadings asked.plan file old 0 (walk.readings ++ step.reading ∷ []) n step.reading.engine) (sym ends)
-      (subst (λ (p : Piece). AreReadings asked.plan file old 0 (walk.readings ++ step.reading ∷ []) (end_of p) step.reading.engine) step.chunk_is
-      (read_on asked.plan file old 0 walk.readings from mid step.reading walk.read (next ∙ ap Some (sym step.chunk_is)) step.is)));
-  told = step.added file walk.readings walk.told;
-  few = omega (arith, ends, walk.few, step.count, above, some);
+      subst (λ (n : ℕ). AreRowsRead asked.plan file old 0 (walk.rows ++ read ∷ []) n new) (ap end_of step.piece_is ∙ sym ends)
+      (rows_on asked.plan file old 0 walk.rows from mid read walk.read
+      (row_is asked file from first piece chunks mid new before after row step next in_file));
+  told = step.added.added file (flat_map readings_of walk.rows) walk.told ∙ ap (after_state asked file) more;
+  few = omega (arith, ends, walk.few, step.added.count, many step.call step.alone chunks step.each, row.few, row.begins, above);
 }
+  where
+    read : RowRead
+    read = row_read asked first piece chunks mid new before after row step
+
+    more : flat_map readings_of walk.rows ++ readings_by step.call step.alone chunks ≡ flat_map readings_of (walk.rows ++ read ∷ [])
+    more =
+        ap (λ (l : List Piece). flat_map readings_of walk.rows ++ readings_by step.call step.alone l) row.chunks_are
+        ∙ ap (λ (l : List Reading). flat_map readings_of walk.rows ++ l) (sym (append-nil (readings_of read)))
+        ∙ sym (flat_map-append readings_of walk.rows (read ∷ []))
 
 pub walk_ends : (asked : Asked) (file : ℕ) (old : EngineState) (end : ℕ) (told : FileAfterState) (new : EngineState) → IsWalk asked file old end told new → next_chunk asked.plan.clones file end ≡ None → IsFileAfter asked file old told new
 walk_ends asked file old end told new walk none = record {
-  one = record { file = file; readings = walk.readings; engine = new };
+  one = record { file = file; rows = walk.rows; engine = new };
   file_is = refl;
   read = record { end = end; read = walk.read; none = none };
   told = walk.told;
@@ -73,5 +101,5 @@ told_on asked old count found more_found unread more_unread mid new told number 
       ∙ sym (map-append (state_unread asked) so_far.files (step.one ∷ []));
 }
   where
-    told_by : (step : IsFileAfter asked number mid told new) → told ≡ after_state asked step.one.file step.one.readings
-    told_by step = step.told ∙ ap (λ (f : ℕ). after_state asked f step.one.readings) (sym step.file_is)
+    told_by : (step : IsFileAfter asked number mid told new) → told ≡ after_state asked step.one.file (file_readings step.one)
+    told_by step = step.told ∙ ap (λ (f : ℕ). after_state asked f (file_readings step.one)) (sym step.file_is)

@@ -11,7 +11,7 @@ use Rattle.jr_after.specs.Findings.{finding_on}
 use Rattle.jr_after.specs.Writes.{writes_of}
 use Rattle.jr_after_report.specs.declared.lines.Judged.{Judged}
 use Rattle.jr_after_report.specs.Reports.{FileFound, FileState, has_fault, report_of, state_of}
-use Rattle.jr_cli_after.specs.Readings.{AreFilesRead, FileRead, Reading, is_whole}
+use Rattle.jr_cli_after.specs.Readings.{AreFilesRead, FileRead, Reading, file_readings}
 
 -- a plan and the ledger of its run
 pub record Asked : Type 0 where
@@ -21,13 +21,13 @@ pub record Asked : Type 0 where
 -- a chunk that was read whole is judged by its bytes
 abbrev pub judged_of : Asked → Reading → Option Judged
 judged_of asked reading =
-    if is_whole reading
+    if reading.whole
     then Some (record { chunk = reading.chunk; finding = finding_on (writes_of asked.plan) asked.lines reading.chunk reading.bytes })
     else None
 
 -- any other isn't
 abbrev pub unread_of : Reading → Option Piece
-unread_of reading = if is_whole reading then None else Some reading.chunk
+unread_of reading = if reading.whole then None else Some reading.chunk
 
 abbrev pub place_text : Plan → Piece → List ℕ
 place_text plan chunk =
@@ -70,13 +70,13 @@ pub record AfterState : Type 0 where
   pub unread : List UnreadState
 
 abbrev pub found_in : Asked → FileRead → FileFound
-found_in asked one = found_by asked one.file one.readings
+found_in asked one = found_by asked one.file (file_readings one)
 
 abbrev pub state_found : Asked → FileRead → FileState
 state_found asked one = state_of asked.plan (found_in asked one)
 
 abbrev pub state_unread : Asked → FileRead → UnreadState
-state_unread asked one = unread_state asked.plan (unread_by one.readings)
+state_unread asked one = unread_state asked.plan (unread_by (file_readings one))
 
 -- what is told of these files
 abbrev pub told_of : Asked → List FileRead → AfterState
@@ -102,7 +102,7 @@ abbrev pub has_fault_counted : FileState → Bool
 has_fault_counted state = not ((state.counts.lost == 0) && (state.counts.broken == 0))
 
 abbrev pub unread_text : Plan → FileRead → List ℕ
-unread_text plan one = flat_map (unread_line plan) (unread_by one.readings)
+unread_text plan one = flat_map (unread_line plan) (unread_by (file_readings one))
 
 -- the report of these files: that of the chunks that were judged, and then a line for each that couldn't be read
 abbrev pub report_after : Asked → List FileRead → List ℕ
@@ -112,7 +112,7 @@ abbrev pub has_lost : Asked → FileRead → Bool
 has_lost asked one = has_fault (found_in asked one)
 
 abbrev pub has_unread : FileRead → Bool
-has_unread one = not (length (unread_by one.readings) == 0)
+has_unread one = not (length (unread_by (file_readings one)) == 0)
 
 -- the status of the program: 1 if a chunk isn't as the storage promised, or one couldn't be read
 abbrev pub status_after : Asked → List FileRead → ℕ

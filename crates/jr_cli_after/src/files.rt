@@ -2,7 +2,6 @@ ghost use Rattle.std.specs.Prelude.{◌≡◌, ◌+◌, ◌<◌, ◌^◌, ◌++�
 ghost use Rattle.jr_after_report.specs.Counting.{total_of};
 ghost use Rattle.jr_after_report.specs.Reports.{state_of};
 ghost use Rattle.jr_after_report.specs.declared.lines.Judged.{Judged as JudgedRecord};
-ghost use Rattle.jr_model.specs.Report.{file_name};
 ghost use Rattle.jr_cli_after.specs.Found.{Asked, after_state, place_text, unread_line};
 
 use jr_after_report::{FileReport, Judged};
@@ -114,16 +113,7 @@ fn push_place(text: &mut Vec<u8>, plan: &Plan, chunk: &Piece) -> Result<(), Memo
     ensures { OnOk result (text.new.items ≡ text.old.items ++ place_text plan.now chunk.now) }
 {
     push_text(text, " file=")?;
-    push_file_name(text, plan, chunk.file)?;
+    push_text(text, plan.file_name(chunk.file))?;
     push_field(text, "offset", chunk.offset)?;
     push_field(text, "length", u64::from(chunk.len))
-}
-
-fn push_file_name(text: &mut Vec<u8>, plan: &Plan, file: u32) -> Result<(), Memory>
-    ensures { OnOk result (text.new.items ≡ text.old.items ++ file_name plan.now file) }
-{
-    match plan.files().get(file as usize) {
-        None => Ok(()),
-        Some(spec) => push_text(text, spec.name()),
-    }
 }

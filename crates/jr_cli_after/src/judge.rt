@@ -2,12 +2,13 @@ ghost use Rattle.std.specs.Prelude.{◌≡◌, ◌≤◌, ◌<◌, ◌+◌, ◌^
 ghost use Rattle.jr_after.specs.Findings.{finding_on};
 ghost use Rattle.jr_after.specs.Ledgers.{kept_lines};
 ghost use Rattle.jr_after.specs.Writes.{writes_of};
+ghost use Rattle.jr_cli_after.specs.Judges.{longest};
 
 use jr_after::{Finding, Named};
-use jr_after_chunks::{Index, index_of, judged, named_writes};
+use jr_after_chunks::{Index, index_of, judged, longest_block, named_writes};
 use jr_after_plans::planned_writes;
 use jr_ledger::LedgerLine;
-use jr_model::{LARGEST_BLOCK, Memory, Piece};
+use jr_model::{Memory, Piece};
 use jr_plan::Plan;
 use std::alloc::Global;
 use std::marker::Model;
@@ -64,6 +65,13 @@ impl<'a> Judge<'a> {
         self.lines
     }
 
+    // The length of the longest block of the plan's writes.
+    pub(crate) fn longest_block(&self) -> u32
+        ensures { result ≡ longest self.now }
+    {
+        longest_block(self.named.as_slice())
+    }
+
     // The finding on the bytes of a chunk. What the room holds afterwards says nothing.
     pub(crate) fn finding(
         &self,
@@ -75,7 +83,7 @@ impl<'a> Judge<'a> {
     ) -> Result<Finding, Memory>
         requires kept { kept ≡ kept_lines chunk.now.file self.now.lines }
         requires some { 0 < chunk.now.len }
-        requires room { LARGEST_BLOCK ≤ length room.old }
+        requires room { longest self.now ≤ length room.old }
         requires length { length bytes.now ≡ chunk.now.len }
         requires end { chunk.now.offset + chunk.now.len < 2 ^ 64 }
         ensures { IfOk result (λ finding. finding ≡ finding_on (writes_of self.now.plan) self.now.lines chunk.now bytes.now) }

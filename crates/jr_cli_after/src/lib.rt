@@ -4,7 +4,9 @@
 mod faults;
 mod files;
 mod judge;
+mod parts;
 mod readings;
+mod rows;
 mod told;
 mod walk;
 

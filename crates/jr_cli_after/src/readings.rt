@@ -6,20 +6,20 @@ use crate::faults::AfterFailure;
 use jr_engines::{Engine, EngineFault};
 use jr_model::Piece;
 
-// Calls the engine once for a chunk, and says whether it got the whole of it.
-pub(crate) fn read_chunk(
+// Calls the engine once for some bytes of a file, and says whether it got all of them.
+pub(crate) fn read_piece(
     engine: &mut dyn Engine,
-    chunk: &Piece,
+    piece: &Piece,
     bytes: &mut [u8],
 ) -> Result<bool, AfterFailure>
-    requires { length bytes.old ≡ chunk.now.len }
-    ensures { IfOk result (λ whole. HasRead chunk.now (state engine.old) whole bytes.new (state engine.new)) }
+    requires { length bytes.old ≡ piece.now.len }
+    ensures { IfOk result (λ whole. HasRead piece.now (state engine.old) whole bytes.new (state engine.new)) }
 {
     if engine.calls() == u64::MAX {
         return Err(AfterFailure::Calls);
     }
-    let answer = engine.read(chunk.file, chunk.offset, bytes);
-    Ok(has_all(&answer, chunk.len))
+    let answer = engine.read(piece.file, piece.offset, bytes);
+    Ok(has_all(&answer, piece.len))
 }
 
 fn has_all(answer: &Result<usize, EngineFault>, len: u32) -> bool

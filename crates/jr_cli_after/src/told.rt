@@ -1,6 +1,7 @@
 ghost use Rattle.std.specs.Prelude.{◌≡◌, ◌≤◌, ◌++◌, ◌||◌, length, flat_map, List, IfOk, OnOk, if◌then◌else◌};
 ghost use Rattle.std.specs.List.{list_any};
 ghost use Rattle.jr_cli_after.specs.Found.{Asked, IsAfter, chunks_in, has_fault_counted, has_some, lines_in, report_after, status_after, told_of};
+ghost use Rattle.jr_cli_after.specs.Judges.{longest};
 ghost use Rattle.jr_cli_after.specs.Readings.{FileRead};
 
 use crate::faults::AfterFailure;
@@ -10,7 +11,7 @@ use crate::walk::judge_file;
 use jr_after_report::{FileReport, report};
 use jr_engines::Engine;
 use jr_ledger::LedgerLine;
-use jr_model::{LARGEST_BLOCK, Memory, Piece};
+use jr_model::{Memory, Piece};
 use jr_plan::Plan;
 use std::alloc::Global;
 use std::marker::Model;
@@ -41,7 +42,7 @@ pub fn judge_after(
     ensures { IfOk result (λ told. IsAfter (record { plan = plan.now; lines = lines.now }) (state engine.old) told (state engine.new)) }
 {
     let judge = Judge::new(alloc, plan, lines)?;
-    let mut room = vec![in alloc; 0; LARGEST_BLOCK as usize]?;
+    let mut room = vec![in alloc; 0; judge.longest_block() as usize]?;
     judge_files(alloc, &judge, engine, room.as_mut_slice())
 }
 
@@ -51,7 +52,7 @@ fn judge_files(
     engine: &mut dyn Engine,
     room: &mut [u8],
 ) -> Result<After, AfterFailure>
-    requires { LARGEST_BLOCK ≤ length room.old }
+    requires { longest judge.now ≤ length room.old }
     ensures { IfOk result (λ told. IsAfter judge.now (state engine.old) told (state engine.new)) }
 {
     let mut found = Vec::new(alloc);

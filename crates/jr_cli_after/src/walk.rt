@@ -1,18 +1,19 @@
-ghost use Rattle.std.specs.Prelude.{◌≡◌, ◌≤◌, ◌<◌, ◌+◌, ◌^◌, false, true, length, IfOk, OnOk};
-ghost use Rattle.jr_after.specs.Findings.{finding_on};
+ghost use Rattle.std.specs.Prelude.{◌≡◌, ◌≤◌, ◌<◌, ◌+◌, ◌∷◌, [], ◌^◌, ◌&&◌, ◌==◌, All, not, length, IfOk, OnOk};
 ghost use Rattle.jr_after.specs.Ledgers.{kept_lines};
-ghost use Rattle.jr_after.specs.Writes.{writes_of};
-ghost use Rattle.jr_cli_after.specs.Reading.{IsAdded, IsFileAfter, IsStep, count_in};
+ghost use Rattle.jr_cli_after.specs.Judges.{longest};
+ghost use Rattle.jr_cli_after.specs.Reading.{AreAlone, IsFileAfter, IsPartOf, IsStep, count_in};
+ghost use Rattle.jr_cli_after.specs.Readings.{end_of};
 
 use crate::faults::AfterFailure;
 use crate::files::FileAfter;
 use crate::judge::Judge;
-use crate::readings::read_chunk;
-use jr_after::{Finding, kept_lines};
+use crate::parts::{add_parts, add_reading};
+use crate::readings::read_piece;
+use crate::rows::{Row, row_from};
+use jr_after::kept_lines;
 use jr_after_chunks::next_chunk;
-use jr_after_report::Judged;
 use jr_engines::Engine;
-use jr_model::{LARGEST_BLOCK, Memory, Piece};
+use jr_model::{Memory, Piece};
 use std::alloc::Global;
 
 // Reads the chunks of a file one after another, and judges each that is read whole.
@@ -23,50 +24,101 @@ pub(crate) fn judge_file(
     engine: &mut dyn Engine,
     room: &mut [u8],
 ) -> Result<FileAfter, AfterFailure>
-    requires room { LARGEST_BLOCK ≤ length room.old }
+    requires room { longest judge.now ≤ length room.old }
     ensures { IfOk result (λ told. IsFileAfter judge.now file (state engine.old) told (state engine.new)) }
 {
     let kept = kept_lines(file, judge.lines());
     let mut told = FileAfter::new(alloc, file);
+    let mut bytes = Vec::new(alloc);
     let mut from = 0u64;
-    while let Some(chunk) = next_chunk(judge.plan(), file, from) {
-        judge_chunk(alloc, judge, kept, &chunk, engine, &mut told, room)?;
-        from = chunk.offset + u64::from(chunk.len);
+    while let Some(first) = next_chunk(judge.plan(), file, from) {
+        let row = row_from(alloc, judge.plan(), &first)?;
+        make_room(&mut bytes, row.piece.len)?;
+        let buffer = bytes.as_mut_slice();
+        judge_row(alloc, judge, kept, &row, engine, buffer, &mut told, room)?;
+        from = row.piece.offset + u64::from(row.piece.len);
     }
     Ok(told)
 }
 
-// Reads a chunk, and adds what is found.
-fn judge_chunk(
+// Lets the buffer have so many bytes at least, whatever they are.
+fn make_room(buffer: &mut Vec<u8>, len: u32) -> Result<(), Memory>
+    ensures { OnOk result (len ≤ length buffer.new.items) }
+{
+    if buffer.len() < len as usize {
+        buffer.resize(len as usize, 0)?;
+    }
+    Ok(())
+}
+
+// Reads the chunks of a row at once, and adds what is found. If not all of their bytes are got, each chunk is read alone.
+fn judge_row(
     alloc: Global,
     judge: &Judge<'_>,
     kept: usize,
-    chunk: &Piece,
+    row: &Row,
     engine: &mut dyn Engine,
+    buffer: &mut [u8],
     told: &mut FileAfter,
     room: &mut [u8],
 ) -> Result<(), AfterFailure>
-    requires kept { kept ≡ kept_lines chunk.now.file judge.now.lines }
-    requires some { 0 < chunk.now.len }
-    requires end { chunk.now.offset + chunk.now.len < 2 ^ 64 }
-    requires room { LARGEST_BLOCK ≤ length room.old }
-    requires few { count_in told.old + 1 < 2 ^ 64 }
-    ensures { OnOk result (IsStep judge.now chunk.now (state engine.old) told.old told.new (state engine.new)) }
+    requires kept { kept ≡ kept_lines row.now.piece.file judge.now.lines }
+    requires parts { All (IsPartOf row.now.piece) row.now.chunks.items }
+    requires end { end_of row.now.piece < 2 ^ 64 }
+    requires buffer { row.now.piece.len ≤ length buffer.old }
+    requires room { longest judge.now ≤ length room.old }
+    requires few { count_in told.old + length row.now.chunks.items < 2 ^ 64 }
+    ensures { OnOk result (IsStep judge.now row.now.chunks.items row.now.piece (state engine.old) told.old told.new (state engine.new)) }
 {
-    let mut bytes = vec![in alloc; 0; chunk.len as usize]?;
-    judge_into(
-        alloc,
-        judge,
-        kept,
-        chunk,
-        engine,
-        bytes.as_mut_slice(),
-        told,
-        room,
-    )
+    let piece = &row.piece;
+    let chunks = row.chunks.as_slice();
+    let bytes = &mut buffer[..piece.len as usize];
+    let is_whole = read_piece(engine, piece, bytes)?;
+    if is_split(is_whole, chunks.len()) {
+        return judge_alone(alloc, judge, kept, piece, chunks, engine, bytes, told, room);
+    }
+    add_parts(
+        alloc, judge, kept, piece, chunks, is_whole, bytes, told, room,
+    )?;
+    Ok(())
 }
 
-fn judge_into(
+// Whether each chunk is read alone after the read of all.
+fn is_split(is_whole: bool, count: usize) -> bool
+    ensures { result ≡ (not is_whole && not (count == 1)) }
+{
+    !is_whole && count != 1
+}
+
+// Reads each of these chunks alone, and adds what is found.
+fn judge_alone(
+    alloc: Global,
+    judge: &Judge<'_>,
+    kept: usize,
+    piece: &Piece,
+    chunks: &[Piece],
+    engine: &mut dyn Engine,
+    buffer: &mut [u8],
+    told: &mut FileAfter,
+    room: &mut [u8],
+) -> Result<(), AfterFailure>
+    requires kept { kept ≡ kept_lines piece.now.file judge.now.lines }
+    requires parts { All (IsPartOf piece.now) chunks.now }
+    requires end { end_of piece.now < 2 ^ 64 }
+    requires buffer { piece.now.len ≤ length buffer.old }
+    requires room { longest judge.now ≤ length room.old }
+    requires few { count_in told.old + length chunks.now < 2 ^ 64 }
+    ensures { OnOk result (AreAlone judge.now chunks.now (state engine.old) told.old told.new (state engine.new)) }
+{
+    for chunk in chunks {
+        let bytes = &mut buffer[..chunk.len as usize];
+        judge_chunk(alloc, judge, kept, chunk, engine, bytes, told, room)?;
+    }
+    Ok(())
+}
+
+// Reads a chunk, and adds what is found.
+fn judge_chunk(
     alloc: Global,
     judge: &Judge<'_>,
     kept: usize,
@@ -80,69 +132,11 @@ fn judge_into(
     requires some { 0 < chunk.now.len }
     requires end { chunk.now.offset + chunk.now.len < 2 ^ 64 }
     requires length { length bytes.old ≡ chunk.now.len }
-    requires room { LARGEST_BLOCK ≤ length room.old }
+    requires room { longest judge.now ≤ length room.old }
     requires few { count_in told.old + 1 < 2 ^ 64 }
-    ensures { OnOk result (IsStep judge.now chunk.now (state engine.old) told.old told.new (state engine.new)) }
+    ensures { OnOk result (AreAlone judge.now (chunk.now ∷ []) (state engine.old) told.old told.new (state engine.new)) }
 {
-    let is_whole = read_chunk(engine, chunk, bytes)?;
+    let is_whole = read_piece(engine, chunk, bytes)?;
     add_reading(alloc, judge, kept, chunk, is_whole, bytes, told, room)?;
     Ok(())
-}
-
-// Adds what is found by a chunk's bytes, if it was read whole.
-fn add_reading(
-    alloc: Global,
-    judge: &Judge<'_>,
-    kept: usize,
-    chunk: &Piece,
-    is_whole: bool,
-    bytes: &[u8],
-    told: &mut FileAfter,
-    room: &mut [u8],
-) -> Result<(), Memory>
-    requires kept { kept ≡ kept_lines chunk.now.file judge.now.lines }
-    requires some { 0 < chunk.now.len }
-    requires end { chunk.now.offset + chunk.now.len < 2 ^ 64 }
-    requires length { length bytes.now ≡ chunk.now.len }
-    requires room { LARGEST_BLOCK ≤ length room.old }
-    requires few { count_in told.old + 1 < 2 ^ 64 }
-    ensures { OnOk result (IsAdded judge.now chunk.now is_whole bytes.now told.old told.new) }
-{
-    if !is_whole {
-        return add_unread(judge, chunk, bytes, told);
-    }
-    let finding = judge.finding(alloc, kept, chunk, bytes, room)?;
-    add_judged(judge, chunk, bytes, finding, told)
-}
-
-fn add_unread(
-    judge: &Judge<'_>,
-    chunk: &Piece,
-    bytes: &[u8],
-    told: &mut FileAfter,
-) -> Result<(), Memory>
-    requires { count_in told.old + 1 < 2 ^ 64 }
-    ensures { OnOk result (IsAdded judge.now chunk.now false bytes.now told.old told.new) }
-{
-    let _bytes = bytes;
-    told.add_unread(judge.plan(), chunk)
-}
-
-fn add_judged(
-    judge: &Judge<'_>,
-    chunk: &Piece,
-    bytes: &[u8],
-    finding: Finding,
-    told: &mut FileAfter,
-) -> Result<(), Memory>
-    requires few { count_in told.old + 1 < 2 ^ 64 }
-    requires found { finding ≡ finding_on (writes_of judge.now.plan) judge.now.lines chunk.now bytes.now }
-    ensures { OnOk result (IsAdded judge.now chunk.now true bytes.now told.old told.new) }
-{
-    let _bytes = bytes;
-    let one = Judged {
-        chunk: *chunk,
-        finding,
-    };
-    told.add_judged(judge.plan(), &one)
 }

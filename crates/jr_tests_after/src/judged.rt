@@ -152,12 +152,30 @@ fn a_chunk_that_cant_be_read_is_a_fault(rt: HostRuntime) -> Result<(), Fail> {
     let alloc = rt.alloc();
     let plan = plan_of(alloc, 0)?;
     let memory = MemoryEngine::new(alloc, &plan)?;
-    let script = Vec::from_array(alloc, [(1, Reply::Fail)])?;
+    let script = Vec::from_array(alloc, [(0, Reply::Fail), (2, Reply::Fail)])?;
     let mut engine = ScriptedEngine::new(memory, script);
     let after = judge_after(alloc, &plan, &[], &mut engine)?;
     let wanted =
         "file=f kept=0 lost=0 broken=0 torn=0 open=4\nfault: file=f offset=4096 length=4096\n";
     assert_told(&rt, &plan, &after, wanted, 1)
+}
+
+#[test]
+fn chunks_of_a_short_read_are_read_again(rt: HostRuntime) -> Result<(), Fail> {
+    let alloc = rt.alloc();
+    let plan = plan_of(alloc, 0)?;
+    let memory = memory(alloc, &plan)?;
+    let script = Vec::from_array(alloc, [(0, Reply::Short(6000)), (3, Reply::Short(4095))])?;
+    let mut engine = ScriptedEngine::new(memory, script);
+    let lines = ledger(alloc)?;
+    let after = judge_after(alloc, &plan, lines.as_slice(), &mut engine)?;
+    let wanted = "file=f kept=1 lost=1 broken=1 torn=0 open=1\n\
+        lost: file=f offset=4096 length=4096 kept=0/1/1 found=0/0/1\n\
+        broken: file=f offset=12288 length=4096 kept=0/1/3\n\
+        fault: file=f offset=8192 length=4096\n";
+    assert_told(&rt, &plan, &after, wanted, 1)?;
+    same(&rt, engine.calls(), 6);
+    Ok(())
 }
 
 #[test]
@@ -189,7 +207,7 @@ fn it_is_told_as_json_and_as_blocks(rt: HostRuntime) -> Result<(), Fail> {
     let alloc = rt.alloc();
     let plan = plan_of(alloc, 0)?;
     let memory = memory(alloc, &plan)?;
-    let script = Vec::from_array(alloc, [(0, Reply::Fail)])?;
+    let script = Vec::from_array(alloc, [(0, Reply::Fail), (1, Reply::Fail)])?;
     let mut engine = ScriptedEngine::new(memory, script);
     let lines = ledger(alloc)?;
     let after = judge_after(alloc, &plan, lines.as_slice(), &mut engine)?;

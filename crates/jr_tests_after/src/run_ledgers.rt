@@ -77,7 +77,8 @@ fn lines_go_out_as_it_happens(rt: HostRuntime) -> Result<(), Fail> {
     let mut files = Vec::new(alloc);
     files.push(made(&rt, path.as_str())?)?;
     let out = made(&rt, lines.as_str())?;
-    let ledger = RunLedger::new(alloc, &plan, Some(out), Some(2), files)?;
+    let ledger = RunLedger::new(alloc, &plan, Some(out), Some(2))?;
+    ledger.sync_these(alloc, files)?;
     record(&rt, &ledger);
     same(&rt, ledger.is_cut(), false);
     same(&rt, ledger.cut_by().is_some(), false);
@@ -92,7 +93,7 @@ fn a_ledger_that_cant_be_written_is_cut(rt: HostRuntime) -> Result<(), Fail> {
     let alloc = rt.alloc();
     let plan = plan_of(alloc, "f", 8)?;
     let full = OpenOptions::new().write(true).open(&rt, "/dev/full")?;
-    let ledger = RunLedger::new(alloc, &plan, Some(full), None, Vec::new(alloc))?;
+    let ledger = RunLedger::new(alloc, &plan, Some(full), None)?;
     ledger.begin();
     same(&rt, ledger.is_cut(), true);
     let Some(error) = ledger.cut_by() else {
@@ -107,7 +108,7 @@ fn a_ledger_that_cant_be_written_is_cut(rt: HostRuntime) -> Result<(), Fail> {
 fn nothing_is_recorded_where_only_syncs_are_wanted(rt: HostRuntime) -> Result<(), Fail> {
     let alloc = rt.alloc();
     let plan = plan_of(alloc, "f", 8)?;
-    let ledger = RunLedger::new(alloc, &plan, None, Some(1), Vec::new(alloc))?;
+    let ledger = RunLedger::new(alloc, &plan, None, Some(1))?;
     ledger.begin();
     same(&rt, ledger.lines(&rt).is_some(), false);
     same(&rt, ledger.lines_alone().is_some(), false);

@@ -1,9 +1,10 @@
 use Rattle.std.proofs.Common.{◌≡◌, ◌-◌, ◌<◌, ◌++◌, List, filter_map, ap, ◌∙◌, arith}
 use Rattle.jr_draw.specs.Drawing.{draws_left}
+use Rattle.jr_draw.proofs.WordLaws.{none_of_no_words}
 use Rattle.jr_model.specs.declared.workloads.Draw.{Draw}
 use Rattle.jr_model.specs.Words.{words_from}
 use Rattle.jr_after.specs.Writes.{write_of_draw}
-use Rattle.jr_after_plans.proofs.WritesFurther.{given_all, given_more, none_left, none_of_no_words}
+use Rattle.jr_after_plans.proofs.WritesFurther.{given_all, given_more, none_left}
 use Rattle.jr_after_plans.proofs.planned.push_pass.Goals as goal
 
 pub loop-init : goal.loop-init

@@ -1,16 +1,16 @@
 use Rattle.std.proofs.Common.{rules, refl, sym}
-use Rattle.jr_cli_after.proofs.readings.read_chunk.Goals as goal
+use Rattle.jr_cli_after.proofs.readings.read_piece.Goals as goal
 
 pub returns : goal.returns
 returns g c = record {
-  reading = record {
-    chunk = c.args.chunk.now;
+  call = record {
+    piece = c.args.piece.now;
     before = c.args.bytes.now;
     answer = c.read-answer.result;
     bytes = c.read-answer.new.buf;
     engine = _;
   };
-  chunk_is = refl;
+  piece_is = refl;
   is = record {
     counts = c.read-answer.ensures.0;
     room = c.requires;

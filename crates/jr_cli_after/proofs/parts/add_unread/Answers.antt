@@ -3,7 +3,7 @@ use Rattle.std.specs.Prelude.{OnOk}
 use Rattle.jr_model.specs.Plan.{Plan}
 use Rattle.jr_cli_after.specs.Found.{unread_line}
 use Rattle.jr_cli_after.proofs.Adding.{unread_when_ok}
-use Rattle.jr_cli_after.proofs.walk.add_unread.Goals as goal
+use Rattle.jr_cli_after.proofs.parts.add_unread.Goals as goal
 
 pub returns : goal.returns
 returns c =

@@ -4,7 +4,7 @@ use Rattle.jr_model.specs.Plan.{Plan}
 use Rattle.jr_after_report.specs.declared.lines.Judged.{Judged}
 use Rattle.jr_after_report.specs.Reports.{state_of}
 use Rattle.jr_cli_after.proofs.Adding.{judged_when_ok}
-use Rattle.jr_cli_after.proofs.walk.add_judged.Goals as goal
+use Rattle.jr_cli_after.proofs.parts.add_judged.Goals as goal
 
 pub returns : goal.returns
 returns c =
