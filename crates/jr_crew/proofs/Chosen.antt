@@ -3,6 +3,7 @@ use Rattle.std.proofs.Common.{◌≡◌, ℕ, ◌<◌, List, [], ◌∷◌, ◌+
 use Rattle.std.specs.Prelude.{Option, Some, None, slice_get}
 use Rattle.std.specs.Option.{option_or}
 use Rattle.std.specs.List.{list_any}
+use Rattle.std.proofs.lemmas.Bool.{false_from_ne_true}
 use Rattle.jr_model.specs.declared.events.Event.{Event}
 use Rattle.jr_model.specs.declared.events.Event.TheVariants.{Issue, Probe, Skip, End, Verdict}
 use Rattle.jr_model.specs.declared.events.Outcome.{Outcome}
@@ -10,14 +11,17 @@ use Rattle.jr_model.specs.declared.events.Started.{Started}
 use Rattle.jr_model.specs.declared.tickets.Ticket.{Ticket}
 use Rattle.jr_model.specs.Choice.{choice}
 use Rattle.jr_model.specs.History.{first_given, started, started_by, end_of, outcome_of, is_verdict_on, is_judged}
-use Rattle.jr_model.specs.Legal.{is_legal, may_happen}
+use Rattle.jr_model.specs.Legal.{is_legal}
 use Rattle.jr_model.specs.Machine.{Appends, is_skip}
 use Rattle.jr_model.specs.Plan.{Plan, IsNumbered}
 use Rattle.jr_model.specs.Rounds.{pass_of}
 use Rattle.jr_model.proofs.LegalLaws.{choice_is_step, cases_step_of}
-use Rattle.jr_model.proofs.SerialLaws.{IsWell, well-more, first_given-append, any-append, none_from, false_from}
+use Rattle.jr_model.proofs.SerialLaws.{first_given-append, any-append}
 use Rattle.jr_model.specs.PlanFacts.{IsPlanned}
-use Rattle.jr_laws_steps.proofs.CountLaws.{numbered_of, along_legal}
+use Rattle.jr_model.proofs.OptionLemmas.{none_from}
+use Rattle.jr_model.proofs.PlanLemmas.{numbered_of}
+use Rattle.jr_model.proofs.PlaceLemmas.{got_last}
+use Rattle.jr_model.proofs.HistoryLemmas.{legal_is_well}
 use Rattle.jr_desk_tickets.specs.Kept.{IsOwn, tickets_of}
 use Rattle.jr_desk_tickets.specs.Tickets.{ticket_of}
 use Rattle.jr_desk_tickets.proofs.OwnTickets.{tickets_count}
@@ -98,23 +102,6 @@ step_judges_none worker id (Skip w write) step = refl
 step_judges_none worker id (End w io outcome) step = absurd step
 step_judges_none worker id (Verdict w io verdict) step = absurd step
 
--- what ended or was judged was started
-well_of : (plan : Plan) (history : List Event) → is_legal plan history ≡ true → IsWell plan history
-well_of plan history legal =
-    let first : IsWell plan [] = record { legal = refl; ends = λ io o h. none_some io o h; judged = λ io h. none_true io h } in
-    along_legal plan (IsWell plan) (λ (h : List Event) (e : Event) (well : IsWell plan h) (may : may_happen plan h e ≡ true). well-more plan h e well may)
-    [] history first legal
-  where
-    none_some : (io : ℕ) (o : Outcome) → None ≡ Some o → io < 0
-    none_some io o h = cc
-
-    none_true : (io : ℕ) → false ≡ true → io < 0
-    none_true io h = cc
-
-pub got_new : {X : Type 0} (xs : List X) (x : X) → slice_get (xs ++ x ∷ []) (length xs) ≡ Some x
-got_new [] x = refl
-got_new (first ∷ xs) x = got_new xs x
-
 -- what a take by this worker started
 module _ (plan : Plan) (worker : ℕ) (before history : List Event) (io : Started) (planned : IsPlanned plan) (legal : is_legal plan before ≡ true) (chosen : IsChosen plan worker before history (Some io)) where
   -- it has not ended
@@ -124,7 +111,7 @@ module _ (plan : Plan) (worker : ℕ) (before history : List Event) (io : Starte
       ap (λ (h : List Event). outcome_of h id) chosen.1
       ∙ first_given-append (end_of id) before chosen.0
       ∙ ap (λ (o : Option Outcome). option_or o (first_given (end_of id) chosen.0))
-      (none_from (outcome_of before id) (λ (p : Outcome) (h : outcome_of before id ≡ Some p). let below : id < id = (well_of plan before legal).ends id p h in omega (arith, below)))
+      (none_from (outcome_of before id) (λ (p : Outcome) (h : outcome_of before id ≡ Some p). let below : id < id = (legal_is_well plan before legal).ends id p h in omega (arith, below)))
       ∙ appends_by plan worker (λ (events : List Event). first_given (end_of id) events ≡ None) (numbered_of plan planned) refl
       (λ (e : Event) (events : List Event) (step : IsStep worker e) (rest : first_given (end_of id) events ≡ None).
       ap (λ (o : Option Outcome). option_or o (first_given (end_of id) events)) (step_ends_none worker id e step) ∙ rest)
@@ -137,7 +124,7 @@ module _ (plan : Plan) (worker : ℕ) (before history : List Event) (io : Starte
       ap (λ (h : List Event). is_judged h id) chosen.1
       ∙ any-append (is_verdict_on id) before chosen.0
       ∙ ap (λ (b : Bool). b || list_any (is_verdict_on id) chosen.0)
-      (false_from (is_judged before id) (λ (h : is_judged before id ≡ true). let below : id < id = (well_of plan before legal).judged id h in omega (arith, below)))
+      (false_from_ne_true (is_judged before id) (λ (h : is_judged before id ≡ true). let below : id < id = (legal_is_well plan before legal).judged id h in omega (arith, below)))
       ∙ appends_by plan worker (λ (events : List Event). list_any (is_verdict_on id) events ≡ false) (numbered_of plan planned) refl
       (λ (e : Event) (events : List Event) (step : IsStep worker e) (rest : list_any (is_verdict_on id) events ≡ false).
       ap (λ (b : Bool). b || list_any (is_verdict_on id) events) (step_judges_none worker id e step) ∙ rest)
@@ -150,4 +137,4 @@ module _ (plan : Plan) (worker : ℕ) (before history : List Event) (io : Starte
       let t = ticket_of plan (id, io) in
       ap (λ (ts : List Ticket). slice_get ts id) (tickets_more plan before history (Some io) (chosen_started plan worker before history (Some io) chosen))
       ∙ ap (λ (n : ℕ). slice_get (tickets_of plan before ++ t ∷ []) n) (sym (tickets_count plan before))
-      ∙ got_new (tickets_of plan before) t
+      ∙ got_last (tickets_of plan before) t

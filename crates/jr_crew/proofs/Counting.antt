@@ -8,9 +8,9 @@ use Rattle.jr_model.specs.declared.events.Event.TheVariants.{Issue, Probe, Skip,
 use Rattle.jr_model.specs.declared.events.Started.{Started}
 use Rattle.jr_model.specs.Plan.{Plan}
 use Rattle.jr_model.specs.PlanFacts.{IsPlanned}
+use Rattle.jr_model.proofs.PlanLemmas.{numbered_of}
 use Rattle.jr_engines.specs.Answers.{AnswerParts, is_failed}
 use Rattle.jr_header.specs.Served.{is_to_judge}
-use Rattle.jr_laws_steps.proofs.CountLaws.{numbered_of}
 use Rattle.jr_desk_state.specs.Takes.{IsChosen}
 use Rattle.jr_crew.specs.Ends.{is_end, is_failed_end, ends_of, failed_ends_of}
 use Rattle.jr_crew.specs.Turns.{judged_by, ended_by}

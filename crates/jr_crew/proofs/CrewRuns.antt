@@ -7,13 +7,14 @@ use Rattle.jr_model.specs.declared.events.Event.{Event}
 use Rattle.jr_model.specs.Legal.{is_legal, is_complete}
 use Rattle.jr_model.specs.Plan.{Plan}
 use Rattle.jr_model.specs.Replies.{EngineState}
+use Rattle.jr_model.proofs.PlaceLemmas.{got_made}
 use Rattle.jr_crew_books.specs.declared.books.Done.{Done}
 use Rattle.jr_crew_books.specs.Numbers.{is_numbered, judges_inline}
 use Rattle.jr_crew_books.specs.Finished.{AllFinished}
 use Rattle.jr_desk.specs.DeskState.{DeskState}
 use Rattle.jr_crew.specs.Crews.{IsWorkers}
 use Rattle.jr_crew.specs.Whole.{IsBooked, IsCrewRun, IsEndedCrewRun}
-use Rattle.jr_crew.proofs.Crewing.{AreOwn, got_mapped}
+use Rattle.jr_crew.proofs.Crewing.{AreOwn}
 
 pub crew_run : {E : Type 0} (state : E → EngineState) (engines afters : List E) (books : List (List Done)) (plan : Plan) (history : List Event)
     → is_legal plan history ≡ true
@@ -32,8 +33,8 @@ crew_run state engines afters books plan history legal settled numbered own afte
   engines_count = length-map afters state ∙ afters_count ∙ sym (length-map engines state);
   books_count = books_count ∙ sym (length-map engines state);
   each = λ (i : ℕ) (before after : EngineState) (book : List Done) (at_before : slice_get (map state engines) i ≡ Some before) (at_after : slice_get (map state afters) i ≡ Some after) (at_book : slice_get books i ≡ Some book).
-      let b = got_mapped state engines i before at_before in
-      let a = got_mapped state afters i after at_after in
+      let b = got_made state engines i before at_before in
+      let a = got_made state afters i after at_after in
       subst (λ (e : EngineState). IsWorkers plan history i e after book) b.2
       (subst (λ (e : EngineState). IsWorkers plan history i (state b.0) e book) a.2
       (each i b.0 a.0 book b.1 a.1 at_book));

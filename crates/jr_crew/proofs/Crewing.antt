@@ -1,10 +1,11 @@
 -- Of each worker: its engine and its own book, beside what the history says that it completed.
-use Rattle.std.proofs.Common.{◌≡◌, ℕ, zero, suc, ◌<◌, Bool, List, [], ◌∷◌, length, map, true, false, refl, sym, ◌∙◌, ap, subst, arith}
+use Rattle.std.proofs.Common.{◌≡◌, ℕ, ◌<◌, Bool, List, [], length, map, true, false, refl, sym, ◌∙◌, ap, subst, arith}
 use Rattle.std.specs.Prelude.{All, Contains, Some, Result, Ok, IfOk, slice_get, slice_index_or}
 use Rattle.std.specs.List.{list_all}
-use Rattle.std.proofs.lemmas.Option.{get_or_from_slice_get, slice_get-map, slice_get_within}
+use Rattle.std.proofs.lemmas.Option.{get_or_from_slice_get, slice_get-map, slice_get_within, same_Some}
 use Rattle.std.specs.Option.{option_map}
 use Rattle.std.proofs.lemmas.List.{length-map}
+use Rattle.std.proofs.lemmas.Result.{IfOk-weaker}
 use Rattle.jr_model.specs.declared.events.Event.{Event}
 use Rattle.jr_model.specs.declared.events.Event.TheVariants.{Verdict}
 use Rattle.jr_model.specs.declared.events.Verdict.{Verdict as GivenVerdict}
@@ -12,7 +13,7 @@ use Rattle.jr_model.specs.Legal.{is_legal}
 use Rattle.jr_model.specs.Plan.{Plan}
 use Rattle.jr_model.specs.Replies.{EngineState}
 use Rattle.jr_model.specs.PlanFacts.{IsPlanned}
-use Rattle.jr_laws_steps.proofs.StartedLemmas.{same_some}
+use Rattle.jr_model.proofs.PlaceLemmas.{item_at, got_made}
 use Rattle.jr_crew_channel.specs.declared.parcel.Parcel.{Parcel}
 use Rattle.jr_crew_channel.specs.declared.parcel.PassState.{PassState}
 use Rattle.jr_crew_books.specs.declared.books.Done.{Done}
@@ -26,7 +27,6 @@ use Rattle.jr_crew.specs.Runs.{IsCovering}
 use Rattle.jr_crew.specs.Working.{AreDone, AreWorks, IsWork, all_handed_on}
 use Rattle.jr_crew.proofs.Judged.{IsPutBy, calls_judged}
 use Rattle.jr_crew.proofs.Matching.{AreSaidOn, walk}
-use Rattle.jr_crew_threads.proofs.PartLemmas.{if_ok}
 use Rattle.jr_crew.proofs.Worked.{calls_count, calls_done, failures_count, work_puts}
 use Rattle.jr_desk_tickets.specs.Kept.{tickets_of}
 
@@ -99,17 +99,6 @@ called_part plan history legal settled puts works sourced worker put there at = 
         (done_by_others plan history worker put others at)
         (handed_to_others plan history worker put others at)
 
-pub got_mapped : {X Y : Type 0} (f : X → Y) (xs : List X) (k : ℕ) (y : Y) → slice_get (map f xs) k ≡ Some y → (x : X) × (slice_get xs k ≡ Some x) × (f x ≡ y)
-got_mapped f [] k y at = cc
-got_mapped f (x ∷ xs) zero y at = (x, refl, same_some (f x) y at)
-got_mapped f (x ∷ xs) (suc k) y at = got_mapped f xs k y at
-
--- what stands at a place within
-got_within : {X : Type 0} (xs : List X) (k : ℕ) → k < length xs → (x : X) × (slice_get xs k ≡ Some x)
-got_within [] k below = absurd (omega (arith, below))
-got_within (x ∷ xs) zero below = (x, refl)
-got_within (x ∷ xs) (suc k) below = got_within xs k (omega (arith, below))
-
 -- the same of each place of a run's lists
 module _ {E J W F : Type 0} (state : E → EngineState) (engine_in : J → E) (engine_of : W → E) (book_of : W → Result (List Done) F) (pass_of : W → PassState) (jobs : List J) (worked : List W) (plan : Plan) where
   -- each worker's work
@@ -128,9 +117,9 @@ module _ {E J W F : Type 0} (state : E → EngineState) (engine_in : J → E) (e
   -- whoever met no fault took nothing
   pub all_putters : AreTheirs → length worked ≡ length jobs → All (λ w. IfOk (book_of w) (λ book. IsPutter (pass_of w))) worked
   all_putters works size i w below =
-      let j = got_within jobs i (omega (arith, below, size)) in
+      let j = item_at jobs i (omega (arith, below, size)) in
       let ended = slice_index_or worked i w in
-      if_ok (book_of ended)
+      IfOk-weaker (book_of ended)
       (λ book. IsWork (judges_inline plan) (state (engine_in (slice_index_or jobs i j.0))) one_part book (state (engine_of ended)) (pass_of ended))
       (λ book. IsPutter (pass_of ended))
       (λ book work. work_puts (judges_inline plan) (state (engine_in (slice_index_or jobs i j.0))) one_part book (state (engine_of ended)) (pass_of ended) refl work)
@@ -141,14 +130,14 @@ module _ {E J W F : Type 0} (state : E → EngineState) (engine_in : J → E) (e
   its_book books books_are i w at_worked =
       let its : slice_get (map Ok books) i ≡ Some (book_of w) =
       ap (λ (rs : List (Result (List Done) F)). slice_get rs i) books_are ∙ slice_get-map book_of worked i ∙ ap (option_map book_of) at_worked in
-      let book = got_mapped Ok books i (book_of w) its in (book.0, book.1, sym book.2)
+      let book = got_made Ok books i (book_of w) its in (book.0, book.1, sym book.2)
 
   work_at : (books : List (List Done)) (history : List Event) → AreTheirs → length worked ≡ length jobs → map Ok books ≡ map book_of worked → ((i : ℕ) (book : List Done) → slice_get books i ≡ Some book → book ≡ dones_of plan (judges_inline plan) history i) → (i : ℕ) (put : List Parcel) → slice_get (map (λ w. (pass_of w).put) worked) i ≡ Some put → IsWorkAt plan history i put
   work_at books history works size books_are same i put at =
-      let w = got_mapped (λ w. (pass_of w).put) worked i put at in
+      let w = got_made (λ w. (pass_of w).put) worked i put at in
       let book = its_book books books_are i w.0 w.1 in
       let within : i < length worked = slice_get_within worked i w.0 w.1 in
-      let j = got_within jobs i (omega (arith, within, size)) in record {
+      let j = item_at jobs i (omega (arith, within, size)) in record {
         before = state (engine_in j.0);
         after = state (engine_of w.0);
         dones = book.0;
@@ -160,10 +149,10 @@ module _ {E J W F : Type 0} (state : E → EngineState) (engine_in : J → E) (e
 
   pub each_part : (books : List (List Done)) (history : List Event) (engines afters : List E) → IsPlanned plan → is_legal plan history ≡ true → AllFinished history → (judges_inline plan ≡ false → (w io : ℕ) (v : GivenVerdict) → Contains history (Verdict w io v) → IsSourced (map (λ w. (pass_of w).put) worked) io v) → map engine_in jobs ≡ engines → length worked ≡ length jobs → AreTheirs → afters ≡ map engine_of worked → map Ok books ≡ map book_of worked → ((i : ℕ) (book : List Done) → slice_get books i ≡ Some book → book ≡ dones_of plan (judges_inline plan) history i) → (i : ℕ) (before after : E) (book : List Done) → slice_get engines i ≡ Some before → slice_get afters i ≡ Some after → slice_get books i ≡ Some book → IsWorkers plan history i (state before) (state after) book
   each_part books history engines afters planned legal settled sourced jobs_are size works afters_are books_are same i before after book at_before at_after at_book =
-      let j = got_mapped engine_in jobs i before (ap (λ (es : List E). slice_get es i) jobs_are ∙ at_before) in
-      let w = got_mapped engine_of worked i after (ap (λ (es : List E). slice_get es i) (sym afters_are) ∙ at_after) in
+      let j = got_made engine_in jobs i before (ap (λ (es : List E). slice_get es i) jobs_are ∙ at_before) in
+      let w = got_made engine_of worked i after (ap (λ (es : List E). slice_get es i) (sym afters_are) ∙ at_after) in
       let its = its_book books books_are i w.0 w.1 in
-      let one : its.0 ≡ book = same_some its.0 book (sym its.1 ∙ at_book) in
+      let one : its.0 ≡ book = same_Some its.0 book (sym its.1 ∙ at_book) in
       let is_book : book_of w.0 ≡ Ok book = its.2 ∙ ap Ok one in
       let put = (pass_of w.0).put in
       let there : slice_get (map (λ w. (pass_of w).put) worked) i ≡ Some put =

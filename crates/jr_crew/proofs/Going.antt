@@ -1,5 +1,5 @@
 -- One worker over a right memory goes on as the serial history does: what a take appends are its next choices.
-use Rattle.std.proofs.Common.{◌≡◌, ℕ, zero, suc, List, [], ◌∷◌, ◌++◌, length, true, false, refl, sym, ◌∙◌, ap, subst, append_assoc, append-nil}
+use Rattle.std.proofs.Common.{◌≡◌, ℕ, zero, suc, List, [], ◌∷◌, ◌++◌, length, true, false, sym, ◌∙◌, ap, subst, append_assoc, append-nil}
 use Rattle.std.specs.Prelude.{Option, Some, None}
 use Rattle.jr_model.specs.declared.events.Event.{Event}
 use Rattle.jr_model.specs.declared.events.Event.TheVariants.{Issue, Probe, Skip, End, Verdict}
@@ -14,8 +14,10 @@ use Rattle.jr_model.specs.Replies.{FileBytes}
 use Rattle.jr_model.specs.Serial.{carried_out, followed_by, goes_on, memory_after, serial_after, serial_history}
 use Rattle.jr_model.proofs.LegalLaws.{is_legal-more, choice_may_happen}
 use Rattle.jr_model.specs.PlanFacts.{IsPlanned}
+use Rattle.jr_model.proofs.PlanLemmas.{numbered_of}
+use Rattle.jr_model.proofs.HistoryLemmas.{skip_starts_none}
 use Rattle.jr_laws_bytes.specs.Memory.{HoldsLastWrites}
-use Rattle.jr_laws_steps.proofs.CountLaws.{numbered_of, serial_stops_all}
+use Rattle.jr_laws_steps.proofs.CountLaws.{serial_stops_all}
 use Rattle.jr_laws_bytes.proofs.Memories.{holds_on}
 use Rattle.jr_laws_bytes.proofs.QuietRuns.{harmless_choice}
 use Rattle.jr_laws_steps.proofs.StartedLemmas.{length-started-other}
@@ -44,13 +46,6 @@ ahead_by plan history e (suc limit) planned chosen ahead = record {
 one_ahead : (plan : Plan) (history : List Event) (e : Event) → IsPlanned plan → choice plan history 0 ≡ Some e → IsAhead plan history → IsAhead plan (history ++ carried_out plan history e)
 one_ahead plan history e planned chosen here = ahead_by plan history e here.limit planned chosen here.ahead
 
-skip_starts : (e : Event) → is_skip e ≡ true → started_by e ≡ None
-skip_starts (Skip worker write) skip = refl
-skip_starts (Issue worker dir write piece) skip = cc
-skip_starts (Probe worker write piece) skip = cc
-skip_starts (End worker id outcome) skip = cc
-skip_starts (Verdict worker id verdict) skip = cc
-
 -- a step that is no skip starts something
 starts_or_skips : (e : Event) → IsStep 0 e → is_skip e ≡ false → started_by e ≡ None → ⊥
 starts_or_skips (Skip worker write) step other none = cc
@@ -71,7 +66,7 @@ ahead_none plan before (e ∷ events) planned appends none here =
     by_is_skip e (Appends plan 0 (before ++ e ∷ []) events) (events ≡ []) (IsAhead plan (before ++ e ∷ events)) appends.1
     (λ (skip : is_skip e ≡ true) (more : Appends plan 0 (before ++ e ∷ []) events).
     let next : IsAhead plan (before ++ e ∷ []) =
-    subst (λ (xs : List Event). IsAhead plan (before ++ xs)) (carried_by plan before e None (skip_starts e skip)) (one_ahead plan before e planned appends.0 here) in
+    subst (λ (xs : List Event). IsAhead plan (before ++ xs)) (carried_by plan before e None (skip_starts_none e skip)) (one_ahead plan before e planned appends.0 here) in
     subst (λ (h : List Event). IsAhead plan h) (append_assoc before (e ∷ []) events)
     (ahead_none plan (before ++ e ∷ []) events planned more (sym (last-skip e events skip) ∙ none) next))
     (λ (other : is_skip e ≡ false) (last : events ≡ []).
@@ -89,12 +84,12 @@ ahead_some plan before (e ∷ events) s planned legal appends starts here =
     by_is_skip e (Appends plan 0 (before ++ e ∷ []) events) (events ≡ []) (IsAhead plan ((before ++ e ∷ events) ++ followed_by plan memory id (Some s))) appends.1
     (λ (skip : is_skip e ≡ true) (more : Appends plan 0 (before ++ e ∷ []) events).
     let next : IsAhead plan (before ++ e ∷ []) =
-    subst (λ (xs : List Event). IsAhead plan (before ++ xs)) (carried_by plan before e None (skip_starts e skip)) (one_ahead plan before e planned appends.0 here) in
+    subst (λ (xs : List Event). IsAhead plan (before ++ xs)) (carried_by plan before e None (skip_starts_none e skip)) (one_ahead plan before e planned appends.0 here) in
     let legal_next = is_legal-more plan before e legal (choice_may_happen plan before 0 e numbered appends.0) in
     let rest : Goal (length (started (before ++ e ∷ []))) (memory_after plan (before ++ e ∷ [])) =
     ahead_some plan (before ++ e ∷ []) events s planned legal_next more (sym (last-skip e events skip) ∙ starts) next in
     subst (λ (h : List Event). IsAhead plan (h ++ followed_by plan memory id (Some s))) (append_assoc before (e ∷ []) events)
-    (subst (λ (n : ℕ). Goal n memory) (length-started-other before e (skip_starts e skip))
+    (subst (λ (n : ℕ). Goal n memory) (length-started-other before e (skip_starts_none e skip))
     (subst (λ (m : List FileBytes). Goal (length (started (before ++ e ∷ []))) m) (memory_step plan before e legal (choice_steps plan before 0 e numbered appends.0)) rest)))
     (λ (other : is_skip e ≡ false) (last : events ≡ []).
     let begins : started_by e ≡ Some s = subst (λ (rest : List Event). last_started (e ∷ rest) ≡ Some s) last starts in

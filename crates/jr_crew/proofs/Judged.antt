@@ -30,7 +30,8 @@ use Rattle.jr_crew_channel.specs.declared.parcel.Parcel.TheVariants.{Check}
 use Rattle.jr_crew_channel.specs.declared.parcel.PassState.{PassState}
 use Rattle.jr_crew_channel.specs.PassStates.{with_put}
 use Rattle.jr_laws_steps.proofs.Grown.{end_names}
-use Rattle.jr_laws_steps.proofs.PlaceLemmas.{none_kept}
+use Rattle.jr_model.proofs.PlaceLemmas.{none_kept}
+use Rattle.jr_model.proofs.BoolLemmas.{same_truth}
 use Rattle.jr_laws_steps.proofs.StartedLemmas.{started-append}
 use Rattle.jr_desk_tickets.specs.Kept.{tickets_of}
 use Rattle.jr_desk_tickets.proofs.OwnTickets.{got_ticket, own_started}
@@ -362,12 +363,6 @@ module _ (plan : Plan) (history : List Event) (legal : is_legal plan history ≡
       let same : k ≡ l = omega (arith, place) in
       same_Some a b (sym at ∙ ap (slice_get answers) same ∙ there)
 
--- two flags are one where each follows from the other
-one_flag : (a b : Bool) → (a ≡ true → b ≡ true) → (b ≡ true → a ≡ true) → a ≡ b
-one_flag true b there back = sym (there refl)
-one_flag false true there back = back refl
-one_flag false false there back = refl
-
 -- what is not nothing is something
 some_of : {X : Type 0} (o : Option X) → is_some o ≡ true → (x : X) × (o ≡ Some x)
 some_of None h = cc
@@ -429,7 +424,7 @@ module _ (plan : Plan) (history : List Event) (legal : is_legal plan history ≡
   said_of : AllFinished history → ((w io : ℕ) (v : GivenVerdict) → Contains history (Verdict w io v) → IsSourced puts io v) → (k : ℕ) (a : AnswerParts) → slice_get answers k ≡ Some a → IsSaidOf true a (verdict_in history a.ticket.id)
   said_of settled sourced k a at =
       said_by true a (verdict_in history a.ticket.id)
-      (one_flag (is_some (verdict_in history a.ticket.id)) (is_to_judge a)
+      (same_truth (is_some (verdict_in history a.ticket.id)) (is_to_judge a)
       (λ some. let v = some_of (verdict_in history a.ticket.id) some in (told sourced k a at v.0 v.1).checked)
       (λ checked. has_verdict settled k a at checked))
       (λ v given. (told sourced k a at v given).says)

@@ -1,10 +1,11 @@
 -- Along a history, the calls that a worker's book tells of are what the history says that it completed.
-use Rattle.std.proofs.Common.{◌≡◌, ℕ, zero, suc, ◌+◌, ◌-◌, List, [], ◌∷◌, ◌++◌, length, map, replicate, Bool, true, false, cond, not, ◌&&◌, ◌||◌, refl, sym, ◌∙◌, ap, subst, arith, append_assoc}
+use Rattle.std.proofs.Common.{◌≡◌, ℕ, ◌-◌, List, [], ◌∷◌, ◌++◌, length, replicate, Bool, true, false, cond, not, ◌&&◌, ◌||◌, refl, sym, ◌∙◌, ap, subst, append_assoc}
 use Rattle.std.specs.Prelude.{Option, Some, None, slice_get, filter_map, ◌==◌, IsTrue}
 use Rattle.std.specs.Bool.{MatchBool}
-use Rattle.std.specs.List.{enumerate_from, cons_option}
+use Rattle.std.specs.List.{cons_option}
 use Rattle.std.specs.Option.{option_or}
-use Rattle.std.proofs.lemmas.Bool.{and_parts, eq-eqb, eqb-true}
+use Rattle.std.proofs.lemmas.Bool.{and_parts, eq-eqb, eqb-true, not-true}
+use Rattle.std.proofs.lemmas.Option.{same_Some}
 use Rattle.jr_model.specs.declared.events.Event.{Event}
 use Rattle.jr_model.specs.declared.events.Event.TheVariants.{Issue, Probe, Skip, End, Verdict}
 use Rattle.jr_model.specs.declared.events.Outcome.{Outcome}
@@ -25,6 +26,7 @@ use Rattle.jr_model.specs.Tied.{KnownEngine, called, IsOnBytes, TiedAlong}
 use Rattle.jr_model.proofs.MachineLaws.{got_front}
 use Rattle.jr_model.proofs.SerialLaws.{first_given-append}
 use Rattle.jr_model.specs.PlanFacts.{IsPlanned}
+use Rattle.jr_model.proofs.HistoryLemmas.{outcome_of-stays, judged_there}
 use Rattle.jr_engines.specs.Answers.{Leaves}
 use Rattle.jr_engines.proofs.MemoryLemmas.{covers_after_asked}
 use Rattle.jr_header.specs.Served.{asked_with, is_whole_check, is_to_judge}
@@ -32,9 +34,10 @@ use Rattle.jr_laws_bytes.specs.Memory.{CoversFiles}
 use Rattle.jr_laws_bytes.proofs.Starts.{draw_started, IsDrawOf}
 use Rattle.jr_laws_bytes.proofs.Contents.{lies_in_file, length-content_of_io}
 use Rattle.jr_laws_bytes.proofs.Memories.{covers_piece}
-use Rattle.jr_laws_steps.proofs.StartedLemmas.{started-append, same_some}
+use Rattle.jr_laws_steps.proofs.StartedLemmas.{started-append}
 use Rattle.jr_desk_tickets.specs.Kept.{tickets_of}
 use Rattle.jr_desk_tickets.specs.Tickets.{ticket_of}
+use Rattle.jr_desk_tickets.proofs.OwnTickets.{ticket_started}
 use Rattle.jr_desk_state.proofs.Serving.{content_is, verdict_is}
 use Rattle.jr_crew_books.specs.declared.books.Done.{Done}
 use Rattle.jr_crew_books.specs.Books.{verdict_by, verdict_in, done_with, done_by}
@@ -49,20 +52,9 @@ abbrev pub AreSaidOn : Plan → Bool → List Event → ℕ → List Event → L
 AreSaidOn plan inline history worker before kept =
     inline ≡ true → (io : ℕ) (s : Started) (v : GivenVerdict) → slice_get (started history) io ≡ Some s → s.worker ≡ worker → ended_whole (outcome_of before io) ≡ true → verdict_in history io ≡ Some v → is_void v ≡ false → verdict_on plan s (bytes_read kept io) ≡ v
 
-pub or_nothing : {X : Type 0} (o : Option X) → option_or o None ≡ o
-or_nothing None = refl
-or_nothing (Some x) = refl
-
--- an event that isn't its end leaves an I/O as it was
-outcome_other : (before : List Event) (e : Event) (io : ℕ) → end_of io e ≡ None → outcome_of (before ++ e ∷ []) io ≡ outcome_of before io
-outcome_other before e io none =
-    first_given-append (end_of io) before (e ∷ [])
-    ∙ ap (λ (o : Option Outcome). option_or (outcome_of before io) (option_or o None)) none
-    ∙ or_nothing (outcome_of before io)
-
 said_other : (plan : Plan) (inline : Bool) (history : List Event) (worker : ℕ) (before : List Event) (e : Event) (kept : List (ℕ × List ℕ)) → ((io : ℕ) → end_of io e ≡ None) → AreSaidOn plan inline history worker before kept → AreSaidOn plan inline history worker (before ++ e ∷ []) kept
 said_other plan inline history worker before e kept none said so io s v at by ended given plain =
-    said so io s v at by (ap ended_whole (sym (outcome_other before e io (none io))) ∙ ended) given plain
+    said so io s v at by (ap ended_whole (sym (outcome_of-stays before e io (none io))) ∙ ended) given plain
 
 -- what has no verdict has none
 pub unjudged_none : (before : List Event) (io : ℕ) → is_judged before io ≡ false → verdict_in before io ≡ None
@@ -83,23 +75,9 @@ starter worker outcome None fits = cc
 starter worker outcome (Some s) fits =
     (s, refl, eqb-true s.worker worker (and_parts (s.worker == worker) (outcome_fits outcome s.piece.len) fits).0)
 
--- what may be said something of was started
-said_of_one : (plan : Plan) (raced : Bool) (v : GivenVerdict) (o : Option Started) → verdict_fits plan raced v o ≡ true → (s : Started) × (o ≡ Some s)
-said_of_one plan raced v None fits = cc
-said_of_one plan raced v (Some s) fits = (s, refl)
-
-ticket_at : (plan : Plan) (n : ℕ) (ios : List Started) (k : ℕ) (s : Started) → slice_get ios k ≡ Some s → slice_get (map (ticket_of plan) (enumerate_from n ios)) k ≡ Some (ticket_of plan (n + k, s))
-ticket_at plan n [] k s at = cc
-ticket_at plan n (x ∷ ios) zero s at =
-    let same : n ≡ n + 0 = omega arith in
-    ap (λ (m : ℕ). Some (ticket_of plan (m, x))) same ∙ ap (λ (y : Started). Some (ticket_of plan (n + 0, y))) (same_some x s at)
-ticket_at plan n (x ∷ ios) (suc k) s at =
-    let same : n + 1 + k ≡ n + suc k = omega arith in
-    ticket_at plan (n + 1) ios k s at ∙ ap (λ (m : ℕ). Some (ticket_of plan (m, s))) same
-
 -- a verdict that was given was given on a check that ended whole
 judged_so : (b : Bool) (a v : GivenVerdict) → Some v ≡ cond b (Some a) None → (b ≡ true) × (a ≡ v)
-judged_so true a v h = (refl, sym (same_some v a h))
+judged_so true a v h = (refl, sym (same_Some v a h))
 judged_so false a v h = cc
 
 -- a call keeps nothing else
@@ -115,14 +93,10 @@ kept_other plan engine kept id io ticket.Write s other = refl
 -- what has ended whole after an end had before, or is what ended
 ended_front : (before : List Event) (w id io : ℕ) (outcome : Outcome) → (id == io) ≡ false → ended_whole (outcome_of (before ++ End w id outcome ∷ []) io) ≡ true → ended_whole (outcome_of before io) ≡ true
 ended_front before w id io outcome other ended =
-    ap ended_whole (sym (outcome_other before (End w id outcome) io (ap (λ (b : Bool). cond b (Some outcome) None) other))) ∙ ended
+    ap ended_whole (sym (outcome_of-stays before (End w id outcome) io (ap (λ (b : Bool). cond b (Some outcome) None) other))) ∙ ended
 
 differs : (a b : ℕ) → (a == b) ≡ false → a ≡ b → ⊥
 differs a b other same = let so = eq-eqb a b same in cc
-
-not_true : (b : Bool) → not b ≡ true → b ≡ false
-not_true false h = refl
-not_true true h = cc
 
 -- where it is so
 only_if : (b : Bool) (A : Type 0) → (b ≡ true → A) → MatchBool b A (Unit {0})
@@ -143,7 +117,7 @@ module _ (plan : Plan) (inline : Bool) (history : List Event) (worker : ℕ) (pl
   -- the verdict on a check of this worker's is that on its bytes
   on_bytes : (before events : List Event) (w io : ℕ) (v : GivenVerdict) (engine : EngineState) (kept : List (ℕ × List ℕ)) → before ++ Verdict w io v ∷ events ≡ history → ended_whole (outcome_of before io) ≡ true → is_judged before io ≡ false → inline ≡ true → verdict_fits plan (has_raced before io) v (slice_get (started before) io) ≡ true → AreSaidOn plan inline history worker before kept → IsOnBytes plan worker (started history) (known_engine engine kept) io v
   on_bytes before events w io v engine kept same whole unjudged so fits said =
-      let one = said_of_one plan (has_raced before io) v (slice_get (started before) io) fits in
+      let one = judged_there plan (has_raced before io) v (slice_get (started before) io) fits in
       let there : slice_get (started history) io ≡ Some one.0 =
       ap (λ (h : List Event). slice_get (started h) io) (sym same)
       ∙ ap (λ (ios : List Started). slice_get ios io) (started-append before (Verdict w io v ∷ events))
@@ -158,7 +132,7 @@ module _ (plan : Plan) (inline : Bool) (history : List Event) (worker : ℕ) (pl
         only_if (one.0.worker == worker && not (is_void v)) (verdict_on plan one.0 (bytes_read kept io) ≡ v)
             (λ (mine : (one.0.worker == worker && not (is_void v)) ≡ true).
             let parts = and_parts (one.0.worker == worker) (not (is_void v)) mine in
-            said so io one.0 v there (eqb-true one.0.worker worker parts.0) whole given (not_true (is_void v) parts.1)),
+            said so io one.0 v there (eqb-true one.0.worker worker parts.0) whole given (not-true (is_void v) parts.1)),
       )
 
   -- one call of this worker's engine
@@ -213,7 +187,7 @@ module _ (plan : Plan) (inline : Bool) (history : List Event) (worker : ℕ) (pl
         on : (b : Bool) → (io == id) ≡ b → verdict_on plan x (bytes_read next_kept id) ≡ v
         on true same =
             let one : id ≡ io = sym (eqb-true io id same) in
-            let who : s ≡ x = same_some s x (sym at ∙ ap (slice_get (started history)) (sym one) ∙ there) in
+            let who : s ≡ x = same_Some s x (sym at ∙ ap (slice_get (started history)) (sym one) ∙ there) in
             ap (λ (y : Started). verdict_on plan y (bytes_read next_kept id)) (sym who)
             ∙ ap (λ (n : ℕ). verdict_on plan s (bytes_read next_kept n)) one
             ∙ said_here so v (ap (verdict_in history) (sym one) ∙ given) plain
@@ -238,8 +212,7 @@ module _ (plan : Plan) (inline : Bool) (history : List Event) (worker : ℕ) (pl
   end_goes before events w io outcome s engine final kept at by known covered said true mine calls next =
       let done : Done = record { ticket = ticket_of plan (io, s); outcome = outcome; verdict = cond inline (verdict_in history io) None } in
       let its : slice_get (tickets_of plan history) io ≡ Some (ticket_of plan (io, s)) =
-      let zeroth : 0 + io ≡ io = omega arith in
-      ticket_at plan 0 (started history) io s at ∙ ap (λ (n : ℕ). Some (ticket_of plan (n, s))) zeroth in
+      ticket_started plan history io s at in
       let all : AreCallsFor inline engine (done ∷ filter_map (done_by plan inline history worker) events) final =
       subst (λ (o : Option Ticket). AreCallsFor inline engine (cons_option (done_with outcome (cond inline (verdict_in history io) None) o) (filter_map (done_by plan inline history worker) events)) final) its calls in
       call_goes before events io s outcome engine all.0 final kept at all.1 known covered said w all.2
@@ -253,7 +226,7 @@ module _ (plan : Plan) (inline : Bool) (history : List Event) (worker : ℕ) (pl
       not_here : inline ≡ true → (b : Bool) (id : ℕ) → (io == id) ≡ b → (x : Started) (v : GivenVerdict) → slice_get (started history) id ≡ Some x → x.worker ≡ worker → ended_whole (outcome_of (before ++ End w io outcome ∷ []) id) ≡ true → verdict_in history id ≡ Some v → is_void v ≡ false → verdict_on plan x (bytes_read kept id) ≡ v
       not_here so true id same x v there mine ended given plain =
           let one : io ≡ id = eqb-true io id same in
-          let who : s ≡ x = same_some s x (sym at ∙ ap (slice_get (started history)) one ∙ there) in
+          let who : s ≡ x = same_Some s x (sym at ∙ ap (slice_get (started history)) one ∙ there) in
           absurd (differs w worker other (sym by ∙ ap (λ (y : Started). y.worker) who ∙ mine))
       not_here so false id different x v there mine ended given plain =
           said so id x v there mine (ended_front before w io id outcome different ended) given plain

@@ -16,8 +16,9 @@ use Rattle.jr_model.specs.Plan.{Plan}
 use Rattle.jr_model.specs.PlanFacts.{IsPlanned}
 use Rattle.jr_model.specs.Replies.{FileBytes, fresh_memory}
 use Rattle.jr_model.specs.Serial.{memory_after, memory_by, with_io}
-use Rattle.jr_laws_steps.proofs.CountLaws.{numbered_of}
-use Rattle.jr_laws_steps.proofs.Grown.{all_known, got_longer, is_known}
+use Rattle.jr_model.proofs.PlaceLemmas.{got_longer}
+use Rattle.jr_model.proofs.PlanLemmas.{numbered_of}
+use Rattle.jr_laws_steps.proofs.Grown.{all_known, is_known}
 use Rattle.jr_laws_steps.proofs.StartedLemmas.{started-append}
 use Rattle.jr_crew.proofs.Chosen.{IsStep, appends_by}
 

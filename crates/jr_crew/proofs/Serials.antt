@@ -17,9 +17,10 @@ use Rattle.jr_model.specs.Plan.{Plan}
 use Rattle.jr_model.specs.PlanFacts.{IsPlanned}
 use Rattle.jr_model.specs.Replies.{EngineState}
 use Rattle.jr_model.proofs.SerialLaws.{first_given-append}
+use Rattle.jr_model.proofs.PlanLemmas.{numbered_of}
+use Rattle.jr_model.proofs.OptionLemmas.{or_none}
 use Rattle.jr_engines.specs.Answers.{AnswerParts, Answers}
 use Rattle.jr_header.specs.Served.{is_whole_check, answer_verdict}
-use Rattle.jr_laws_steps.proofs.CountLaws.{numbered_of}
 use Rattle.jr_laws_steps.proofs.Grown.{all_known, is_known}
 use Rattle.jr_laws_steps.proofs.StartedLemmas.{started-append}
 use Rattle.jr_desk_tickets.specs.Kept.{tickets_of}
@@ -31,7 +32,7 @@ use Rattle.jr_crew.specs.Crews.{IsCalledFor, AreCallsFor}
 use Rattle.jr_crew.specs.Turns.{IsTurn, IsLastTurn}
 use Rattle.jr_crew.proofs.Carrying.{next_of, buffer_for, judged_with, ended_with, ended_by-with, ended_starts_none}
 use Rattle.jr_crew.proofs.Chosen.{IsStep, appends_by, chosen_worker, chosen_unjudged, chosen_own}
-use Rattle.jr_crew.proofs.Matching.{or_nothing, unjudged_none}
+use Rattle.jr_crew.proofs.Matching.{unjudged_none}
 use Rattle.jr_crew.proofs.Worked.{calls_on}
 
 -- a ticket stays at its place where more is started
@@ -53,7 +54,7 @@ module _ (plan : Plan) (worker : ℕ) (before more : List Event) (legal : is_leg
       let said : verdict_in (before ++ more) io ≡ verdict_in before io =
       first_given-append (verdict_by io) before more
       ∙ ap (option_or (verdict_in before io)) (nothing io below)
-      ∙ or_nothing (verdict_in before io) in
+      ∙ or_none (verdict_in before io) in
       let ticket : slice_get (tickets_of plan (before ++ more)) io ≡ slice_get (tickets_of plan before) io =
       ap (λ (ios : List Started). slice_get (map (ticket_of plan) (enumerate_from 0 ios)) io) (started-append before more)
       ∙ ticket_stays plan 0 (started before) (started more) io below in

@@ -13,7 +13,7 @@ use Rattle.jr_model.specs.declared.tickets.TicketKind.TheVariants as ticket
 use Rattle.jr_model.specs.History.{started, end_of, first_given, if_flying, in_flight, is_verdict_on, is_judged, is_judged_kind, ended_whole, if_awaiting, awaiting}
 use Rattle.jr_model.proofs.SerialLaws.{first_given-append, any-append}
 use Rattle.jr_header.specs.Served.{is_whole_check}
-use Rattle.jr_laws_steps.proofs.PlaceLemmas.{keeps_none}
+use Rattle.jr_model.proofs.PlaceLemmas.{keeps_none}
 use Rattle.jr_laws_steps.proofs.StartedLemmas.{got_more}
 use Rattle.jr_crew.specs.Turns.{IsSettled, AreSettled}
 

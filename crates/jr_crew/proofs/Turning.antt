@@ -20,6 +20,8 @@ use Rattle.jr_model.specs.Races.{has_raced}
 use Rattle.jr_model.specs.Replies.{EngineState, FileBytes, covers, asked, next_reply}
 use Rattle.jr_model.specs.Tied.{KnownEngine, called, TiedAlong, IsTied}
 use Rattle.jr_model.specs.PlanFacts.{IsPlanned}
+use Rattle.jr_model.proofs.PlanLemmas.{numbered_of}
+use Rattle.jr_model.proofs.PlaceLemmas.{got_last}
 use Rattle.jr_engines.specs.Answers.{AnswerParts, Answers, Leaves, is_failed}
 use Rattle.jr_engines.proofs.MemoryLemmas.{covers_after_asked}
 use Rattle.jr_header.specs.Served.{asked_with, ticket_content, is_whole_check}
@@ -27,7 +29,6 @@ use Rattle.jr_laws_bytes.specs.Memory.{CoversFiles}
 use Rattle.jr_laws_bytes.proofs.Starts.{draw_started, IsDrawOf}
 use Rattle.jr_laws_bytes.proofs.Contents.{lies_in_file, length-content_of_io}
 use Rattle.jr_laws_bytes.proofs.Memories.{covers_piece}
-use Rattle.jr_laws_steps.proofs.CountLaws.{numbered_of}
 use Rattle.jr_desk_state.specs.Takes.{IsChosen}
 use Rattle.jr_desk_state.proofs.Keeping.{chosen_legal, chosen_started, chosen_at}
 use Rattle.jr_desk_state.proofs.Serving.{content_is, verdict_is}
@@ -35,7 +36,7 @@ use Rattle.jr_crew.specs.Ends.{ends_of, failed_ends_of}
 use Rattle.jr_crew.specs.Runs.{known_engine, IsCovering}
 use Rattle.jr_crew.specs.Turns.{ended_by, AreSettled, IsTurn}
 use Rattle.jr_crew.proofs.Alone.{IsAlone, chosen_alone, ended_alone}
-use Rattle.jr_crew.proofs.Chosen.{IsStep, appends_by, chosen_worker, got_new}
+use Rattle.jr_crew.proofs.Chosen.{IsStep, appends_by, chosen_worker}
 use Rattle.jr_crew.proofs.Counting.{chosen_ends, chosen_failed_ends, ended_ends, ended_failed_ends}
 use Rattle.jr_crew.proofs.Settling.{settled_still}
 use Rattle.jr_crew.proofs.Tying.{tied_more, tied_on, tied_step, IsNextCall}
@@ -157,7 +158,7 @@ module _ (plan : Plan) (history begun : List Event) (io : Started) (old engine n
       let after = known_engine next after_call.read_back in
       let back : TiedAlong plan true 0 ios before (chosen.0 ++ events) after =
       appends_by plan 0 (λ (steps : List Event). TiedAlong plan true 0 ios before (steps ++ events) after) (numbered_of plan planned)
-      (call_tied ios (got_new (started history) io))
+      (call_tied ios (got_last (started history) io))
       (λ (e : Event) (steps : List Event) (step : IsStep 0 e) (tied : TiedAlong plan true 0 ios before (steps ++ events) after).
       tied_step plan true 0 0 ios before e (steps ++ events) after step tied)
       history chosen.0 chosen.2 in

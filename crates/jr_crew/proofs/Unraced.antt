@@ -6,13 +6,13 @@ use Rattle.std.specs.Option.{option_or}
 use Rattle.jr_model.specs.declared.events.Event.{Event}
 use Rattle.jr_model.specs.declared.events.Outcome.{Outcome}
 use Rattle.jr_model.specs.declared.events.Started.{Started}
-use Rattle.jr_model.specs.History.{first_given, started, started_by, end_of, outcome_of}
+use Rattle.jr_model.specs.History.{started, started_by, outcome_of}
 use Rattle.jr_model.specs.Plan.{Plan}
 use Rattle.jr_model.specs.Races.{has_raced}
 use Rattle.jr_model.proofs.RaceLaws.{raced_other, still_unraced, unstarted_is_unraced}
-use Rattle.jr_model.proofs.SerialLaws.{first_given-append}
-use Rattle.jr_laws_steps.proofs.PlaceLemmas.{item_at}
-use Rattle.jr_laws_steps.proofs.StartedLemmas.{started-other, started-append}
+use Rattle.jr_model.proofs.SerialLaws.{rested-other}
+use Rattle.jr_model.proofs.PlaceLemmas.{item_at}
+use Rattle.jr_laws_steps.proofs.StartedLemmas.{started-append}
 use Rattle.jr_desk_state.specs.Takes.{IsChosen}
 use Rattle.jr_desk_state.proofs.Keeping.{chosen_started}
 use Rattle.jr_crew.specs.Turns.{AreSettled}
@@ -29,12 +29,6 @@ all_ended history settled io below =
 stays_given : (o p : Option Outcome) → is_none o ≡ false → is_none (option_or o p) ≡ false
 stays_given (Some x) p h = refl
 stays_given None p h = cc
-
-ended_still : (before : List Event) (e : Event) → started_by e ≡ None → AllEnded before → AllEnded (before ++ e ∷ [])
-ended_still before e nothing ended io below =
-    ap is_none (first_given-append (end_of io) before (e ∷ []))
-    ∙ stays_given (outcome_of before io) (first_given (end_of io) (e ∷ []))
-    (ended io (subst (λ (ios : List Started). io < length ios) (started-other before e nothing) below))
 
 none_of : (o : Option Started) (rest : List Started) → cons_option o rest ≡ [] → (o ≡ None) × (rest ≡ [])
 none_of None rest h = (refl, h)
@@ -63,7 +57,7 @@ one_start (e ∷ events) before id ended few unraced =
     by None is rest =
         let now : length (started events) ≤ 1 = subst (λ (o : Option Started). length (cons_option o (started events)) ≤ 1) is few in
         ap (λ (h : List Event). has_raced h id) (sym (append_assoc before (e ∷ []) events))
-        ∙ rest (ended_still before e is ended) now (raced_other before e id is ∙ unraced)
+        ∙ rest (rested-other before e is ended) now (raced_other before e id is ∙ unraced)
     by (Some s) is rest =
         let last : length (cons_option (Some s) (started events)) ≤ 1 = subst (λ (o : Option Started). length (cons_option o (started events)) ≤ 1) is few in
         let size : length (started events) + 1 ≤ 1 = omega (arith, last) in

@@ -1,8 +1,8 @@
-ghost use Rattle.std.specs.Prelude.{◌≡◌, All, IfOk, OnOk};
+ghost use Rattle.std.specs.Prelude.{◌≡◌, ◌<◌, ◌-◌, ◌^◌, All, IfOk, OnOk, replicate, vec_len};
 ghost use Rattle.jr_model.specs.Replies.{EngineState};
 ghost use Rattle.jr_model.specs.Tickets.{ticket_fits};
 ghost use Rattle.jr_crew_channel.specs.Passes.{pass_state};
-ghost use Rattle.jr_header.specs.Served.{ExpectsOwn};
+ghost use Rattle.jr_header.specs.Served.{ExpectsOwn, asked_with};
 ghost use Rattle.jr_crew_channel.specs.declared.parcel.PassState.{PassState};
 ghost use Rattle.jr_crew.specs.Working.{AreAnswered, AreDone, CanBeServed, IsAnswered, IsWork, all_handed_on};
 
@@ -11,7 +11,7 @@ use crate::outcomes::{note_all, rule_all};
 use jr_crew_books::Book;
 use jr_crew_threads::{ChannelEnd, Crowd, Halt, Naming, Turns, make_room, push};
 use jr_engines::Engine;
-use jr_header::{Served, ready_own};
+use jr_header::{Served, ready_own, serve_own};
 use jr_model::Ticket;
 use std::alloc::Global;
 use std::sync::Wait;
@@ -154,11 +154,32 @@ fn serve<R: Clock>(
     }
     let mut buffer = buffer;
     make_room(&mut buffer, ticket)?;
+    if is_timed {
+        return Ok(serve_timed(rt, crowd, engine, ticket, buffer));
+    }
+    Ok(serve_own(engine, *ticket, buffer))
+}
+
+// Asks the engine for one, and notes how long its call takes.
+fn serve_timed<R: Clock>(
+    rt: &R,
+    crowd: &Crowd,
+    engine: &mut dyn Engine,
+    ticket: &Ticket,
+    buffer: Vec<u8>,
+) -> Served
+    requires can { CanBeServed ticket.now }
+    requires calls { (state engine.old).calls < 2 ^ 64 - 1 }
+    requires room { vec_len buffer ≡ ticket.now.piece.len }
+    requires asked { asked_with ticket.now.kind ticket.now buffer.items
+        ≡ asked_with ticket.now.kind ticket.now (replicate ticket.now.piece.len 0) }
+    ensures { IsAnswered (state engine.old) result (state engine.new) }
+{
     let ready = ready_own(*ticket, buffer);
-    let begun = if is_timed { crowd.now(rt) } else { None };
+    let begun = crowd.now(rt);
     let served = ready.ask(engine);
     crowd.note(rt, begun, ticket.piece.len);
-    Ok(served)
+    served
 }
 
 // Judges what is judged here, tells the desk, takes what is next, and only then writes into the book: the lock isn't held for it.

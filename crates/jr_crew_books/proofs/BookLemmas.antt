@@ -1,29 +1,23 @@
 -- The entries of a book, where more becomes known and where there is one more.
 use Rattle.std.proofs.Common.{◌≡◌, ℕ, zero, suc, ◌<◌, ◌≤◌, ◌+◌, List, [], ◌∷◌, ◌++◌, length, take, refl, sym, ap, subst, ◌∙◌, arith}
-use Rattle.std.specs.Prelude.{All, Option, Result, Ok, Err, slice_get}
+use Rattle.std.specs.Prelude.{All, Option, slice_get}
 use Rattle.std.specs.Option.{IsSome, unwrap_or}
 use Rattle.std.specs.List.{cons_option}
-use Rattle.std.specs.Result.{OnErr}
 use Rattle.std.proofs.lemmas.List.{length-append, map-append, take_more}
 use Rattle.std.proofs.lemmas.Option.{slice_get-get_or}
 use Rattle.std.proofs.lemmas.List.Elements.{All-head, All-push, All-same, All-tail, All-weaker}
 use Rattle.jr_model.specs.declared.contents.Method.{Method}
+use Rattle.jr_model.proofs.PlaceLemmas.{got_longer}
 use Rattle.jr_writes.proofs.KeptLemmas.{made_more, placed_more}
 use Rattle.jr_crew_books.specs.declared.books.Done.{Done}
 use Rattle.jr_crew_books.specs.declared.entries.BookEntry.{BookEntry}
 use Rattle.jr_crew_books.specs.declared.entries.BookValues.{BookValues}
 use Rattle.jr_crew_books.specs.BookEntries.{IsEntryOf, IsGrown, IsKnown, IsLonger, done_as, done_with_last, dones_as, entry_piece, last_of, no_method}
 
--- what stands in a list stands there with more behind
-got_before : {X : Type 0} (known more : List X) (i : ℕ) → i < length known → slice_get (known ++ more) i ≡ slice_get known i
-got_before [] more i within = absurd (omega (arith, within))
-got_before (x ∷ known) more zero within = refl
-got_before (x ∷ known) more (suc i) within = got_before known more i (omega (arith, within))
-
 -- the last of so many is the same where more become known
 last_before : {X : Type 0} (known more : List X) (count : ℕ) → count ≤ length known → last_of (known ++ more) count ≡ last_of known count
 last_before known more zero within = refl
-last_before known more (suc i) within = got_before known more i (omega (arith, within))
+last_before known more (suc i) within = got_longer known more i (omega (arith, within))
 
 last_stays : {X : Type 0} (old new : List X) (count : ℕ) → IsLonger old new → count ≤ length old → last_of new count ≡ last_of old count
 last_stays old new count longer within = ap (λ known. last_of known count) longer.is ∙ last_before old longer.more count within
@@ -95,8 +89,3 @@ taken_next [] i within = absurd (omega (arith, within))
 taken_next (x ∷ xs) i within =
     take_more (x ∷ xs) i x within
     ∙ ap (λ (o : Option _). take i (x ∷ xs) ++ cons_option o []) (sym (slice_get-get_or (x ∷ xs) i x within))
-
--- what holds anyway holds of an error
-pub on_error : {T E : Type 0} (r : Result T E) (P : Type 0) → P → OnErr r P
-on_error (Ok x) P p = tt
-on_error (Err e) P p = p

@@ -6,16 +6,15 @@ use Rattle.std.proofs.Math.ListN.{get_or}
 use Rattle.std.proofs.lemmas.Bool.{eq-eqb, eqb-true}
 use Rattle.std.proofs.lemmas.List.{take_all, take_more, get_or-set_same}
 use Rattle.std.proofs.lemmas.List.Elements.{filter_map-append}
-use Rattle.std.proofs.lemmas.Option.{slice_get_within, slice_get-get_or, get_or_from_slice_get}
+use Rattle.std.proofs.lemmas.Option.{slice_get_within, slice_get-get_or, get_or_from_slice_get, same_Some}
 use Rattle.jr_model.specs.declared.events.Event.{Event}
-use Rattle.jr_laws_steps.proofs.StartedLemmas.{same_some}
 use Rattle.jr_laws_steps.proofs.Lists.{got_set_other}
 use Rattle.jr_crew_books.specs.declared.books.Done.{Done}
 use Rattle.jr_crew_books.specs.Accounts.{AreFollowed, AreMoved, IsMoved, AreGonePast}
 
 got_zero : (n i place : ℕ) → slice_get (replicate n 0) i ≡ Some place → place ≡ 0
 got_zero zero i place at = cc
-got_zero (suc n) zero place at = sym (same_some 0 place at)
+got_zero (suc n) zero place at = sym (same_Some 0 place at)
 got_zero (suc n) (suc i) place at = got_zero n i place at
 
 module _ (books : List (List Done)) (completed : ℕ → Event → Option Done) where
@@ -49,8 +48,8 @@ module _ (books : List (List Done)) (completed : ℕ → Event → Option Done) 
       by : (b : Bool) → (at == i) ≡ b → take next book ≡ take place book ++ cons_option (completed i e) []
       by true is =
           let same : at ≡ i = eqb-true at i is in
-          let its : moved.0 ≡ book = same_some moved.0 book (sym moved.2 ∙ ap (slice_get books) same ∙ there) in
-          let was : moved.1 ≡ place = same_some moved.1 place (sym moved.3 ∙ ap (slice_get old) same ∙ before) in
+          let its : moved.0 ≡ book = same_Some moved.0 book (sym moved.2 ∙ ap (slice_get books) same ∙ there) in
+          let was : moved.1 ≡ place = same_Some moved.1 place (sym moved.3 ∙ ap (slice_get old) same ∙ before) in
           let item : slice_get book place ≡ Some done =
           ap (λ (b : List Done). slice_get b place) (sym its) ∙ ap (slice_get moved.0) (sym was) ∙ moved.4 in
           let within : i < length old = slice_get_within old i place before in
@@ -66,7 +65,7 @@ module _ (books : List (List Done)) (completed : ℕ → Event → Option Done) 
       by false is =
           let differs : i ≡ at → ⊥ = λ (same : i ≡ at). let yes : (at == i) ≡ true = eq-eqb at i (sym same) in cc in
           let kept : slice_get new i ≡ slice_get old i = ap (λ (ps : List ℕ). slice_get ps i) moved.5 ∙ got_set_other old at i (moved.1 + 1) differs in
-          let same : next ≡ place = same_some next place (sym after ∙ kept ∙ before) in
+          let same : next ≡ place = same_Some next place (sym after ∙ kept ∙ before) in
           ap (λ (k : ℕ). take k book) same
           ∙ sym (append-nil (take place book))
           ∙ ap (λ (o : Option Done). take place book ++ cons_option o []) (sym (others i is))

@@ -1,4 +1,5 @@
 pub mod BookLemmas
+pub mod Comparing
 pub mod Following
 pub mod Settling
 pub mod Tables

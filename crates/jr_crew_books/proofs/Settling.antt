@@ -3,17 +3,17 @@ use Rattle.std.proofs.Common.{◌≡◌, ℕ, ◌+◌, List, Bool, true, false, 
 use Rattle.std.specs.Prelude.{Option, Some, None, slice_get, is_none, is_some}
 use Rattle.std.specs.Option.{option_map}
 use Rattle.std.proofs.lemmas.Bool.{and_parts}
+use Rattle.std.proofs.lemmas.Option.{same_Some}
 use Rattle.jr_model.specs.declared.events.Event.{Event}
 use Rattle.jr_model.specs.declared.events.Outcome.{Outcome}
 use Rattle.jr_model.specs.declared.events.Started.{Started}
 use Rattle.jr_model.specs.History.{started, outcome_of, if_flying, if_awaiting, is_judged, is_judged_kind, ended_whole}
-use Rattle.jr_laws_steps.proofs.PlaceLemmas.{keeps_none}
-use Rattle.jr_laws_steps.proofs.StartedLemmas.{same_some}
+use Rattle.jr_model.proofs.PlaceLemmas.{keeps_none}
 use Rattle.jr_model.specs.declared.tickets.Ticket.{Ticket}
 use Rattle.jr_model.specs.declared.tickets.TicketKind.{TicketKind}
 use Rattle.jr_model.specs.Plan.{Plan}
 use Rattle.jr_desk_tickets.specs.Kept.{tickets_of}
-use Rattle.jr_desk_tickets.proofs.HandingMoves.{ticket_started}
+use Rattle.jr_desk_tickets.proofs.OwnTickets.{ticket_started}
 use Rattle.jr_crew_books.specs.Finished.{AllFinished, is_finished}
 
 flown_by : (o : Option Outcome) (io : Started) → is_some o ≡ true → cond (is_none o) (Some io) None ≡ None
@@ -48,7 +48,7 @@ module _ (plan : Plan) (history : List Event) (id : ℕ) (io : Started) (at : sl
   kind_started = ap (option_map (λ (t : Ticket). t.kind)) (ticket_started plan history id io at)
 
   pub kind_of_ticket : (kind : TicketKind) → Some kind ≡ option_map (λ ticket. ticket.kind) (slice_get (tickets_of plan history) id) → is_judged_kind kind ≡ is_judged_kind io.kind
-  kind_of_ticket kind is = ap is_judged_kind (same_some kind io.kind (is ∙ kind_started))
+  kind_of_ticket kind is = ap is_judged_kind (same_Some kind io.kind (is ∙ kind_started))
 
   pub has_its_ticket : {A : Type 0} → None ≡ option_map (λ ticket. ticket.kind) (slice_get (tickets_of plan history) id) → A
   has_its_ticket none =

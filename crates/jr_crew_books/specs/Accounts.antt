@@ -1,6 +1,7 @@
 -- Internal: what is compared once all threads have ended (of this project).
-use Rattle.std.specs.Prelude.{◌≡◌, ℕ, ◌+◌, List, [], ◌++◌, length, take, filter_map, slice_get, slice_set, Option, Some}
+use Rattle.std.specs.Prelude.{◌≡◌, ℕ, ◌+◌, List, [], ◌++◌, length, map, take, filter_map, slice_get, slice_set, Option, Some}
 use Rattle.std.specs.List.{cons_option}
+use Rattle.jr_model.specs.declared.contents.Method.{Method}
 use Rattle.jr_model.specs.declared.events.Event.{Event}
 use Rattle.jr_model.specs.declared.events.Verdict.{Verdict as GivenVerdict}
 use Rattle.jr_crew_books.specs.declared.books.Done.{Done}
@@ -12,6 +13,10 @@ use Rattle.jr_desk_tickets.specs.Kept.{tickets_of}
 -- what stands in the table at a number is the verdict on that check
 abbrev pub IsTableOf : List (Option GivenVerdict) → List Event → Type 0
 IsTableOf table history = (io : ℕ) (said : Option GivenVerdict) → slice_get table io ≡ Some said → said ≡ verdict_in history io
+
+-- how the blocks of each clone are made and verified
+abbrev pub AreMethodsOf : Plan → List Method → Type 0
+AreMethodsOf plan methods = methods ≡ map (λ job. job.method) plan.clones
 
 -- in the book at each number, what stands before its place is what these events completed by that number
 abbrev pub AreFollowed : List (List Done) → (ℕ → Event → Option Done) → List ℕ → List Event → Type 0

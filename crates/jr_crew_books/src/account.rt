@@ -2,8 +2,10 @@ ghost use Rattle.std.specs.Prelude.{◌≡◌};
 ghost use Rattle.jr_model.specs.History.{is_judged_kind};
 ghost use Rattle.jr_desk_tickets.specs.Handing.{IsHanded};
 
+use crate::completed::{is_handed, is_probe};
+use crate::entries::{BookEntry, BookValues};
 use jr_desk_tickets::TicketTable;
-use jr_model::{Event, IoId, Ticket, TicketKind};
+use jr_model::{Event, IoId, Method, Ticket, TicketKind};
 use jr_plan::Plan;
 use std::marker::Model;
 
@@ -34,6 +36,8 @@ impl<'a> Account<'a> {
     ghost use Rattle.jr_model.specs.History.{started, is_judged_kind};
     ghost use Rattle.jr_model.specs.Legal.{is_legal};
     ghost use Rattle.jr_desk_tickets.specs.Kept.{IsOwn, tickets_of};
+    ghost use Rattle.jr_crew_books.specs.Accounts.{AreMethodsOf};
+    ghost use Rattle.jr_crew_books.specs.BookEntries.{IsKnown, done_as};
     ghost use Rattle.jr_crew_books.specs.Finished.{is_finished};
 
     /// The account of a run of this plan.
@@ -75,6 +79,37 @@ impl<'a> Account<'a> {
         ensures no { IsFalse result → ¬ IsOwn self.now.plan self.now.history ticket.now }
     {
         self.tickets.is_own(self.plan, ticket)
+    }
+
+    // Whether the ticket of this entry is the one that was handed out under its number. Only that of a check that may be judged by a header
+    // is made again.
+    pub(crate) fn is_own_entry(
+        &self,
+        methods: &[Method],
+        known: &BookValues,
+        entry: &BookEntry,
+    ) -> bool
+        requires methods { AreMethodsOf self.now.plan methods.now }
+        requires known { IsKnown known.now entry.now }
+        ensures { IsTrue result → slice_get (tickets_of self.now.plan self.now.history) entry.now.id
+            ≡ Some (done_as known.now entry.now).ticket }
+    {
+        if is_probe(entry.kind) {
+            return self.is_own_check(known, entry);
+        }
+        is_handed(self.tickets, methods, known, entry)
+    }
+
+    // The same, with the ticket made again.
+    fn is_own_check(&self, known: &BookValues, entry: &BookEntry) -> bool
+        requires { IsKnown known.now entry.now }
+        ensures { IsTrue result → slice_get (tickets_of self.now.plan self.now.history) entry.now.id
+            ≡ Some (done_as known.now entry.now).ticket }
+    {
+        match known.done_of(entry) {
+            Some(done) => self.is_own(&done.ticket),
+            None => false,
+        }
     }
 
     /// The worker that the I/O of this number was handed out to, if it was handed out.

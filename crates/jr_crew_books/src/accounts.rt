@@ -5,13 +5,13 @@ ghost use Rattle.jr_model.specs.declared.events.Verdict.{Verdict as GivenVerdict
 ghost use Rattle.jr_model.specs.History.{started};
 ghost use Rattle.jr_desk_tickets.specs.Kept.{tickets_of};
 ghost use Rattle.jr_crew_books.specs.declared.books.Done.{Done as Completed};
-ghost use Rattle.jr_crew_books.specs.Accounts.{IsTableOf, AreFollowed, AreMoved, IsMoved, AreGonePast, completed_by};
+ghost use Rattle.jr_crew_books.specs.Accounts.{IsTableOf, AreMethodsOf, AreFollowed, AreMoved, IsMoved, AreGonePast, completed_by};
 ghost use Rattle.jr_crew_books.specs.Books.{verdict_by, verdict_in, done_by, dones_of};
 
 use crate::account::Account;
 use crate::book::Book;
-use crate::books::Done;
-use jr_model::{Event, IoId, Memory, Outcome, Verdict};
+use crate::methods::methods_of;
+use jr_model::{Event, IoId, Memory, Method, Outcome, Verdict};
 use std::alloc::Global;
 
 // How an I/O ended, with the verdict on it where workers judge.
@@ -69,25 +69,43 @@ pub fn are_books(
     ensures { IfOk result (λ are. IsTrue are → (i : ℕ) (book : _) → slice_get books.now i ≡ Some book
         → book ≡ dones_of account.now.plan inline account.now.history i) }
 {
+    let methods = methods_of(alloc, account.plan())?;
     let table = verdicts_of(alloc, account)?;
     let mut places = vec![in alloc; 0; books.len()]?;
-    Ok(are_followed(account, &table, inline, books, places.as_mut_slice()))
+    Ok(are_followed(
+        account,
+        &methods,
+        &table,
+        inline,
+        books,
+        places.as_mut_slice(),
+    ))
 }
 
 // The same: the history is walked once, with a place in each book.
 fn are_followed(
     account: &Account<'_>,
+    methods: &[Method],
     table: &[Option<Verdict>],
     inline: bool,
     books: &[Book],
     places: &mut [usize],
 ) -> bool
+    requires methods { AreMethodsOf account.now.plan methods.now }
     requires table { IsTableOf table.now account.now.history }
     requires first { AreFollowed books.now (done_by account.now.plan inline account.now.history) places.old [] }
     ensures { IsTrue result → (i : ℕ) (book : _) → slice_get books.now i ≡ Some book
         → book ≡ dones_of account.now.plan inline account.now.history i }
 {
-    if !follow_all(account, table, inline, books, places, account.history()) {
+    if !follow_all(
+        account,
+        methods,
+        table,
+        inline,
+        books,
+        places,
+        account.history(),
+    ) {
         return false;
     }
     are_gone_past(books, places)
@@ -96,19 +114,21 @@ fn are_followed(
 // Goes past what these events completed in each book, as long as that is what stands there.
 fn follow_all(
     account: &Account<'_>,
+    methods: &[Method],
     table: &[Option<Verdict>],
     inline: bool,
     books: &[Book],
     places: &mut [usize],
     events: &[Event],
 ) -> bool
+    requires methods { AreMethodsOf account.now.plan methods.now }
     requires table { IsTableOf table.now account.now.history }
     requires first { AreFollowed books.now (done_by account.now.plan inline account.now.history) places.old [] }
     ensures { IsTrue result
         → AreFollowed books.now (done_by account.now.plan inline account.now.history) places.new events.now }
 {
     for event in events {
-        if !follows(account, table, inline, books, places, event) {
+        if !follows(account, methods, table, inline, books, places, event) {
             return false;
         }
     }
@@ -118,13 +138,15 @@ fn follow_all(
 // Goes past what this event completed, if anything.
 fn follows(
     account: &Account<'_>,
+    methods: &[Method],
     table: &[Option<Verdict>],
     inline: bool,
     books: &[Book],
     places: &mut [usize],
     event: &Event,
 ) -> bool
-    requires { IsTableOf table.now account.now.history }
+    requires methods { AreMethodsOf account.now.plan methods.now }
+    requires table { IsTableOf table.now account.now.history }
     ensures { IsTrue result
         → AreMoved books.now (done_by account.now.plan inline account.now.history) places.old places.new event.now }
 {
@@ -134,7 +156,7 @@ fn follows(
             io,
             outcome,
         } => match ending_of(table, inline, io, outcome) {
-            Some(ending) => moves(account, books, places, worker as usize, &ending),
+            Some(ending) => moves(account, methods, books, places, worker as usize, &ending),
             None => false,
         },
         _ => true,
@@ -144,11 +166,13 @@ fn follows(
 // Goes past this in one of the books, if what it completed stands there.
 fn moves(
     account: &Account<'_>,
+    methods: &[Method],
     books: &[Book],
     places: &mut [usize],
     at: usize,
     ending: &BookedEnd,
 ) -> bool
+    requires { AreMethodsOf account.now.plan methods.now }
     ensures { IsTrue result → (done : Completed) × IsMoved books.now places.old places.new at done
         × (Some done ≡ completed_by account.now.plan account.now.history ending.now) }
 {
@@ -157,32 +181,11 @@ fn moves(
     }
     let place = places[at];
     let book = &books[at];
-    if place >= book.len() || !stands_at(account, book, place, ending) {
+    if place >= book.len() || !book.has_at(place, account, methods, ending) {
         return false;
     }
     places[at] = place + 1;
     true
-}
-
-// Whether what it completed stands at that place of the book.
-fn stands_at(account: &Account<'_>, book: &Book, place: usize, ending: &BookedEnd) -> bool
-    ensures { IsTrue result → (done : Completed) × (slice_get book.now place ≡ Some done)
-        × (Some done ≡ completed_by account.now.plan account.now.history ending.now) }
-{
-    match book.done_at(place) {
-        Some(done) => is_completed(account, &done, ending),
-        None => false,
-    }
-}
-
-// Whether this is what it completed.
-fn is_completed(account: &Account<'_>, done: &Done, ending: &BookedEnd) -> bool
-    ensures { IsTrue result → Some done.now ≡ completed_by account.now.plan account.now.history ending.now }
-{
-    done.ticket.id == ending.io
-        && is_same_outcome(done.outcome, ending.outcome)
-        && is_same_verdict(done.verdict, ending.verdict)
-        && account.is_own(&done.ticket)
 }
 
 // Whether nothing is left in any book.
@@ -231,16 +234,4 @@ fn verdict_for(table: &[Option<Verdict>], inline: bool, io: IoId) -> Option<Opti
         return Some(None);
     }
     table.get(io as usize).copied()
-}
-
-fn is_same_outcome(a: Outcome, b: Outcome) -> bool
-    ensures { IsTrue result → a ≡ b }
-{
-    a == b
-}
-
-fn is_same_verdict(a: Option<Verdict>, b: Option<Verdict>) -> bool
-    ensures { IsTrue result → a ≡ b }
-{
-    a == b
 }

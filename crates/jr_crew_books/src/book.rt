@@ -1,8 +1,11 @@
 ghost use Rattle.std.specs.Prelude.{◌≡◌, [], ◌∷◌, ◌++◌, OnOk};
 
+use crate::account::Account;
+use crate::accounts::BookedEnd;
 use crate::books::Done;
+use crate::completed::is_completed;
 use crate::entries::{BookEntry, BookValues};
-use jr_model::{Memory, Outcome, Ticket, Verdict};
+use jr_model::{Memory, Method, Outcome, Ticket, Verdict};
 use jr_writes::Known;
 use std::alloc::Global;
 use std::fmt;
@@ -37,8 +40,10 @@ impl Model for Book {
 }
 
 impl Book {
-    ghost use Rattle.std.specs.Prelude.{◌≡◌, [], ◌∷◌, ◌++◌, IfOk, OnOk, OnErr, length, slice_get};
+    ghost use Rattle.std.specs.Prelude.{◌≡◌, [], ◌∷◌, ◌++◌, IfOk, IsTrue, OnOk, OnErr, Some, length, slice_get};
     ghost use Rattle.std.specs.List.{cons_option};
+    ghost use Rattle.jr_crew_books.specs.declared.books.Done.{Done as Completed};
+    ghost use Rattle.jr_crew_books.specs.Accounts.{AreMethodsOf, completed_by};
 
     /// An empty book. It takes the memory of its entries from `alloc`.
     pub fn new(alloc: Global) -> Book
@@ -88,6 +93,24 @@ impl Book {
         }
     }
 
+    // Whether what ended so stands at this place, as the account has it. Nothing is made of the entry to compare it.
+    pub(crate) fn has_at(
+        &self,
+        place: usize,
+        account: &Account<'_>,
+        methods: &[Method],
+        ending: &BookedEnd,
+    ) -> bool
+        requires { AreMethodsOf account.now.plan methods.now }
+        ensures { IsTrue result → (done : Completed) × (slice_get self.now place ≡ Some done)
+            × (Some done ≡ completed_by account.now.plan account.now.history ending.now) }
+    {
+        match self.entries.get(place) {
+            Some(entry) => is_completed(account, methods, &self.known, entry, ending),
+            None => false,
+        }
+    }
+
     /// All of them.
     pub fn dones(&self, alloc: Global) -> Result<Vec<Done>, Memory>
         ensures { IfOk result (λ dones. dones.items ≡ self.now) }
@@ -115,7 +138,7 @@ impl Book {
 }
 
 // Puts it behind the last one.
-fn push<X: Drop>(all: &mut Vec<X>, one: X) -> Result<(), Memory>
+pub(crate) fn push<X: Drop>(all: &mut Vec<X>, one: X) -> Result<(), Memory>
     ensures { OnOk result (all.new.items ≡ all.old.items ++ one ∷ []) }
 {
     all.push(one)?;

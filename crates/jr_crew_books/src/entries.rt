@@ -1,6 +1,7 @@
-ghost use Rattle.std.specs.Prelude.{◌≡◌, ◌≤◌, Option, Some, length, IfOk};
+ghost use Rattle.std.specs.Prelude.{◌≡◌, ◌≤◌, Option, Some, length, IfOk, IsTrue};
+ghost use Rattle.std.specs.Option.{option_copied, unwrap_or};
 ghost use Rattle.jr_model.specs.declared.events.Verdict.{Verdict as Saying};
-ghost use Rattle.jr_crew_books.specs.BookEntries.{IsEntryOf, IsGrown, IsKnown, IsLonger, done_as, done_with_last, entry_piece, last_of};
+ghost use Rattle.jr_crew_books.specs.BookEntries.{IsEntryOf, IsGrown, IsKnown, IsLonger, done_as, done_with_last, entry_piece, last_of, no_method};
 
 use crate::books::Done;
 use crate::said::is_same_verdict;
@@ -66,6 +67,27 @@ impl BookValues {
         let verdict = last_of(&self.verdicts, entry.verdict);
         Some(done_with(entry, method, expected, verdict))
     }
+
+    // Whether this is the method of an entry.
+    pub(crate) fn has_method(&self, entry: &BookEntry, method: &Method) -> bool
+        ensures { IsTrue result → unwrap_or (last_of self.now.methods.items entry.now.method) no_method ≡ method.now }
+    {
+        match last_in(&self.methods, entry.method) {
+            Some(known) => is_same_method(known, method),
+            None => false,
+        }
+    }
+
+    // Whether this is the verdict of an entry, if it has one.
+    pub(crate) fn has_verdict(&self, entry: &BookEntry, verdict: Option<Verdict>) -> bool
+        ensures { IsTrue result → last_of self.now.verdicts.items entry.now.verdict ≡ verdict }
+    {
+        match (last_of(&self.verdicts, entry.verdict), verdict) {
+            (Some(known), Some(verdict)) => is_same_verdict(known, verdict),
+            (None, None) => true,
+            _ => false,
+        }
+    }
 }
 
 // Where it read or wrote.
@@ -87,6 +109,16 @@ fn last_of<T: Copy>(known: &[T], count: u32) -> Option<T>
         return None;
     }
     known.get(count as usize - 1).copied()
+}
+
+// The same, where it stands.
+fn last_in<T>(known: &[T], count: u32) -> Option<&T>
+    ensures { option_copied result ≡ last_of known.now count }
+{
+    if count == 0 {
+        return None;
+    }
+    known.get(count as usize - 1)
 }
 
 // How many methods are known once this one is the last.

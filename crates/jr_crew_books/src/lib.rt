@@ -6,8 +6,10 @@ mod account;
 mod accounts;
 mod book;
 mod books;
+mod completed;
 mod entries;
 mod finished;
+mod methods;
 mod numbers;
 mod said;
 

@@ -19,6 +19,6 @@ returns-in-Some c moved =
     moving.1
     (ap (by end.worker) end.is
     ∙ ap (λ (b : Bool). cond b its None) (eq-eqb end.worker end.worker refl)
-    ∙ ap (completed_by account.plan account.history) (sym (c.in-Some.ensures account.history c.requires))
+    ∙ ap (completed_by account.plan account.history) (sym (c.in-Some.ensures account.history c.requires.table))
     ∙ sym moving.2)
     (λ i other. ap (by i) end.is ∙ ap (λ (b : Bool). cond b its None) other)

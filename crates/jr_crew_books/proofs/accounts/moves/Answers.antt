@@ -9,7 +9,7 @@ returns c all =
     let places = c.args.places.now in
     let at = c.args.at in
     let book = c.index-books-at.result in
-    let standing = c.stands_at.ensures c.if-not-stands_at.false in (
+    let standing = c.has_at.ensures c.if-not-has_at.false in (
       standing.0,
       (
         book,

@@ -1,8 +1,9 @@
 use Rattle.std.proofs.Common.{ap, ◌∙◌, ◌++◌, ◌∷◌, []}
 use Rattle.std.proofs.lemmas.List.Elements.{All-same}
+use Rattle.jr_model.proofs.OptionLemmas.{on_error}
 use Rattle.jr_crew_books.specs.declared.books.Done.{Done}
 use Rattle.jr_crew_books.specs.BookEntries.{IsKnown, dones_as}
-use Rattle.jr_crew_books.proofs.BookLemmas.{dones_next, dones_stay, known_more, known_next, on_error}
+use Rattle.jr_crew_books.proofs.BookLemmas.{dones_next, dones_stay, known_more, known_next}
 use Rattle.jr_crew_books.proofs.book.Book.push.Goals as goal
 
 pub returns-in_err-entry-clause-err : goal.returns-in_err-entry-clause-err
