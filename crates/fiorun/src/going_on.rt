@@ -6,7 +6,6 @@ use jr_cli_outputs::{Unfailing, Wanted};
 use jr_cli_words::{Choice, CliFault, workers_of, write_out};
 use jr_desk::Desk;
 use jr_escape::Escaped;
-use jr_job_direct::Wish;
 use jr_model::EngineKind;
 use jr_plan::Plan;
 use jr_rounds::{gathered, is_bad, plan_of_round, seed_offset, tell_round, tell_sums};
@@ -40,7 +39,6 @@ pub fn run_on<R: Outlet + Machine>(
     rt: &R,
     choice: &Choice<'_>,
     job: &[u8],
-    wishes: &[Wish],
     plan: Plan,
     has_notes: bool,
 ) -> Result<u8, Stop> {
@@ -48,7 +46,7 @@ pub fn run_on<R: Outlet + Machine>(
         tell_staying(rt, &plan);
     }
     let wanted = Wanted::of(rt, choice, &plan, job)?;
-    let ended = run_wanted(rt, choice, wishes, &wanted, &plan, has_notes);
+    let ended = run_wanted(rt, choice, &wanted, &plan, has_notes);
     wanted.outputs.clear(rt);
     ended
 }
@@ -70,14 +68,13 @@ fn tell_staying<R: Eprint>(rt: &R, plan: &Plan) {
 fn run_wanted<R: Outlet + Machine>(
     rt: &R,
     choice: &Choice<'_>,
-    wishes: &[Wish],
     wanted: &Wanted,
     plan: &Plan,
     has_notes: bool,
 ) -> Result<u8, Stop> {
     let pace = Pace::of(rt, choice.progress);
     let asked = asked_for(rt, choice, plan, false)?;
-    let ground = ground_of(rt, choice, wishes, wanted, &asked, plan)?;
+    let ground = ground_of(rt, choice, wanted, &asked, plan)?;
     let has_lines = has_notes || !matches!(pace, Pace::Never);
     let mut course = Course::new(rt.alloc(), plan, has_lines)?;
     let last = run_parts(

@@ -1,7 +1,8 @@
 // What is found of a plan's files after a cut, by the ledger of its run.
 use crate::running::to_output;
 use jr_cli_after::{After, AfterFailure, judge_after};
-use jr_cli_outputs::Outputs;
+use jr_cli_notes::Beginning;
+use jr_cli_outputs::{JudgedFiles, Outputs};
 use jr_cli_words::{Choice, CliFault, memory_or, read_ledger};
 use jr_ledger::{LedgerLine, read_lines};
 use jr_plan::Plan;
@@ -9,17 +10,18 @@ use jr_system::{Machine, Outlet, Stop, Taken, refuse_judgement, take_to_read};
 use std::fs;
 use std::io::Write;
 
-// Judges the plan's files by the ledger of this path. The report goes to standard output, and what else is asked for to its files. Gives the
-// exit status.
+// Judges the files of the plan that this job text makes, by the ledger of this path. The report goes to standard output, and what else is
+// asked for to its files. Gives the exit status.
 pub fn judge<R: Outlet + Machine>(
     rt: &R,
     choice: &Choice<'_>,
     path: &str,
     plan: &Plan,
+    job: &[u8],
 ) -> Result<u8, Stop> {
     refuse_judgement(rt.alloc(), choice, plan)?;
     let outputs = Outputs::of(rt, choice, plan)?;
-    let judged = judge_into(rt, choice, path, plan, &outputs);
+    let judged = judge_into(rt, choice, path, plan, job, &outputs);
     outputs.clear(rt);
     judged
 }
@@ -29,15 +31,24 @@ fn judge_into<R: Outlet + Machine>(
     choice: &Choice<'_>,
     path: &str,
     plan: &Plan,
+    job: &[u8],
     outputs: &Outputs,
 ) -> Result<u8, Stop> {
+    let begun = Beginning::now(rt);
     let lines = ledger_lines(rt, path, plan)?;
     let kept = outputs.kept(rt)?;
     let files = take_to_read(rt, plan, choice, kept.as_slice())?;
     let after = judged(rt, plan, lines.as_slice(), &files)?;
     print_report(rt, plan, &after)?;
     tell_unread(rt, plan, &files, &after)?;
-    outputs.write_after(rt, plan, &after, files.cached_reads())?;
+    let found = JudgedFiles {
+        plan,
+        after: &after,
+        cached: files.cached_reads(),
+        begun: &begun,
+        job,
+    };
+    outputs.write_after(rt, &found)?;
     Ok(after.status())
 }
 

@@ -16,9 +16,7 @@ use jr_engines::Engine;
 use jr_job_notes::plan_notes;
 use jr_plan::Plan;
 use jr_replay_traces::Checked;
-use jr_system::{
-    Machine, Outlet, Screen, Stop, job_plan, refuse_ledger, tell_all, tell_history, wishes,
-};
+use jr_system::{Machine, Outlet, Screen, Stop, job_plan, refuse_ledger, tell_all, tell_history};
 use judging::judge;
 use rounds::{Limits, run_all};
 use running::{SharedRun, Turn, add, boxed, run_memory, run_plan, shares, to_output};
@@ -139,7 +137,7 @@ fn perform<R: Input + Outlet + Machine>(
     if let Some(path) = choice.after
         && !choice.parse_only
     {
-        return Ok(Turn::Ended(judge(rt, choice, path, &plan)?));
+        return Ok(Turn::Ended(judge(rt, choice, path, &plan, text.as_slice())?));
     }
     if choice.parse_only || choice.check_trace.is_some() {
         show(rt, choice, text.as_slice(), &plan)?;
@@ -165,19 +163,16 @@ fn carry_out<R: Outlet + Machine>(
 ) -> Result<Turn, Stop> {
     let limits = Limits::of(choice)?;
     refuse_ledger(rt.alloc(), choice, &plan)?;
-    let Ok(wishes) = wishes(rt.alloc(), text, choice, &plan) else {
-        return Err(Stop::from(CliFault::Memory));
-    };
     if is_going_on(choice, &plan, limits.is_some())? {
-        let status = run_on(rt, choice, text, wishes.as_slice(), plan, has_notes)?;
+        let status = run_on(rt, choice, text, plan, has_notes)?;
         return Ok(Turn::Ended(status));
     }
     match limits {
         Some(limits) => {
-            let status = run_all(rt, choice, text, wishes.as_slice(), limits, plan, has_notes)?;
+            let status = run_all(rt, choice, text, limits, plan, has_notes)?;
             Ok(Turn::Ended(status))
         }
-        None => run_plan(rt, choice, text, wishes.as_slice(), plan),
+        None => run_plan(rt, choice, text, plan),
     }
 }
 

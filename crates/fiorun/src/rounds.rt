@@ -6,7 +6,6 @@ use jr_cli::{Findings, RunEnd, Storage};
 use jr_cli_outputs::{Outputs, Unfailing, Wanted};
 use jr_cli_words::{BlockSize, Choice, CliFault, workers_of};
 use jr_desk::Desk;
-use jr_job_direct::Wish;
 use jr_model::{Memory, Totals};
 use jr_plan::Plan;
 use jr_report_json::RunNotes;
@@ -298,13 +297,12 @@ pub fn run_all<R: Outlet + Machine>(
     rt: &R,
     choice: &Choice<'_>,
     job: &[u8],
-    wishes: &[Wish],
     limits: Limits,
     plan: Plan,
     has_notes: bool,
 ) -> Result<u8, Stop> {
     let wanted = Wanted::of(rt, choice, &plan, job)?;
-    let ended = run_limited(rt, choice, wishes, &wanted, limits, &plan, has_notes);
+    let ended = run_limited(rt, choice, &wanted, limits, &plan, has_notes);
     wanted.outputs.clear(rt);
     ended
 }
@@ -312,7 +310,6 @@ pub fn run_all<R: Outlet + Machine>(
 fn run_limited<R: Outlet + Machine>(
     rt: &R,
     choice: &Choice<'_>,
-    wishes: &[Wish],
     wanted: &Wanted,
     limits: Limits,
     plan: &Plan,
@@ -323,7 +320,7 @@ fn run_limited<R: Outlet + Machine>(
     if let Some(time) = limits.time {
         stop_after(rt, &asked, time)?;
     }
-    let ground = ground_of(rt, choice, wishes, wanted, &asked, plan)?;
+    let ground = ground_of(rt, choice, wanted, &asked, plan)?;
     let has_lines = has_notes || !matches!(pace, Pace::Never);
     let mut course = Course::new(rt.alloc(), plan, has_lines)?;
     let workers = workers_of(plan, choice.workers);

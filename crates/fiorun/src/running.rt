@@ -7,12 +7,12 @@ use jr_cli_outputs::{Finished, Nowhere, TraceFile, Unfailing, Wanted};
 use jr_cli_words::{Choice, CliFault, Wiping, workers_of};
 use jr_engines::{Engine, NullEngine, SharedMemory};
 use jr_io_files::{FileEngine, SharedFile};
-use jr_job_direct::Wish;
+use jr_model::EngineKind;
 use jr_plan::Plan;
 use jr_system::{
     Asked, Closed, Ground, Machine, MemoryFiles, OneEngine, Outlet, Pace, PlanBytes, Stop, Wiper,
-    asked_by, crew_engines, has_one_worker, history_bytes, is_watched, ledger_cut, shares_memory,
-    shown, stop_when_short, unsynced_on_the_way,
+    asked_by, begin_ledger, crew_engines, has_one_worker, history_bytes, is_watched, ledger_cut,
+    shares_memory, shown, stop_when_short, unsynced_on_the_way,
 };
 use std::alloc::Global;
 use std::io;
@@ -48,10 +48,10 @@ impl SharedRun {
 }
 
 // What carries out the I/Os of a run of the plan, or of all its rounds. No file of a job may be one that the run keeps for something else.
+// A ledger has its first line before any file is made.
 pub fn ground_of<'a, R: Outlet + Machine>(
     rt: &R,
     choice: &Choice<'a>,
-    wishes: &[Wish],
     wanted: &Wanted,
     asked: &Asked,
     plan: &Plan,
@@ -59,32 +59,45 @@ pub fn ground_of<'a, R: Outlet + Machine>(
     ensures { IfOk result (IsGroundOf plan.now) }
 {
     let kept = wanted.outputs.kept(rt)?;
-    let ground = Ground::of(rt, plan, choice, wishes, kept.as_slice())?;
-    record(rt, choice, wanted, asked, plan, &ground)?;
+    begin_recording(rt, choice, wanted, asked, plan)?;
+    let ground = Ground::of(rt, plan, choice, kept.as_slice())?;
+    record(rt, choice, wanted, asked, &ground)?;
     Ok(ground)
 }
 
-// Has what is written to the run's files recorded, and the files synced on the way, as the words ask for it.
-fn record<R: Outlet>(
+// Begins to record what is written to the plan's files, if the words ask for it.
+fn begin_recording<R: Outlet>(
     rt: &R,
     choice: &Choice<'_>,
     wanted: &Wanted,
     asked: &Asked,
     plan: &Plan,
+) -> Result<(), Stop> {
+    let is_asked_for = choice.ledger.is_some() || choice.sync_every.is_some();
+    if plan.engine() != EngineKind::File || !is_asked_for {
+        return Ok(());
+    }
+    let out = wanted.outputs.ledger(rt)?;
+    begin_ledger(rt.alloc(), plan, out, choice.sync_every, asked)?;
+    match cut_of(rt.alloc(), choice, asked) {
+        Some(stop) => Err(stop),
+        None => Ok(()),
+    }
+}
+
+// Has what is written to the run's files recorded, and the files synced on the way, if that has begun. The ledger takes its name.
+fn record<R: Outlet>(
+    rt: &R,
+    choice: &Choice<'_>,
+    wanted: &Wanted,
+    asked: &Asked,
     ground: &Ground<'_>,
 ) -> Result<(), Stop> {
     let Ground::Files(files) = ground else {
         return Ok(());
     };
-    if choice.ledger.is_none() && choice.sync_every.is_none() {
-        return Ok(());
-    }
-    let out = wanted.outputs.ledger(rt)?;
-    files.record(rt, plan, out, choice.sync_every, asked)?;
-    match cut_of(rt.alloc(), choice, asked) {
-        Some(stop) => Err(stop),
-        None => wanted.outputs.finish_ledger(rt),
-    }
+    files.record(rt, choice.sync_every, asked)?;
+    wanted.outputs.finish_ledger(rt)
 }
 
 // Why the ledger that the words ask for couldn't be written to its end, if it couldn't.
@@ -176,11 +189,10 @@ pub fn run_plan<R: Outlet + Machine>(
     rt: &R,
     choice: &Choice<'_>,
     job: &[u8],
-    wishes: &[Wish],
     plan: Plan,
 ) -> Result<Turn, Stop> {
     let wanted = Wanted::of(rt, choice, &plan, job)?;
-    match run_wanted(rt, choice, wishes, &wanted, plan) {
+    match run_wanted(rt, choice, &wanted, plan) {
         Ok(turn) => told(rt, wanted, turn),
         Err(stop) => {
             wanted.outputs.clear(rt);
@@ -205,7 +217,6 @@ fn told<R: Outlet + Machine>(rt: &R, wanted: Wanted, turn: Turn) -> Result<Turn,
 fn run_wanted<R: Outlet + Machine>(
     rt: &R,
     choice: &Choice<'_>,
-    wishes: &[Wish],
     wanted: &Wanted,
     plan: Plan,
 ) -> Result<Turn, Stop> {
@@ -214,7 +225,7 @@ fn run_wanted<R: Outlet + Machine>(
     if shares_memory(&plan, workers) {
         return Ok(shared_run(asked, plan, workers));
     }
-    let ground = ground_of(rt, choice, wishes, wanted, &asked, &plan)?;
+    let ground = ground_of(rt, choice, wanted, &asked, &plan)?;
     let ran = run_traced(rt, wanted, &ground, &asked, plan, workers)?;
     let ran = with_shortage(close(rt, &ground, &asked, ran)?, &asked);
     Ok(Turn::Ran(with_ledger(rt.alloc(), choice, &asked, ran)))

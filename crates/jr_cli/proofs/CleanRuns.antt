@@ -12,7 +12,8 @@ use Rattle.jr_model.specs.Legal.{is_io_of, is_fault, is_bad}
 use Rattle.jr_model.specs.Plan.{Plan, SubJob}
 use Rattle.jr_model.specs.Report.{all_totals}
 use Rattle.jr_model.specs.Totals.{is_verdict_of, is_fault_of, totals_of}
-use Rattle.jr_laws_bytes.specs.Clean.{is_bad_verdict, is_faulty_end, has_bad, has_fault}
+use Rattle.jr_laws_bytes.specs.Clean.{is_faulty_end, has_fault}
+use Rattle.jr_laws_bytes.specs.BadVerdicts.{is_bad_verdict, has_bad}
 use Rattle.jr_cli.specs.Status.{is_unclean, status_of}
 
 -- none is counted where a test that each counted one meets is met by none

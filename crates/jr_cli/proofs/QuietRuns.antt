@@ -9,7 +9,6 @@ use Rattle.jr_model.specs.declared.events.Event.{Event}
 use Rattle.jr_model.specs.declared.events.Event.TheVariants.{Issue, Probe, Skip, End, Verdict}
 use Rattle.jr_model.specs.declared.events.Outcome.{Outcome}
 use Rattle.jr_model.specs.declared.events.Started.{Started}
-use Rattle.jr_model.specs.declared.events.Verdict.{Verdict as GivenVerdict}
 use Rattle.jr_model.specs.declared.totals.Totals.{Totals}
 use Rattle.jr_model.specs.History.{started, flies, outcome_of, is_judged, ended_whole, is_of_clone}
 use Rattle.jr_model.specs.Legal.{is_legal, is_complete, is_io_of, is_fault, is_bad, end_fits, verdict_fits}
@@ -19,6 +18,7 @@ use Rattle.jr_model.specs.Report.{all_totals}
 use Rattle.jr_model.specs.Totals.{is_verdict_of, is_fault_of, totals_of}
 use Rattle.jr_model.proofs.LegalLaws.{started_planned}
 use Rattle.jr_model.specs.PlanFacts.{IsPlanned}
+use Rattle.jr_model.proofs.HistoryLemmas.{judged_there}
 use Rattle.jr_laws_quiet.specs.Quiet.{NothingRaced, is_calm, is_quiet}
 use Rattle.jr_laws_quiet.proofs.Reports.{quiet_run_unraced}
 use Rattle.jr_laws_steps.proofs.StartedLemmas.{started_stays, middle_may_happen}
@@ -29,10 +29,6 @@ use Rattle.jr_cli.specs.Status.{is_unclean, status_of}
 ended_there : (worker : ℕ) (outcome : Outcome) (io : Option Started) → end_fits worker outcome io ≡ true → (s : Started) × (io ≡ Some s)
 ended_there worker outcome None h = cc
 ended_there worker outcome (Some s) h = (s, refl)
-
-judged_there : (plan : Plan) (raced : Bool) (verdict : GivenVerdict) (io : Option Started) → verdict_fits plan raced verdict io ≡ true → (s : Started) × (io ≡ Some s)
-judged_there plan raced verdict None h = cc
-judged_there plan raced verdict (Some s) h = (s, refl)
 
 no_one : (b : Bool) → ◌≡◌ {A = ℕ} (cond b 1 0) 0 → b ≡ false
 no_one true h = cc

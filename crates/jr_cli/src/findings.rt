@@ -3,7 +3,7 @@ ghost use Rattle.jr_report_faults.specs.Faults.{AreFaultsOf};
 ghost use Rattle.jr_report_json.specs.Rows.{ending_of, notes_of};
 ghost use Rattle.jr_model.specs.Legal.{is_complete};
 ghost use Rattle.jr_model.specs.Report.{all_totals, in_order, miscompares};
-ghost use Rattle.jr_desk_totals.specs.Tallying.{miscompare_of};
+ghost use Rattle.jr_desk_totals.specs.Bads.{miscompare_of};
 ghost use Rattle.jr_replay_traces.specs.Runs.{IsLegalRun};
 ghost use Rattle.jr_cli.specs.Findings.{end_of, json_line};
 ghost use Rattle.jr_cli.specs.Status.{status_of};
@@ -32,6 +32,7 @@ pub struct Findings<'a> {
     history: &'a [Event],
     totals: &'a [Totals],
     bads: Vec<Bad>,
+    sorted: Vec<Bad>,
     faults: Faults,
     is_complete: bool,
 }
@@ -43,7 +44,7 @@ impl<'a> Model for Findings<'a> {
 
     ghost view = { λ f. record { plan = f.plan.now; history = f.history.now } };
 
-    ghost invariant = { λ f. AreFindings f.plan.now f.history.now f.totals.now f.bads.items f.faults f.is_complete };
+    ghost invariant = { λ f. AreFindings f.plan.now f.history.now f.totals.now f.bads.items f.sorted.items f.faults f.is_complete };
 }
 
 impl<'a> Findings<'a> {
@@ -51,11 +52,13 @@ impl<'a> Findings<'a> {
     pub fn of_desk(alloc: Global, desk: &'a Desk) -> Result<Findings<'a>, Memory>
         ensures { IfOk result (λ findings. findings ≡ record { plan = desk.now.plan; history = desk.now.history }) }
     {
+        let (plan, bads) = (desk.plan(), desk.bads());
         Ok(Findings {
-            plan: desk.plan(),
+            plan,
             history: desk.history(),
             totals: desk.totals(),
-            bads: Vec::from_slice(alloc, desk.bads())?,
+            bads: Vec::from_slice(alloc, bads)?,
+            sorted: bads_in_order(alloc, plan, bads)?,
             faults: faults_found(alloc, desk)?,
             is_complete: desk.is_complete(),
         })
@@ -67,11 +70,14 @@ impl<'a> Findings<'a> {
         ensures { IfOk result (λ findings. findings ≡ record { plan = plan.now; history = run.now.past }) }
     {
         let history = run.past.events();
+        let bads = bads_of(alloc, history)?;
+        let sorted = bads_in_order(alloc, plan, bads.as_slice())?;
         Ok(Findings {
             plan,
             history,
             totals: run.totals.as_slice(),
-            bads: bads_of(alloc, history)?,
+            bads,
+            sorted,
             faults: faults_among(alloc, plan, history, run.past.started())?,
             is_complete: run.is_complete,
         })
@@ -103,6 +109,13 @@ impl<'a> Findings<'a> {
         ensures { map miscompare_of result.now ≡ miscompares self.now.history }
     {
         self.bads.as_slice()
+    }
+
+    /// The same by clone, pass and number, as the report has them.
+    pub fn bads_in_order(&self) -> &[Bad]
+        ensures { map miscompare_of result.now ≡ in_order self.now.plan (miscompares self.now.history) }
+    {
+        self.sorted.as_slice()
     }
 
     /// The I/Os and checks that failed or ended short: the first of them, and how many more.
@@ -152,23 +165,14 @@ pub fn json_text(
     ensures { IfOk result (λ text. text.items ≡ json_line findings.now (notes_of notes.now) storage.now) }
 {
     let plan = findings.plan();
-    let bads = sorted(alloc, findings)?;
     let ending = findings.ending(storage);
     jr_report_json::json_text(
         alloc,
         plan,
         findings.totals(),
-        bads.as_slice(),
+        findings.bads_in_order(),
         findings.faults(),
         notes,
         &ending,
     )
-}
-
-// The bad verdicts by clone, pass and number.
-fn sorted(alloc: Global, findings: &Findings<'_>) -> Result<Vec<Bad>, Memory>
-    ensures { IfOk result (λ bads. map miscompare_of bads.items ≡ in_order findings.now.plan (miscompares findings.now.history)) }
-{
-    let _ = &findings.is_complete;
-    bads_in_order(alloc, findings.plan, findings.bads.as_slice())
 }

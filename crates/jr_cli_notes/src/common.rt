@@ -1,4 +1,7 @@
 // What many bad blocks have in common.
+ghost use Rattle.std.specs.Prelude.{◌≡◌, ◌<◌, nat_lt, true, All, MatchOption};
+ghost use Rattle.jr_cli_notes.specs.Common.{count_of, most_common, trait_of, traits_of};
+
 use jr_diagnosis::{Diagnosed, Diagnosis};
 
 // So many have to have it in common.
@@ -23,7 +26,9 @@ pub(crate) enum Trait {
 }
 
 // What a bad block may have in common with others.
-fn trait_of(found: &Diagnosed) -> Option<Trait> {
+fn trait_of(found: &Diagnosed) -> Option<Trait>
+    ensures { result ≡ trait_of found.now }
+{
     let offset = found.place.offset;
     match found.diagnosis {
         Diagnosis::Elsewhere(other) if other > offset => Some(Trait::Ahead(other - offset)),
@@ -34,7 +39,10 @@ fn trait_of(found: &Diagnosed) -> Option<Trait> {
 }
 
 // What most of them have in common, if there are enough.
-pub(crate) fn most_common(found: &[Diagnosed]) -> Option<Common> {
+pub(crate) fn most_common(found: &[Diagnosed]) -> Option<Common>
+    ensures told { result ≡ most_common found.now }
+    ensures nothing { result ≡ None → All (λ what. count_of found.now what < 3) (traits_of found.now) }
+{
     let mut most: Option<Common> = None;
     for one in found {
         let Some(what) = trait_of(one) else {
@@ -48,14 +56,18 @@ pub(crate) fn most_common(found: &[Diagnosed]) -> Option<Common> {
     most
 }
 
-fn is_more(count: usize, most: Option<Common>) -> bool {
+fn is_more(count: usize, most: Option<Common>) -> bool
+    ensures { MatchOption most (result ≡ true) (λ one. result ≡ nat_lt one.count count) }
+{
     match most {
         Some(most) => count > most.count,
         None => true,
     }
 }
 
-fn count_of(found: &[Diagnosed], what: Trait) -> usize {
+fn count_of(found: &[Diagnosed], what: Trait) -> usize
+    ensures { result ≡ count_of found.now what }
+{
     let mut count: usize = 0;
     for one in found {
         if trait_of(one) == Some(what) {

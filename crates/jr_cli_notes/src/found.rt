@@ -1,7 +1,11 @@
 // What stands in bad blocks, in words.
+ghost use Rattle.std.specs.Prelude.{◌≡◌, ◌/◌, IfOk, string_bytes};
+ghost use Rattle.jr_cli_notes.specs.Words.{flips_words, kind_words, place_words, torn_words, words_of};
+
 use crate::common::{Common, Trait, most_common};
 use jr_diagnosis::{Diagnosed, Diagnosis, Flips};
 use jr_escape::Escaped;
+use jr_model::SECTOR;
 use jr_plan::Plan;
 use std::alloc::{AllocError, AllocGlobal, Global};
 
@@ -28,16 +32,14 @@ fn tell_one<R: Eprint + AllocGlobal>(rt: &R, plan: &Plan, found: &Diagnosed) {
     let Ok(words) = words_of(rt.alloc(), found) else {
         return;
     };
-    let name = match plan.files().get(found.place.file as usize) {
-        Some(file) => file.name(),
-        None => "",
-    };
-    let name = Escaped(&name);
+    let name = Escaped(&plan.file_name(found.place.file));
     let (offset, len) = (found.place.offset, found.place.len);
     let _ = eprintln!(rt; "fiorun: note: {name} at {offset}, {len} bytes: {words}");
 }
 
-fn words_of(alloc: Global, found: &Diagnosed) -> Result<String, AllocError> {
+fn words_of(alloc: Global, found: &Diagnosed) -> Result<String, AllocError>
+    ensures { IfOk result (λ text. string_bytes text ≡ words_of found.now) }
+{
     match found.diagnosis {
         Diagnosis::Zeros => String::from_str(alloc, "nothing but zeros"),
         Diagnosis::Repeated(byte) => format!(in alloc; "nothing but the byte {byte}"),
@@ -60,14 +62,18 @@ fn words_of(alloc: Global, found: &Diagnosed) -> Result<String, AllocError> {
     }
 }
 
-fn words_of_flips(alloc: Global, flips: Flips) -> Result<String, AllocError> {
+fn words_of_flips(alloc: Global, flips: Flips) -> Result<String, AllocError>
+    ensures { IfOk result (λ text. string_bytes text ≡ flips_words flips) }
+{
     let (raised, cleared, first) = (flips.raised, flips.cleared, flips.first);
     format!(in alloc;
         "right but for some bits: {raised} came back as 1 and {cleared} as 0, the first of them in byte {first}"
     )
 }
 
-fn words_of_kind(alloc: Global, kind: u8) -> Result<String, AllocError> {
+fn words_of_kind(alloc: Global, kind: u8) -> Result<String, AllocError>
+    ensures { IfOk result (λ text. string_bytes text ≡ kind_words kind) }
+{
     match kind {
         1 => String::from_str(alloc, "a block of verify=md5"),
         2 => String::from_str(alloc, "a block of verify=sha1"),
@@ -76,7 +82,9 @@ fn words_of_kind(alloc: Global, kind: u8) -> Result<String, AllocError> {
     }
 }
 
-fn words_of_place(alloc: Global, here: u64, there: u64) -> Result<String, AllocError> {
+fn words_of_place(alloc: Global, here: u64, there: u64) -> Result<String, AllocError>
+    ensures { IfOk result (λ text. string_bytes text ≡ place_words here there) }
+{
     if there > here {
         let distance = there - here;
         format!(in alloc; "the block of {there}, which is {distance} bytes further on")
@@ -86,8 +94,10 @@ fn words_of_place(alloc: Global, here: u64, there: u64) -> Result<String, AllocE
     }
 }
 
-fn words_of_sectors(alloc: Global, right: u32, found: &Diagnosed) -> Result<String, AllocError> {
-    let all = found.place.len / jr_model::SECTOR;
+fn words_of_sectors(alloc: Global, right: u32, found: &Diagnosed) -> Result<String, AllocError>
+    ensures { IfOk result (λ text. string_bytes text ≡ torn_words right (found.now.place.len / SECTOR) found.now.sectors.items) }
+{
+    let all = found.place.len / SECTOR;
     let mut text = format!(in alloc; "torn: {right} of its {all} sectors are right, ")?;
     for is_right in found.sectors.as_slice() {
         text.push_str(if *is_right { "1" } else { "0" })?;

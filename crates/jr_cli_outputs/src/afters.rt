@@ -1,27 +1,41 @@
-// What is told of a judgement after a cut beside its report: the list of bad blocks, and the JSON.
+// What is told of a judgement after a cut beside its report: the list of bad blocks, the JSON and the page.
 use crate::outputs::{Content, Outputs};
 use jr_after_json::{Judgement, chunk_blocks, fault_chunks, judgement_text};
+use jr_after_page::judgement_page;
 use jr_cli_after::After;
+use jr_cli_notes::{Beginning, Surroundings};
 use jr_cli_words::{BlockSize, LOGIC, RELEASE};
 use jr_model::{Memory, Piece};
 use jr_plan::Plan;
 use jr_report_maps::blocks_text;
 use jr_system::{Outlet, Stop};
 use std::alloc::Global;
+use std::time::Clock;
+
+/// What is found in a plan's files, and what is known of the judgement beside that.
+#[derive(Clone, Copy)]
+pub struct JudgedFiles<'a> {
+    pub plan: &'a Plan,
+    pub after: &'a After,
+    /// How many reads of the files the system's cache may have answered.
+    pub cached: u64,
+    /// When it began.
+    pub begun: &'a Beginning,
+    /// The text of the job.
+    pub job: &'a [u8],
+}
 
 impl Outputs {
-    /// Writes what is asked for of a judgement of the plan's files, of which the system's cache may have answered so many reads. What can't be
-    /// written keeps no other from it, and the first that can't is answered.
-    pub fn write_after<R: Outlet>(
+    /// Writes what is asked for of a judgement that has its report. What can't be written keeps no other from it, and the first that can't
+    /// is answered.
+    pub fn write_after<R: Outlet + Clock>(
         &self,
         rt: &R,
-        plan: &Plan,
-        after: &After,
-        cached: u64,
+        judged: &JudgedFiles<'_>,
     ) -> Result<(), Stop> {
         let mut result = Ok(());
         for output in self.all.iter() {
-            let text = text_of(rt.alloc(), &output.content, plan, after, cached);
+            let text = text_of(rt, &output.content, judged);
             result = result.and(self.write_made(rt, output, text));
         }
         result
@@ -29,20 +43,21 @@ impl Outputs {
 }
 
 // What an output says of it. A run alone has the others.
-fn text_of(
-    alloc: Global,
+fn text_of<R: Outlet + Clock>(
+    rt: &R,
     content: &Content,
-    plan: &Plan,
-    after: &After,
-    cached: u64,
+    judged: &JudgedFiles<'_>,
 ) -> Result<Vec<u8>, Memory> {
+    let alloc = rt.alloc();
+    let (plan, after) = (judged.plan, judged.after);
     match content {
         Content::BadBlocks(size) => {
             list_text(alloc, plan, fault_chunks(alloc, after.found())?, size)
         }
         Content::WrongBlocks(size) => list_text(alloc, plan, wrong_chunks(alloc, after)?, size),
-        Content::Json => json_text(alloc, plan, after, cached),
-        Content::Trace | Content::Ledger | Content::Page => Ok(Vec::new(alloc)),
+        Content::Json => json_text(alloc, plan, after, judged.cached),
+        Content::Page => page_text(rt, judged),
+        Content::Trace | Content::Ledger => Ok(Vec::new(alloc)),
     }
 }
 
@@ -73,4 +88,18 @@ fn json_text(alloc: Global, plan: &Plan, after: &After, cached: u64) -> Result<V
         status: after.status(),
     };
     judgement_text(alloc, plan, after.found(), unread.as_slice(), &judgement)
+}
+
+fn page_text<R: Outlet + Clock>(rt: &R, judged: &JudgedFiles<'_>) -> Result<Vec<u8>, Memory> {
+    let alloc = rt.alloc();
+    let about = Surroundings::of(rt, judged.plan, judged.begun, judged.job)?;
+    let unread = judged.after.unread(alloc)?;
+    judgement_page(
+        alloc,
+        judged.plan,
+        judged.after.found(),
+        unread.as_slice(),
+        &about.setting,
+        about.files.as_slice(),
+    )
 }

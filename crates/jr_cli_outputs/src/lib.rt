@@ -9,6 +9,7 @@ mod roads;
 mod unfailing;
 mod wanted;
 
+pub use afters::JudgedFiles;
 pub use finished::Finished;
 pub use outputs::{Outputs, TraceFile};
 pub use unfailing::{Nowhere, Unfailing};

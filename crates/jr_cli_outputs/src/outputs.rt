@@ -595,7 +595,7 @@ fn page_text(
             plan: findings.plan(),
             history: findings.history(),
             totals: findings.totals(),
-            bads: findings.bads(),
+            bads: findings.bads_in_order(),
             faults: findings.faults(),
             is_interrupted: findings.is_interrupted(),
             found: notes.found,

@@ -1,9 +1,10 @@
 -- What a clone tried in its first pass is the front of the draws of that pass.
-use Rattle.std.proofs.Common.{◌≡◌, ℕ, zero, suc, ◌+◌, max, List, [], ◌∷◌, ◌++◌, map, take, Bool, true, false, cond, refl, ap, sym, ◌∙◌, subst, arith, inl, inr, add-one, add-zero, append-nil, append_assoc}
+use Rattle.std.proofs.Common.{◌≡◌, ℕ, ◌+◌, max, List, [], ◌∷◌, ◌++◌, map, take, Bool, true, false, cond, refl, ap, sym, ◌∙◌, subst, arith, inl, inr, add-zero, append-nil, append_assoc}
 use Rattle.std.specs.Prelude.{Option, Some, None, ◌==◌, ◌&&◌, fold, slice_get, if◌then◌else◌}
 use Rattle.std.specs.List.{cons_option, take-map}
 use Rattle.std.proofs.lemmas.Bool.{and_parts, cases_Bool, eqb-true}
 use Rattle.std.proofs.lemmas.List.Elements.{filter_map-append}
+use Rattle.std.proofs.lemmas.Option.{same_Some}
 use Rattle.jr_model.specs.declared.blocks.Piece.{Piece}
 use Rattle.jr_model.specs.declared.events.Event.{Event}
 use Rattle.jr_model.specs.declared.events.Event.TheVariants.{Issue, Probe, Skip, End, Verdict}
@@ -15,23 +16,14 @@ use Rattle.jr_model.specs.Legal.{is_legal, legal_after, may_happen}
 use Rattle.jr_model.specs.Pieces.{piece_end}
 use Rattle.jr_model.specs.Plan.{Plan, SubJob, clone_of}
 use Rattle.jr_model.specs.Rounds.{pass_of, issues_of, issued_count}
+use Rattle.jr_model.proofs.ListLemmas.{map_more}
 use Rattle.jr_laws_steps.proofs.DrawnLaws.{issuable, issued_count-more}
 use Rattle.jr_laws_steps.proofs.IssueLaws.{numbered_draws}
-use Rattle.jr_laws_steps.proofs.StartedLemmas.{same_some}
 use Rattle.jr_laws_steps.proofs.StepLaws.{may_issue_of}
 use Rattle.jr_rounds_rest.specs.Left.{further, is_in_order, reached}
 use Rattle.jr_laws_rest.specs.Tried.{IsRow, row_end, tries, try_by}
 use Rattle.jr_laws_rest.proofs.DrawnRows.{drawn_row, piece_of}
 use Rattle.jr_laws_rest.proofs.Rows.{row_take}
-
--- one item more of a front
-front_more-suc : {X Y : Type 0} (f : X → Y) (xs : List X) (i : ℕ) (x : X) → slice_get xs i ≡ Some x → map f (take (suc i) xs) ≡ map f (take i xs) ++ f x ∷ []
-front_more-suc f [] i x at = absurd (cc)
-front_more-suc f (y ∷ xs) zero x at = let e : y ≡ x = cc in ap (λ z. f z ∷ []) e
-front_more-suc f (y ∷ xs) (suc i) x at = ap (λ zs. f y ∷ zs) (front_more-suc f xs i x at)
-
-front_more : {X Y : Type 0} (f : X → Y) (xs : List X) (i : ℕ) (x : X) → slice_get xs i ≡ Some x → map f (take (i + 1) xs) ≡ map f (take i xs) ++ f x ∷ []
-front_more f xs i x at = rw add-one (front_more-suc f xs i x at)
 
 module _ (plan : Plan) (job : SubJob) (there : clone_of plan job.clone ≡ Some job) where
   -- the draws of the first pass, as far as they were issued
@@ -64,7 +56,7 @@ module _ (plan : Plan) (job : SubJob) (there : clone_of plan job.clone ≡ Some 
       let clone : write.clone ≡ job.clone = eqb-true write.clone job.clone parts.0 in
       let pass : write.pass ≡ 0 = eqb-true write.pass 0 parts.1 in
       let step = may_issue_of plan history worker kind write piece may in
-      let is : step.job ≡ job = same_some step.job job (sym step.named.planned ∙ ap (clone_of plan) clone ∙ there) in
+      let is : step.job ≡ job = same_Some step.job job (sym step.named.planned ∙ ap (clone_of plan) clone ∙ there) in
       let drawn : slice_get draws write.number ≡ Some step.draw =
       ap (λ (p : ℕ). slice_get (draws_of_job job p) write.number) (sym pass)
       ∙ ap (λ (j : SubJob). slice_get (draws_of_job j write.pass) write.number) (sym is) ∙ step.named.drawn in
@@ -81,7 +73,7 @@ module _ (plan : Plan) (job : SubJob) (there : clone_of plan job.clone ≡ Some 
       ∙ ap (λ (b : Bool). tries history job.clone ++ cons_option (if b then Some piece else None) []) mine
       ∙ ap (λ (ps : List Piece). ps ++ piece ∷ []) front
       ∙ ap (λ (p : Piece). map piece_of (take k draws) ++ p ∷ []) (sym step.same_place)
-      ∙ sym (front_more piece_of draws k step.draw here)
+      ∙ sym (map_more piece_of draws k step.draw here)
       ∙ ap (λ (n : ℕ). map piece_of (take n draws)) (sym count)
 
   front_step : (history : List Event) (e : Event) → may_happen plan history e ≡ true → IsFront history → IsFront (history ++ e ∷ [])

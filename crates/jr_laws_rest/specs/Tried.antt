@@ -1,4 +1,4 @@
--- Believed: a clone that goes in order tries each byte of its region once, from the start on, as far as it comes; and so do rounds of which
+-- Claimed: a clone that goes in order tries each byte of its region once, from the start on, as far as it comes; and so do rounds of which
 -- each goes on where the one before it stopped (of this project).
 use Rattle.std.specs.Prelude.{◌≡◌, ℕ, ◌==◌, ◌≤◌, nat_le, nat_lt, Bool, true, ◌&&◌, List, [], ◌∷◌, Option, Some, None, filter_map, flat_map, count_by, if◌then◌else◌}
 use Rattle.jr_model.specs.declared.blocks.Piece.{Piece}

@@ -1,7 +1,6 @@
 -- The faults of a history, of the tickets that were handed out, event by event; and the first of them, when there is one more.
 use Rattle.std.proofs.Common.{◌≡◌, ℕ, ◌+◌, ◌-◌, ◌<◌, ◌≤◌, List, [], ◌∷◌, ◌++◌, length, take, map, min, get_or, Option, Some, None, refl, sym, ap, ◌∙◌, subst, arith, append-nil}
 use Rattle.std.specs.Prelude.{filter_map, slice_get, string_bytes}
-use Rattle.std.specs.List.{cons_option}
 use Rattle.std.specs.Option.{option_to_list}
 use Rattle.std.proofs.lemmas.List.{length-append, length-map, length-take, map-append, take-append-le, take_all, take_more}
 use Rattle.std.proofs.lemmas.List.Elements.{filter_map-append}
@@ -12,10 +11,11 @@ use Rattle.jr_model.specs.declared.events.Started.{Started}
 use Rattle.jr_model.specs.History.{started}
 use Rattle.jr_model.specs.Plan.{Plan}
 use Rattle.jr_model.specs.Report.{file_name}
+use Rattle.jr_model.proofs.OptionLemmas.{one_listed}
 use Rattle.jr_desk_tickets.specs.Kept.{tickets_of}
 use Rattle.jr_desk_tickets.specs.Tickets.{ticket_of}
 use Rattle.jr_desk_tickets.proofs.HandingLists.{got_numbered}
-use Rattle.jr_desk_tickets.proofs.HandingMoves.{ticket_started}
+use Rattle.jr_desk_tickets.proofs.OwnTickets.{ticket_started}
 use Rattle.jr_report_faults.specs.declared.faults.Fault.{Fault}
 use Rattle.jr_report_faults.specs.declared.faults.Faults.{Faults}
 use Rattle.jr_report_faults.specs.declared.notes.FaultNote.{FaultNote}
@@ -35,17 +35,12 @@ of_ticket plan history id outcome = by (slice_get (started history) id) (slice_g
         cc
     by (Some io) t at handed = ap (ticket_fault outcome) (sym handed ∙ ticket_started plan history id io at)
 
--- one event more
-alone : {X : Type 0} (o : Option X) → cons_option o [] ≡ option_to_list o
-alone None = refl
-alone (Some x) = refl
-
 pub event_more : (by : Event → Option Fault) (events : List Event) (i : ℕ) (d : Event) → i < length events
     → filter_map by (take (i + 1) events) ≡ filter_map by (take i events) ++ option_to_list (by (get_or events i d))
 event_more by events i d within =
     ap (filter_map by) (take_more events i d within)
     ∙ filter_map-append by (take i events) (get_or events i d ∷ [])
-    ∙ ap (λ (more : List Fault). filter_map by (take i events) ++ more) (alone (by (get_or events i d)))
+    ∙ ap (λ (more : List Fault). filter_map by (take i events) ++ more) (one_listed (by (get_or events i d)))
 
 -- how many have notes
 count : (plan : Plan) (faults : List Fault) (kept : Faults) → AreFirst plan faults kept → length kept.first.items ≡ min 100 (length faults)

@@ -161,9 +161,6 @@ fn note_of(alloc: Global, plan: &Plan, fault: Fault) -> Result<FaultNote, Memory
     ensures fault { IfOk result (λ note. note.fault ≡ fault) }
     ensures name { IfOk result (λ note. string_bytes note.name ≡ file_name plan.now fault.piece.file) }
 {
-    let name = match plan.files().get(fault.piece.file as usize) {
-        Some(file) => String::from_str(alloc, file.name())?,
-        None => String::new(alloc),
-    };
+    let name = String::from_str(alloc, plan.file_name(fault.piece.file))?;
     Ok(FaultNote { fault, name })
 }

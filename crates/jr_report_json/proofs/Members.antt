@@ -1,6 +1,7 @@
 -- The members of a report, one behind another.
 use Rattle.std.proofs.Common.{◌≡◌, ℕ, List, [], ◌∷◌, ◌++◌, map, codes, refl, ap, ◌∙◌, append_assoc}
 use Rattle.std.specs.Prelude.{Option, false, true}
+use Rattle.jr_plan.proofs.ListLemmas.{added-four}
 use Rattle.json.specs.Print.{escape_byte, quoted}
 use Rattle.serde_json.specs.Data.{array, boolean, string}
 use Rattle.serde_json.specs.View.{items_of}
@@ -92,15 +93,10 @@ two_more t0 t1 t2 a b first second = second ∙ ap (λ (t : List ℕ). t ++ b) f
 pub three_more : (t0 t1 t2 t3 a b c : List ℕ) → t1 ≡ t0 ++ a → t2 ≡ t1 ++ b → t3 ≡ t2 ++ c → t3 ≡ t0 ++ (a ++ b ++ c)
 three_more t0 t1 t2 t3 a b c first second third = two_more t0 t2 t3 (a ++ b) c (two_more t0 t1 t2 a b first second) third
 
-pub four_more : (t0 t1 t2 t3 t4 a b c d : List ℕ)
-    → t1 ≡ t0 ++ a → t2 ≡ t1 ++ b → t3 ≡ t2 ++ c → t4 ≡ t3 ++ d → t4 ≡ t0 ++ (a ++ b ++ c ++ d)
-four_more t0 t1 t2 t3 t4 a b c d first second third fourth =
-    two_more t0 t3 t4 (a ++ b ++ c) d (three_more t0 t1 t2 t3 a b c first second third) fourth
-
 pub five_more : (t0 t1 t2 t3 t4 t5 a b c d e : List ℕ)
     → t1 ≡ t0 ++ a → t2 ≡ t1 ++ b → t3 ≡ t2 ++ c → t4 ≡ t3 ++ d → t5 ≡ t4 ++ e → t5 ≡ t0 ++ (a ++ b ++ c ++ d ++ e)
 five_more t0 t1 t2 t3 t4 t5 a b c d e first second third fourth fifth =
-    two_more t0 t4 t5 (a ++ b ++ c ++ d) e (four_more t0 t1 t2 t3 t4 a b c d first second third fourth) fifth
+    two_more t0 t4 t5 (a ++ b ++ c ++ d) e (added-four t0 t1 t2 t3 t4 a b c d first second third fourth) fifth
 
 -- fifteen members with their braces are an object
 all_members : (b m e k q1 q2 q3 q4 q5 q6 q7 q8 q9 q10 q11 q12 q13 q14 q15 v1 v2 v3 v4 v5 v6 v7 v8 v9 v10 v11 v12 v13 v14 v15 : List ℕ)

@@ -1,12 +1,9 @@
 // What a clone is to do, as an object.
 ghost use Rattle.std.specs.Prelude.{◌≡◌, IfOk};
-ghost use Rattle.jr_plan.specs.PlanText.{io_type_word, verify_word};
 ghost use Rattle.jr_report_json.specs.Json.{asked_json, options_json};
 ghost use Rattle.serde_json.specs.View.{view};
 
-use crate::rows::file_name;
-use jr_model::{IoType, VerifyKind};
-use jr_plan::{Plan, SubJob};
+use jr_plan::{Plan, SubJob, io_type_word, verify_word};
 use serde_json::{Value, json};
 use std::alloc::{AllocError, Global};
 
@@ -19,7 +16,7 @@ pub(crate) fn asked_row(alloc: Global, plan: &Plan, job: &SubJob) -> Result<Valu
     json!(in alloc; {
         "cell": job.cell(),
         "clone": job.clone_number(),
-        "file": file_name(plan, job.file()),
+        "file": plan.file_name(job.file()),
         "iodepth": job.depth(),
         "job": job.job(),
         "loops": job.passes(),
@@ -46,29 +43,4 @@ fn options_row(alloc: Global, job: &SubJob) -> Result<Value, AllocError>
         "verify_fatal": job.is_fatal(),
         "verify_interval": job.method().interval
     })
-}
-
-fn io_type_word(io_type: IoType) -> &'static str
-    ensures { result.now ≡ io_type_word io_type }
-{
-    match io_type {
-        IoType::Read => "read",
-        IoType::Write => "write",
-        IoType::RandRead => "randread",
-        IoType::RandWrite => "randwrite",
-        IoType::ReadWrite => "rw",
-        IoType::RandRw => "randrw",
-    }
-}
-
-fn verify_word(kind: VerifyKind) -> &'static str
-    ensures { result.now ≡ verify_word kind }
-{
-    match kind {
-        VerifyKind::Plain => "none",
-        VerifyKind::Pattern => "pattern",
-        VerifyKind::Md5 => "md5",
-        VerifyKind::Sha1 => "sha1",
-        VerifyKind::Sha256 => "sha256",
-    }
 }

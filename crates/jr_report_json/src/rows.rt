@@ -2,20 +2,20 @@
 ghost use Rattle.std.specs.Prelude.{◌≡◌, IfOk, Option, String, codes, if◌then◌else◌, map, string_bytes};
 ghost use Rattle.std.specs.Option.{option_map};
 ghost use Rattle.jr_model.specs.Plan.{clone_of};
-ghost use Rattle.jr_model.specs.Report.{file_name, found_word, part_text, what_text};
+ghost use Rattle.jr_model.specs.Report.{found_word};
 ghost use Rattle.jr_report_faults.specs.Faults.{named};
 ghost use Rattle.jr_diagnosis.specs.Rulings.{told};
 ghost use Rattle.jr_diagnosis.specs.Texts.{told_of_write, told_text};
 ghost use Rattle.jr_report_json.specs.Json.{clone_json, count_json, fault_json, file_json, is_bad_read, miscompare_json, moved_json, outcome_word, setting_json};
 ghost use Rattle.jr_report_json.specs.Json.{text_json, unchecked};
 ghost use Rattle.jr_report_json.specs.Rows.{facts_of, setting_of, text_of};
-ghost use Rattle.jr_desk_totals.specs.Tallying.{miscompare_of};
+ghost use Rattle.jr_desk_totals.specs.Bads.{miscompare_of};
 ghost use Rattle.serde_json.specs.View.{view};
 
 use crate::endings::{KnownFile, RunSetting};
 use jr_desk_totals::Bad;
 use jr_diagnosis::{Diagnosed, found_of, text_of};
-use jr_model::{Outcome, Part, Totals, What};
+use jr_model::{Outcome, Totals};
 use jr_plan::{Plan, SubJob};
 use jr_report_faults::{FaultNote, kind_word};
 use serde_json::{Value, json};
@@ -71,11 +71,11 @@ pub(crate) fn miscompare_row(
 ) -> Result<Value, AllocError>
     ensures { IfOk result (λ value. view value ≡ miscompare_json plan.now (map told found.now) (miscompare_of bad.now)) }
 {
-    let what = what_string(alloc, bad.what)?;
+    let what = format!(in alloc; "{}", bad.what)?;
     let stands = found_value(alloc, found_of(found, &bad.write))?;
     json!(in alloc; {
         "clone": bad.write.clone,
-        "file": file_name(plan, bad.piece.file),
+        "file": plan.file_name(bad.piece.file),
         "found": stands,
         "length": bad.piece.len,
         "number": bad.write.number,
@@ -95,40 +95,6 @@ fn found_value(alloc: Global, found: Option<&Diagnosed>) -> Result<Value, AllocE
             let text = text_of(alloc, found)?;
             Value::try_from_str(alloc, text.as_str())
         }
-    }
-}
-
-pub(crate) fn file_name(plan: &Plan, file: u32) -> &str
-    ensures { result.now ≡ file_name plan.now file }
-{
-    match plan.files().get(file as usize) {
-        Some(spec) => spec.name(),
-        None => "",
-    }
-}
-
-fn what_string(alloc: Global, what: What) -> Result<String, AllocError>
-    ensures { IfOk result (λ text. string_bytes text ≡ what_text what) }
-{
-    match what {
-        What::Header => String::from_str(alloc, part_word(Part::Header)),
-        What::Digest => String::from_str(alloc, part_word(Part::Digest)),
-        What::DataArea => String::from_str(alloc, part_word(Part::DataArea)),
-        What::Byte(place) => format!(in alloc; "byte:{place}"),
-        What::Chunk(chunk, part) => {
-            let word = part_word(part);
-            format!(in alloc; "{word}:{chunk}")
-        }
-    }
-}
-
-fn part_word(part: Part) -> &'static str
-    ensures { result.now ≡ part_text part }
-{
-    match part {
-        Part::Header => "header",
-        Part::Digest => "digest",
-        Part::DataArea => "data",
     }
 }
 

@@ -6,7 +6,7 @@ ghost use Rattle.jr_report_json.specs.Json.{asked_json, clone_json, clones_json,
 ghost use Rattle.jr_report_json.specs.Json.{setting_json};
 ghost use Rattle.jr_report_json.specs.Rows.{array_text, bads_json, cache_text, end_text, ending_of, facts_of, found_text, head_text, is_wanted, item_text, notes_of};
 ghost use Rattle.jr_report_json.specs.Rows.{plan_text, reads_text, setting_of, text_of, texts_of, told_by};
-ghost use Rattle.jr_desk_totals.specs.Tallying.{miscompare_of};
+ghost use Rattle.jr_desk_totals.specs.Bads.{miscompare_of};
 ghost use Rattle.serde_json.specs.Data.{boolean, string};
 ghost use Rattle.serde_json.specs.View.{view};
 ghost use Rattle.serde_json.specs.Written.{compact_text, has_float};

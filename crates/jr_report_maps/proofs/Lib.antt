@@ -4,4 +4,3 @@ mod Marking
 pub mod Pieces
 mod Rows
 pub mod Sweeping
-pub mod Verdicts

@@ -1,31 +1,23 @@
 -- Lists of blocks that ascend, one block more, and what the list then has.
-use Rattle.std.proofs.Common.{◌≡◌, ℕ, ◌+◌, ◌<◌, ◌≤◌, max, Bool, true, false, List, [], ◌∷◌, ◌++◌, length, get_or, take, refl, sym, ap, ◌∙◌, arith, inl, inr, length-append}
-use Rattle.std.specs.Prelude.{◌==◌, ◌&&◌, ◌||◌, nat_le, nat_lt, flat_map, map, Option, Some, None, filter_map, option_to_list}
-use Rattle.std.proofs.lemmas.List.Elements.{filter_map-append}
+use Rattle.std.proofs.Common.{◌≡◌, ℕ, ◌+◌, ◌<◌, ◌≤◌, max, Bool, false, List, [], ◌∷◌, ◌++◌, length, get_or, take, refl, sym, ap, ◌∙◌, arith, inl, inr, length-append}
+use Rattle.std.specs.Prelude.{◌==◌, ◌&&◌, ◌||◌, nat_le, nat_lt, flat_map, map}
 use Rattle.std.proofs.lemmas.List.{flat_map_more, take_more}
-use Rattle.std.specs.List.{cons_option, list_any}
+use Rattle.std.specs.List.{list_any}
 use Rattle.std.specs.List.Sorted.{IsStrictlyIncreasing}
 use Rattle.std.proofs.Math.ListN.{get_or-append}
 use Rattle.std.proofs.Math.Seq.{get_or-append_seam}
 use Rattle.std.proofs.lemmas.Bool.{cases_lt}
 use Rattle.std.proofs.lemmas.Bool.Decides.{nat_tests}
 use Rattle.std.proofs.lemmas.List.Folds.{list_any-append}
+use Rattle.std.proofs.Math.Bool.{or-false, or_assoc}
 use Rattle.jr_report_maps.specs.BadBlocks.{is_listed}
 use Rattle.jr_report_maps.specs.Sweeps.{IsRising}
-
-or_false : (a : Bool) → (a || false) ≡ a
-or_false true = refl
-or_false false = refl
-
-or_assoc : (a b c : Bool) → ((a || b) || c) ≡ (a || (b || c))
-or_assoc true b c = refl
-or_assoc false b c = refl
 
 -- one block more is listed
 pub listed_push : (blocks : List ℕ) (x block : ℕ) → is_listed (blocks ++ x ∷ []) block ≡ (is_listed blocks block || (x == block))
 listed_push blocks x block =
     list_any-append (λ n. n == block) blocks (x ∷ [])
-    ∙ ap (λ (b : Bool). is_listed blocks block || b) (or_false (x == block))
+    ∙ ap (λ (b : Bool). is_listed blocks block || b) (or-false (x == block))
 
 within_step : (from i block : ℕ) → from ≤ i → ((nat_le from block && nat_lt block i) || (i == block)) ≡ (nat_le from block && nat_lt block (i + 1))
 within_step from i block low = grind (arith, nat_tests)
@@ -40,7 +32,7 @@ within_none : (from block : ℕ) → (nat_le from block && nat_lt block from) �
 within_none from block = grind (arith, nat_tests)
 
 pub listed_none : (a : Bool) (from block : ℕ) → a ≡ (a || (nat_le from block && nat_lt block from))
-listed_none a from block = sym (ap (λ (b : Bool). a || b) (within_none from block) ∙ or_false a)
+listed_none a from block = sym (ap (λ (b : Bool). a || b) (within_none from block) ∙ or-false a)
 
 -- the loop's counter at its end
 pub counted_to : (from end i : ℕ) → from ≤ i → i ≤ max from end → end ≤ i → i ≡ max from end
@@ -105,15 +97,3 @@ lines_more line before after xs i within so more =
     ∙ ap (λ (t : List ℕ). t ++ line (get_or xs i 0)) so
     ∙ flat_map_more line [] (take i xs) (get_or xs i 0)
     ∙ ap (λ (ys : List ℕ). flat_map line ys) (sym (take_more xs i 0 within))
-
-one_given : {Y : Type 0} (o : Option Y) → cons_option o [] ≡ option_to_list o
-one_given None = refl
-one_given (Some y) = refl
-
--- what is given by the items so far, and by one more
-pub given_more : {X Y : Type 0} (f : X → Option Y) (xs : List X) (i : ℕ) (d : X) → i < length xs
-    → filter_map f (take (i + 1) xs) ≡ filter_map f (take i xs) ++ option_to_list (f (get_or xs i d))
-given_more f xs i d within =
-    ap (filter_map f) (take_more xs i d within)
-    ∙ filter_map-append f (take i xs) (get_or xs i d ∷ [])
-    ∙ ap (λ ys. filter_map f (take i xs) ++ ys) (one_given (f (get_or xs i d)))

@@ -9,6 +9,7 @@ use Rattle.std.proofs.lemmas.List.Elements.{filter_map-append}
 use Rattle.jr_model.specs.declared.events.Event.{Event}
 use Rattle.jr_model.specs.Pieces.{pieces_overlap}
 use Rattle.jr_model.specs.Plan.{Plan}
+use Rattle.jr_model.proofs.OptionLemmas.{one_listed}
 use Rattle.jr_report_maps.specs.BadBlocks.{block_piece}
 use Rattle.jr_report_maps.specs.declared.fates.Fate.{Fate}
 use Rattle.jr_report_maps.specs.declared.fates.Fate.TheVariants.{Untouched}
@@ -50,10 +51,6 @@ pub same_fate : (plan : Plan) (history : List Event) (file size cell : ℕ)
     → fate_by file size cell (said_in plan history file history) ≡ fate_of plan history file size cell
 same_fate plan history file size cell = sym (all_events plan history file size cell Untouched history)
 
-one_more : {X : Type 0} (x : Option X) → cons_option x [] ≡ option_to_list x
-one_more None = refl
-one_more (Some x) = refl
-
 -- one event more
 pub said_more : (plan : Plan) (history : List Event) (file : ℕ) (events : List Event) (i : ℕ) (d : Event) → i < length events
     → said_in plan history file (take (i + 1) events)
@@ -62,4 +59,4 @@ said_more plan history file events i d below =
     let of = λ (event : Event). on_file file (said_of plan history event) in
     ap (filter_map of) (take_more events i d below)
     ∙ filter_map-append of (take i events) (get_or events i d ∷ [])
-    ∙ ap (λ (xs : List Said). filter_map of (take i events) ++ xs) (one_more (of (get_or events i d)))
+    ∙ ap (λ (xs : List Said). filter_map of (take i events) ++ xs) (one_listed (of (get_or events i d)))

@@ -25,9 +25,6 @@ past_next n size block some high =
 at_last : (n size block : ℕ) → 0 < size → block * size ≤ n → block ≤ n / size
 at_last n size block some low = le-div block n size some low
 
-past_last : (n size block : ℕ) → 0 < size → n < block * size → n / size < block
-past_last n size block some high = div_below n size block some high
-
 -- a piece with bytes has one in the blocks from its first one up to its last one
 pub overlap_is : (p : Piece) (file size block : ℕ) → p.file ≡ file → 0 < p.len → 0 < size
     → pieces_overlap p (block_piece file size block) ≡ (nat_le (p.offset / size) block && nat_lt block ((p.offset + p.len - 1) / size + 1))
@@ -42,7 +39,7 @@ overlap_is p file size block same bytes some = elim (cases_lt p.offset (block * 
     | inr over ↦
         let apart : nat_lt (max p.offset (block * size)) (min (p.offset + p.len) (block * size + size)) ≡ false = le-ltb _ _ (omega (arith, over)) in
         let past : nat_lt block ((p.offset + p.len - 1) / size + 1) ≡ false =
-        le-ltb _ _ (omega (arith, past_last (p.offset + p.len - 1) size block some (omega (arith, over, bytes)))) in
+        le-ltb _ _ (omega (arith, div_below (p.offset + p.len - 1) size block some (omega (arith, over, bytes)))) in
         and_right _ _ apart ∙ sym (and_right _ _ past)
   ]
   | inr high ↦

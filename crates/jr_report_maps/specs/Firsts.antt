@@ -4,7 +4,7 @@ use Rattle.std.specs.List.{find}
 use Rattle.jr_model.specs.Plan.{Plan}
 use Rattle.jr_report_maps.specs.BadBlocks.{is_bad_at}
 use Rattle.jr_desk_totals.specs.declared.tallies.Bad.{Bad}
-use Rattle.jr_desk_totals.specs.Tallying.{miscompare_of}
+use Rattle.jr_desk_totals.specs.Bads.{miscompare_of}
 
 abbrev pub is_bad_over : Plan → ℕ → ℕ → ℕ → Bad → Bool
 is_bad_over plan file size cell bad = is_bad_at plan file size cell (miscompare_of bad)

@@ -2,7 +2,7 @@ ghost use Rattle.std.specs.Prelude.{◌≡◌, ◌++◌, IfOk, OnOk, filter_map,
 ghost use Rattle.std.specs.Option.{option_map, option_to_list};
 ghost use Rattle.jr_model.specs.History.{started};
 ghost use Rattle.jr_model.specs.Report.{miscompare_by, miscompare_on, miscompares};
-ghost use Rattle.jr_desk_totals.specs.Tallying.{miscompare_of};
+ghost use Rattle.jr_desk_totals.specs.Bads.{miscompare_of};
 
 use jr_desk_totals::Bad;
 use jr_model::{Event, Memory, Started, Verdict};

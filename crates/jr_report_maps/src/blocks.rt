@@ -2,7 +2,7 @@ ghost use Rattle.std.specs.Prelude.{◌≡◌, ◌≤◌, ◌<◌, ◌+◌, ◌*
 ghost use Rattle.std.specs.Prelude.{◌∷◌, nat_le, nat_lt, max, ℕ, [], true, map, IfOk, OnOk};
 ghost use Rattle.std.specs.List.{list_any};
 ghost use Rattle.std.specs.List.Sorted.{IsNonDecreasingBy, IsStrictlyIncreasing};
-ghost use Rattle.jr_desk_totals.specs.Tallying.{miscompare_of};
+ghost use Rattle.jr_desk_totals.specs.Bads.{miscompare_of};
 ghost use Rattle.jr_report_maps.specs.BadBlocks.{AreBadBlocks, block_line, blocks_text, is_bad_block, is_listed};
 ghost use Rattle.jr_report_maps.specs.Spans.{span_bytes};
 ghost use Rattle.jr_report_maps.specs.Sweeps.{bytes_of, is_over, IsRising};

@@ -1,7 +1,7 @@
 ghost use Rattle.std.specs.Prelude.{◌≡◌, ◌≤◌, ◌+◌, ◌++◌, ◌||◌, ℕ, map, filter_map, option_to_list, IfOk, OnOk};
 ghost use Rattle.std.specs.List.{list_any};
 ghost use Rattle.std.specs.List.Sorted.{IsNonDecreasingBy};
-ghost use Rattle.jr_desk_totals.specs.Tallying.{miscompare_of};
+ghost use Rattle.jr_desk_totals.specs.Bads.{miscompare_of};
 ghost use Rattle.jr_report_maps.specs.BadBlocks.{is_bad_block};
 ghost use Rattle.jr_report_maps.specs.Spans.{span_bytes};
 ghost use Rattle.jr_report_maps.specs.Sweeps.{bytes_of, is_over};

@@ -1,20 +1,9 @@
 -- Rows, one after another.
-use Rattle.std.proofs.Common.{◌≡◌, ℕ, zero, suc, ◌+◌, ◌<◌, ◌≤◌, min, List, [], ◌∷◌, ◌++◌, length, get_or, take, drop, refl, sym, ap, ◌∙◌, arith, add-one, append_assoc}
-use Rattle.std.specs.Prelude.{Some, flat_map, slice_get}
-use Rattle.std.proofs.lemmas.List.{flat_map_more, take_more}
+use Rattle.std.proofs.Common.{◌≡◌, ℕ, zero, suc, ◌+◌, ◌<◌, ◌≤◌, min, List, [], ◌∷◌, ◌++◌, length, get_or, drop, refl, ap, ◌∙◌, arith, add-one, append_assoc}
+use Rattle.std.specs.Prelude.{Some, slice_get}
 use Rattle.jr_model.specs.declared.totals.Totals.{Totals}
 use Rattle.jr_model.specs.Plan.{SubJob}
 use Rattle.jr_report_page.specs.Rows.{totals_row, totals_rows}
-
--- one row more
-pub row_more : {X : Type 0} (row : X → List ℕ) (start before after : List ℕ) (xs : List X) (i : ℕ) (d : X) → i < length xs
-    → before ≡ start ++ flat_map row (take i xs) → after ≡ before ++ row (get_or xs i d)
-    → after ≡ start ++ flat_map row (take (i + 1) xs)
-row_more {X} row start before after xs i d within so more =
-    more
-    ∙ ap (λ (t : List ℕ). t ++ row (get_or xs i d)) so
-    ∙ flat_map_more row start (take i xs) (get_or xs i d)
-    ∙ ap (λ (ys : List X). start ++ flat_map row ys) (sym (take_more xs i d within))
 
 -- the next row of totals, and those after it
 totals_suc : (jobs : List SubJob) (totals : List Totals) (i : ℕ) (job : SubJob) (d : Totals) → slice_get jobs i ≡ Some job → i < length totals
@@ -45,7 +34,17 @@ totals_none (job ∷ jobs) [] (suc i) h = nothing (drop i jobs)
 totals_none (job ∷ jobs) (t ∷ totals) zero h = absurd (omega arith)
 totals_none (job ∷ jobs) (t ∷ totals) (suc i) h = totals_none jobs totals i (omega arith)
 
--- four pieces, added one after another
-pub added_four : (t0 t1 t2 t3 t4 a b c d : List ℕ) → t1 ≡ t0 ++ a → t2 ≡ t1 ++ b → t3 ≡ t2 ++ c → t4 ≡ t3 ++ d → t4 ≡ t0 ++ (a ++ b ++ c ++ d)
-added_four t0 t1 t2 t3 t4 a b c d e1 e2 e3 e4 =
-    e4 ∙ ap (λ (t : List ℕ). t ++ d) (e3 ∙ ap (λ (t : List ℕ). t ++ c) (e2 ∙ ap (λ (t : List ℕ). t ++ b) e1)) ∙ simp append_assoc
+-- five and seven of them
+pub added_five : (t0 t1 t2 t3 t4 t5 a b c d e : List ℕ) → t1 ≡ t0 ++ a → t2 ≡ t1 ++ b → t3 ≡ t2 ++ c → t4 ≡ t3 ++ d → t5 ≡ t4 ++ e
+    → t5 ≡ t0 ++ (a ++ b ++ c ++ d ++ e)
+added_five t0 t1 t2 t3 t4 t5 a b c d e e1 e2 e3 e4 e5 =
+    e5
+    ∙ ap (λ (t : List ℕ). t ++ e) (e4 ∙ ap (λ (t : List ℕ). t ++ d) (e3 ∙ ap (λ (t : List ℕ). t ++ c) (e2 ∙ ap (λ (t : List ℕ). t ++ b) e1)))
+    ∙ simp append_assoc
+
+pub added_seven : (t0 t1 t2 t3 t4 t5 t6 t7 a b c d e f g : List ℕ) → t1 ≡ t0 ++ a → t2 ≡ t1 ++ b → t3 ≡ t2 ++ c → t4 ≡ t3 ++ d → t5 ≡ t4 ++ e
+    → t6 ≡ t5 ++ f → t7 ≡ t6 ++ g → t7 ≡ t0 ++ (a ++ b ++ c ++ d ++ e ++ f ++ g)
+added_seven t0 t1 t2 t3 t4 t5 t6 t7 a b c d e f g e1 e2 e3 e4 e5 e6 e7 =
+    e7
+    ∙ ap (λ (t : List ℕ). t ++ g) (e6 ∙ ap (λ (t : List ℕ). t ++ f) (added_five t0 t1 t2 t3 t4 t5 a b c d e e1 e2 e3 e4 e5))
+    ∙ simp append_assoc

@@ -1,4 +1,4 @@
--- Believed: what an escaped text can't do to the page that it stands in, nor to who reads it.
+-- Claimed: what an escaped text can't do to the page that it stands in, nor to who reads it.
 use Rattle.std.specs.Prelude.{◌≡◌, ℕ, ◌==◌, ◌||◌, Bool, false, List, chars}
 use Rattle.std.specs.List.{list_any}
 use Rattle.std.specs.Str.{IsUtf8}

@@ -1,5 +1,6 @@
 -- Believed: the rows of a page's tables. What is of a job file is escaped in them (of this project).
-use Rattle.std.specs.Prelude.{ℕ, ◌*◌, ◌==◌, List, [], ◌∷◌, ◌++◌, Option, Some, None, codes, decimal, slice_get, if◌then◌else◌}
+use Rattle.std.specs.Prelude.{ℕ, ◌*◌, ◌==◌, List, [], ◌∷◌, ◌++◌, Option, Some, None}
+use Rattle.std.specs.Prelude.{codes, decimal, flat_map, slice_get, if◌then◌else◌}
 use Rattle.jr_model.specs.declared.blocks.Piece.{Piece}
 use Rattle.jr_model.specs.declared.events.Outcome.{Outcome}
 use Rattle.jr_model.specs.declared.events.What.{What}
@@ -87,6 +88,13 @@ work_cells job =
 abbrev pub clone_row : List FileSpec → SubJob → List ℕ
 clone_row files job =
     codes "<tr>" ++ place_cells files job ++ size_cells job ++ work_cells job ++ codes "</tr>\n"
+
+-- the plan, with a row for each clone
+unfoldable pub plan_table : Plan → List ℕ
+plan_table plan =
+    codes "<h2>Plan</h2>\n<div class=\"table\"><table class=\"plan\">\n<tr><th>job</th><th>clone</th><th>phase</th>"
+    ++ codes "<th>file</th><th>start</th><th>size</th><th>cell</th><th>cells</th><th>rw</th><th>iodepth</th><th>loops</th>"
+    ++ codes "<th>verify</th></tr>\n" ++ flat_map (clone_row plan.files) plan.clones ++ codes "</table></div>\n"
 
 -- how many more there are than have a row
 abbrev pub more_text : ℕ → List ℕ

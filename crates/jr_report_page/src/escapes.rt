@@ -4,8 +4,8 @@ ghost use Rattle.jr_report_page.specs.Escapes.{escaped, escaped_char};
 use jr_escape::EscapedChar;
 use std::alloc::AllocError;
 
-// Appends a text so that a page shows it as a line of the program does.
-pub(crate) fn push_escaped(page: &mut String, raw: &str) -> Result<(), AllocError>
+/// Appends a text so that a page shows it as a line of the program does.
+pub fn push_escaped(page: &mut String, raw: &str) -> Result<(), AllocError>
     ensures { OnOk result (string_bytes page.new ≡ string_bytes page.old ++ escaped raw.now) }
 {
     for c in raw.chars() {
@@ -14,7 +14,7 @@ pub(crate) fn push_escaped(page: &mut String, raw: &str) -> Result<(), AllocErro
     Ok(())
 }
 
-fn push_char(page: &mut String, c: char) -> Result<(), AllocError>
+pub(crate) fn push_char(page: &mut String, c: char) -> Result<(), AllocError>
     ensures { OnOk result (string_bytes page.new ≡ string_bytes page.old ++ escaped_char c) }
 {
     match c {

@@ -3,6 +3,7 @@
 
 mod cells;
 mod escapes;
+mod heads;
 mod laws;
 mod maps;
 mod pages;
@@ -13,5 +14,11 @@ mod status;
 mod styles;
 mod tables;
 
+pub use escapes::push_escaped;
+pub use heads::{push_head, push_tail};
 pub use laws::{nothing_comes_raw, nothing_is_hidden};
 pub use pages::{PageFindings, page};
+pub use plans::push_plan_table;
+pub use rows::{push_file, push_number, push_piece, push_text};
+pub use settings::{push_setting, push_surroundings};
+pub use tables::{MOST_ROWS, push_more};

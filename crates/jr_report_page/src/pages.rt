@@ -1,12 +1,12 @@
-ghost use Rattle.std.specs.Prelude.{◌≡◌, ◌≤◌, IfOk, IsPermutation};
+ghost use Rattle.std.specs.Prelude.{◌≤◌};
 
 use crate::cells::cells_of;
 use crate::escapes::push_escaped;
+use crate::heads::{push_head, push_tail};
 use crate::maps::{push_legend, push_map};
-use crate::plans::push_clones;
+use crate::plans::push_plan_table;
 use crate::settings::{push_setting, push_surroundings};
 use crate::status::{Status, push_status};
-use crate::styles::STYLE;
 use crate::tables::{push_all_totals, push_faults, push_first, push_more, rest_of};
 use jr_desk_totals::Bad;
 use jr_diagnosis::Diagnosed;
@@ -31,7 +31,7 @@ pub struct PageFindings<'a> {
     pub history: &'a [Event],
     /// What each clone did, in the order of the clones.
     pub totals: &'a [Totals],
-    /// The bad verdicts.
+    /// The bad verdicts by clone, pass and number, as a report has them.
     pub bads: &'a [Bad],
     /// The faults: the first of them, and how many more.
     pub faults: &'a Faults,
@@ -46,41 +46,25 @@ pub struct PageFindings<'a> {
 /// A page that shows a run. Of its text no more is said than its parts' contracts say.
 pub fn page(alloc: Global, found: &PageFindings<'_>) -> Result<Vec<u8>, Memory> {
     let mut page = String::new(alloc);
-    let bads = by_write(alloc, found.bads)?;
-    push_head(&mut page, &Status::of(found.totals, found.is_interrupted))?;
+    push_title(
+        alloc,
+        &mut page,
+        &Status::of(found.totals, found.is_interrupted),
+    )?;
     push_setting(&mut page, found.setting)?;
-    push_maps(alloc, &mut page, found, bads.as_slice())?;
-    push_tables(alloc, &mut page, found, bads.as_slice())?;
+    push_maps(alloc, &mut page, found)?;
+    push_tables(alloc, &mut page, found)?;
     push_surroundings(&mut page, found.files, found.setting)?;
-    page.push_str("</body>\n</html>\n")?;
+    push_tail(&mut page)?;
     Ok(page.into_bytes())
 }
 
-// The bad verdicts by clone, pass and number, as a report has them.
-fn by_write(alloc: Global, bads: &[Bad]) -> Result<Vec<Bad>, Memory>
-    ensures { IfOk result (λ sorted. IsPermutation bads.now sorted.items) }
-{
-    let mut sorted = Vec::from_slice(alloc, bads)?;
-    sorted.sort_unstable_by_key(|bad| bad.write);
-    Ok(sorted)
-}
-
-fn push_head(page: &mut String, status: &Status) -> Result<(), AllocError> {
-    page.push_str("<!DOCTYPE html>\n<html lang=\"en\">\n<head>\n<meta charset=\"utf-8\">\n")?;
-    page.push_str(
-        "<meta name=\"viewport\" content=\"width=device-width, initial-scale=1\">\n<title>",
-    )?;
-    push_status(page, status)?;
-    page.push_str(" - fiorun</title>\n<style>")?;
-    page.push_str(STYLE)?;
-    page.push_str("</style>\n</head>\n<body>\n")?;
-    page.push_str(if status.bad == 0 && status.faults == 0 {
-        "<h1>"
-    } else {
-        "<h1 class=\"found\">"
-    })?;
-    push_status(page, status)?;
-    page.push_str("</h1>\n")?;
+// What the page begins with, up to where the maps are.
+fn push_title(alloc: Global, page: &mut String, status: &Status) -> Result<(), AllocError> {
+    let mut title = String::new(alloc);
+    push_status(&mut title, status)?;
+    let has_found = status.bad != 0 || status.faults != 0;
+    push_head(page, title.as_str(), has_found)?;
     if status.is_interrupted {
         page.push_str(
             "<p>The run was stopped before its end. This page is partial: it has what was done until then.</p>\n",
@@ -90,12 +74,7 @@ fn push_head(page: &mut String, status: &Status) -> Result<(), AllocError> {
 }
 
 // The legend, and the map of each file.
-fn push_maps(
-    alloc: Global,
-    page: &mut String,
-    found: &PageFindings<'_>,
-    bads: &[Bad],
-) -> Result<(), Memory> {
+fn push_maps(alloc: Global, page: &mut String, found: &PageFindings<'_>) -> Result<(), Memory> {
     push_legend(page)?;
     let marks = marks_of(alloc, found.plan, found.history)?;
     let files = found.plan.files();
@@ -106,7 +85,7 @@ fn push_maps(
             page,
             found.plan,
             &marks,
-            bads,
+            found.bads,
             index as u32,
             file,
             most,
@@ -153,11 +132,10 @@ fn push_tables(
     alloc: Global,
     page: &mut String,
     found: &PageFindings<'_>,
-    bads: &[Bad],
 ) -> Result<(), AllocError> {
     push_totals_table(page, found)?;
-    if !bads.is_empty() {
-        push_bads_table(alloc, page, found, bads)?;
+    if !found.bads.is_empty() {
+        push_bads_table(alloc, page, found)?;
     }
     if !found.faults.first.is_empty() {
         push_faults_table(page, found.faults)?;
@@ -181,7 +159,6 @@ fn push_bads_table(
     alloc: Global,
     page: &mut String,
     found: &PageFindings<'_>,
-    bads: &[Bad],
 ) -> Result<(), AllocError> {
     page.push_str(
         "<h2>Miscompares and bad reads</h2>\n<div class=\"table\"><table class=\"miscompares\">\n<tr><th>clone</th><th>pass</th>",
@@ -189,9 +166,9 @@ fn push_bads_table(
     page.push_str(
         "<th>number</th><th>file</th><th>offset</th><th>length</th><th>what</th><th>found</th></tr>\n",
     )?;
-    push_first(alloc, page, found.plan, found.found, bads)?;
+    push_first(alloc, page, found.plan, found.found, found.bads)?;
     page.push_str("</table></div>\n")?;
-    push_more(page, rest_of(bads))
+    push_more(page, rest_of(found.bads))
 }
 
 fn push_faults_table(page: &mut String, faults: &Faults) -> Result<(), AllocError> {
@@ -202,16 +179,4 @@ fn push_faults_table(page: &mut String, faults: &Faults) -> Result<(), AllocErro
     push_faults(page, faults.first.as_slice())?;
     page.push_str("</table></div>\n")?;
     push_more(page, faults.more)
-}
-
-fn push_plan_table(page: &mut String, plan: &Plan) -> Result<(), AllocError> {
-    page.push_str(
-        "<h2>Plan</h2>\n<div class=\"table\"><table class=\"plan\">\n<tr><th>job</th><th>clone</th><th>phase</th>",
-    )?;
-    page.push_str(
-        "<th>file</th><th>start</th><th>size</th><th>cell</th><th>cells</th><th>rw</th><th>iodepth</th><th>loops</th>",
-    )?;
-    page.push_str("<th>verify</th></tr>\n")?;
-    push_clones(page, plan)?;
-    page.push_str("</table></div>\n")
 }

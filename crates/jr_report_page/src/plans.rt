@@ -1,14 +1,29 @@
 ghost use Rattle.std.specs.Prelude.{◌≡◌, ◌++◌, ◌<◌, flat_map, length, slice_get, OnOk, string_bytes};
-ghost use Rattle.jr_report_page.specs.Rows.{clone_row, place_cells, size_cells, work_cells};
-ghost use Rattle.jr_plan.specs.PlanText.{io_type_word, name_of, verify_word};
+ghost use Rattle.jr_report_page.specs.Rows.{clone_row, place_cells, plan_table, size_cells, work_cells};
+ghost use Rattle.jr_plan.specs.PlanText.{name_of};
 
 use crate::rows::{push_number, push_text};
-use jr_model::{IoType, VerifyKind};
-use jr_plan::{FileSpec, Plan, SubJob};
+use jr_plan::{FileSpec, Plan, SubJob, io_type_word, verify_word};
 use std::alloc::AllocError;
 
+/// Appends the table of a plan: a row for each clone.
+#[tactic(auto, unfolding(crate::specs::Rows::plan_table))]
+pub fn push_plan_table(page: &mut String, plan: &Plan) -> Result<(), AllocError>
+    ensures { OnOk result (string_bytes page.new ≡ string_bytes page.old ++ plan_table plan.now) }
+{
+    page.push_str(
+        "<h2>Plan</h2>\n<div class=\"table\"><table class=\"plan\">\n<tr><th>job</th><th>clone</th><th>phase</th>",
+    )?;
+    page.push_str(
+        "<th>file</th><th>start</th><th>size</th><th>cell</th><th>cells</th><th>rw</th><th>iodepth</th><th>loops</th>",
+    )?;
+    page.push_str("<th>verify</th></tr>\n")?;
+    push_clones(page, plan)?;
+    page.push_str("</table></div>\n")
+}
+
 // The rows of all clones of a plan.
-pub(crate) fn push_clones(page: &mut String, plan: &Plan) -> Result<(), AllocError>
+fn push_clones(page: &mut String, plan: &Plan) -> Result<(), AllocError>
     ensures { OnOk result (string_bytes page.new ≡ string_bytes page.old ++ flat_map (clone_row plan.now.files) plan.now.clones) }
 {
     for i in 0..plan.clones() {
@@ -68,29 +83,4 @@ fn push_work(page: &mut String, job: &SubJob) -> Result<(), AllocError>
     push_number(page, u64::from(job.depth()))?;
     push_number(page, u64::from(job.passes()))?;
     push_text(page, verify_word(job.method().kind))
-}
-
-fn io_type_word(io_type: IoType) -> &'static str
-    ensures { result.now ≡ io_type_word io_type }
-{
-    match io_type {
-        IoType::Read => "read",
-        IoType::Write => "write",
-        IoType::RandRead => "randread",
-        IoType::RandWrite => "randwrite",
-        IoType::ReadWrite => "rw",
-        IoType::RandRw => "randrw",
-    }
-}
-
-fn verify_word(kind: VerifyKind) -> &'static str
-    ensures { result.now ≡ verify_word kind }
-{
-    match kind {
-        VerifyKind::Plain => "none",
-        VerifyKind::Pattern => "pattern",
-        VerifyKind::Md5 => "md5",
-        VerifyKind::Sha1 => "sha1",
-        VerifyKind::Sha256 => "sha256",
-    }
 }

@@ -1,7 +1,7 @@
 ghost use Rattle.std.specs.Prelude.{◌≡◌, ◌++◌, OnOk, map, string_bytes};
 ghost use Rattle.jr_diagnosis.specs.Rulings.{told};
 ghost use Rattle.jr_diagnosis.specs.Texts.{told_of_write};
-ghost use Rattle.jr_model.specs.Report.{file_name, part_text, what_text};
+ghost use Rattle.jr_model.specs.Report.{file_name, what_text};
 ghost use Rattle.jr_report_page.specs.Rows.{bad_row, end_cell, fault_row, found_cell, judged_cells, moved_cells};
 ghost use Rattle.jr_report_page.specs.Rows.{number_cell, piece_cells, text_cell, totals_row, what_cell, write_cells};
 ghost use Rattle.jr_report_faults.specs.Faults.{named};
@@ -9,7 +9,7 @@ ghost use Rattle.jr_report_faults.specs.Faults.{named};
 use crate::escapes::push_escaped;
 use jr_desk_totals::Bad;
 use jr_diagnosis::{Diagnosed, found_of, text_of};
-use jr_model::{Outcome, Part, Piece, TicketKind, Totals, What, WriteId};
+use jr_model::{Outcome, Piece, TicketKind, Totals, What, WriteId};
 use jr_plan::{Plan, SubJob};
 use jr_report_faults::{FaultNote, kind_word};
 use std::alloc::{AllocError, Global};
@@ -108,21 +108,19 @@ fn push_write(page: &mut String, write: &WriteId) -> Result<(), AllocError>
     push_number(page, u64::from(write.number))
 }
 
-// Which bytes of its file.
-fn push_piece(page: &mut String, piece: &Piece) -> Result<(), AllocError>
+/// Appends two cells with which bytes of its file a piece is.
+pub fn push_piece(page: &mut String, piece: &Piece) -> Result<(), AllocError>
     ensures { OnOk result (string_bytes page.new ≡ string_bytes page.old ++ piece_cells piece.now) }
 {
     push_number(page, piece.offset)?;
     push_number(page, u64::from(piece.len))
 }
 
-fn push_file(page: &mut String, plan: &Plan, file: u32) -> Result<(), AllocError>
+/// Appends a cell with the name of the file of this place in the plan.
+pub fn push_file(page: &mut String, plan: &Plan, file: u32) -> Result<(), AllocError>
     ensures { OnOk result (string_bytes page.new ≡ string_bytes page.old ++ text_cell (file_name plan.now file)) }
 {
-    match plan.files().get(file as usize) {
-        None => push_text(page, ""),
-        Some(spec) => push_text(page, spec.name()),
-    }
+    push_text(page, plan.file_name(file))
 }
 
 fn push_what_cell(page: &mut String, what: What) -> Result<(), AllocError>
@@ -137,26 +135,7 @@ fn push_what_cell(page: &mut String, what: What) -> Result<(), AllocError>
 pub(crate) fn push_what(page: &mut String, what: What) -> Result<(), AllocError>
     ensures { OnOk result (string_bytes page.new ≡ string_bytes page.old ++ what_text what) }
 {
-    match what {
-        What::Header => page.push_str(part_word(Part::Header)),
-        What::Digest => page.push_str(part_word(Part::Digest)),
-        What::DataArea => page.push_str(part_word(Part::DataArea)),
-        What::Byte(place) => write!(page, "byte:{place}"),
-        What::Chunk(chunk, part) => {
-            let word = part_word(part);
-            write!(page, "{word}:{chunk}")
-        }
-    }
-}
-
-fn part_word(part: Part) -> &'static str
-    ensures { result.now ≡ part_text part }
-{
-    match part {
-        Part::Header => "header",
-        Part::Digest => "digest",
-        Part::DataArea => "data",
-    }
+    write!(page, "{what}")
 }
 
 // What it was, and how it ended.
@@ -171,16 +150,16 @@ fn push_end(page: &mut String, kind: TicketKind, outcome: Outcome) -> Result<(),
     }
 }
 
-// A cell with a number.
+/// Appends a cell with a number.
 #[tactic(auto, unfolding(crate::specs::Rows::number_cell))]
-pub(crate) fn push_number(page: &mut String, n: u64) -> Result<(), AllocError>
+pub fn push_number(page: &mut String, n: u64) -> Result<(), AllocError>
     ensures { OnOk result (string_bytes page.new ≡ string_bytes page.old ++ number_cell n) }
 {
     write!(page, "<td>{n}</td>")
 }
 
-// A cell with a text, which may be of a job file.
-pub(crate) fn push_text(page: &mut String, text: &str) -> Result<(), AllocError>
+/// Appends a cell with a text, which may be of a job file.
+pub fn push_text(page: &mut String, text: &str) -> Result<(), AllocError>
     ensures { OnOk result (string_bytes page.new ≡ string_bytes page.old ++ text_cell text.now) }
 {
     page.push_str("<td>")?;

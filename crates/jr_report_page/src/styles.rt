@@ -13,7 +13,7 @@ h2 { font-size: 1.1rem; margin: 1.6rem 0 .4rem; overflow-wrap: anywhere; }
 .table { overflow-x: auto; }
 table { border-collapse: collapse; font-variant-numeric: tabular-nums; }
 th, td { padding: .15rem .6rem; border-bottom: 1px solid var(--line); text-align: right; white-space: nowrap; }
-.totals td:first-child, .plan td:first-child, .faults td:first-child { text-align: left; }
+.totals td:first-child, .plan td:first-child, .faults td:first-child, .chunks td:first-child, .unread td:first-child { text-align: left; }
 .map { display: block; width: 100%; height: auto; }
 .shapes { position: absolute; }
 .sign { font: bold 6.6px system-ui, sans-serif; text-anchor: middle; }

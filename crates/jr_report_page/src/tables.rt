@@ -77,8 +77,8 @@ pub(crate) fn push_faults(page: &mut String, notes: &[FaultNote]) -> Result<(), 
     Ok(())
 }
 
-// How many more there are than have a row.
-pub(crate) fn push_more(page: &mut String, more: u64) -> Result<(), AllocError>
+/// Appends how many more there are than have a row.
+pub fn push_more(page: &mut String, more: u64) -> Result<(), AllocError>
     ensures { OnOk result (string_bytes page.new ≡ string_bytes page.old ++ more_text more) }
 {
     if more == 0 {

@@ -1,9 +1,10 @@
 -- The rounds so far, one more, and the last.
 use Rattle.std.proofs.Common.{◌≡◌, ℕ, zero, suc, ◌+◌, ◌<◌, ◌≤◌, ◌==◌, Bool, true, false, not, ◌&&◌, ◌||◌, if◌then◌else◌, List, [], ◌∷◌}
-use Rattle.std.proofs.Common.{◌++◌, length, map, Option, All, refl, ap, subst, sym, ◌∙◌, arith, add-zero, append-nil, length-append}
+use Rattle.std.proofs.Common.{◌++◌, length, map, Option, All, refl, ap, subst, sym, ◌∙◌, arith, append-nil, length-append}
 use Rattle.std.specs.List.{list_any, range_with_len}
 use Rattle.std.specs.Io.KnownBytes.{Appends}
 use Rattle.std.proofs.lemmas.Bool.Decides.{nat_tests}
+use Rattle.std.proofs.lemmas.Bool.{not-false}
 use Rattle.std.proofs.lemmas.List.{length-map, map-append}
 use Rattle.std.proofs.lemmas.List.Concat.{flat_map-append}
 use Rattle.std.proofs.lemmas.List.Elements.{All-append}
@@ -13,6 +14,8 @@ use Rattle.jr_model.specs.declared.totals.Totals.{Totals}
 use Rattle.jr_model.specs.Legal.{is_complete, is_legal}
 use Rattle.jr_model.specs.Plan.{Plan}
 use Rattle.jr_model.specs.Report.{all_totals}
+use Rattle.jr_model.proofs.ListLemmas.{range_more}
+use Rattle.jr_model.proofs.NumberLemmas.{some_by_test}
 use Rattle.jr_cli.specs.declared.ended.RunEnd.{RunEnd}
 use Rattle.jr_cli.specs.Status.{was_interrupted}
 use Rattle.jr_rounds.specs.declared.faults.RoundsFault.{RoundsFault}
@@ -57,10 +60,6 @@ or_true_second : (a b : Bool) → (a || b) ≡ true → a ≡ false → b ≡ tr
 or_true_second false b h e = h
 or_true_second true b h e = absurd (cc)
 
-not_false : (a : Bool) → not a ≡ false → a ≡ true
-not_false true h = refl
-not_false false h = absurd (cc)
-
 and_false : (a b : Bool) → (a && not b) ≡ false → b ≡ false → a ≡ false
 and_false false b h e = refl
 and_false true false h e = absurd (cc)
@@ -73,14 +72,6 @@ All_one P x h (suc k) d l = absurd (omega arith)
 All_more : {X : Type 0} (P : X → Type 0) (xs : List X) (x : X) → All P xs → P x → All P (xs ++ x ∷ [])
 All_more P xs x h p = All-append P xs (x ∷ []) h (All_one P x p)
 
-range_suc : (a n : ℕ) → range_with_len a (suc n) ≡ range_with_len a n ++ (a + n) ∷ []
-range_suc a zero = ap (λ (k : ℕ). k ∷ []) (sym (add-zero a))
-range_suc a (suc n) =
-    ap (λ (rest : List ℕ). a ∷ rest) (range_suc (a + 1) n ∙ ap (λ (k : ℕ). range_with_len (a + 1) n ++ k ∷ []) (further a n))
-  where
-    further : (a n : ℕ) → a + 1 + n ≡ a + suc n
-    further a n = omega arith
-
 -- the numbers of the rounds, with the next one
 numbers_more : (rounds : List Round) (next : Round) → map (λ (round : Round). round.number) rounds ≡ range_with_len 0 (length rounds)
     → next.number ≡ length rounds → map (λ (round : Round). round.number) (rounds ++ next ∷ []) ≡ range_with_len 0
@@ -91,7 +82,7 @@ numbers_more rounds next h number =
     map-append (λ (round : Round). round.number) rounds (next ∷ [])
     ∙ ap (λ (front : List ℕ). front ++ next.number ∷ []) h
     ∙ ap (λ (k : ℕ). range_with_len 0 (length rounds) ++ k ∷ []) place
-    ∙ sym (range_suc 0 (length rounds))
+    ∙ sym (range_more 0 (length rounds))
     ∙ ap (λ (n : ℕ). range_with_len 0 n) count
 
 -- what was found, with the next round
@@ -163,7 +154,7 @@ one_more plan limit keeps_going round history is_cut is_over is_last before afte
     let uncut = or_false_second (round + 1 == limit || (is_bad ran history && not keeps_going)) is_cut ends in
     let rest = or_false_first (round + 1 == limit || (is_bad ran history && not keeps_going)) is_cut ends in
     let bad = or_false_second (round + 1 == limit) (is_bad ran history && not keeps_going) rest in
-    let whole : is_whole_round plan next ≡ true = not_false (is_complete ran history) (sym t.cut ∙ uncut) in
+    let whole : is_whole_round plan next ≡ true = not-false (is_complete ran history) (sym t.cut ∙ uncut) in
     record {
       count = omega (arith, s.count, length-append rounds (next ∷ []));
       earlier = record {
@@ -230,9 +221,6 @@ the_last plan limit keeps_going round history is_cut is_over is_last before afte
           (subst (λ (last : Bool). Appends between written (run_text round ran history last)) h t.told);
     }
 
-not_zero : (n : ℕ) → 0 < n → (n == 0) ≡ false
-not_zero n h = grind (arith, nat_tests)
-
 -- no round follows on these, and their sums are printed
 pub broken_after : (plan : Plan) (keeps_going : Bool) (round : ℕ) (sums : RoundSums) (found : ℕ)
     (blank between written : Option (List ℕ)) (rounds : List Round) → IsSoFar plan keeps_going round sums found blank between rounds
@@ -258,7 +246,7 @@ broken_after plan keeps_going round sums found blank between written (first ∷ 
     some n h =
         let positive : 0 < capped (suc n) = omega arith in
         subst (λ (b : Bool). Appends between written (if b then [] else sums_text plan (sums_over plan (first ∷ rounds))))
-        (not_zero (capped (suc n)) positive) h
+        (some_by_test (capped (suc n)) positive) h
 
 -- what a break says of less
 pub break_by : {E : Type 0} (X Y : Type 0) → (X → Y) → (fault : RoundsFault E) → IsBreak X fault → IsBreak Y fault

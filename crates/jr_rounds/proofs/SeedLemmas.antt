@@ -6,7 +6,8 @@ use Rattle.std.proofs.lemmas.Nat.{div-add-mod', mod_below}
 use Rattle.jr_model.specs.Plan.{SubJob}
 use Rattle.jr_model.specs.Words.{pass_seed}
 use Rattle.jr_plan.specs.Seeds.{moved_seed}
-use Rattle.jr_rounds.specs.Seeds.{DifferInSeeds, FirstRoundIsThePlan, NoSeedTwice, seed_offset, unseeded}
+use Rattle.jr_rounds.specs.Seeds.{seed_offset}
+use Rattle.jr_rounds.specs.SeedLaws.{DifferInSeeds, FirstRoundIsThePlan, NoSeedTwice, unseeded}
 
 -- what is added to n modulo m can be had back
 unwound : (n z m : ℕ) → z < m → ((n + z) % m + (m - n % m)) % m ≡ z

@@ -8,15 +8,6 @@ use Rattle.jr_model.specs.Plan.{Plan, SubJob}
 use Rattle.jr_model.specs.Report.{report_of}
 use Rattle.jr_rounds.specs.Rounds.{is_told, round_header, run_text, sums_line, sums_lines}
 
--- four pieces, one after another
-pub four_pieces : (t0 t1 t2 t3 t4 a b c d : List ℕ) → t1 ≡ t0 ++ a → t2 ≡ t1 ++ b → t3 ≡ t2 ++ c → t4 ≡ t3 ++ d
-    → t4 ≡ t0 ++ (a ++ b ++ c ++ d)
-four_pieces t0 t1 t2 t3 t4 a b c d e1 e2 e3 e4 =
-    e4 ∙ ap (λ (t : List ℕ). t ++ d) (e3 ∙ ap (λ (t : List ℕ). t ++ c) (e2 ∙ ap (λ (t : List ℕ). t ++ b) e1)) ∙ grouped t0 a b c d
-  where
-    grouped : (t a b c d : List ℕ) → t ++ a ++ b ++ c ++ d ≡ t ++ (a ++ b ++ c ++ d)
-    grouped t a b c d = simp append_assoc
-
 -- nothing is written
 pub appends_nothing : (u : Option (List ℕ)) → Appends u u []
 appends_nothing None = tt

@@ -4,6 +4,7 @@ pub mod Json
 pub mod Originals
 pub mod Repeats
 pub mod Rounds
+pub mod SeedLaws
 pub mod Seeds
 pub mod Sums
 pub mod Turns

@@ -1,4 +1,4 @@
-ghost use Rattle.jr_rounds.specs.Seeds.{DifferInSeeds, FirstRoundIsThePlan, NoSeedTwice};
+ghost use Rattle.jr_rounds.specs.SeedLaws.{DifferInSeeds, FirstRoundIsThePlan, NoSeedTwice};
 
 /// A round's plan differs from the plan in the seeds of its clones alone.
 pub fn rounds_differ_in_seeds()

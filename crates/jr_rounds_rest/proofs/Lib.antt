@@ -1,2 +1,1 @@
 mod LeftLemmas
-mod RestLemmas

@@ -28,6 +28,7 @@ workload_of job by task = record {
   backlog = job.backlog;
   is_fatal = job.is_fatal;
   declines = job.declines;
+  direct = job.direct;
 }
 
 -- a plan while tasks are put into it: its clones, and whether a task didn't fit

@@ -1,5 +1,4 @@
 ghost use Rattle.std.specs.Prelude.{◌≡◌, ◌<◌, true, length, IfOk};
-ghost use Rattle.jr_model.specs.Report.{file_name};
 ghost use Rattle.jr_rounds_rest.specs.NextRound.{drafted, next_round, with_clone_for, with_task, workload_of};
 
 use crate::tasks::Task;
@@ -92,21 +91,12 @@ fn with_clone_for(
     if so_far.draft.fault(&workload, task.start).is_some() {
         return Ok(filled(so_far));
     }
-    let file = file_name(plan, job.file() as usize);
-    let file = String::from_str(alloc, file)?;
+    let file = String::from_str(alloc, plan.file_name(job.file()))?;
     let Drafting { mut draft, is_full } = so_far;
     match draft.add(alloc, &workload, job.job(), file, task.start) {
         Ok(()) => Ok(Drafting { draft, is_full }),
         Err(_) => Err(Memory),
     }
-}
-
-// The name of a file of the plan.
-fn file_name<'a>(plan: &'a Plan, file: usize) -> &'a str
-    requires { file < length plan.now.files }
-    ensures { result.now ≡ file_name plan.now file }
-{
-    plan.files()[file].name()
 }
 
 // What a clone does for a task of this clone of a job: what that does, once; a check only reads.
@@ -143,5 +133,6 @@ fn workload_of(job: &SubJob, by: u64, task: &Task) -> Workload
         backlog: job.backlog(),
         is_fatal: job.is_fatal(),
         declines: job.declines(),
+        direct: job.direct(),
     }
 }

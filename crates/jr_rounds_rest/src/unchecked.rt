@@ -36,7 +36,7 @@ fn unchecked_of(alloc: Global, ledger: &Ledger, clone: u32) -> Result<Vec<Piece>
 fn has_rounds(job: &SubJob) -> bool
     ensures { result ≡ has_rounds job.now }
 {
-    job.method().kind.is_verified() && job.checks_writes()
+    job.verifies()
 }
 
 // The piece of an I/O, if it is such a write of this clone.

@@ -6,7 +6,7 @@ use Rattle.std.specs.declared.cmp.Ordering.TheVariants.{Less}
 use Rattle.std.specs.List.{AllByRecursion, cons_option, range_with_len}
 use Rattle.std.specs.List.Sorted.{IsStrictlySortedBy}
 use Rattle.std.proofs.lemmas.List.Sorted.{IsPermutation-append_left, IsPermutation-append_right, IsPermutation-middle, IsPermutation-trans}
-use Rattle.jr_laws_steps.proofs.StartedLemmas.{same_some}
+use Rattle.std.proofs.lemmas.Option.{same_Some}
 
 -- what holds of all of a list
 
@@ -54,7 +54,7 @@ pub number_at : {X : Type 0} (n : X → ℕ) (k : ℕ) (xs : List X) (i : ℕ) (
     → n x ≡ k + i
 number_at n k [] i x numbered at = cc
 number_at n k (y ∷ xs) zero x numbered at =
-    let same : n y ≡ n x = ap n (same_some y x at) in
+    let same : n y ≡ n x = ap n (same_Some y x at) in
     let first : n y ≡ k = numbered.0 in
     omega (arith, same, first)
 number_at n k (y ∷ xs) (suc i) x numbered at =
@@ -64,11 +64,6 @@ number_at n k (y ∷ xs) (suc i) x numbered at =
 pub numbered_range : (a b n : ℕ) → a ≡ b → NumberedFrom (λ (p : ℕ). p) b (range_with_len a n)
 numbered_range a b zero same = tt
 numbered_range a b (suc n) same = (same, numbered_range (a + 1) (suc b) n (omega (arith, same)))
-
-pub got_range : (a n k : ℕ) → k < n → slice_get (range_with_len a n) k ≡ Some (a + k)
-got_range a zero k below = absurd (omega arith)
-got_range a (suc n) zero below = ap Some (omega arith)
-got_range a (suc n) (suc k) below = got_range (a + 1) n k (omega (arith, below)) ∙ ap Some (omega arith)
 
 -- the order of what is made
 
@@ -117,7 +112,7 @@ module _ {X Y : Type 0} (n : X → ℕ) (f g : X → List Y) (m : Y) (j : ℕ) (
       → IsPermutation (g x) (m ∷ f x) → IsPermutation (flat_map g xs) (m ∷ flat_map f xs)
   one_more k [] i x numbered at number more = cc
   one_more k (y ∷ xs) zero x numbered at number more =
-      let is : y ≡ x = same_some y x at in
+      let is : y ≡ x = same_Some y x at in
       let first : n y ≡ k = numbered.0 in
       let place : n y ≡ n x = ap n is in
       let here : IsPermutation (g y) (m ∷ f y) = subst (λ (v : X). IsPermutation (g v) (m ∷ f v)) (sym is) more in

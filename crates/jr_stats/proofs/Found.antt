@@ -3,6 +3,7 @@ use Rattle.std.proofs.Common.{◌≡◌, ℕ, List, [], ◌∷◌, ◌++◌, tru
 use Rattle.std.specs.Prelude.{Option, Some, None, slice_get}
 use Rattle.std.specs.List.{AllByRecursion, cons_option}
 use Rattle.std.proofs.lemmas.Bool.{or_left, false_from_ne_true, both_ways}
+use Rattle.std.proofs.lemmas.Option.{same_Some}
 use Rattle.jr_model.specs.declared.blocks.Dir.{Dir}
 use Rattle.jr_model.specs.declared.blocks.Dir.TheVariants as direction
 use Rattle.jr_model.specs.declared.events.Event.{Event}
@@ -22,13 +23,14 @@ use Rattle.jr_model.specs.Report.{Miscompare, miscompare_on, miscompare_by, misc
 use Rattle.jr_model.specs.Rounds.{is_write_draw}
 use Rattle.jr_model.specs.PlanFacts.{IsPlanned}
 use Rattle.jr_model.proofs.Equality.{eq_write}
+use Rattle.jr_model.proofs.HistoryLemmas.{is_judged-more, by_events}
 use Rattle.jr_laws_steps.specs.Drawn.{is_kind_of}
-use Rattle.jr_laws_steps.proofs.StartedLemmas.{same_some, by_events, started_stays}
+use Rattle.jr_laws_steps.proofs.StartedLemmas.{started_stays}
 use Rattle.jr_laws_steps.proofs.DrawnLaws.{started_are_drawn-law}
 use Rattle.jr_laws_steps.proofs.OnceLaws.{started_once-law}
 use Rattle.jr_desk_totals.specs.Tallies.{named_in, miscompare_in}
 use Rattle.jr_desk_totals.proofs.Bads.{miscompares-more}
-use Rattle.jr_laws_steps.proofs.Grown.{verdict_names, is_judged-more, is_judged-verdict}
+use Rattle.jr_laws_steps.proofs.Grown.{verdict_names, is_judged-verdict}
 use Rattle.jr_stats.proofs.FlatMaps.{all_weaker, all_append, all_filter_map}
 use Rattle.jr_stats.proofs.Named.{IsNamed}
 use Rattle.jr_stats.proofs.Writes.{AreDistinct}
@@ -37,7 +39,7 @@ use Rattle.jr_stats.proofs.Writes.{AreDistinct}
 on_check : (s : Started) (verdict : GivenVerdict) (m : Miscompare) → miscompare_on (Some s) verdict ≡ Some m → s.write ≡ m.write
 on_check s Good m is = cc
 on_check s Void m is = cc
-on_check s (Bad what) m is = ap (λ (x : Miscompare). x.write) (same_some (record { write = s.write; piece = s.piece; what = what }) m is)
+on_check s (Bad what) m is = ap (λ (x : Miscompare). x.write) (same_Some (record { write = s.write; piece = s.piece; what = what }) m is)
 
 -- each is on the write of a draw
 
@@ -84,9 +86,9 @@ one_kind plan history i j a b planned legal at_i at_j judged_a judged_b same =
     let drawn_b = started_are_drawn-law plan history j b planned legal at_j in
     let one : a.write ≡ b.write = eq_write a.write b.write same in
     let job : drawn_a.0 ≡ drawn_b.0 =
-    same_some drawn_a.0 drawn_b.0 (sym drawn_a.2.planned ∙ ap (λ (w : WriteId). clone_of plan w.clone) one ∙ drawn_b.2.planned) in
+    same_Some drawn_a.0 drawn_b.0 (sym drawn_a.2.planned ∙ ap (λ (w : WriteId). clone_of plan w.clone) one ∙ drawn_b.2.planned) in
     let draw : drawn_a.1 ≡ drawn_b.1 =
-    same_some drawn_a.1 drawn_b.1
+    same_Some drawn_a.1 drawn_b.1
     (sym drawn_a.2.drawn ∙ ap (λ (w : WriteId). slice_get (draws_of_job drawn_a.0 w.pass) w.number) one
     ∙ ap (λ (x : SubJob). slice_get (draws_of_job x b.write.pass) b.write.number) job ∙ drawn_b.2.drawn) in
     judged_draw a.kind drawn_a.1 drawn_a.0 judged_a drawn_a.2.kind

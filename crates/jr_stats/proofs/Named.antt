@@ -10,9 +10,9 @@ use Rattle.jr_model.specs.History.{same_write}
 use Rattle.jr_model.specs.Plan.{Plan, SubJob, IsNumbered, clone_of}
 use Rattle.jr_model.specs.Report.{Miscompare, on_write, of_pass, of_clone, in_order}
 use Rattle.jr_model.specs.Rounds.{pass_of, write_id}
-use Rattle.jr_model.proofs.LegalLaws.{same_write_refl}
-use Rattle.jr_laws_steps.proofs.CountSteps.{number_of_draw}
-use Rattle.jr_stats.proofs.FlatMaps.{flat_map_same, got_range, one_more}
+use Rattle.jr_model.proofs.LegalLaws.{same_write_refl, number_of_draw}
+use Rattle.jr_model.proofs.PlaceLemmas.{ranged_at}
+use Rattle.jr_stats.proofs.FlatMaps.{flat_map_same, one_more}
 use Rattle.jr_stats.proofs.Writes.{more_on, more_off, other_clone, other_pass, other_number}
 use Rattle.jr_stats.proofs.Ordered.{on_draw, numbered_draws, numbered_passes, numbered_clones}
 
@@ -74,7 +74,7 @@ module _ (m : Miscompare) (found : List Miscompare) where
       let p : ℕ = m.write.pass in
       one_more (λ (x : ℕ). x) (λ (x : ℕ). of_pass found (pass_of job x)) (λ (x : ℕ). of_pass (m ∷ found) (pass_of job x))
       m p (pass_stays job) 0 (range_with_len 0 job.passes) p p (numbered_passes job)
-      (got_range 0 job.passes p within ∙ ap Some (zero-add p)) refl
+      (ranged_at 0 job.passes p within ∙ ap Some (zero-add p)) refl
       (pass_more job d clone drawn)
 
   pub in_order_more : (plan : Plan) → IsNumbered plan → IsNamed plan m.write

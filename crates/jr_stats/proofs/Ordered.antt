@@ -9,7 +9,7 @@ use Rattle.jr_model.specs.Draws.{draws_of_job}
 use Rattle.jr_model.specs.Plan.{Plan, SubJob, IsNumbered}
 use Rattle.jr_model.specs.Report.{Miscompare, on_write, of_pass, of_clone, in_order}
 use Rattle.jr_model.specs.Rounds.{pass_of, write_id}
-use Rattle.jr_laws_steps.proofs.CountSteps.{number_of_draw}
+use Rattle.jr_model.proofs.LegalLaws.{number_of_draw}
 use Rattle.jr_stats.specs.InOrder.{by_write}
 use Rattle.jr_stats.proofs.FlatMaps.{all_weaker, all_flat_map, NumberedFrom, numbered_from, numbered_range, sorted_flat_map}
 use Rattle.jr_stats.proofs.Writes.{clone_first, pass_next, number_last, all_on_it, AreDistinct, on_it_sorted}

@@ -1,7 +1,6 @@
 -- The lines of bad verdicts, one after another.
-use Rattle.std.proofs.Common.{◌≡◌, ℕ, ◌+◌, ◌<◌, List, ◌++◌, length, get_or, take, sym, ap, ◌∙◌, append_assoc}
+use Rattle.std.proofs.Common.{◌≡◌, ℕ, List, ◌++◌, sym, ap, ◌∙◌, append_assoc}
 use Rattle.std.specs.Prelude.{flat_map, map}
-use Rattle.std.proofs.lemmas.List.{flat_map_more, take_more}
 use Rattle.std.proofs.lemmas.List.Folds.{flat_map-map}
 use Rattle.jr_model.specs.declared.events.Event.{Event}
 use Rattle.jr_model.specs.declared.totals.Totals.{Totals}
@@ -9,7 +8,7 @@ use Rattle.jr_model.specs.Plan.{Plan}
 use Rattle.jr_model.specs.Report.{all_totals, in_order, miscompare_line, miscompares, report_of, totals_lines}
 use Rattle.jr_stats.specs.Miscompares.{bad_line}
 use Rattle.jr_desk_totals.specs.declared.tallies.Bad.{Bad}
-use Rattle.jr_desk_totals.specs.Tallying.{miscompare_of}
+use Rattle.jr_desk_totals.specs.Bads.{miscompare_of}
 
 -- the parts of a line, one after another
 pub chained : (t0 t1 t2 t3 t4 t5 t6 m a b w k n : List ℕ) → t1 ≡ t0 ++ m → t2 ≡ t1 ++ a → t3 ≡ t2 ++ b → t4 ≡ t3 ++ w → t5 ≡ t4 ++ k → t6 ≡ t5 ++ n → t6 ≡ t0 ++ m ++ a ++ b ++ w ++ k ++ n
@@ -19,16 +18,6 @@ chained t0 t1 t2 t3 t4 t5 t6 m a b w k n e1 e2 e3 e4 e5 e6 =
 -- and in another grouping
 pub regrouped : (t m c p u f g o l w k n : List ℕ) → t ++ m ++ (c ++ p ++ u) ++ (f ++ g ++ o ++ l) ++ w ++ k ++ n ≡ t ++ (m ++ c ++ p ++ u ++ f ++ g ++ o ++ l ++ w ++ k ++ n)
 regrouped t m c p u f g o l w k n = simp append_assoc
-
--- one line more
-pub line_more : {X : Type 0} (line : X → List ℕ) (start before after : List ℕ) (xs : List X) (i : ℕ) (d : X) → i < length xs
-    → before ≡ start ++ flat_map line (take i xs) → after ≡ before ++ line (get_or xs i d)
-    → after ≡ start ++ flat_map line (take (i + 1) xs)
-line_more {X} line start before after xs i d within so more =
-    more
-    ∙ ap (λ (t : List ℕ). t ++ line (get_or xs i d)) so
-    ∙ flat_map_more line start (take i xs) (get_or xs i d)
-    ∙ ap (λ (ys : List X). start ++ flat_map line ys) (sym (take_more xs i d within))
 
 -- the lines of all clones, and those of the bad verdicts in order
 pub report_lines : (plan given : Plan) (history : List Event) (totals : List Totals) (bads : List Bad) (start whole : List ℕ) → given ≡ plan

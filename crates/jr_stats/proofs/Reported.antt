@@ -10,7 +10,7 @@ use Rattle.jr_model.specs.Plan.{Plan}
 use Rattle.jr_model.specs.Report.{Miscompare, in_order, miscompares}
 use Rattle.jr_model.proofs.Equality.{write_order_total}
 use Rattle.jr_model.specs.PlanFacts.{IsPlanned}
-use Rattle.jr_laws_steps.proofs.IdleLaws.{numbered_of}
+use Rattle.jr_model.proofs.PlanLemmas.{numbered_of}
 use Rattle.jr_stats.specs.InOrder.{by_write}
 use Rattle.jr_stats.proofs.Found.{all_named, all_distinct}
 use Rattle.jr_stats.proofs.Named.{in_order_permuted}

@@ -24,7 +24,7 @@ use Rattle.jr_stats.proofs.Found.{all_distinct}
 use Rattle.jr_stats.proofs.Reported.{sorted_lines}
 use Rattle.jr_stats.proofs.Writes.{AreDistinct, NoneIsOn}
 use Rattle.jr_desk_totals.specs.declared.tallies.Bad.{Bad}
-use Rattle.jr_desk_totals.specs.Tallying.{miscompare_of}
+use Rattle.jr_desk_totals.specs.Bads.{miscompare_of}
 
 -- writes that are not in order the other way round, and are two, are in order
 

@@ -1,52 +1,45 @@
 -- The bad verdicts on one write: which they are, and that there is at most one where no two are on one write.
-use Rattle.std.proofs.Common.{◌≡◌, ℕ, ◌<◌, Bool, true, false, cond, List, [], ◌∷◌, refl, sym, ◌∙◌, ap, subst, arith}
-use Rattle.std.specs.Prelude.{Some, None, filter_map, ◌==◌}
+use Rattle.std.proofs.Common.{◌≡◌, ◌<◌, Bool, true, false, cond, List, [], ◌∷◌, refl, sym, ◌∙◌, ap, subst}
+use Rattle.std.specs.Prelude.{Some, None, filter_map}
 use Rattle.std.specs.declared.cmp.Ordering.{Ordering}
-use Rattle.std.specs.declared.cmp.Ordering.TheVariants.{Less, Equal, Greater}
+use Rattle.std.specs.declared.cmp.Ordering.TheVariants.{Less}
 use Rattle.std.specs.List.{AllByRecursion, cons_option}
 use Rattle.std.specs.List.Sorted.{IsStrictlySortedBy}
 use Rattle.std.specs.Ordering.{nat_cmp, ordering_then}
-use Rattle.std.proofs.lemmas.Bool.{eq-eqb, lt-ltb, le-ltb, false_from_ne_true}
+use Rattle.std.proofs.lemmas.Bool.{false_from_ne_true}
+use Rattle.std.proofs.lemmas.Option.{same_Some}
 use Rattle.jr_model.specs.declared.events.WriteId.{WriteId}
 use Rattle.jr_model.specs.History.{same_write, write_order}
 use Rattle.jr_model.specs.Report.{Miscompare, on_write}
 use Rattle.jr_model.proofs.Equality.{eq_write}
-use Rattle.jr_laws_steps.proofs.StartedLemmas.{same_some}
+use Rattle.jr_model.proofs.NumberLemmas.{less_of, equal_of}
 use Rattle.jr_stats.specs.InOrder.{by_write}
 use Rattle.jr_stats.proofs.FlatMaps.{all_filter_map}
 
 -- the order of writes
-
-number_less : (x y : ℕ) → x < y → nat_cmp x y ≡ Less
-number_less x y below = ap {B = Ordering} (λ (b : Bool). cond b Less (cond (x == y) Equal Greater)) (lt-ltb x y below)
-
-number_equal : (x y : ℕ) → x ≡ y → nat_cmp x y ≡ Equal
-number_equal x y same =
-    ap {B = Ordering} (λ (b : Bool). cond b Less (cond (x == y) Equal Greater)) (le-ltb x y (omega (arith, same)))
-    ∙ ap {B = Ordering} (λ (b : Bool). cond b Equal Greater) (eq-eqb x y same)
 
 abbrev by_clone : WriteId → WriteId → Ordering → Ordering
 by_clone a b o = ordering_then o (ordering_then (nat_cmp a.pass b.pass) (nat_cmp a.number b.number))
 
 pub clone_first : (a b : WriteId) → a.clone < b.clone → write_order a b ≡ Less
 clone_first a b below =
-    ap (by_clone a b) (number_less a.clone b.clone below)
+    ap (by_clone a b) (less_of a.clone b.clone below)
 
 pub pass_next : (a b : WriteId) → a.clone ≡ b.clone → a.pass < b.pass → write_order a b ≡ Less
 pass_next a b clone below =
-    ap (by_clone a b) (number_equal a.clone b.clone clone)
-    ∙ ap (λ (o : Ordering). ordering_then o (nat_cmp a.number b.number)) (number_less a.pass b.pass below)
+    ap (by_clone a b) (equal_of a.clone b.clone clone)
+    ∙ ap (λ (o : Ordering). ordering_then o (nat_cmp a.number b.number)) (less_of a.pass b.pass below)
 
 pub number_last : (a b : WriteId) → a.clone ≡ b.clone → a.pass ≡ b.pass → a.number < b.number → write_order a b ≡ Less
 number_last a b clone pass below =
-    ap (by_clone a b) (number_equal a.clone b.clone clone)
-    ∙ ap (λ (o : Ordering). ordering_then o (nat_cmp a.number b.number)) (number_equal a.pass b.pass pass)
-    ∙ number_less a.number b.number below
+    ap (by_clone a b) (equal_of a.clone b.clone clone)
+    ∙ ap (λ (o : Ordering). ordering_then o (nat_cmp a.number b.number)) (equal_of a.pass b.pass pass)
+    ∙ less_of a.number b.number below
 
 -- those on a write
 
 on_it : (write : WriteId) (b : Bool) (m y : Miscompare) → same_write m.write write ≡ b → cond b (Some m) None ≡ Some y → y.write ≡ write
-on_it write true m y same kept = ap (λ (x : Miscompare). x.write) (sym (same_some m y kept)) ∙ eq_write m.write write same
+on_it write true m y same kept = ap (λ (x : Miscompare). x.write) (sym (same_Some m y kept)) ∙ eq_write m.write write same
 on_it write false m y same kept = cc
 
 pub all_on_it : (write : WriteId) (found : List Miscompare)

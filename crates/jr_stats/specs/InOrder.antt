@@ -1,4 +1,4 @@
--- Believed: which lines the bad verdicts of a run have in its report, and in which order.
+-- Claimed: which lines the bad verdicts of a run have in its report, and in which order.
 use Rattle.std.specs.Prelude.{◌≡◌, true, List}
 use Rattle.std.specs.declared.cmp.Ordering.{Ordering}
 use Rattle.std.specs.List.Sorted.{IsPermutation, IsStrictlySortedBy}

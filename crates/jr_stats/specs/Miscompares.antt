@@ -7,7 +7,7 @@ use Rattle.jr_model.specs.Legal.{is_legal}
 use Rattle.jr_model.specs.Plan.{Plan}
 use Rattle.jr_model.specs.Report.{Miscompare, field, file_name, miscompare_line, miscompares}
 use Rattle.jr_desk_totals.specs.declared.tallies.Bad.{Bad}
-use Rattle.jr_desk_totals.specs.Tallying.{miscompare_of}
+use Rattle.jr_desk_totals.specs.Bads.{miscompare_of}
 
 abbrev pub bad_line : Plan → Bad → List ℕ
 bad_line plan bad = miscompare_line plan (miscompare_of bad)

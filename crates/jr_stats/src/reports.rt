@@ -1,7 +1,7 @@
 ghost use Rattle.std.specs.Prelude.{◌≡◌, ◌++◌, IfOk, OnOk, flat_map, map};
 ghost use Rattle.jr_model.specs.Plan.{clone_of};
-ghost use Rattle.jr_model.specs.Report.{file_name, found_word, in_order, miscompares, part_text, report_of, what_text};
-ghost use Rattle.jr_desk_totals.specs.Tallying.{miscompare_of};
+ghost use Rattle.jr_model.specs.Report.{found_word, in_order, miscompares, report_of, what_text};
+ghost use Rattle.jr_desk_totals.specs.Bads.{miscompare_of};
 ghost use Rattle.jr_stats.specs.Miscompares.{AreOfRun, bad_line, named_fields, place_fields};
 
 use crate::totals::totals_text;
@@ -88,45 +88,26 @@ fn push_place(text: &mut Vec<u8>, plan: &Plan, piece: &Piece) -> Result<(), Memo
     ensures { OnOk result (text.new.items ≡ text.old.items ++ place_fields plan.now piece.now) }
 {
     push_text(text, " file=")?;
-    push_file_name(text, plan, piece.file)?;
+    push_text(text, plan.file_name(piece.file))?;
     push_field(text, "offset", piece.offset)?;
     push_field(text, "length", u64::from(piece.len))
-}
-
-fn push_file_name(text: &mut Vec<u8>, plan: &Plan, file: u32) -> Result<(), Memory>
-    ensures { OnOk result (text.new.items ≡ text.old.items ++ file_name plan.now file) }
-{
-    match plan.files().get(file as usize) {
-        None => Ok(()),
-        Some(spec) => push_text(text, spec.name()),
-    }
 }
 
 fn push_what(text: &mut Vec<u8>, what: What) -> Result<(), Memory>
     ensures { OnOk result (text.new.items ≡ text.old.items ++ what_text what) }
 {
     match what {
-        What::Header => push_part(text, Part::Header),
-        What::Digest => push_part(text, Part::Digest),
-        What::DataArea => push_part(text, Part::DataArea),
+        What::Header => push_text(text, Part::Header.word()),
+        What::Digest => push_text(text, Part::Digest.word()),
+        What::DataArea => push_text(text, Part::DataArea.word()),
         What::Byte(place) => {
             push_text(text, "byte:")?;
             push_number(text, u64::from(place))
         }
         What::Chunk(chunk, part) => {
-            push_part(text, part)?;
+            push_text(text, part.word())?;
             push_text(text, ":")?;
             push_number(text, u64::from(chunk))
         }
-    }
-}
-
-fn push_part(text: &mut Vec<u8>, part: Part) -> Result<(), Memory>
-    ensures { OnOk result (text.new.items ≡ text.old.items ++ part_text part) }
-{
-    match part {
-        Part::Header => push_text(text, "header"),
-        Part::Digest => push_text(text, "digest"),
-        Part::DataArea => push_text(text, "data"),
     }
 }

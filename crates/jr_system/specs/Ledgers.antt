@@ -18,13 +18,16 @@ has_files engine.File = true
 has_files engine.Memory = false
 has_files engine.Null = false
 
+-- why the files of the plan can't be judged after a cut
+abbrev pub unjudgeable : Plan → Option CliFault
+unjudgeable plan =
+    if has_files plan.engine
+    then (if is_some (after_fault plan) then Some fault.LedgerJob else None)
+    else Some fault.LedgerEngine
+
 -- of a run of the plan for which the words ask for a ledger
 abbrev pub fault_of_ledger : Choice → Plan → Option CliFault
-fault_of_ledger choice plan =
-    if has_rounds choice then Some fault.LedgerRounds
-    else (if has_files plan.engine
-    then (if is_some (after_fault plan) then Some fault.LedgerJob else None)
-    else Some fault.LedgerEngine)
+fault_of_ledger choice plan = if has_rounds choice then Some fault.LedgerRounds else unjudgeable plan
 
 abbrev pub ledger_fault : Choice → Plan → Option CliFault
 ledger_fault choice plan = if is_some choice.ledger then fault_of_ledger choice plan else None

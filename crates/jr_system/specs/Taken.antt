@@ -4,8 +4,8 @@ use Rattle.std.specs.List.{list_any}
 use Rattle.jr_io_files.specs.declared.claims.Claims.{Claims}
 use Rattle.jr_io_files.specs.declared.shares.Reads.{Reads}
 use Rattle.jr_io_files.specs.declared.shares.Reads.TheVariants as reads
-use Rattle.jr_job_direct.specs.declared.wishes.Wish.{Wish}
-use Rattle.jr_job_direct.specs.declared.wishes.Wish.TheVariants as wish
+use Rattle.jr_plan.specs.declared.wishes.Wish.{Wish}
+use Rattle.jr_plan.specs.declared.wishes.Wish.TheVariants as wish
 
 -- checks read what was synced, unless the words say that they read what the system has
 abbrev pub reads_of : Bool → Reads

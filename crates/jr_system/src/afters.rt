@@ -4,19 +4,18 @@ ghost use Rattle.std.specs.IoError.{error_kind};
 ghost use Rattle.jr_io_files.specs.Engines.{IsFresh};
 ghost use Rattle.jr_io_files.specs.ToRead.{views_to_read};
 ghost use Rattle.jr_system.specs.Afters.{has_run_words, has_traces, judgement_fault};
-ghost use Rattle.jr_system.specs.Ledgers.{has_rounds};
 ghost use Rattle.jr_system.specs.Taken.{reads_of};
 
 use crate::files::{Taken, claims_of, drop_pipes_of};
+use crate::ledgers::{has_rounds, refuse, unjudgeable};
 use crate::remarks::Remarks;
 use crate::show::Screen;
 use crate::stops::Stop;
-use jr_after_plans::after_fault;
-use jr_cli_words::{Choice, CliFault, memory_or};
+use jr_cli_words::{Choice, CliFault};
 use jr_escape::Escaped;
 use jr_io_blocks::Launcher;
 use jr_io_files::{Reserved, claim_to_read};
-use jr_model::{Dir, EngineKind, Piece};
+use jr_model::{Dir, Piece};
 use jr_plan::Plan;
 use std::alloc::{AllocGlobal, Global};
 use std::fs::{File, Files};
@@ -32,31 +31,17 @@ pub fn refuse_judgement(alloc: Global, choice: &Choice<'_>, plan: &Plan) -> Resu
     ensures fault { IfErr result (λ stop. Some stop ≡ judgement_fault choice.now plan.now) }
     ensures none { OnOk result (judgement_fault choice.now plan.now ≡ None) }
 {
-    let Some(fault) = judgement_fault(choice, plan) else {
-        return Ok(());
-    };
-    if let CliFault::LedgerJob = fault
-        && let Some(why) = after_fault(plan)
-    {
-        return Err(Stop::ledger_job(alloc, plan, &why));
-    }
-    Err(Stop::from(fault))
+    refuse(alloc, plan, judgement_fault(choice, plan))
 }
 
-// Why the plan's files can't be judged.
+// Why the words and the plan can't ask for a judgement.
 fn judgement_fault(choice: &Choice<'_>, plan: &Plan) -> Option<CliFault>
     ensures { result ≡ judgement_fault choice.now plan.now }
 {
     if has_run_words(choice) {
         return Some(CliFault::AfterRun);
     }
-    if plan.engine() != EngineKind::File {
-        return Some(CliFault::LedgerEngine);
-    }
-    match after_fault(plan) {
-        Some(_) => Some(CliFault::LedgerJob),
-        None => None,
-    }
+    unjudgeable(plan)
 }
 
 // Whether the words ask for what a run alone has.
@@ -68,19 +53,12 @@ fn has_run_words(choice: &Choice<'_>) -> bool
         || has_traces(choice)
         || has_rounds(choice)
         || choice.map
-        || choice.page.is_some()
 }
 
 fn has_traces(choice: &Choice<'_>) -> bool
     ensures { result ≡ has_traces choice.now }
 {
     choice.trace.is_some() || choice.check_trace.is_some() || choice.keep_traces
-}
-
-fn has_rounds(choice: &Choice<'_>) -> bool
-    ensures { result ≡ has_rounds choice.now }
-{
-    choice.run_for.is_some() || choice.repeat.is_some() || choice.go_on
 }
 
 /// Takes the plan's files to be judged: each that a clone writes has to be there, and none is made or written. A launcher drops what the
@@ -130,11 +108,7 @@ impl<'a> Taken<'a> {
     }
 
     fn tell_unread<R: Eprint>(&self, rt: &R, plan: &Plan, chunk: &Piece) {
-        let name = match plan.files().get(chunk.file as usize) {
-            Some(spec) => spec.name(),
-            None => "",
-        };
-        let name = Escaped(&name);
+        let name = Escaped(&plan.file_name(chunk.file));
         let (offset, len) = (chunk.offset, chunk.len);
         let _ = match self.files().failed_call(chunk.file, Dir::Read, offset, len) {
             Some(call) => eprintln!(rt;
@@ -154,11 +128,6 @@ impl Stop {
         ensures memory { error_kind error ≡ ErrorKind.OutOfMemory → result ≡ CliFault.Memory }
         ensures other { error_kind error ≢ ErrorKind.OutOfMemory → result ≡ CliFault.ReadLedger }
     {
-        Stop::file(
-            memory_or(&error, CliFault::ReadLedger),
-            "read",
-            String::from_str(alloc, path).ok(),
-            error,
-        )
+        Stop::at_path(alloc, CliFault::ReadLedger, "read", path, error)
     }
 }

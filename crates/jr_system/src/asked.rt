@@ -122,6 +122,11 @@ impl Asked {
         }
     }
 
+    // What it is shared by.
+    pub(crate) fn shared_ledger(&self) -> Option<&Arc<RunLedger, Global>> {
+        self.ledger.get()
+    }
+
     /// How many lines were asked for since this was last called.
     pub fn take_lines(&self) -> u64 {
         self.lines.swap(0, Ordering::Relaxed)

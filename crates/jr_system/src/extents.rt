@@ -69,7 +69,7 @@ pub(crate) fn checked_percent(clone: &SubJob) -> u8
     ensures most { result ≤ 100 }
 {
     clone.facts();
-    if clone.method().kind.is_verified() && clone.checks_writes() {
+    if clone.verifies() {
         judged_percent(clone.io_type(), clone.read_percent())
     } else {
         0

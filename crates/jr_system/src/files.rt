@@ -2,7 +2,7 @@
 ghost use Rattle.std.specs.Prelude.{◌≡◌, ◌⊎◌, length, map, IfOk, IfErr, IfSome, is_some, vec_len};
 ghost use Rattle.std.specs.List.{list_any, range_with_len};
 ghost use Rattle.std.specs.Option.{option_copied};
-ghost use Rattle.jr_job_direct.specs.Wishes.{wish_of};
+ghost use Rattle.jr_plan.specs.Wishes.{wish_of};
 ghost use Rattle.jr_io_files.specs.Engines.{IsFresh, IsOpenFault, opened_views};
 ghost use Rattle.jr_system.specs.Taken.{asks_launcher, claims_of, directs_of, drop_pipes_of, is_direct, reads_of};
 ghost use Rattle.jr_system.specs.Wanted.{is_wanted, wishes_of};
@@ -17,11 +17,8 @@ use jr_io_blocks::{Dropper, Launcher};
 use jr_io_files::{
     Claims, Directs, FileEngine, Reads, Refusal, Reserved, SharedFile, claim_direct,
 };
-use jr_job_direct::{Wish, wish_of};
-use jr_model::EngineKind;
-use jr_plan::Plan;
+use jr_plan::{Plan, Wish};
 use jr_report_faults::Faults;
-use jr_text::{Section, sections};
 use std::alloc::{AllocError, Global};
 use std::fs;
 use std::fs::{File, Files};
@@ -37,39 +34,23 @@ pub struct Taken<'a> {
     pub(crate) remarks: Remarks,
 }
 
-/// What the jobs say of the I/O to each file of their plan; nothing where none of it may go past the system's cache.
-pub fn wishes(
-    alloc: Global,
-    text: &[u8],
-    choice: &Choice<'_>,
-    plan: &Plan,
-) -> Result<Vec<Wish>, AllocError>
-    ensures { IfOk result (λ wishes. wishes.items
-        ≡ wishes_of text.now (option_copied choice.now.section) choice.now.cached plan.now) }
+// What the jobs say of the I/O to each file of their plan; nothing if all of it is to go through the system's cache.
+fn wishes_of(alloc: Global, cached: bool, plan: &Plan) -> Result<Vec<Wish>, AllocError>
+    ensures { IfOk result (λ wishes. wishes.items ≡ wishes_of cached plan.now) }
 {
-    if !matches!(plan.engine(), EngineKind::File) || choice.cached {
+    if cached {
         return Ok(Vec::new(alloc));
     }
-    // (a text that makes a plan has sections, unless memory is wanting)
-    let Ok(sections) = sections(alloc, text) else {
-        return Err(AllocError);
-    };
-    wishes_in(alloc, sections.as_slice(), choice.section, plan)
+    all_wishes(alloc, plan)
 }
 
-// What the jobs of these sections say of each file.
-fn wishes_in(
-    alloc: Global,
-    sections: &[Section],
-    only: Option<&str>,
-    plan: &Plan,
-) -> Result<Vec<Wish>, AllocError>
-    ensures { IfOk result (λ wishes. wishes.items
-        ≡ map (wish_of sections.now (option_copied only.entry) plan.now.clones) (range_with_len 0 (length plan.now.files))) }
+// What the jobs say of each file.
+fn all_wishes(alloc: Global, plan: &Plan) -> Result<Vec<Wish>, AllocError>
+    ensures { IfOk result (λ wishes. wishes.items ≡ map (wish_of plan.now.clones) (range_with_len 0 (length plan.now.files))) }
 {
     let mut wishes = Vec::new(alloc);
     for file in 0..plan.files().len() {
-        wishes.push(wish_of(sections, only, plan, file))?;
+        wishes.push(plan.wish(file))?;
     }
     Ok(wishes)
 }
@@ -80,7 +61,6 @@ pub fn take_files<'a, R: Files<File = File> + AllocGlobal + Screen>(
     rt: &R,
     plan: &Plan,
     choice: &Choice<'a>,
-    wishes: &[Wish],
     kept: &[Reserved<'_>],
 ) -> Result<Taken<'a>, Stop>
     ensures opened { IfOk result (λ taken. taken.files.files ≡ opened_views plan.now.files) }
@@ -89,15 +69,18 @@ pub fn take_files<'a, R: Files<File = File> + AllocGlobal + Screen>(
 {
     let launcher = Launcher::new(drop_pipes_of(choice));
     let claims = claims_of(choice);
-    let files = match claimed(rt, plan, choice, claims, wishes, kept) {
+    let Ok(wishes) = wishes_of(rt.alloc(), choice.cached, plan) else {
+        return Err(Stop::from(CliFault::Memory));
+    };
+    let files = match claimed(rt, plan, choice, claims, &wishes, kept) {
         Ok(files) => files,
         Err(refusal) => return Err(Stop::files(refusal)),
     };
     let has_notes = choice.notes || rt.is_shown();
     if has_notes {
-        tell_cached(rt, plan, wishes, &files);
+        tell_cached(rt, plan, &wishes, &files);
     }
-    let direct = had_direct(wishes, &files);
+    let direct = had_direct(&wishes, &files);
     Ok(Taken {
         files,
         launcher,

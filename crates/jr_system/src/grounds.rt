@@ -9,7 +9,6 @@ use crate::stops::Stop;
 use jr_cli_words::{Choice, CliFault};
 use jr_engines::{MemoryEngine, NullEngine};
 use jr_io_files::{FileEngine, Reserved, SharedFile};
-use jr_job_direct::Wish;
 use jr_model::EngineKind;
 use jr_plan::Plan;
 use std::alloc::AllocGlobal;
@@ -37,13 +36,12 @@ impl<'a> Ground<'a> {
         rt: &R,
         plan: &Plan,
         choice: &Choice<'a>,
-        wishes: &[Wish],
         kept: &[Reserved<'_>],
     ) -> Result<Ground<'a>, Stop>
         ensures { IfOk result (IsGroundOf plan.now) }
     {
         match plan.engine() {
-            EngineKind::File => Ok(Ground::Files(take_files(rt, plan, choice, wishes, kept)?)),
+            EngineKind::File => Ok(Ground::Files(take_files(rt, plan, choice, kept)?)),
             EngineKind::Memory => Ok(Ground::Memory),
             EngineKind::Null => Ok(Ground::Nothing),
         }

@@ -1,6 +1,6 @@
 // The ledger of a run: whether the words may ask for one, what it takes of the run's files, and why it couldn't be kept.
 ghost use Rattle.std.specs.Prelude.{◌≡◌, IfErr, OnOk, Some, None};
-ghost use Rattle.jr_system.specs.Ledgers.{ledger_fault};
+ghost use Rattle.jr_system.specs.Ledgers.{has_rounds, ledger_fault, unjudgeable};
 
 use crate::asked::Asked;
 use crate::files::Taken;
@@ -21,7 +21,15 @@ pub fn refuse_ledger(alloc: Global, choice: &Choice<'_>, plan: &Plan) -> Result<
     ensures fault { IfErr result (λ stop. Some stop ≡ ledger_fault choice.now plan.now) }
     ensures none { OnOk result (ledger_fault choice.now plan.now ≡ None) }
 {
-    let Some(fault) = ledger_fault(choice, plan) else {
+    refuse(alloc, plan, ledger_fault(choice, plan))
+}
+
+// Refuses it for this fault, if there is one. A job that can't be judged is told with the reason.
+pub(crate) fn refuse(alloc: Global, plan: &Plan, fault: Option<CliFault>) -> Result<(), Stop>
+    ensures fault { IfErr result (λ stop. Some stop ≡ fault) }
+    ensures none { OnOk result (fault ≡ None) }
+{
+    let Some(fault) = fault else {
         return Ok(());
     };
     if let CliFault::LedgerJob = fault
@@ -39,9 +47,23 @@ fn ledger_fault(choice: &Choice<'_>, plan: &Plan) -> Option<CliFault>
     if choice.ledger.is_none() {
         return None;
     }
-    if choice.run_for.is_some() || choice.repeat.is_some() || choice.go_on {
+    if has_rounds(choice) {
         return Some(CliFault::LedgerRounds);
     }
+    unjudgeable(plan)
+}
+
+// Whether the words ask for several rounds.
+pub(crate) fn has_rounds(choice: &Choice<'_>) -> bool
+    ensures { result ≡ has_rounds choice.now }
+{
+    choice.run_for.is_some() || choice.repeat.is_some() || choice.go_on
+}
+
+// Why the plan's files can't be judged after a cut.
+pub(crate) fn unjudgeable(plan: &Plan) -> Option<CliFault>
+    ensures { result ≡ unjudgeable plan.now }
+{
     if plan.engine() != EngineKind::File {
         return Some(CliFault::LedgerEngine);
     }
@@ -51,41 +73,50 @@ fn ledger_fault(choice: &Choice<'_>, plan: &Plan) -> Option<CliFault>
     }
 }
 
+/// Begins to record a run of the plan: the lines go there, if anywhere, and the first one goes out now. Each file is to be synced each time
+/// that so many of its writes have ended, if that is asked for. Nothing is done to the files yet.
+pub fn begin_ledger(
+    alloc: Global,
+    plan: &Plan,
+    out: Option<File>,
+    every: Option<u32>,
+    asked: &Asked,
+) -> Result<(), Stop> {
+    let Ok(ledger) = RunLedger::new(alloc, plan, out, every) else {
+        return Err(Stop::from(CliFault::Memory));
+    };
+    let Ok(ledger) = Arc::new(alloc, ledger) else {
+        return Err(Stop::from(CliFault::Memory));
+    };
+    ledger.begin();
+    asked.record(ledger);
+    Ok(())
+}
+
 impl<'a> Taken<'a> {
-    /// Has what a run of the plan over these files writes recorded: the lines go there, if anywhere, from the first line on; and each file is
-    /// synced each time that so many of its writes have ended, if that is asked for.
-    pub fn record<R: Outlet>(
-        &self,
-        rt: &R,
-        plan: &Plan,
-        out: Option<File>,
-        every: Option<u32>,
-        asked: &Asked,
-    ) -> Result<(), Stop> {
-        let alloc = rt.alloc();
-        let files = self.files_to_sync(rt, every)?;
-        let Ok(ledger) = RunLedger::new(alloc, plan, out, every, files) else {
-            return Err(Stop::from(CliFault::Memory));
+    /// Has what a run writes to these files recorded by its ledger, if it has one, which syncs them on the way if that is asked for.
+    pub fn record<R: Outlet>(&self, rt: &R, every: Option<u32>, asked: &Asked) -> Result<(), Stop> {
+        let Some(ledger) = asked.shared_ledger() else {
+            return Ok(());
         };
-        let Ok(ledger) = Arc::new(alloc, ledger) else {
-            return Err(Stop::from(CliFault::Memory));
-        };
-        ledger.begin();
-        if self.files().record(&ledger).is_err() {
-            return Err(Stop::from(CliFault::Memory));
+        if every.is_some() {
+            self.sync_by(rt, ledger)?;
         }
-        asked.record(ledger);
-        Ok(())
+        match self.files().record(ledger) {
+            Ok(()) => Ok(()),
+            Err(_) => Err(Stop::from(CliFault::Memory)),
+        }
     }
 
-    // The files once more, to be synced each time that so many of their writes have ended.
-    fn files_to_sync<R: Outlet>(&self, rt: &R, every: Option<u32>) -> Result<Vec<File>, Stop> {
-        if every.is_none() {
-            return Ok(Vec::new(rt.alloc()));
-        }
-        match self.files().opened_to_sync(rt, rt.alloc()) {
-            Ok(files) => Ok(files),
-            Err(refusal) => Err(Stop::files(refusal)),
+    // Hands the ledger the files once more, to be synced each time that so many of their writes have ended.
+    fn sync_by<R: Outlet>(&self, rt: &R, ledger: &RunLedger) -> Result<(), Stop> {
+        let files = match self.files().opened_to_sync(rt, rt.alloc()) {
+            Ok(files) => files,
+            Err(refusal) => return Err(Stop::files(refusal)),
+        };
+        match ledger.sync_these(rt.alloc(), files) {
+            Ok(()) => Ok(()),
+            Err(_) => Err(Stop::from(CliFault::Memory)),
         }
     }
 }

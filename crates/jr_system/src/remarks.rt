@@ -7,7 +7,7 @@ use jr_cli_words::{Choice, CliFault};
 use jr_escape::Escaped;
 use jr_io_files::{FileEngine, FileFault, SharedFile, Unsynced};
 use jr_model::{Dir, Outcome, TicketKind};
-use jr_plan::{Plan, SubJob};
+use jr_plan::Plan;
 use jr_report_faults::{Fault, FaultNote, Faults};
 use std::alloc::{AllocError, Global};
 use std::io;
@@ -170,13 +170,9 @@ fn names_of(alloc: Global, plan: &Plan) -> Result<Vec<String>, AllocError> {
 // Whether any job of the plan checks what it reads.
 fn has_checks(plan: &Plan) -> bool {
     for place in 0..plan.clones() {
-        if checks(plan.clone_at(place)) {
+        if plan.clone_at(place).verifies() {
             return true;
         }
     }
     false
-}
-
-fn checks(clone: &SubJob) -> bool {
-    clone.method().kind.is_verified() && clone.checks_writes()
 }

@@ -107,12 +107,7 @@ impl Stop {
         ensures memory { error_kind error ≡ ErrorKind.OutOfMemory → result ≡ CliFault.Memory }
         ensures other { error_kind error ≢ ErrorKind.OutOfMemory → result ≡ CliFault.Write }
     {
-        Stop::file(
-            memory_or(&error, CliFault::Write),
-            "make",
-            String::from_str(alloc, path).ok(),
-            error,
-        )
+        Stop::at_path(alloc, CliFault::Write, "make", path, error)
     }
 
     /// The job file of this path can't be opened.
@@ -120,12 +115,7 @@ impl Stop {
         ensures memory { error_kind error ≡ ErrorKind.OutOfMemory → result ≡ CliFault.Memory }
         ensures other { error_kind error ≢ ErrorKind.OutOfMemory → result ≡ CliFault.Read }
     {
-        Stop::file(
-            memory_or(&error, CliFault::Read),
-            "read",
-            String::from_str(alloc, path).ok(),
-            error,
-        )
+        Stop::at_path(alloc, CliFault::Read, "read", path, error)
     }
 
     /// The trace of this path can't be opened.
@@ -133,12 +123,7 @@ impl Stop {
         ensures memory { error_kind error ≡ ErrorKind.OutOfMemory → result ≡ CliFault.Memory }
         ensures other { error_kind error ≢ ErrorKind.OutOfMemory → result ≡ CliFault.ReadTrace }
     {
-        Stop::file(
-            memory_or(&error, CliFault::ReadTrace),
-            "read",
-            String::from_str(alloc, path).ok(),
-            error,
-        )
+        Stop::at_path(alloc, CliFault::ReadTrace, "read", path, error)
     }
 
     /// What is to be written to the file of this path can't be.
@@ -146,12 +131,7 @@ impl Stop {
         ensures memory { error_kind error ≡ ErrorKind.OutOfMemory → result ≡ CliFault.Memory }
         ensures other { error_kind error ≢ ErrorKind.OutOfMemory → result ≡ CliFault.Write }
     {
-        Stop::file(
-            memory_or(&error, CliFault::Write),
-            "write",
-            String::from_str(alloc, path).ok(),
-            error,
-        )
+        Stop::at_path(alloc, CliFault::Write, "write", path, error)
     }
 
     /// No ledger of the plan can be judged, for this fault: it is told by the name of its job.
@@ -173,6 +153,21 @@ impl Stop {
         ensures { result ≡ CliFault.Write }
     {
         Stop::file(CliFault::Write, "sync", Some(name), error)
+    }
+
+    // This couldn't be done to the file of this path.
+    pub(crate) fn at_path(
+        alloc: Global,
+        fault: CliFault,
+        act: &'static str,
+        path: &str,
+        error: io::Error,
+    ) -> Stop
+        ensures memory { error_kind error ≡ ErrorKind.OutOfMemory → result ≡ CliFault.Memory }
+        ensures other { error_kind error ≢ ErrorKind.OutOfMemory → result ≡ fault }
+    {
+        let name = String::from_str(alloc, path).ok();
+        Stop::file(memory_or(&error, fault), act, name, error)
     }
 
     pub(crate) fn file(

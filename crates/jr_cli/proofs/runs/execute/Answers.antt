@@ -1,7 +1,7 @@
 use Rattle.std.proofs.Common.{◌≡◌, ◌<◌, [], refl, sym, subst}
 use Rattle.jr_model.specs.Legal.{is_complete}
+use Rattle.jr_model.proofs.PlanLemmas.{numbered_of}
 use Rattle.jr_laws_quiet.proofs.Races.{unraced}
-use Rattle.jr_laws_steps.proofs.CountLaws.{numbered_of}
 use Rattle.jr_desk.specs.DeskState.{DeskState}
 use Rattle.jr_crew_threads.specs.Stops.{IsCompleteOrAsked}
 use Rattle.jr_cli_words.specs.declared.faults.CliFault.{CliFault}

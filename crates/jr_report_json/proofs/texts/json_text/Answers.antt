@@ -1,6 +1,6 @@
 use Rattle.std.proofs.Common.{ℕ, List, ◌++◌, codes, map, ap, ◌∙◌}
 use Rattle.jr_report_faults.specs.Faults.{named}
-use Rattle.jr_desk_totals.specs.Tallying.{miscompare_of}
+use Rattle.jr_desk_totals.specs.Bads.{miscompare_of}
 use Rattle.jr_report_json.specs.Rows.{end_text, ending_of, found_text, head_text, notes_of, plan_text, reads_text}
 use Rattle.jr_report_json.proofs.Members.{five_more, report_text}
 use Rattle.jr_report_json.proofs.texts.json_text.Goals as goal

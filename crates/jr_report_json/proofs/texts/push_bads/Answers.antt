@@ -1,7 +1,7 @@
 use Rattle.std.proofs.Common.{◌++◌, ◌≤◌, List, length, map, ap, sym, ◌∙◌, arith}
 use Rattle.serde_json.specs.Data.{Data}
 use Rattle.jr_model.specs.declared.events.What.TheVariants.{Header}
-use Rattle.jr_desk_totals.specs.Tallying.{miscompare_of}
+use Rattle.jr_desk_totals.specs.Bads.{miscompare_of}
 use Rattle.jr_desk_totals.specs.declared.tallies.Bad.{Bad}
 use Rattle.jr_diagnosis.specs.Rulings.{told}
 use Rattle.jr_report_json.specs.Json.{miscompare_json}

@@ -1,7 +1,7 @@
 use Rattle.std.proofs.Common.{◌≡◌, ◌++◌, ◌≤◌, drop, map}
 use Rattle.jr_diagnosis.specs.Rulings.{told}
 use Rattle.jr_report_json.specs.Rows.{array_text, bads_json, rest_text}
-use Rattle.jr_desk_totals.specs.Tallying.{miscompare_of}
+use Rattle.jr_desk_totals.specs.Bads.{miscompare_of}
 use Rattle.jr_report_json.proofs.texts.push_bads.Given as goal
 
 -- what is written, and the items that are left, are the array; there are no more items than bad verdicts

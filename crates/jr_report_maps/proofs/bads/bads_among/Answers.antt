@@ -6,8 +6,8 @@ use Rattle.jr_model.specs.declared.events.IssueKind.TheVariants as issue
 use Rattle.jr_model.specs.declared.events.Event.{Event}
 use Rattle.jr_model.specs.declared.events.Event.TheVariants.{Issue}
 use Rattle.jr_model.specs.Report.{Miscompare, miscompare_by}
-use Rattle.jr_desk_totals.specs.Tallying.{miscompare_of}
-use Rattle.jr_report_maps.proofs.Verdicts.{event_more}
+use Rattle.jr_model.proofs.ListLemmas.{filter_map_more}
+use Rattle.jr_desk_totals.specs.Bads.{miscompare_of}
 use Rattle.jr_report_maps.proofs.bads.bads_among.Goals as goal
 
 -- what stands behind the end of a list of events
@@ -21,7 +21,7 @@ loop-event-preserved c =
     c.in_ok-add_if.ensures
     ∙ ap (λ (found : Option Miscompare). map miscompare_of c.loop-event.bads.items ++ option_to_list found) c.bad_by.ensures
     ∙ ap (λ (before : List Miscompare). before ++ option_to_list (by event)) c.loop-event.invariant
-    ∙ sym (event_more by c.args.events.now c.loop-event.event-index none c.loop-event-test.true)
+    ∙ sym (filter_map_more by c.args.events.now c.loop-event.event-index none c.loop-event-test.true)
 
 pub returns : goal.returns
 returns c =

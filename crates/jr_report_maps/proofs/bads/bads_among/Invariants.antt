@@ -1,7 +1,7 @@
 use Rattle.std.proofs.Common.{◌≡◌, take, map}
 use Rattle.std.specs.Prelude.{filter_map}
 use Rattle.jr_model.specs.Report.{miscompare_by}
-use Rattle.jr_desk_totals.specs.Tallying.{miscompare_of}
+use Rattle.jr_desk_totals.specs.Bads.{miscompare_of}
 use Rattle.jr_report_maps.proofs.bads.bads_among.Given as goal
 
 -- the bad verdicts of the events so far

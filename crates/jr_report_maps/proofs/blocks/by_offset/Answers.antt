@@ -8,7 +8,7 @@ use Rattle.jr_report_maps.specs.Sweeps.{bytes_of, is_in_block, is_over}
 use Rattle.jr_report_maps.specs.declared.spans.Span.{Span}
 use Rattle.jr_report_maps.proofs.Lists.{any_map}
 use Rattle.jr_report_maps.proofs.blocks.by_offset.Goals as goal
-use Rattle.jr_desk_totals.specs.Tallying.{miscompare_of}
+use Rattle.jr_desk_totals.specs.Bads.{miscompare_of}
 
 pub returns-clause-same : goal.returns-clause-same
 returns-clause-same c = λ file size block.

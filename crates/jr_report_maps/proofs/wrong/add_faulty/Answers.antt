@@ -4,9 +4,9 @@ use Rattle.jr_model.specs.declared.blocks.Piece.{Piece}
 use Rattle.jr_model.specs.declared.events.Event.{Event}
 use Rattle.jr_model.specs.declared.events.Event.TheVariants.{Issue}
 use Rattle.jr_model.specs.declared.events.IssueKind.TheVariants as issue
+use Rattle.jr_model.proofs.ListLemmas.{filter_map_more}
 use Rattle.jr_report_maps.specs.Spans.{span_bytes}
 use Rattle.jr_report_maps.specs.WrongBlocks.{faulty_piece}
-use Rattle.jr_report_maps.proofs.Lists.{given_more}
 use Rattle.jr_report_maps.proofs.wrong.add_faulty.Goals as goal
 
 -- what stands behind the end of a list of events
@@ -22,4 +22,4 @@ loop-event-preserved c =
     ∙ ap (λ (pieces : List Piece). pieces ++ option_to_list c.faulty_piece.result) c.loop-event.invariant
     ∙ ap (λ (o : Option Piece). (was ++ before) ++ option_to_list o) c.faulty_piece.ensures
     ∙ append_assoc was before _
-    ∙ ap (λ (pieces : List Piece). was ++ pieces) (sym (given_more given c.args.history.now c.loop-event.event-index none c.loop-event-test.true))
+    ∙ ap (λ (pieces : List Piece). was ++ pieces) (sym (filter_map_more given c.args.history.now c.loop-event.event-index none c.loop-event-test.true))

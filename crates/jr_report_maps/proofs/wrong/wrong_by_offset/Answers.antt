@@ -11,7 +11,7 @@ use Rattle.jr_report_maps.specs.WrongBlocks.{faulty_pieces}
 use Rattle.jr_report_maps.specs.declared.spans.Span.{Span}
 use Rattle.jr_report_maps.proofs.Lists.{any_map}
 use Rattle.jr_report_maps.proofs.wrong.wrong_by_offset.Goals as goal
-use Rattle.jr_desk_totals.specs.Tallying.{miscompare_of}
+use Rattle.jr_desk_totals.specs.Bads.{miscompare_of}
 
 pub returns-clause-same : goal.returns-clause-same
 returns-clause-same c = λ file size block.

@@ -1,13 +1,13 @@
 use Rattle.std.proofs.Common.{map, string_bytes}
 use Rattle.jr_model.specs.declared.events.What.TheVariants.{Header}
+use Rattle.jr_model.proofs.ListLemmas.{flat_map_so_far}
 use Rattle.jr_diagnosis.specs.Rulings.{told}
 use Rattle.jr_report_page.specs.Rows.{bad_row}
-use Rattle.jr_report_page.proofs.RowLemmas.{row_more}
 use Rattle.jr_report_page.proofs.tables.push_bads.Goals as goal
 use Rattle.jr_desk_totals.specs.declared.tallies.Bad.{Bad}
 
 pub loop-bad-preserved : goal.loop-bad-preserved
 loop-bad-preserved c =
     let none : Bad = record { write = record { clone = 0; pass = 0; number = 0 }; piece = record { file = 0; offset = 0; len = 0 }; what = Header } in
-    row_more (bad_row c.args.plan.now (map told c.args.found.now)) (string_bytes c.args.page.now) (string_bytes c.loop-bad.page) (string_bytes c.push_bad.new.page) c.args.bads.now
+    flat_map_so_far (bad_row c.args.plan.now (map told c.args.found.now)) (string_bytes c.args.page.now) (string_bytes c.loop-bad.page) (string_bytes c.push_bad.new.page) c.args.bads.now
     c.loop-bad.bad-index none c.loop-bad-test.true c.loop-bad.invariant c.in_ok-push_bad.ensures

@@ -1,6 +1,6 @@
 use Rattle.std.proofs.Common.{rules}
+use Rattle.jr_model.proofs.ListLemmas.{map_more}
 use Rattle.jr_rounds_rest.specs.Left.{task_of}
-use Rattle.jr_rounds_rest.proofs.RestLemmas.{map_more}
 use Rattle.jr_rounds_rest.proofs.tasks.first_tasks.Goals as goal
 
 pub loop-i-preserved : goal.loop-i-preserved

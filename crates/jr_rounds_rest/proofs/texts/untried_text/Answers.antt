@@ -1,6 +1,6 @@
 use Rattle.jr_rounds_rest.specs.Told.{untried_line, untried_text}
-use Rattle.jr_rounds_rest.proofs.RestLemmas.{flat_map-further}
 use Rattle.jr_rounds_rest.proofs.texts.untried_text.Goals as goal
+use Rattle.jr_plan.proofs.ListLemmas.{flat_map-further}
 
 pub loop-i-preserved : goal.loop-i-preserved
 loop-i-preserved c =

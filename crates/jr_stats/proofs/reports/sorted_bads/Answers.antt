@@ -3,7 +3,7 @@ use Rattle.std.proofs.lemmas.Result.{IfOk-weaker}
 use Rattle.jr_model.specs.Legal.{is_legal}
 use Rattle.jr_model.specs.Plan.{Plan}
 use Rattle.jr_model.specs.Report.{in_order}
-use Rattle.jr_desk_totals.specs.Tallying.{miscompare_of}
+use Rattle.jr_desk_totals.specs.Bads.{miscompare_of}
 use Rattle.jr_stats.proofs.reports.sorted_bads.Goals as goal
 
 pub bads_in_order-requires : goal.bads_in_order-requires

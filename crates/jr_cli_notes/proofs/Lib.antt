@@ -1,0 +1,4 @@
+pub mod CommonLemmas
+pub mod FirstOfMost
+pub mod WordLemmas
+mod WorkedCommon
