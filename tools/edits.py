@@ -7,11 +7,13 @@ each of which must be refused too. It ends with 0 if each was. With names it tri
   --look       only looks whether each edit can be applied: whether each text that it takes away stands once in its file. Takes no time.
   --jobs N     how many checks run at once (as many as there are processors, if there are 3 GB of memory for each)
   --minutes N  ends after N minutes, and fails if not all were tried by then
+  --within N   ends after N minutes, says which were not tried by then, and fails only if one of the others wasn't refused
 
-The list is checks/edits/REFUSED. It says of each edit that was refused of which sources: a checksum of the edit and of its crate's src/,
-specs/ and proofs/. An edit that wasn't refused has a "-". What a crate's edits gave goes into the list as soon as the crate is done, so an
-interrupted run loses little. A crate's contracts also speak of definitions of crates below it. What changes there isn't in the checksum:
-name the crates to try all of theirs.
+The list is checks/edits/REFUSED. It says of each edit that was refused of which sources: a checksum of the edit and of its crate's src/ and
+specs/, without lines of comments. Proofs aren't in it: an edit is refused since its body doesn't keep its contract, and no proof changes that.
+An edit that wasn't refused has a "-". What a crate's edits gave goes into the list as soon as the crate is done, so an interrupted run loses
+little. A crate's contracts also speak of definitions of crates below it. What changes there isn't in the checksum: name the crates to try all
+of theirs.
 
 An edit is tried as rt ci tries it: in a copy of the crate, over libraries that rt ci, rt check or a build has left (tools/prover.py). The
 edits of a crate are tried in turn, each over what the checks before it have proved. An edit that isn't refused so is tried again from
@@ -76,15 +78,20 @@ def add_to(digest, path, text):
     digest.update(f"{path} {len(text)}\n".encode() + text)
 
 
+def without_comments(text):
+    """A file of src/ or specs/ without its lines of comments."""
+    return b"\n".join(line for line in text.split(b"\n") if not line.lstrip().startswith((b"//", b"--")))
+
+
 def checksum_of_crate(name, folder):
-    """The checksum of a crate's sources, which lie in this folder."""
+    """The checksum of what a crate does and promises, in the sources that lie in this folder."""
     digest = hashlib.sha256()
-    for part in PARTS:
+    for part in ("src", "specs"):
         for at, folders, files in os.walk(os.path.join(folder, part)):
             folders.sort()
             for path in (os.path.join(at, it) for it in sorted(files)):
                 with open(path, "rb") as it:
-                    add_to(digest, f"crates/{name}/{os.path.relpath(path, folder)}", it.read())
+                    add_to(digest, f"crates/{name}/{os.path.relpath(path, folder)}", without_comments(it.read()))
     return digest
 
 
@@ -318,8 +325,9 @@ class Teller:
         return round((time.monotonic() - self.begun) / 60)
 
 
-def try_shares(shares, jobs, minutes, teller):
-    """Tries them side by side, and returns what became of each edit."""
+def try_shares(shares, jobs, minutes, teller, may_lack=False):
+    """Tries them side by side, and returns what became of each edit. Those of a share that hasn't ended after so many minutes may be
+    lacking, if that is allowed."""
     prover, tried = Prover(), {}
     limit = threading.Timer(max(minutes, 0) * 60, prover.end)
     limit.daemon = True
@@ -327,14 +335,15 @@ def try_shares(shares, jobs, minutes, teller):
     with concurrent.futures.ThreadPoolExecutor(jobs) as pool:
         try:
             for it in concurrent.futures.as_completed([pool.submit(share.try_all, prover, teller.tell) for share in shares]):
-                tried |= it.result()
+                if not (may_lack and isinstance(it.exception(), Ended)):
+                    tried |= it.result()
         except BaseException:
             prover.end()
             raise
     return tried
 
 
-def try_edits(edits, jobs, minutes, is_named):
+def try_edits(edits, jobs, minutes, is_named, may_lack=False):
     """Tries these edits, says what became of them, and returns the status."""
     shares = shares_of(edits, jobs)
     if not is_named:
@@ -342,13 +351,16 @@ def try_edits(edits, jobs, minutes, is_named):
     counts = [f"{name} {sum(crate_of(it) == name for it in edits)}" for name in dict.fromkeys(map(crate_of, edits))]
     print(f"tools/edits.py: {len(edits)} edits to try, {jobs} at once: {', '.join(counts) or 'none'}", flush=True)
     teller = Teller(edits)
-    tried = try_shares(shares, jobs, minutes, teller)
-    for edit in edits:
-        if not tried[edit].is_refused:
-            print(f"tools/edits.py: {edit}: {tried[edit].said}")
+    tried = try_shares(shares, jobs, minutes, teller, may_lack)
+    for edit, it in tried.items():
+        if not it.is_refused:
+            print(f"tools/edits.py: {edit}: {it.said}")
+    left = [edit for edit in edits if edit not in tried]
+    if left:
+        print(f"tools/edits.py: NOT TRIED in {minutes:.0f} min: {' '.join(left)}")
     refused = sum(it.is_refused for it in tried.values())
-    print(f"tools/edits.py: {refused} of {len(edits)} edits refused, {teller.minutes()} min")
-    return 0 if refused == len(edits) else 1
+    print(f"tools/edits.py: {refused} of {len(edits)} edits refused, {len(left)} not tried, {teller.minutes()} min")
+    return 0 if refused == len(tried) else 1
 
 
 def chosen(names, is_changed, is_named):
@@ -373,6 +385,7 @@ def asked(words):
     parser.add_argument("--look", action="store_true")
     parser.add_argument("--jobs", type=int, default=0, metavar="N")
     parser.add_argument("--minutes", type=float, default=DAY, metavar="N")
+    parser.add_argument("--within", type=float, metavar="N")
     return parser.parse_args(words)
 
 
@@ -395,7 +408,8 @@ def main(words):
         for name in sorted(set(map(crate_of, edits))):
             libraries(name)
         signal.signal(signal.SIGTERM, stop)
-        return try_edits(edits, given.jobs or places(), given.minutes, bool(given.names))
+        minutes, may_lack = (given.minutes, False) if given.within is None else (given.within, True)
+        return try_edits(edits, given.jobs or places(), minutes, bool(given.names), may_lack)
     except Lacking as it:
         print(f"tools/edits.py: FAILED: {it}")
         return 2

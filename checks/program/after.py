@@ -3,7 +3,8 @@
 Random files with ledgers are judged, 150 where TRIALS says no other number. Their bytes are made here from docs/FORMATS.md, with the digests
 of hashlib, and what must be found follows from which write each chunk, and each 512 bytes of it, was made by: the report, the JSON, the list
 of bad blocks and the status must say exactly that. Then a run keeps a ledger itself: what it wrote is kept, whatever of the ledger's end is
-cut off, and files that end too soon, that aren't there or that another run has locked are told of. No judgement may change a file.
+cut off, and files that end too soon, that aren't there or that another run has locked are told of. No judgement may change a file. The
+page of each has the rows and counts of its JSON.
 """
 
 import fcntl
@@ -14,6 +15,7 @@ import random
 import struct
 
 from support.case import Case
+from support.pages import read_page
 from support.program import expect, trials
 
 SECTOR = 512
@@ -159,7 +161,8 @@ def judged(place, number):
     place.put("data", data)
     place.put("ledger", ledger_text(head, lines) + rng.choice(["", "w 0 0", "b"]))
     size = rng.choice([1024, 2048, 4096])
-    status, out, said = run(place, "--after=ledger", "--json=json", "--bad-blocks=blocks", f"--bad-blocks-size={size}", "--notes", "job")
+    outputs = ["--json=json", "--page=page", "--bad-blocks=blocks", f"--bad-blocks-size={size}"]
+    status, out, said = run(place, "--after=ledger", *outputs, "--notes", "job")
     found = {offset: finding(job, lines, kept, offset, parts) for offset, parts in chunks.items()}
     counts = {word: sum(it[0] == word for it in found.values()) for word in ("kept", "lost", "broken", "torn", "open")}
     report = "file=data " + " ".join(f"{word}={count}" for word, count in counts.items()) + "\n"
@@ -179,8 +182,41 @@ def judged(place, number):
     told = json.loads(place.get("json"))
     expect(told["after"] == rows and told["unread"] == [] and told["status"] == wrong, "the JSON", told, rows)
     expect(told["files"] == [{"name": "data", **counts, "unread": 0}], "the files of the JSON", told["files"], counts)
+    compare_page(place.at("page"), told, place.get("job").decode())
     expect(place.get("data") == data, "the file is changed")
-    expect(sorted(os.listdir(place.path)) == ["blocks", "data", "first", "job", "json", "ledger"], "what is left", os.listdir(place.path))
+    left = sorted(os.listdir(place.path))
+    expect(left == ["blocks", "data", "first", "job", "json", "ledger", "page"], "what is left", left)
+
+
+def rows_of(all_of, words):
+    """The rows of a page that have these words of each."""
+    return [[str(one[word]) for word in words] for one in all_of]
+
+
+def write_cell(write):
+    return f"{write['clone']}/{write['pass']}/{write['number']}" if write else ""
+
+
+def compare_page(path, told, text):
+    """Ends the check where the page isn't that of the judgement whose JSON this is, of this job text."""
+    page, _ = read_page(path)
+    counts = {word: sum(it[word] for it in told["files"]) for word in ("kept", "lost", "broken", "torn", "unread")}
+    word = "GOOD" if counts["kept"] + counts["torn"] else "NOTHING PROMISED"
+    word = "BAD" if counts["lost"] + counts["broken"] else "FAULTS" if counts["unread"] else word
+    head = f"{word}: " + ", ".join(f"{count} {it}" for it, count in counts.items())
+    expect(page.head == head, "title", page.head, "and not", head)
+    rows = {kind: page.rows.get(kind, [[]])[1:] for kind in ("totals", "chunks", "unread", "files")}
+    wanted = rows_of(told["files"], ("name", "kept", "lost", "broken", "torn", "open", "unread"))
+    expect(rows["totals"] == wanted, "totals", rows["totals"], wanted)
+    chunks = rows_of(told["after"], ("word", "file", "offset", "length"))
+    chunks = [[*row, write_cell(one["kept"]), write_cell(one["found"])] for row, one in zip(chunks, told["after"])]
+    expect(rows["chunks"] == chunks[:1000], "chunks", rows["chunks"], chunks)
+    unread = rows_of(told["unread"], ("file", "offset", "length"))
+    expect(rows["unread"] == unread[:1000], "what can't be read", rows["unread"], unread)
+    more = [f"and {len(it) - 1000} more" for it in (chunks, unread) if len(it) > 1000]
+    expect([it for it in page.texts if it.startswith("and ")] == more, "not said:", more, page.texts)
+    expect(len(page.rows["plan"]) > 1 and page.job == text + "\n", "the plan and the job", page.rows["plan"], page.job)
+    expect([it[0] for it in rows["files"]] == [it["name"] for it in told["files"]], "the files", rows["files"])
 
 
 def room_of(job):
@@ -225,12 +261,13 @@ def missing_bytes(place):
            "two files", status, out, said)
     expect(not os.path.exists(place.at("read")), "a file is made that is only read")
     os.truncate(place.at("data"), 9000)
-    status, out, said = run(place, "--after=ledger", "--notes", "--json=json", "job")
+    status, out, said = run(place, "--after=ledger", "--notes", "--json=json", "--page=page", "job")
     faults = "fault: file=data offset=8192 length=4096\nfault: file=data offset=12288 length=4096\n"
     expect(status == 1 and out.endswith(faults), "a file that ends too soon", status, out)
     expect("fiorun: note: cannot read 4096 bytes of data at 8192: it ends there\n" in said, "why it can't be read", said)
     unread = [{"file": "data", "offset": it, "length": 4096} for it in (8192, 12288)]
     expect(json.loads(place.get("json"))["unread"] == unread, "what can't be read as JSON", place.get("json"))
+    compare_page(place.at("page"), json.loads(place.get("json")), text)
     expect(os.path.getsize(place.at("data")) == 9000, "a file is made longer")
     with open(place.at("data"), "rb") as it:
         fcntl.flock(it, fcntl.LOCK_EX)
@@ -242,6 +279,21 @@ def missing_bytes(place):
     notes = "fiorun: cannot open the files\nfiorun: note: cannot open data: No such file or directory (os error 2)\n"
     expect((status, out, said) == (3, "", notes), "a file that isn't there", status, out, said)
     expect(not os.path.exists(place.at("data")), "a file is made")
+
+
+def many_chunks(place):
+    """Of 1,500 chunks that are broken, in a file with markup in its name, 1,000 have a row."""
+    name = "a<b>&\"'.img"
+    text = f"[w]\nfilename={name}\nrw=write\nbs=512\nsize=768000\nverify=md5\n"
+    place.put("job", text)
+    status, _, said = run(place, "--ledger=ledger", "job")
+    expect(status == 0, "a run with a ledger", status, said)
+    place.put("ledger", place.get("ledger").decode() + "b 0 9\ns 0 9\n")
+    place.put(name, bytes(768000))
+    status, _, said = run(place, "--after=ledger", "--json=json", "--page=page", "job")
+    told = json.loads(place.get("json"))
+    expect(status == 1 and len(told["after"]) == 1500, "zeros in place of what was written", status, said, len(told["after"]))
+    compare_page(place.at("page"), told, text)
 
 
 class After(Case):
@@ -260,3 +312,7 @@ class After(Case):
     def test_missing_bytes(self):
         """Files that end too soon, that aren't there, that are locked, and those that no job writes."""
         missing_bytes(self.place)
+
+    def test_many_chunks(self):
+        """The page of a judgement has rows for the first 1,000 chunks, and a file's name as the text that it is."""
+        many_chunks(self.place)

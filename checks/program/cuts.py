@@ -33,6 +33,8 @@ LAUNCH = os.path.join(TOP, "launcher", "launch")
 CUT_OFF = b"fiorun: interrupted\nfiorun: cannot write\n"
 # A job whose writes lie over one another.
 SMALL = "[w]\nfilename=data\nrw=randwrite\nnorandommap\nbs=4k\nsize=64k\nloops=3\nverify=md5\ndo_verify=0\n"
+# One for a disk that is served.
+SERVED = SMALL.replace("=data", "=export").replace("loops=3", "loops={loops}").replace("64k", "1m") + "iodepth=8\n"
 FEW = "[w]\nfilename=data\nrw=write\nbs=4k\nsize=16k\nloops=2\nverify=md5\ndo_verify=0\n"
 
 
@@ -466,9 +468,15 @@ class After(Case):
                 self.broken_off(ran)
 
     def test_full_disk(self):
-        """A full disk in place of the ledger: as with a reader that dies, or nothing is run where it is full from the first line on."""
+        """A full disk in place of the ledger: as with a reader that dies. Where it is full from the first line on nothing is run, no file is
+        made, and none is made longer."""
         text = FEW.replace("loops=2", "loops=1000").replace("16k", "1m")
         refuses(self.place.run("--ledger=/dev/full", "--workers=1", text=text), 3, "cannot write")
+        expect(not os.path.exists(self.place.at("data")), "the job's file was made, though nothing was run")
+        self.place.put("data", b"short")
+        refuses(self.place.run("--ledger=/dev/full", "--sync-every=2", text=text), 3, "cannot write")
+        expect(self.place.get("data") == b"short", "the job's file was made longer, though nothing was run")
+        os.unlink(self.place.at("data"))
         if os.geteuid() != 0:
             raise Skipped("not root: only /dev/full was tried")
         room = self.place.at("small")
@@ -627,8 +635,36 @@ class After(Case):
                 told = run.after()
                 expect(told.status == 0 and b" lost=0 broken=0 " in told.out, "what was lost with it:", told, lines_of(run.ledger)[-20:])
 
-    def test_qemu(self):
-        """A server of a disk that is killed, with a cache that is stored at syncs alone."""
+    def test_failed_beside_others(self):
+        """What a sync that failed has lost isn't promised by one that was under way beside it, which the system answers well."""
+        text, beside = SMALL + "iodepth=16\n", 0
+        for number in range(2, 26):
+            place = self.fresh()
+            job = Job(text, {"w": 0}, 8)
+            plan = Plan(place.run("--parse-only", text=text).out.decode(), job.intervals)
+            run = Run(place, job, plan).go(self.library, "--sync-every=1", "--cached", seed=number, fail=number)
+            expect(run.ran.status == 3 and run.ran.err == b"fiorun: cannot write\n", "a sync that fails", run.ran)
+            told = run.after()
+            expect(told.status == 0 and b" lost=0 broken=0 " in told.out, "what was lost with it:", told, lines_of(run.ledger)[-20:])
+            beside += run.account.beside_failed()
+        expect(beside, "no sync returned well beside one that failed")
+
+    def served(self, *more):
+        """A server of a disk, `image`, as the file `export`: what it keeps of it, it stores at syncs alone."""
+        place = self.place
+        words = ["--blockdev", ",".join((f"driver=file,filename={place.at('image')},node-name=f", *more))]
+        words += ["--blockdev", ",".join(("driver=qcow2,file=f,node-name=q", *more))]
+        words += ["--export", f"type=fuse,id=e,node-name=q,mountpoint={place.at('export')},writable=on"]
+        it = subprocess.Popen(["qemu-storage-daemon", *words], stderr=subprocess.DEVNULL)
+        deadline = time.monotonic() + 10
+        while os.path.getsize(place.at("export")) != 1 << 20:
+            if it.poll() is not None or time.monotonic() > deadline:
+                raise Skipped("qemu-storage-daemon exports no file")
+            time.sleep(0.05)
+        return it
+
+    def killed(self, text, *more):
+        """The judgement of a disk whose server was killed under a run of this job, and what the disk then holds."""
         for tool in ("qemu-storage-daemon", "qemu-img"):
             if not shutil.which(tool):
                 raise Skipped(f"there is no {tool}")
@@ -637,31 +673,30 @@ class After(Case):
         place = self.place
         place.put("export", bytes(0))
         subprocess.run(["qemu-img", "create", "-q", "-f", "qcow2", place.at("image"), "1m"], check=True)
-
-        def served():
-            words = ["--blockdev", f"driver=file,filename={place.at('image')},node-name=f"]
-            words += ["--blockdev", "driver=qcow2,file=f,node-name=q"]
-            words += ["--export", f"type=fuse,id=e,node-name=q,mountpoint={place.at('export')},writable=on"]
-            it = subprocess.Popen(["qemu-storage-daemon", *words], stderr=subprocess.DEVNULL)
-            deadline = time.monotonic() + 10
-            while os.path.getsize(place.at("export")) != 1 << 20:
-                if it.poll() is not None or time.monotonic() > deadline:
-                    raise Skipped("qemu-storage-daemon exports no file")
-                time.sleep(0.05)
-            return it
-
-        text = SMALL.replace("=data", "=export").replace("loops=3", "loops=200").replace("64k", "1m") + "iodepth=8\n"
-        server = served()
+        server = self.served(*more)
         child = place.start("--workers=4", "--ledger=ledger", "--sync-every=20", text=text)
         time.sleep(1)
         server.kill()
         server.wait()
         ending(child)
         subprocess.run(["umount", "-l", place.at("export")], check=False)
-        server = served()
+        server = self.served(*more)
         try:
-            told = place.run("--after=ledger", text=text)
-            expect(told.status == 0 and b" lost=0 broken=0 " in told.out, "after the kill of a server", told)
+            return place.run("--after=ledger", text=text), place.get("export")
         finally:
             server.terminate()
             server.wait()
+
+    def test_qemu(self):
+        """A server of a disk that is killed, with a cache that is stored at syncs alone (writeback)."""
+        told, _ = self.killed(SERVED.format(loops=200))
+        expect(told.status == 0 and b" lost=0 broken=0 " in told.out, "after the kill of a server", told)
+
+    def test_qemu_unsafe(self):
+        """The same with one that takes syncs for nothing (unsafe). It may have lost anything, or nothing: what is told is right."""
+        text = SERVED.format(loops=40)
+        whole = self.whole(text, workers=4, words=("--sync-every=20", "--cached"))
+        told, image = self.killed(text, "cache.no-flush=on")
+        report, status = whole.judge.told(Ledger(lines_of(self.place.get("ledger"))), [image])
+        expect((told.status, told.out.decode()) == (status, report), "told", told, "and wanted", status, report)
+        self.said = report.splitlines()[0]

@@ -232,6 +232,17 @@ class Account:
             elif tag == "sync" and int(rest[2]) == file:
                 yield ended
 
+    def beside_failed(self):
+        """How many syncs were under way while one was that failed, and returned well."""
+        asked, ended = {}, {"synced": {}, "failed": {}}
+        for place, (tag, *rest) in enumerate(self.events):
+            if tag == "sync":
+                asked[rest[0]] = place
+            elif tag in ended:
+                ended[tag][rest[0]] = place
+        well, failed = ended["synced"].items(), ended["failed"].items()
+        return sum(asked[one] < end and asked[other] < place for one, place in well for other, end in failed)
+
     def noted(self):
         """The lines of the ledger in the account."""
         return [" ".join(it[2:]) for it in self.events if it[0] == "note" and it[2] != "fiorun"]

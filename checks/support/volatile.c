@@ -8,7 +8,7 @@
 //   SEED=N                what is drawn is drawn from it
 //   LEDGER=FILE           a file whose lines go into the account too, where they are written
 //   RECORD=FILE           where each write goes: the file's number, offset and length, numbers of 8 bytes, and its bytes
-//   FAIL=N                sync N, from 1, fails, and what it had to store is lost, as the system's cache loses it; later ones go well
+//   FAIL=N                sync N, from 1, fails, and what it had to store is lost, as the system's cache loses it; all others go well
 //   LIE=WORD              what the disk does wrong, below; without it it is honest
 //
 // The account's lines, where FILE is the number of a file from 0, and SEQ of a write from 1 on:
@@ -581,8 +581,15 @@ static int sync_file(int number) {
     sched_yield();
     pthread_mutex_lock(&lock);
     int fails = it == fails_at;
-    if (fails) lose(number, seq);
-    else flush(number, seq);
+    if (fails) {
+        lose(number, seq);
+        // (who asked for it hears of it late: other syncs return well meanwhile)
+        pthread_mutex_unlock(&lock);
+        usleep(2000);
+        pthread_mutex_lock(&lock);
+    } else {
+        flush(number, seq);
+    }
     count();
     tell(fails ? "failed %llu %d\n" : "synced %llu %d\n", (unsigned long long)it, thread());
     pthread_mutex_unlock(&lock);
