@@ -296,6 +296,22 @@ def many_chunks(place):
     compare_page(place.at("page"), told, text)
 
 
+def large_file(place):
+    """Of a file of 9 MiB, which takes several reads and more threads than one, exactly the chunks are told that were changed."""
+    place.put("job", "[w]\nfilename=data\nrw=randwrite\nbs=4k\nsize=9m\nverify=md5\n")
+    status, _, said = run(place, "--ledger=ledger", "job")
+    expect(status == 0, "a run with a ledger", status, said)
+    place.put("ledger", place.get("ledger").decode() + "b 0 9\ns 0 9\n")
+    data = bytearray(place.get("data"))
+    changed = sorted(random.Random(9).sample(range(len(data) // 4096), 50))
+    for chunk in changed:
+        data[chunk * 4096 + 64 + chunk % 4000] ^= 1
+    place.put("data", bytes(data))
+    status, _, said = run(place, "--after=ledger", "--json=json", "job")
+    told = [(it["word"], it["offset"], it["length"]) for it in json.loads(place.get("json"))["after"]]
+    expect(status == 1 and told == [("broken", it * 4096, 4096) for it in changed], "changed chunks of a large file", status, said, told)
+
+
 class After(Case):
     """Judgements of files that were made here."""
 
@@ -316,3 +332,7 @@ class After(Case):
     def test_many_chunks(self):
         """The page of a judgement has rows for the first 1,000 chunks, and a file's name as the text that it is."""
         many_chunks(self.place)
+
+    def test_large_file(self):
+        """Threads that judge side by side find exactly what was changed, in its order."""
+        large_file(self.place)

@@ -17,11 +17,6 @@ EXCUSED = {
     # (no crate below both has the counts of tallies and the laws of rounds)
     frozenset({"jr_desk_state.RestKept.rest_longer", "jr_replay.PhaseLaws.rest_longer"}): "their crates share none that could have it",
 }
-# The same sets without reasons: what is still to be proved once. A line that is indented goes on with the set above it.
-TO_DO = """
-jr_after_page.status.sum_of.Answers.capped_more jr_report_page.status.sum_of.Answers.capped_more
-jr_report_json.Members.five_more jr_report_page.RowLemmas.added_five
-"""
 
 DECLARED = re.compile(r"(?:unfoldable |abbrev )?(?:pub )?([^\s:(){}]+) : (.*)")
 TYPED = re.compile(r"(?:abbrev )?(?:pub )?(?:record|data) (\S+) .*")
@@ -117,10 +112,8 @@ class Lemmas(unittest.TestCase):
 
     def test_each_statement_is_proved_once(self):
         found = twice(TOP)
-        to_do = {frozenset(it.split()) for it in re.split(r"\n(?! )", TO_DO.strip()) if it}
-        excused = [*EXCUSED, *to_do]
-        wrong = [f"{', '.join(sorted(it))}: {said[:120]}" for it, said in found.items() if it not in excused]
+        wrong = [f"{', '.join(sorted(it))}: {said[:120]}" for it, said in found.items() if it not in EXCUSED]
         expect(not wrong, "proved twice:\n" + "\n".join(sorted(wrong)))
-        gone = [", ".join(sorted(it)) for it in excused if it not in found]
+        gone = [", ".join(sorted(it)) for it in EXCUSED if it not in found]
         expect(not gone, "no longer proved twice, and still excused:\n" + "\n".join(gone))
-        self.said = f"{len(EXCUSED)} excused, {len(to_do)} to do"
+        self.said = f"{len(EXCUSED)} excused"

@@ -1,5 +1,5 @@
 // Going on after faults: what is left of a job after a run in which a fault halted clones is run again, until nothing is left.
-use crate::rounds::{Course, status, tell_end, tell_line, tell_outputs};
+use crate::rounds::{Course, finished, or_sums, tell_line, tell_outputs};
 use crate::running::{asked_for, close, ground_of, run_silent, to_output};
 use jr_cli::RunEnd;
 use jr_cli_outputs::{Unfailing, Wanted};
@@ -12,7 +12,7 @@ use jr_rounds::{gathered, is_bad, plan_of_round, seed_offset, tell_round, tell_s
 use jr_rounds_rest::{
     Task, first_tasks, goes_on, next_round, parts_text, tasks_left, untried_text,
 };
-use jr_system::{Asked, Ground, Machine, Outlet, Pace, Stop};
+use jr_system::{Asked, Ground, Machine, Outlet, Stop};
 use std::alloc::Global;
 use std::io::Write;
 use std::sync::Arc;
@@ -72,24 +72,58 @@ fn run_wanted<R: Outlet + Machine>(
     plan: &Plan,
     has_notes: bool,
 ) -> Result<u8, Stop> {
-    let pace = Pace::of(rt, choice.progress);
     let asked = asked_for(rt, choice, plan, false)?;
-    let ground = ground_of(rt, choice, wanted, &asked, plan)?;
-    let has_lines = has_notes || !matches!(pace, Pace::Never);
-    let mut course = Course::new(rt.alloc(), plan, has_lines)?;
-    let last = run_parts(
+    run_asked(rt, choice, wanted, &asked, plan, has_notes)
+}
+
+// The same, once it can be asked to stop. (Each of these functions keeps one thing that is given back, as those in rounds.rt.)
+fn run_asked<R: Outlet + Machine>(
+    rt: &R,
+    choice: &Choice<'_>,
+    wanted: &Wanted,
+    asked: &Arc<Asked, Global>,
+    plan: &Plan,
+    has_notes: bool,
+) -> Result<u8, Stop> {
+    let ground = ground_of(rt, choice, wanted, asked, plan)?;
+    run_over(rt, choice, wanted, &ground, asked, plan, has_notes)
+}
+
+fn run_over<R: Outlet + Machine>(
+    rt: &R,
+    choice: &Choice<'_>,
+    wanted: &Wanted,
+    ground: &Ground<'_>,
+    asked: &Arc<Asked, Global>,
+    plan: &Plan,
+    has_notes: bool,
+) -> Result<u8, Stop> {
+    let mut course = Course::begun(rt, choice, plan, has_notes)?;
+    let workers = choice.workers;
+    run_course(
         rt,
-        choice.workers,
+        workers,
         wanted,
-        &ground,
-        &asked,
+        ground,
+        asked,
         plan,
         &mut course,
-    )?;
-    if let Some(ended) = &last {
-        tell_end(rt, wanted, plan, ended, &mut course);
-    }
-    Ok(status(rt, &last, &asked, &course, has_notes))
+        has_notes,
+    )
+}
+
+fn run_course<R: Outlet + Machine>(
+    rt: &R,
+    workers: Option<u32>,
+    wanted: &Wanted,
+    ground: &Ground<'_>,
+    asked: &Arc<Asked, Global>,
+    plan: &Plan,
+    course: &mut Course,
+    has_notes: bool,
+) -> Result<u8, Stop> {
+    let last = run_parts(rt, workers, wanted, ground, asked, plan, course)?;
+    Ok(finished(rt, wanted, plan, &last, asked, course, has_notes))
 }
 
 // Runs the rounds, prints what is printed of them, and gives how the last one ended.
@@ -102,43 +136,85 @@ fn run_parts<R: Outlet + Machine>(
     plan: &Plan,
     course: &mut Course,
 ) -> Result<Option<RunEnd>, Stop> {
-    let alloc = rt.alloc();
+    let mut todo = ToDo::new(rt.alloc(), plan)?;
+    let part = todo.whole(rt.alloc())?;
     let mut out = Unfailing::new(to_output(rt)?);
-    let mut todo = ToDo::new(alloc, plan)?;
-    let mut part = todo.whole(alloc)?;
+    run_tasks(
+        rt, workers, wanted, ground, asked, part, &mut todo, course, &mut out,
+    )
+}
+
+// Runs this part, and then what is still to be done, round by round.
+fn run_tasks<R: Outlet + Machine, V: Write>(
+    rt: &R,
+    workers: Option<u32>,
+    wanted: &Wanted,
+    ground: &Ground<'_>,
+    asked: &Arc<Asked, Global>,
+    first: Plan,
+    todo: &mut ToDo<'_>,
+    course: &mut Course,
+    out: &mut Unfailing<V>,
+) -> Result<Option<RunEnd>, Stop> {
+    let mut part = first;
     for round in 0..u32::MAX {
-        let ended = match run_part(rt, ground, asked, part, workers, course) {
-            Ok(ended) => ended,
-            Err(stop) => {
-                if round > 0 {
-                    let _ = tell_sums(alloc, plan, &course.sums, &mut out);
-                }
-                return Err(stop);
-            }
-        };
-        let done = todo.take_in(alloc, &ended.desk)?;
-        let next = todo.next(alloc, round, &ended, course)?;
-        let is_last = next.is_none();
-        if round > 0 && (is_last || is_bad(&ended.desk) || ended.is_interrupted()) {
-            tell_parts(alloc, round, done.as_slice(), &mut out)?;
-        }
-        tell_round(alloc, round, &ended.desk, is_last, &mut out)?;
-        add_part(alloc, plan, done.as_slice(), &ended.desk, course)?;
-        tell_line(rt, course, round, &ended.desk, is_last);
-        let told = tell_outputs(rt, wanted, course, round, &ended);
-        course.heed(told);
-        match next {
-            Some(plan) => part = plan,
-            None => {
-                todo.tell(alloc, course, &mut out)?;
-                if out.has_failed {
-                    course.miss(Stop::from(CliFault::Write));
-                }
-                return Ok(Some(ended));
-            }
+        let ran = run_part(rt, ground, asked, part, workers, course);
+        let ended = or_sums(rt.alloc(), round, todo.plan, ran, course, out)?;
+        match next_part(rt, wanted, round, &ended, todo, course, out)? {
+            Some(next) => part = next,
+            None => return Ok(Some(ended)),
         }
     }
     Ok(None)
+}
+
+// Takes in what happened in a round, tells it, and gives the plan of the next one.
+fn next_part<R: Outlet + Machine, V: Write>(
+    rt: &R,
+    wanted: &Wanted,
+    round: u32,
+    ended: &RunEnd,
+    todo: &mut ToDo<'_>,
+    course: &mut Course,
+    out: &mut Unfailing<V>,
+) -> Result<Option<Plan>, Stop> {
+    let done = todo.take_in(rt.alloc(), &ended.desk)?;
+    let next = todo.next(rt.alloc(), round, ended, course)?;
+    let is_last = next.is_none();
+    match tell_part(rt, wanted, round, ended, &done, is_last, todo, course, out) {
+        Ok(()) => Ok(next),
+        Err(stop) => Err(stop),
+    }
+}
+
+// Tells a round that had these tasks, and behind the last one the sums.
+fn tell_part<R: Outlet + Machine, V: Write>(
+    rt: &R,
+    wanted: &Wanted,
+    round: u32,
+    ended: &RunEnd,
+    done: &[Task],
+    is_last: bool,
+    todo: &ToDo<'_>,
+    course: &mut Course,
+    out: &mut Unfailing<V>,
+) -> Result<(), Stop> {
+    let alloc = rt.alloc();
+    if round > 0 && (is_last || is_bad(&ended.desk) || ended.is_interrupted()) {
+        tell_parts(alloc, round, done, out)?;
+    }
+    tell_round(alloc, round, &ended.desk, is_last, out)?;
+    add_part(alloc, todo.plan, done, &ended.desk, course)?;
+    tell_line(rt, course, round, &ended.desk, is_last);
+    let told = tell_outputs(rt, wanted, course, round, ended);
+    course.heed(told);
+    if is_last {
+        todo.tell(alloc, course, out)?;
+        if out.has_failed {
+            course.miss(Stop::from(CliFault::Write));
+        }
+    }
+    Ok(())
 }
 
 // Prints of which clones of the job the clones of a round are parts.

@@ -36,16 +36,42 @@ fn judge_into<R: Outlet + Machine>(
 ) -> Result<u8, Stop> {
     let begun = Beginning::now(rt);
     let lines = ledger_lines(rt, path, plan)?;
+    judge_by(rt, choice, plan, job, outputs, lines.as_slice(), &begun)
+}
+
+// The same, by these lines of a ledger.
+fn judge_by<R: Outlet + Machine>(
+    rt: &R,
+    choice: &Choice<'_>,
+    plan: &Plan,
+    job: &[u8],
+    outputs: &Outputs,
+    lines: &[LedgerLine],
+    begun: &Beginning,
+) -> Result<u8, Stop> {
     let kept = outputs.kept(rt)?;
     let files = take_to_read(rt, plan, choice, kept.as_slice())?;
-    let after = judged(rt, plan, lines.as_slice(), &files)?;
+    judge_files(rt, plan, job, outputs, lines, &files, begun)
+}
+
+// The same, of these files.
+fn judge_files<R: Outlet + Machine>(
+    rt: &R,
+    plan: &Plan,
+    job: &[u8],
+    outputs: &Outputs,
+    lines: &[LedgerLine],
+    files: &Taken<'_>,
+    begun: &Beginning,
+) -> Result<u8, Stop> {
+    let after = judged(rt, plan, lines, files)?;
     print_report(rt, plan, &after)?;
-    tell_unread(rt, plan, &files, &after)?;
+    tell_unread(rt, plan, files, &after)?;
     let found = JudgedFiles {
         plan,
         after: &after,
         cached: files.cached_reads(),
-        begun: &begun,
+        begun,
         job,
     };
     outputs.write_after(rt, &found)?;
@@ -65,7 +91,7 @@ fn ledger_lines<R: Outlet>(rt: &R, path: &str, plan: &Plan) -> Result<Vec<Ledger
 }
 
 // What is found in the files, by one engine that reads them.
-fn judged<R: Outlet>(
+fn judged<R: Outlet + Machine>(
     rt: &R,
     plan: &Plan,
     lines: &[LedgerLine],
@@ -73,7 +99,7 @@ fn judged<R: Outlet>(
 ) -> Result<After, CliFault> {
     let mut engine = files.engine(rt, 0)?;
     files.begin(rt, &engine);
-    match judge_after(rt.alloc(), plan, lines, &mut engine) {
+    match judge_after(rt, rt.alloc(), plan, lines, &mut engine) {
         Ok(after) => Ok(after),
         Err(AfterFailure::Memory | AfterFailure::Calls) => Err(CliFault::Memory),
     }

@@ -13,10 +13,11 @@ use jr_cli_words::{
     workers_of,
 };
 use jr_engines::Engine;
-use jr_job_notes::plan_notes;
 use jr_plan::Plan;
 use jr_replay_traces::Checked;
-use jr_system::{Machine, Outlet, Screen, Stop, job_plan, refuse_ledger, tell_all, tell_history};
+use jr_system::{
+    Machine, Outlet, PlannedJob, Screen, Stop, job_plan, refuse_ledger, tell_all, tell_history,
+};
 use judging::judge;
 use rounds::{Limits, run_all};
 use running::{SharedRun, Turn, add, boxed, run_memory, run_plan, shares, to_output};
@@ -126,9 +127,9 @@ fn perform<R: Input + Outlet + Machine>(
     if choice.adapt {
         return Ok(Turn::Ended(print_adapted(rt, text.as_slice(), size)?));
     }
-    let plan = job_plan(rt.alloc(), text.as_slice(), choice, has_notes)?;
+    let PlannedJob { plan, notes } = job_plan(rt.alloc(), text.as_slice(), choice, has_notes)?;
     if has_notes {
-        tell_notes(rt, text.as_slice(), choice.section);
+        tell_all(rt, notes.as_slice());
         if choice.check_trace.is_none() && choice.after.is_none() {
             let workers = workers_of(&plan, choice.workers);
             tell_history(rt, &plan, workers, !choice.parse_only);
@@ -144,13 +145,6 @@ fn perform<R: Input + Outlet + Machine>(
         return Ok(Turn::Ended(0));
     }
     carry_out(rt, choice, text.as_slice(), plan, has_notes)
-}
-
-// Says what is worth knowing of a job text that makes a plan.
-fn tell_notes<R: Eprint + AllocGlobal>(rt: &R, text: &[u8], section: Option<&str>) {
-    if let Ok(notes) = plan_notes(rt.alloc(), text, section) {
-        tell_all(rt, notes.as_slice());
-    }
 }
 
 // Runs the plan of this job text: once, again and again, or what is left of it after faults too.

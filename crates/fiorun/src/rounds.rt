@@ -15,6 +15,7 @@ use jr_rounds::{
 };
 use jr_system::{Asked, Closed, Ground, Machine, Outcome, Outlet, Pace, Stop, stop_after};
 use std::alloc::Global;
+use std::io::Write;
 use std::sync::Arc;
 use std::time::{Duration, Instant};
 
@@ -81,8 +82,18 @@ pub struct Course {
 }
 
 impl Course {
-    // Before the first round.
-    pub fn new(alloc: Global, plan: &Plan, has_lines: bool) -> Result<Course, Stop> {
+    // Before the first round, with a line for each if notes are wanted, or how far it is.
+    pub fn begun<R: Outlet + Machine>(
+        rt: &R,
+        choice: &Choice<'_>,
+        plan: &Plan,
+        has_notes: bool,
+    ) -> Result<Course, Stop> {
+        let has_lines = has_notes || !matches!(Pace::of(rt, choice.progress), Pace::Never);
+        Course::new(rt.alloc(), plan, has_lines)
+    }
+
+    fn new(alloc: Global, plan: &Plan, has_lines: bool) -> Result<Course, Stop> {
         let Ok(sums) = Sums::new(alloc, plan) else {
             return Err(Stop::from(CliFault::Memory));
         };
@@ -315,30 +326,65 @@ fn run_limited<R: Outlet + Machine>(
     plan: &Plan,
     has_notes: bool,
 ) -> Result<u8, Stop> {
-    let pace = Pace::of(rt, choice.progress);
     let asked = asked_for(rt, choice, plan, limits.time.is_some())?;
     if let Some(time) = limits.time {
         stop_after(rt, &asked, time)?;
     }
-    let ground = ground_of(rt, choice, wanted, &asked, plan)?;
-    let has_lines = has_notes || !matches!(pace, Pace::Never);
-    let mut course = Course::new(rt.alloc(), plan, has_lines)?;
-    let workers = workers_of(plan, choice.workers);
-    let last = run_rounds(
+    run_asked(rt, choice, wanted, &asked, limits, plan, has_notes)
+}
+
+// The same, once it can be asked to stop. (Each of these functions keeps one thing that is given back: a proof of one that keeps several
+// costs minutes.)
+fn run_asked<R: Outlet + Machine>(
+    rt: &R,
+    choice: &Choice<'_>,
+    wanted: &Wanted,
+    asked: &Arc<Asked, Global>,
+    limits: Limits,
+    plan: &Plan,
+    has_notes: bool,
+) -> Result<u8, Stop> {
+    let ground = ground_of(rt, choice, wanted, asked, plan)?;
+    run_over(rt, choice, wanted, &ground, asked, limits, plan, has_notes)
+}
+
+fn run_over<R: Outlet + Machine>(
+    rt: &R,
+    choice: &Choice<'_>,
+    wanted: &Wanted,
+    ground: &Ground<'_>,
+    asked: &Arc<Asked, Global>,
+    limits: Limits,
+    plan: &Plan,
+    has_notes: bool,
+) -> Result<u8, Stop> {
+    let mut course = Course::begun(rt, choice, plan, has_notes)?;
+    run_course(
         rt,
         choice,
         wanted,
-        &ground,
-        &asked,
+        ground,
+        asked,
         limits,
         plan,
-        workers,
         &mut course,
-    )?;
-    if let Some(ended) = &last {
-        tell_end(rt, wanted, plan, ended, &mut course);
-    }
-    Ok(status(rt, &last, &asked, &course, has_notes))
+        has_notes,
+    )
+}
+
+fn run_course<R: Outlet + Machine>(
+    rt: &R,
+    choice: &Choice<'_>,
+    wanted: &Wanted,
+    ground: &Ground<'_>,
+    asked: &Arc<Asked, Global>,
+    limits: Limits,
+    plan: &Plan,
+    course: &mut Course,
+    has_notes: bool,
+) -> Result<u8, Stop> {
+    let last = run_rounds(rt, choice, wanted, ground, asked, limits, plan, course)?;
+    Ok(finished(rt, wanted, plan, &last, asked, course, has_notes))
 }
 
 // Runs the rounds, prints what is printed of them and then the sums, and gives how the last one ended.
@@ -350,37 +396,65 @@ fn run_rounds<R: Outlet + Machine>(
     asked: &Arc<Asked, Global>,
     limits: Limits,
     plan: &Plan,
-    workers: u32,
     course: &mut Course,
 ) -> Result<Option<RunEnd>, Stop> {
     let mut out = Unfailing::new(to_output(rt)?);
+    let workers = workers_of(plan, choice.workers);
     for round in 0..limits.rounds {
-        let ended = match run_round(rt, ground, asked, plan, round, workers, course) {
-            Ok(ended) => ended,
-            Err(stop) => {
-                if round > 0 {
-                    let _ = tell_sums(rt.alloc(), plan, &course.sums, &mut out);
-                }
-                return Err(stop);
-            }
-        };
+        let ran = run_round(rt, ground, asked, plan, round, workers, course);
+        let ended = or_sums(rt.alloc(), round, plan, ran, course, &mut out)?;
         let is_last = ends(limits, round, &ended, asked, course);
-        tell_round(rt.alloc(), round, &ended.desk, is_last, &mut out)?;
-        course.add(&ended.desk, ended.desk.totals());
-        tell_line(rt, course, round, &ended.desk, is_last);
-        let told = tell_outputs(rt, wanted, course, round, &ended);
-        course.heed(told);
-        let kept = wanted.outputs.keep_trace(rt, choice, round, &ended.desk);
-        course.heed(kept);
+        tell_one(
+            rt, choice, wanted, round, plan, &ended, is_last, course, &mut out,
+        )?;
         if is_last {
-            tell_sums(rt.alloc(), plan, &course.sums, &mut out)?;
-            if out.has_failed {
-                course.miss(Stop::from(CliFault::Write));
-            }
             return Ok(Some(ended));
         }
     }
     Ok(None)
+}
+
+// How a round ended. Where it couldn't be run, the sums of those before it are printed.
+pub fn or_sums<V: Write>(
+    alloc: Global,
+    round: u32,
+    plan: &Plan,
+    ran: Result<RunEnd, Stop>,
+    course: &Course,
+    out: &mut V,
+) -> Result<RunEnd, Stop> {
+    if ran.is_err() && round > 0 {
+        let _ = tell_sums(alloc, plan, &course.sums, out);
+    }
+    ran
+}
+
+// Tells a round, and behind the last one the sums.
+fn tell_one<R: Outlet + Machine, V: Write>(
+    rt: &R,
+    choice: &Choice<'_>,
+    wanted: &Wanted,
+    round: u32,
+    plan: &Plan,
+    ended: &RunEnd,
+    is_last: bool,
+    course: &mut Course,
+    out: &mut Unfailing<V>,
+) -> Result<(), Stop> {
+    tell_round(rt.alloc(), round, &ended.desk, is_last, out)?;
+    course.add(&ended.desk, ended.desk.totals());
+    tell_line(rt, course, round, &ended.desk, is_last);
+    let told = tell_outputs(rt, wanted, course, round, ended);
+    course.heed(told);
+    let kept = wanted.outputs.keep_trace(rt, choice, round, &ended.desk);
+    course.heed(kept);
+    if is_last {
+        tell_sums(rt.alloc(), plan, &course.sums, out)?;
+        if out.has_failed {
+            course.miss(Stop::from(CliFault::Write));
+        }
+    }
+    Ok(())
 }
 
 // Runs one round.
@@ -415,8 +489,23 @@ fn ends(limits: Limits, round: u32, ended: &RunEnd, asked: &Asked, course: &Cour
         || course.missing.is_some()
 }
 
-// Tells what is told at the end of all rounds.
-pub fn tell_end<R: Outlet + Machine>(
+// Tells what is told at the end of all rounds, and gives the exit status.
+pub fn finished<R: Outlet + Machine>(
+    rt: &R,
+    wanted: &Wanted,
+    plan: &Plan,
+    last: &Option<RunEnd>,
+    asked: &Asked,
+    course: &mut Course,
+    has_notes: bool,
+) -> u8 {
+    if let Some(ended) = last {
+        tell_end(rt, wanted, plan, ended, course);
+    }
+    status(rt, last, asked, course, has_notes)
+}
+
+fn tell_end<R: Outlet + Machine>(
     rt: &R,
     wanted: &Wanted,
     plan: &Plan,
@@ -442,7 +531,7 @@ fn write_sums<R: Outlet>(rt: &R, outputs: &Outputs, plan: &Plan, sums: &Sums) ->
 
 // Says where the last round was interrupted, and the first thing that couldn't be stored or written, and gives the exit status. The end of
 // the time that the words gave is no interruption for it.
-pub fn status<R: Eprint>(
+fn status<R: Eprint>(
     rt: &R,
     last: &Option<RunEnd>,
     asked: &Asked,

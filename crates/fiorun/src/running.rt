@@ -2,7 +2,7 @@
 ghost use Rattle.std.specs.Prelude.{◌≤◌, ◌^◌, IfOk};
 ghost use Rattle.jr_system.specs.Grounds.{IsGroundOf};
 
-use jr_cli::{execute, execute_serial};
+use jr_cli::{RunEnd, execute, execute_serial};
 use jr_cli_outputs::{Finished, Nowhere, TraceFile, Unfailing, Wanted};
 use jr_cli_words::{Choice, CliFault, Wiping, workers_of};
 use jr_engines::{Engine, NullEngine, SharedMemory};
@@ -129,14 +129,25 @@ pub fn close<R: Outlet + Machine>(
     asked: &Asked,
     ran: Finished,
 ) -> Result<Finished, Stop> {
+    let closed = closed_after(rt, ground, asked, &ran.ended)?;
+    Ok(ran.over(closed))
+}
+
+// What the system said of the files of a run that has ended, and what stood in its bad blocks.
+fn closed_after<R: Outlet + Machine>(
+    rt: &R,
+    ground: &Ground<'_>,
+    asked: &Asked,
+    ended: &RunEnd,
+) -> Result<Closed, Stop> {
     let mut closed = match ground {
-        Ground::Files(files) => files.close(rt, &ran.ended.faults)?,
+        Ground::Files(files) => files.close(rt, &ended.faults)?,
         Ground::Memory | Ground::Nothing => Closed::of_no_files(rt.alloc()),
     };
     if closed.unstored.is_none() {
-        closed.unstored = unsynced_on_the_way(rt.alloc(), ran.ended.desk.plan(), asked);
+        closed.unstored = unsynced_on_the_way(rt.alloc(), ended.desk.plan(), asked);
     }
-    Ok(ran.over(with_found(rt, asked, closed)))
+    Ok(with_found(rt, asked, closed))
 }
 
 // With what stood in the run's bad blocks.

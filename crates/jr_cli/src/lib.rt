@@ -14,7 +14,7 @@ pub use findings::{Findings, json_text};
 pub use interrupted::Interrupted;
 pub use jr_cli_words::{
     BlockSize, Choice, CliFault, Wipe, Wiping, answer_words, choose, list_size, memory_or,
-    print_plan, read_job, read_text, read_trace, workers_of,
+    print_plan, read_text, read_trace, workers_of,
 };
 pub use jr_crew::{Progress, StopFlag, StopRequest, Watch};
 pub use places::{list_text, list_text_with_faults};

@@ -1,4 +1,5 @@
 pub mod Adding
 pub mod Reports
 pub mod RowLemmas
+pub mod Shares
 pub mod Walks

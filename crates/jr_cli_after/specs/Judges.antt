@@ -10,10 +10,11 @@ use Rattle.jr_after_chunks.specs.Index.{IsIndexOf}
 use Rattle.jr_after_chunks.specs.Judging.{CanBeNamed, longest_of}
 use Rattle.jr_cli_after.specs.Found.{Asked}
 
-pub record IsJudge (plan : Plan) (lines : List LedgerLine) (named : List Named) (index : Index) : Type 0 where
+pub record IsJudge (plan : Plan) (lines : List LedgerLine) (named : List Named) (index : Index) (most : ℕ) : Type 0 where
   pub named_are : named ≡ map (named_by lines) (writes_of plan)
   pub fit : All CanBeNamed named
   pub indexed : IsIndexOf index named
+  pub most_is : most ≡ longest_of named
 
 -- the length of the longest block of the plan's writes
 abbrev pub longest : Asked → ℕ

@@ -3,3 +3,4 @@ pub mod Found
 pub mod Judges
 pub mod Reading
 pub mod Readings
+pub mod Sharing

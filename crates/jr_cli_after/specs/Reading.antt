@@ -4,6 +4,9 @@ use Rattle.jr_model.specs.declared.blocks.Piece.{Piece}
 use Rattle.jr_model.specs.declared.limits.TheConstants.{LARGEST_END}
 use Rattle.jr_model.specs.Plan.{Plan}
 use Rattle.jr_model.specs.Replies.{EngineState}
+use Rattle.jr_after.specs.declared.findings.Finding.{Finding}
+use Rattle.jr_after.specs.Findings.{finding_on}
+use Rattle.jr_after.specs.Writes.{writes_of}
 use Rattle.jr_after_report.specs.Counting.{total_of}
 use Rattle.jr_after_report.specs.Reports.{FileState}
 use Rattle.jr_after_chunks.specs.Next.{IsReadable, next_chunk}
@@ -66,6 +69,10 @@ pub record AreAdded (asked : Asked) (more : List Reading) (before after : FileAf
 -- what is read of a chunk whose bytes are among these
 abbrev pub reading_at : Piece → Bool → List ℕ → Piece → Reading
 reading_at piece whole bytes chunk = record { chunk = chunk; whole = whole; bytes = part_of piece.offset bytes chunk }
+
+-- what is found by a chunk whose bytes are among these, from this offset of the file on
+abbrev pub found_at : Asked → ℕ → List ℕ → Piece → Finding
+found_at asked offset bytes chunk = finding_on (writes_of asked.plan) asked.lines chunk (part_of offset bytes chunk)
 
 -- each of these chunks was read alone, and what is found was added
 pub record AreAlone (asked : Asked) (chunks : List Piece) (old : EngineState) (before after : FileAfterState)

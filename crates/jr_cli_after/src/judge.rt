@@ -1,4 +1,4 @@
-ghost use Rattle.std.specs.Prelude.{◌≡◌, ◌≤◌, ◌<◌, ◌+◌, ◌^◌, length, IfOk};
+ghost use Rattle.std.specs.Prelude.{◌≡◌, ◌≤◌, ◌<◌, ◌+◌, ◌^◌, length, IfOk, OnOk};
 ghost use Rattle.jr_after.specs.Findings.{finding_on};
 ghost use Rattle.jr_after.specs.Ledgers.{kept_lines};
 ghost use Rattle.jr_after.specs.Writes.{writes_of};
@@ -20,6 +20,8 @@ pub(crate) struct Judge<'a> {
     lines: &'a [LedgerLine],
     named: Vec<Named>,
     index: Index,
+    // The length of the longest block of the plan's writes.
+    longest: u32,
 }
 
 impl<'a> Model for Judge<'a> {
@@ -30,7 +32,7 @@ impl<'a> Model for Judge<'a> {
 
     ghost view = { λ j. record { plan = j.plan.now; lines = j.lines.now } };
 
-    ghost invariant = { λ j. IsJudge j.plan.now j.lines.now j.named.items j.index };
+    ghost invariant = { λ j. IsJudge j.plan.now j.lines.now j.named.items j.index j.longest };
 }
 
 impl<'a> Judge<'a> {
@@ -45,11 +47,13 @@ impl<'a> Judge<'a> {
         let writes = planned_writes(alloc, plan)?;
         let named = named_writes(alloc, lines, writes.as_slice())?;
         let index = index_of(alloc, named.as_slice())?;
+        let longest = longest_block(named.as_slice());
         Ok(Judge {
             plan,
             lines,
             named,
             index,
+            longest,
         })
     }
 
@@ -65,11 +69,14 @@ impl<'a> Judge<'a> {
         self.lines
     }
 
-    // The length of the longest block of the plan's writes.
-    pub(crate) fn longest_block(&self) -> u32
-        ensures { result ≡ longest self.now }
+    // Lets a room be long enough for the bytes that a chunk's are compared with.
+    pub(crate) fn make_room(&self, room: &mut Vec<u8>) -> Result<(), Memory>
+        ensures { OnOk result (longest self.now ≤ length room.new.items) }
     {
-        longest_block(self.named.as_slice())
+        if room.len() < self.longest as usize {
+            room.resize(self.longest as usize, 0)?;
+        }
+        Ok(())
     }
 
     // The finding on the bytes of a chunk. What the room holds afterwards says nothing.

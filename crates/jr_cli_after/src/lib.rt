@@ -3,7 +3,9 @@
 
 mod faults;
 mod files;
+mod found;
 mod judge;
+mod part;
 mod parts;
 mod readings;
 mod rows;

@@ -1,21 +1,24 @@
 // What chunks add to what is told of their file.
-ghost use Rattle.std.specs.Prelude.{◌≡◌, ◌≤◌, ◌<◌, ◌+◌, ◌^◌, All, false, true, length, map, OnOk};
+ghost use Rattle.std.specs.Prelude.{◌≡◌, ◌<◌, ◌+◌, ◌^◌, All, false, true, length, map, OnOk};
 ghost use Rattle.jr_after.specs.Findings.{finding_on};
 ghost use Rattle.jr_after.specs.Ledgers.{kept_lines};
 ghost use Rattle.jr_after.specs.Writes.{writes_of};
-ghost use Rattle.jr_cli_after.specs.Judges.{longest};
-ghost use Rattle.jr_cli_after.specs.Reading.{AreAdded, IsAdded, IsPartOf, count_in, reading_at};
-ghost use Rattle.jr_cli_after.specs.Readings.{end_of, part_of};
+ghost use Rattle.jr_cli_after.specs.Reading.{AreAdded, IsAdded, IsPartOf, count_in, found_at, reading_at};
+ghost use Rattle.jr_cli_after.specs.Readings.{end_of};
 
 use crate::files::FileAfter;
+use crate::found::findings_of;
 use crate::judge::Judge;
+use crate::part::part_of;
 use jr_after::Finding;
 use jr_after_report::Judged;
 use jr_model::{Memory, Piece};
 use std::alloc::Global;
+use std::thread::Threads;
 
 // Adds what is found by the bytes of some chunks, which lie among these, if all of these were read.
-pub(crate) fn add_parts(
+pub(crate) fn add_parts<R: Threads + Sync>(
+    rt: &R,
     alloc: Global,
     judge: &Judge<'_>,
     kept: usize,
@@ -24,34 +27,61 @@ pub(crate) fn add_parts(
     is_whole: bool,
     bytes: &[u8],
     told: &mut FileAfter,
-    room: &mut [u8],
 ) -> Result<(), Memory>
     requires kept { kept ≡ kept_lines piece.now.file judge.now.lines }
     requires parts { All (IsPartOf piece.now) chunks.now }
     requires end { end_of piece.now < 2 ^ 64 }
     requires length { length bytes.now ≡ piece.now.len }
-    requires room { longest judge.now ≤ length room.old }
     requires few { count_in told.old + length chunks.now < 2 ^ 64 }
     ensures { OnOk result (AreAdded judge.now (map (reading_at piece.now is_whole bytes.now) chunks.now) told.old told.new) }
 {
+    if !is_whole {
+        return add_unread_parts(judge, piece, chunks, bytes, told);
+    }
+    let found = findings_of(rt, alloc, judge, kept, piece, chunks, bytes)?;
+    add_found(judge, piece, chunks, bytes, found.as_slice(), told)
+}
+
+// Adds chunks that weren't read whole.
+fn add_unread_parts(
+    judge: &Judge<'_>,
+    piece: &Piece,
+    chunks: &[Piece],
+    bytes: &[u8],
+    told: &mut FileAfter,
+) -> Result<(), Memory>
+    requires parts { All (IsPartOf piece.now) chunks.now }
+    requires length { length bytes.now ≡ piece.now.len }
+    requires few { count_in told.old + length chunks.now < 2 ^ 64 }
+    ensures { OnOk result (AreAdded judge.now (map (reading_at piece.now false bytes.now) chunks.now) told.old told.new) }
+{
     for chunk in chunks {
         let part = part_of(piece, bytes, chunk);
-        add_reading(alloc, judge, kept, chunk, is_whole, part, told, room)?;
+        add_unread(judge, chunk, part, told)?;
     }
     Ok(())
 }
 
-// A chunk's part of these bytes of its file.
-fn part_of<'a>(piece: &Piece, bytes: &'a [u8], chunk: &Piece) -> &'a [u8]
-    requires part { IsPartOf piece.now chunk.now }
+// Adds chunks that were read whole, by what is found of each.
+fn add_found(
+    judge: &Judge<'_>,
+    piece: &Piece,
+    chunks: &[Piece],
+    bytes: &[u8],
+    found: &[Finding],
+    told: &mut FileAfter,
+) -> Result<(), Memory>
+    requires parts { All (IsPartOf piece.now) chunks.now }
     requires length { length bytes.now ≡ piece.now.len }
-    ensures value { result.now ≡ part_of piece.now.offset bytes.now chunk.now }
-    ensures length { length result.now ≡ chunk.now.len }
+    requires found { found.now ≡ map (found_at judge.now piece.now.offset bytes.now) chunks.now }
+    requires few { count_in told.old + length chunks.now < 2 ^ 64 }
+    ensures { OnOk result (AreAdded judge.now (map (reading_at piece.now true bytes.now) chunks.now) told.old told.new) }
 {
-    let from = (chunk.offset - piece.offset) as usize;
-    let (_, rest) = bytes.split_at(from);
-    let (part, _) = rest.split_at(chunk.len as usize);
-    part
+    for (place, chunk) in chunks.iter().enumerate() {
+        let part = part_of(piece, bytes, chunk);
+        add_judged(judge, chunk, part, found[place], told)?;
+    }
+    Ok(())
 }
 
 // Adds what is found by a chunk's bytes, if it was read whole.
@@ -63,20 +93,20 @@ pub(crate) fn add_reading(
     is_whole: bool,
     bytes: &[u8],
     told: &mut FileAfter,
-    room: &mut [u8],
 ) -> Result<(), Memory>
     requires kept { kept ≡ kept_lines chunk.now.file judge.now.lines }
     requires some { 0 < chunk.now.len }
     requires end { chunk.now.offset + chunk.now.len < 2 ^ 64 }
     requires length { length bytes.now ≡ chunk.now.len }
-    requires room { longest judge.now ≤ length room.old }
     requires few { count_in told.old + 1 < 2 ^ 64 }
     ensures { OnOk result (IsAdded judge.now chunk.now is_whole bytes.now told.old told.new) }
 {
     if !is_whole {
         return add_unread(judge, chunk, bytes, told);
     }
-    let finding = judge.finding(alloc, kept, chunk, bytes, room)?;
+    let mut room = Vec::new(alloc);
+    judge.make_room(&mut room)?;
+    let finding = judge.finding(alloc, kept, chunk, bytes, room.as_mut_slice())?;
     add_judged(judge, chunk, bytes, finding, told)
 }
 

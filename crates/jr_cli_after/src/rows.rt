@@ -9,8 +9,8 @@ use jr_model::{Memory, Piece};
 use jr_plan::Plan;
 use std::alloc::Global;
 
-// The most bytes of several chunks that are read at a time (64 KiB).
-const MOST_AT_A_TIME: u32 = 65_536;
+// The most bytes of several chunks that are read at a time, and then judged by several threads (4 MiB).
+const MOST_AT_A_TIME: u32 = 4_194_304;
 
 // Chunks of a file that lie side by side, and all of their bytes.
 #[derive(Drop)]

@@ -1,7 +1,6 @@
 ghost use Rattle.std.specs.Prelude.{◌≡◌, ◌≤◌, ◌++◌, ◌||◌, length, flat_map, List, IfOk, OnOk, if◌then◌else◌};
 ghost use Rattle.std.specs.List.{list_any};
 ghost use Rattle.jr_cli_after.specs.Found.{Asked, IsAfter, chunks_in, has_fault_counted, has_some, lines_in, report_after, status_after, told_of};
-ghost use Rattle.jr_cli_after.specs.Judges.{longest};
 ghost use Rattle.jr_cli_after.specs.Readings.{FileRead};
 
 use crate::faults::AfterFailure;
@@ -15,6 +14,7 @@ use jr_model::{Memory, Piece};
 use jr_plan::Plan;
 use std::alloc::Global;
 use std::marker::Model;
+use std::thread::Threads;
 
 /// What is found of a plan's files after the power was cut. Contracts see what of each file is told.
 #[derive(Drop)]
@@ -32,8 +32,9 @@ impl Model for After {
 }
 
 /// Has the engine read each chunk of each file of the plan, one after another, and judges those that are read whole by the ledger of
-/// its run.
-pub fn judge_after(
+/// its run, by as many threads as there are processors.
+pub fn judge_after<R: Threads + Sync>(
+    rt: &R,
     alloc: Global,
     plan: &Plan,
     lines: &[LedgerLine],
@@ -42,23 +43,21 @@ pub fn judge_after(
     ensures { IfOk result (λ told. IsAfter (record { plan = plan.now; lines = lines.now }) (state engine.old) told (state engine.new)) }
 {
     let judge = Judge::new(alloc, plan, lines)?;
-    let mut room = vec![in alloc; 0; judge.longest_block() as usize]?;
-    judge_files(alloc, &judge, engine, room.as_mut_slice())
+    judge_files(rt, alloc, &judge, engine)
 }
 
-fn judge_files(
+fn judge_files<R: Threads + Sync>(
+    rt: &R,
     alloc: Global,
     judge: &Judge<'_>,
     engine: &mut dyn Engine,
-    room: &mut [u8],
 ) -> Result<After, AfterFailure>
-    requires { longest judge.now ≤ length room.old }
     ensures { IfOk result (λ told. IsAfter judge.now (state engine.old) told (state engine.new)) }
 {
     let mut found = Vec::new(alloc);
     let mut unread = Vec::new(alloc);
     for file in 0..judge.plan().files().len() {
-        let told = judge_file(alloc, judge, file as u32, engine, room)?;
+        let told = judge_file(rt, alloc, judge, file as u32, engine)?;
         found.push(told.report)?;
         unread.push(told.unread)?;
     }

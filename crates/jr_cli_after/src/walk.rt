@@ -1,6 +1,5 @@
 ghost use Rattle.std.specs.Prelude.{◌≡◌, ◌≤◌, ◌<◌, ◌+◌, ◌∷◌, [], ◌^◌, ◌&&◌, ◌==◌, All, not, length, IfOk, OnOk};
 ghost use Rattle.jr_after.specs.Ledgers.{kept_lines};
-ghost use Rattle.jr_cli_after.specs.Judges.{longest};
 ghost use Rattle.jr_cli_after.specs.Reading.{AreAlone, IsFileAfter, IsPartOf, IsStep, count_in};
 ghost use Rattle.jr_cli_after.specs.Readings.{end_of};
 
@@ -15,16 +14,16 @@ use jr_after_chunks::next_chunk;
 use jr_engines::Engine;
 use jr_model::{Memory, Piece};
 use std::alloc::Global;
+use std::thread::Threads;
 
 // Reads the chunks of a file one after another, and judges each that is read whole.
-pub(crate) fn judge_file(
+pub(crate) fn judge_file<R: Threads + Sync>(
+    rt: &R,
     alloc: Global,
     judge: &Judge<'_>,
     file: u32,
     engine: &mut dyn Engine,
-    room: &mut [u8],
 ) -> Result<FileAfter, AfterFailure>
-    requires room { longest judge.now ≤ length room.old }
     ensures { IfOk result (λ told. IsFileAfter judge.now file (state engine.old) told (state engine.new)) }
 {
     let kept = kept_lines(file, judge.lines());
@@ -35,7 +34,7 @@ pub(crate) fn judge_file(
         let row = row_from(alloc, judge.plan(), &first)?;
         make_room(&mut bytes, row.piece.len)?;
         let buffer = bytes.as_mut_slice();
-        judge_row(alloc, judge, kept, &row, engine, buffer, &mut told, room)?;
+        judge_row(rt, alloc, judge, kept, &row, engine, buffer, &mut told)?;
         from = row.piece.offset + u64::from(row.piece.len);
     }
     Ok(told)
@@ -52,7 +51,8 @@ fn make_room(buffer: &mut Vec<u8>, len: u32) -> Result<(), Memory>
 }
 
 // Reads the chunks of a row at once, and adds what is found. If not all of their bytes are got, each chunk is read alone.
-fn judge_row(
+fn judge_row<R: Threads + Sync>(
+    rt: &R,
     alloc: Global,
     judge: &Judge<'_>,
     kept: usize,
@@ -60,13 +60,11 @@ fn judge_row(
     engine: &mut dyn Engine,
     buffer: &mut [u8],
     told: &mut FileAfter,
-    room: &mut [u8],
 ) -> Result<(), AfterFailure>
     requires kept { kept ≡ kept_lines row.now.piece.file judge.now.lines }
     requires parts { All (IsPartOf row.now.piece) row.now.chunks.items }
     requires end { end_of row.now.piece < 2 ^ 64 }
     requires buffer { row.now.piece.len ≤ length buffer.old }
-    requires room { longest judge.now ≤ length room.old }
     requires few { count_in told.old + length row.now.chunks.items < 2 ^ 64 }
     ensures { OnOk result (IsStep judge.now row.now.chunks.items row.now.piece (state engine.old) told.old told.new (state engine.new)) }
 {
@@ -75,11 +73,9 @@ fn judge_row(
     let bytes = &mut buffer[..piece.len as usize];
     let is_whole = read_piece(engine, piece, bytes)?;
     if is_split(is_whole, chunks.len()) {
-        return judge_alone(alloc, judge, kept, piece, chunks, engine, bytes, told, room);
+        return judge_alone(alloc, judge, kept, piece, chunks, engine, bytes, told);
     }
-    add_parts(
-        alloc, judge, kept, piece, chunks, is_whole, bytes, told, room,
-    )?;
+    add_parts(rt, alloc, judge, kept, piece, chunks, is_whole, bytes, told)?;
     Ok(())
 }
 
@@ -100,19 +96,17 @@ fn judge_alone(
     engine: &mut dyn Engine,
     buffer: &mut [u8],
     told: &mut FileAfter,
-    room: &mut [u8],
 ) -> Result<(), AfterFailure>
     requires kept { kept ≡ kept_lines piece.now.file judge.now.lines }
     requires parts { All (IsPartOf piece.now) chunks.now }
     requires end { end_of piece.now < 2 ^ 64 }
     requires buffer { piece.now.len ≤ length buffer.old }
-    requires room { longest judge.now ≤ length room.old }
     requires few { count_in told.old + length chunks.now < 2 ^ 64 }
     ensures { OnOk result (AreAlone judge.now chunks.now (state engine.old) told.old told.new (state engine.new)) }
 {
     for chunk in chunks {
         let bytes = &mut buffer[..chunk.len as usize];
-        judge_chunk(alloc, judge, kept, chunk, engine, bytes, told, room)?;
+        judge_chunk(alloc, judge, kept, chunk, engine, bytes, told)?;
     }
     Ok(())
 }
@@ -126,17 +120,15 @@ fn judge_chunk(
     engine: &mut dyn Engine,
     bytes: &mut [u8],
     told: &mut FileAfter,
-    room: &mut [u8],
 ) -> Result<(), AfterFailure>
     requires kept { kept ≡ kept_lines chunk.now.file judge.now.lines }
     requires some { 0 < chunk.now.len }
     requires end { chunk.now.offset + chunk.now.len < 2 ^ 64 }
     requires length { length bytes.old ≡ chunk.now.len }
-    requires room { longest judge.now ≤ length room.old }
     requires few { count_in told.old + 1 < 2 ^ 64 }
     ensures { OnOk result (AreAlone judge.now (chunk.now ∷ []) (state engine.old) told.old told.new (state engine.new)) }
 {
     let is_whole = read_piece(engine, chunk, bytes)?;
-    add_reading(alloc, judge, kept, chunk, is_whole, bytes, told, room)?;
+    add_reading(alloc, judge, kept, chunk, is_whole, bytes, told)?;
     Ok(())
 }

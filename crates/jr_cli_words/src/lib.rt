@@ -1,4 +1,4 @@
-// What the program is asked for: the words of the command line, a job text and its plan, and the faults that end the program.
+// What the program is asked for: the words of the command line, the lines of a plan, and the faults that end the program.
 #![tactic(auto)]
 
 mod faults;
@@ -11,7 +11,7 @@ mod workers;
 
 pub use faults::CliFault;
 pub use inputs::{memory_or, read_ledger, read_text, read_trace};
-pub use jobs::{print_plan, read_job, write_out};
+pub use jobs::{print_plan, write_out};
 pub use sizes::{BlockSize, list_size};
 pub use wiping::{Wipe, Wiping};
 pub use words::{Choice, LOGIC, RELEASE, VERSION, answer_words, choose};

@@ -10,6 +10,7 @@ use Rattle.jr_model.specs.declared.tickets.TicketKind.TheVariants as ticket
 use Rattle.jr_model.specs.History.{started, outcome_of, is_judged}
 use Rattle.jr_model.specs.Legal.{is_complete}
 use Rattle.jr_model.specs.Plan.{Plan}
+use Rattle.jr_model.specs.Replies.{EngineState}
 use Rattle.jr_model.specs.Tickets.{ticket_fits}
 use Rattle.jr_header.specs.Served.{ExpectsOwn}
 use Rattle.jr_desk_tickets.specs.Kept.{IsOwn}
@@ -18,7 +19,7 @@ use Rattle.jr_desk_state.specs.declared.takes.Take.TheVariants as take
 use Rattle.jr_desk.specs.DeskState.{DeskState}
 use Rattle.jr_desk_state.specs.Takes.{IsChosen, IsTaken, WaitsRightly, handing, answer_with, take_answer}
 use Rattle.jr_desk_state.proofs.Keeping.{chosen_started}
-use Rattle.jr_crew.specs.Turns.{AreSettled, IsBetweenTurns, IsOpen}
+use Rattle.jr_crew.specs.Turns.{AreSettled, IsBetweenTurns, IsCarriedOut, IsOpen, IsTurn}
 use Rattle.jr_crew.proofs.Chosen.{chosen_unended, chosen_unjudged, chosen_own}
 use Rattle.jr_crew.proofs.Unraced.{chosen_unraced}
 use Rattle.jr_crew.proofs.Settling.{settled_still, settled_rests, settled_judged}
@@ -77,6 +78,15 @@ handed_probe plan before after t taken = by taken.0 taken.1 taken.2
     by : (io : Option Started) → IsChosen plan 0 before after io → take.Probe t ≡ take_answer plan after (length (started before)) io → IsHanded plan before after t
     by (Some s) chosen is = (s, chosen, probe_of s.kind t (ticket_of plan (length (started before), s)) is)
     by None chosen is = absurd (no_probe (is_complete plan after) t is)
+
+-- a ticket that was handed out and carried out makes a turn
+pub turn_of : (plan : Plan) (before begun after : List Event) (t : Ticket) (old new : EngineState) → IsHanded plan before begun t → IsCarriedOut t begun after old new → IsTurn plan before after old new
+turn_of plan before begun after t old new handed carried = record {
+  io = handed.0;
+  begun = begun;
+  chosen = handed.1;
+  carried = subst (λ (x : Ticket). IsCarriedOut x begun after old new) handed.2 carried;
+}
 
 -- and it is open
 pub handed_open : (desk after : DeskState) (t : Ticket) → IsBetweenTurns desk → IsHanded desk.plan desk.history after.history t → after.plan ≡ desk.plan → after.is_stopped ≡ desk.is_stopped → ticket_fits t ≡ true → ExpectsOwn t → IsOpen after t

@@ -1,5 +1,5 @@
 -- Internal: what one turn of a worker does, from a take to the end of what it started (of this project).
-use Rattle.std.specs.Prelude.{◌≡◌, ℕ, true, false, List, [], ◌∷◌, ◌++◌, length, replicate, slice_get, Option, Some, None, IsFalse, if◌then◌else◌}
+use Rattle.std.specs.Prelude.{◌≡◌, ℕ, true, false, List, [], ◌∷◌, ◌++◌, length, replicate, slice_get, Some, None, IsFalse, if◌then◌else◌}
 use Rattle.jr_model.specs.declared.events.Event.{Event}
 use Rattle.jr_model.specs.declared.events.Event.TheVariants.{End, Verdict}
 use Rattle.jr_model.specs.declared.events.Outcome.{Outcome}
@@ -45,12 +45,6 @@ pub record IsOpen (desk : DeskState) (ticket : Ticket) : Type 0 where
   pub unjudged : is_judged desk.history ticket.id ≡ false
   pub unraced : has_raced desk.history ticket.id ≡ false
   pub going : IsFalse desk.is_stopped
-
--- the ticket of what a take by worker 0 started; where it started nothing, the run is complete
-abbrev pub IsNext : Plan → List Event → List Event → Option Ticket → Type 0
-IsNext plan before after None = IsChosen plan 0 before after None × (is_complete plan after ≡ true)
-IsNext plan before after (Some ticket) =
-    (io : Started) × IsChosen plan 0 before after (Some io) × (ticket ≡ ticket_of plan (length (started before), io))
 
 -- the verdict that worker 0 appends, where the answer is to be judged
 abbrev pub judged_by : AnswerParts → List Event

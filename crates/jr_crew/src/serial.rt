@@ -1,11 +1,11 @@
-ghost use Rattle.std.specs.Prelude.{◌≡◌, ◌-◌, ◌^◌, ◌<◌, ◌≤◌, ◌++◌, ◌∷◌, [], true, false, Some, None, IfOk, IfErr, IfSome, IsSome, OnOk, OnErr, IsFalse};
+ghost use Rattle.std.specs.Prelude.{◌≡◌, ◌-◌, ◌^◌, ◌<◌, ◌≤◌, ◌++◌, ◌∷◌, [], true, false, None, IfOk, IfErr, IfSome, IsSome, OnOk, OnErr, IsFalse};
 ghost use Rattle.std.specs.Bool.{MatchBool};
 ghost use Rattle.jr_model.specs.Legal.{is_complete};
 ghost use Rattle.jr_model.specs.Serial.{serial_history};
 ghost use Rattle.jr_header.specs.Served.{is_to_judge};
 ghost use Rattle.jr_crew_threads.specs.Stops.{IsCompleteOrAsked, WasAsked};
 ghost use Rattle.jr_crew.specs.Runs.{IsFresh};
-ghost use Rattle.jr_crew.specs.Turns.{IsBetweenTurns, IsOpen, IsNext, IsCarriedOut, IsTurn, IsLastTurn, ended_by};
+ghost use Rattle.jr_crew.specs.Turns.{IsBetweenTurns, IsOpen, IsCarriedOut, IsTurn, IsLastTurn, ended_by};
 ghost use Rattle.jr_crew.specs.Whole.{IsRun, IsEndedRun};
 
 use jr_crew_threads::{
@@ -121,32 +121,17 @@ fn turn(
     ensures stop { desk.new.is_stopped ≡ desk.old.is_stopped }
     ensures memory { IfErr result (λ fault. fault ≡ RunFault.Memory) }
 {
-    match next_ticket(desk, watch) {
-        Ok(Some(ticket)) => {
-            carry_out(alloc, desk, engine, ticket, buffer, watch)?;
-            Ok(true)
-        }
-        Ok(None) => Ok(false),
-        Err(fault) => Err(fault),
-    }
-}
-
-// The ticket of what is started next; none where the run is complete.
-fn next_ticket(desk: &mut Desk, watch: &Watch<'_>) -> Result<Option<Ticket>, RunFault>
-    requires { IsBetweenTurns desk.old }
-    ensures next { IfOk result (IsNext desk.old.plan desk.old.history desk.new.history) }
-    ensures open { IfOk result (λ ticket. IfSome ticket (IsOpen desk.new)) }
-    ensures plan { desk.new.plan ≡ desk.old.plan }
-    ensures stop { desk.new.is_stopped ≡ desk.old.is_stopped }
-    ensures memory { IfErr result (λ fault. fault ≡ RunFault.Memory) }
-{
     match desk.take(0) {
         Ok(Take::Io(ticket)) => {
             note_start(watch.progress, &ticket);
-            Ok(Some(ticket))
+            carry_out(alloc, desk, engine, &ticket, buffer, watch)?;
+            Ok(true)
         }
-        Ok(Take::Probe(ticket)) => Ok(Some(ticket)),
-        Ok(Take::Finished) => Ok(None),
+        Ok(Take::Probe(ticket)) => {
+            carry_out(alloc, desk, engine, &ticket, buffer, watch)?;
+            Ok(true)
+        }
+        Ok(Take::Finished) => Ok(false),
         Ok(Take::Wait) => unreachable!(),
         Err(_) => Err(RunFault::Memory),
     }
@@ -157,19 +142,19 @@ fn carry_out(
     alloc: Global,
     desk: &mut Desk,
     engine: &mut dyn Engine,
-    ticket: Ticket,
+    ticket: &Ticket,
     buffer: &mut Vec<u8>,
     watch: &Watch<'_>,
 ) -> Result<(), RunFault>
-    requires open { IsOpen desk.old ticket }
+    requires open { IsOpen desk.old ticket.now }
     requires calls { (state engine.old).calls < 2 ^ 64 - 1 }
-    ensures ok { OnOk result (IsCarriedOut ticket desk.old.history desk.new.history (state engine.old) (state engine.new)) }
+    ensures ok { OnOk result (IsCarriedOut ticket.now desk.old.history desk.new.history (state engine.old) (state engine.new)) }
     ensures plan { desk.new.plan ≡ desk.old.plan }
     ensures stop { desk.new.is_stopped ≡ desk.old.is_stopped }
     ensures memory { IfErr result (λ fault. fault ≡ RunFault.Memory) }
 {
-    make_room(buffer, &ticket)?;
-    let served = serve_own(engine, ticket, mem::replace(buffer, Vec::new(alloc)));
+    make_room(buffer, ticket)?;
+    let served = serve_own(engine, *ticket, mem::replace(buffer, Vec::new(alloc)));
     record_alone(watch, &served);
     settle(desk, &served, watch)?;
     *buffer = served.into_buf();

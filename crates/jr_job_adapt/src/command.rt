@@ -1,6 +1,6 @@
 // The command that runs an adapted job file.
 
-use crate::numbers::fio_seconds;
+use jr_job_notes::fio_seconds;
 use jr_text::{Line, Section};
 use std::alloc::{AllocError, Global};
 

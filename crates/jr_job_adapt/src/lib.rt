@@ -9,7 +9,6 @@ mod following;
 mod jobs;
 mod keeping;
 mod marks;
-mod numbers;
 mod settled;
 mod state;
 mod turns;

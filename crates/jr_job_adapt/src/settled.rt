@@ -1,7 +1,6 @@
 // What a refused line comes to in a job that it counts for.
 
-use crate::numbers::fio_number;
-use jr_job_notes::Way;
+use jr_job_notes::{Way, fio_number};
 use jr_job_options::JobOptions;
 use jr_model::MOST_PASSES;
 use jr_text::Line;

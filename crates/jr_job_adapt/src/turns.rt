@@ -1,7 +1,6 @@
 // What becomes of a refused line in its place.
 
-use crate::numbers::{fio_number, fio_seconds, in_bytes, pattern, range_split};
-use jr_job_notes::{Fate, Told, Way, told_of};
+use jr_job_notes::{Fate, Told, Way, fio_seconds, other_words, told_of};
 use jr_text::Line;
 use std::alloc::{AllocError, Global};
 
@@ -57,7 +56,7 @@ fn by_way(alloc: Global, line: &Line, told: Told, way: Way) -> Result<Turned, Al
 
 // A line with another key or value, where that one is taken.
 fn in_place(alloc: Global, line: &Line, told: Told, way: Way) -> Result<Turned, AllocError> {
-    let (key, value) = other(alloc, line, way)?;
+    let (key, value) = other_words(alloc, line, way)?;
     let made = Line::new(line.line(), key, value);
     if told_of(&made).is_some() {
         return Ok(plain(alloc, told, Turn::Yours("its value")));
@@ -65,57 +64,6 @@ fn in_place(alloc: Global, line: &Line, told: Told, way: Way) -> Result<Turned, 
     let mut turned = plain(alloc, told, Turn::Done);
     turned.lines.push(made)?;
     Ok(turned)
-}
-
-// The key and the value of the line that stands in place of another.
-fn other(alloc: Global, line: &Line, way: Way) -> Result<(String, Option<String>), AllocError> {
-    let value = line.value().unwrap_or("");
-    let (key, value) = match way {
-        Way::Value(word) => (line.key(), String::from_str(alloc, word)?),
-        Way::Most(most) => (line.key(), at_most(alloc, value, most)?),
-        Way::Bytes => (line.key(), in_bytes(alloc, value)?),
-        Way::Number(key) => (key, in_bytes(alloc, value)?),
-        Way::Front => (line.key(), front(alloc, value)?),
-        Way::Pattern => ("verify_pattern", pattern(alloc, value)?),
-        Way::Range => return range(alloc, value),
-        _ => (line.key(), String::from_str(alloc, value)?),
-    };
-    Ok((String::from_str(alloc, key)?, Some(value)))
-}
-
-// A number, or the most that it may be.
-fn at_most(alloc: Global, value: &str, most: u64) -> Result<String, AllocError> {
-    match fio_number(value) {
-        Some(number) => {
-            let number = number.min(most);
-            format!(in alloc; "{number}")
-        }
-        None => String::from_str(alloc, value),
-    }
-}
-
-// What stands before the first colon.
-fn front(alloc: Global, value: &str) -> Result<String, AllocError> {
-    match value.split_once(':') {
-        Some((front, _)) => String::from_str(alloc, front),
-        None => String::from_str(alloc, value),
-    }
-}
-
-// The one size of a range, or several with equal shares.
-fn range(alloc: Global, value: &str) -> Result<(String, Option<String>), AllocError> {
-    let ends = value.split_once('-').or(value.split_once(':'));
-    if let Some((least, most)) = ends
-        && let (Some(least), Some(most)) = (fio_number(least), fio_number(most))
-    {
-        if least == most {
-            let size = format!(in alloc; "{least}")?;
-            return Ok((String::from_str(alloc, "bs")?, Some(size)));
-        }
-        let split = range_split(alloc, least, most)?;
-        return Ok((String::from_str(alloc, "bssplit")?, Some(split)));
-    }
-    Ok((String::from_str(alloc, "bs")?, Some(String::new(alloc))))
 }
 
 // The time that a line says.

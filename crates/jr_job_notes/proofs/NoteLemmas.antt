@@ -1,22 +1,18 @@
 -- The notes of lines and of sections that are gone over one after another.
 use Rattle.std.proofs.Common.{◌≡◌, ℕ, ◌+◌, ◌<◌, Bool, true, false, cond, List, [], ◌∷◌, ◌++◌, length, drop, map, ◌≤◌, slice_index_or, Option, Some, None, Result, Ok, Err, ap, ◌∙◌, sym, refl, arith, append_assoc, append-nil}
-use Rattle.std.specs.Prelude.{IfOk, IsErr, filter, is_some, replicate, ◌-◌}
+use Rattle.std.specs.Prelude.{filter, is_some, replicate, ◌-◌}
 use Rattle.std.specs.Result.{result_err}
 use Rattle.std.proofs.lemmas.List.{at_drop_all, at_drop_more, length-append, length-replicate, map-append, replicate-append-replicate}
 use Rattle.std.proofs.lemmas.List.Elements.{filter-append}
-use Rattle.jr_text.specs.declared.faults.TextFault.{TextFault}
-use Rattle.jr_text.specs.declared.faults.TextFault.TheVariants.{Memory}
-use Rattle.jr_text.specs.JobText.{sections_of}
-use Rattle.jr_text.specs.Refusals.{refusal_of}
 use Rattle.jr_text.specs.Records.{LineText, SectionText}
 use Rattle.jr_job_options.specs.declared.faults.JobFault.{JobFault}
 use Rattle.jr_job_options.specs.declared.options.JobOptions.{JobOptions}
 use Rattle.jr_job_options.specs.declared.settings.Setting.{Setting}
 use Rattle.jr_job_options.specs.Options.{and_setting, options_from}
 use Rattle.jr_job_options.specs.Settings.{setting_of}
-use Rattle.jr_options.specs.Refusals.{counts, counting_lines, line_fault, lines_of}
+use Rattle.jr_options.specs.Refusals.{counts, line_fault, lines_of}
 use Rattle.jr_job_notes.specs.declared.notes.Note.{Note}
-use Rattle.jr_job_notes.specs.Notes.{AreFirst, is_refused, is_want, line_number, lines_noted, noted, noted_line, refused_in, sections_noted}
+use Rattle.jr_job_notes.specs.Notes.{AreFirst, is_refused, line_number, lines_noted, noted, noted_line, refused_in, sections_noted}
 
 -- a line that is read alone is refused by its own fault
 alone_by : (o : JobOptions) (read : Result Setting JobFault) → result_err (and_setting o read) ≡ result_err read
@@ -131,10 +127,3 @@ first_more notes new note pushed none lines first =
     ap length is ∙ length-append lines (replicate (k + 1) None) ∙ ap (λ n. length lines + n) (length-replicate (k + 1) None) in
     let rest : k + 1 ≡ length (noted new) - length lines = omega (arith, count) in
     is ∙ ap (λ n. lines ++ replicate n None) rest
-
--- a text that says sections isn't refused but for want of memory
-pub of_unread : {A E : Type 0} (shown : A → List Note) (text : List ℕ) (only : Option (List ℕ)) (f : TextFault) (r : Result A E) → (refusal_of text ≡ None → f ≡ Memory) → (is_want f ≡ true → IsErr r) → IfOk r (λ x. (sections : List SectionText) → sections_of text ≡ Ok sections → AreFirst (sections_noted only sections) (noted (shown x)))
-of_unread shown text only f (Err e) refused wants = tt
-of_unread shown text only f (Ok x) refused wants = λ sections is.
-    let clash : false ≡ true = wants (ap is_want (refused (ap result_err is))) in
-    absurd (cc)

@@ -17,7 +17,7 @@ mod whole;
 
 pub use laws::{accepted_have_none, first_is_named, refused_ascend};
 pub use lines::{line_notes, told_of};
-pub use notes::{Note, job_notes, plan_notes};
+pub use notes::{Note, job_notes, plan_notes, unread_notes};
 pub use numbers::{fio_number, fio_seconds};
 pub use others::other_words;
 pub use rows::{Fate, Told, Way};

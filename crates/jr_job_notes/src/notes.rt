@@ -1,13 +1,11 @@
-ghost use Rattle.std.specs.Prelude.{◌≡◌, ℕ, List, Option, Ok, true, IfOk, IsErr, OnOk, option_copied};
-ghost use Rattle.jr_text.specs.Records.{SectionText};
-ghost use Rattle.jr_text.specs.JobText.{sections_of};
+ghost use Rattle.std.specs.Prelude.{◌≡◌, ℕ, List, Option, true, IfOk, IsErr, OnOk, option_copied};
 ghost use Rattle.jr_job_notes.specs.Notes.{AreFirst, is_want, noted, sections_noted};
 
 use crate::jobs::jobs;
 use crate::lines::line_notes;
 use crate::unread::add_unread;
 use crate::whole::{add_joint, add_own, add_unplanned, plan_texts};
-use jr_text::{Section, TextFault, sections};
+use jr_text::{Section, TextFault};
 use std::alloc::{AllocError, Global};
 use std::fmt;
 
@@ -33,21 +31,9 @@ impl fmt::Display for Note {
     }
 }
 
-/// What is wrong with a job file that is refused: each line that is refused by itself, and then each job at fault and what is wrong with all
-/// jobs together, as far as that doesn't hang on a refused line. Of a text that is no job file: the line that is at fault.
-pub fn job_notes(alloc: Global, text: &[u8], only: Option<&str>) -> Result<Vec<Note>, AllocError>
-    // The notes of lines are of those that are refused, and stand before all others.
-    ensures { IfOk result (λ notes. (sections : List SectionText) → sections_of text.now ≡ Ok sections
-        → AreFirst (sections_noted (option_copied only.entry) sections) (noted notes.items)) }
-{
-    match sections(alloc, text) {
-        Ok(sections) => section_notes(alloc, sections.as_slice(), only),
-        Err(fault) => unread(alloc, text, fault),
-    }
-}
-
-// What is said of a text that is no job file, unless memory is wanting.
-fn unread(alloc: Global, text: &[u8], fault: TextFault) -> Result<Vec<Note>, AllocError>
+/// What is said of a text that is no job file: the line that is at fault. Nothing if it is the whole text's fault.
+pub fn unread_notes(alloc: Global, text: &[u8], fault: TextFault) -> Result<Vec<Note>, AllocError>
+    // Where memory was wanting there is nothing to say.
     ensures { is_want fault ≡ true → IsErr result }
 {
     if is_want(fault) {
@@ -65,12 +51,14 @@ fn is_want(fault: TextFault) -> bool
     matches!(fault, TextFault::Memory)
 }
 
-// The same, of the file's sections.
-fn section_notes(
+/// What is wrong with the sections of a job file that is refused: each line that is refused by itself, and then each job at fault and what
+/// is wrong with all jobs together, as far as that doesn't hang on a refused line.
+pub fn job_notes(
     alloc: Global,
     sections: &[Section],
     only: Option<&str>,
 ) -> Result<Vec<Note>, AllocError>
+    // The notes of lines are of those that are refused, and stand before all others.
     ensures { IfOk result (λ notes. AreFirst (sections_noted (option_copied only.entry) sections.now) (noted notes.items)) }
 {
     let mut notes = line_notes(alloc, sections, only)?;
@@ -105,16 +93,15 @@ fn whole_texts(
     Ok(texts)
 }
 
-/// What is worth knowing of a job file that is taken: that a job has a pattern or a backlog and checks nothing, or only reads and checks
-/// nothing; that fio means something else by its lines.
-pub fn plan_notes(alloc: Global, text: &[u8], only: Option<&str>) -> Result<Vec<Note>, AllocError> {
-    match sections(alloc, text) {
-        Ok(sections) => {
-            let jobs = jobs(alloc, sections.as_slice(), only)?;
-            let mut notes = Vec::new(alloc);
-            add_texts(&mut notes, plan_texts(alloc, jobs.as_slice())?)?;
-            Ok(notes)
-        }
-        Err(fault) => unread(alloc, text, fault),
-    }
+/// What is worth knowing of the sections of a job file that is taken: that a job has a pattern or a backlog and checks nothing, or only
+/// reads and checks nothing; that fio means something else by its lines.
+pub fn plan_notes(
+    alloc: Global,
+    sections: &[Section],
+    only: Option<&str>,
+) -> Result<Vec<Note>, AllocError> {
+    let jobs = jobs(alloc, sections, only)?;
+    let mut notes = Vec::new(alloc);
+    add_texts(&mut notes, plan_texts(alloc, jobs.as_slice())?)?;
+    Ok(notes)
 }

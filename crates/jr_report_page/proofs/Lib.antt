@@ -2,3 +2,4 @@ pub mod CellLemmas
 pub mod HiddenLemmas
 pub mod RawLemmas
 pub mod RowLemmas
+pub mod SumLemmas

@@ -3,6 +3,7 @@ use Rattle.std.proofs.Common.{◌≡◌, ℕ, zero, suc, ◌+◌, ◌<◌, ◌�
 use Rattle.std.specs.Prelude.{Some, slice_get}
 use Rattle.jr_model.specs.declared.totals.Totals.{Totals}
 use Rattle.jr_model.specs.Plan.{SubJob}
+use Rattle.jr_report_json.proofs.Members.{five_more}
 use Rattle.jr_report_page.specs.Rows.{totals_row, totals_rows}
 
 -- the next row of totals, and those after it
@@ -34,17 +35,10 @@ totals_none (job ∷ jobs) [] (suc i) h = nothing (drop i jobs)
 totals_none (job ∷ jobs) (t ∷ totals) zero h = absurd (omega arith)
 totals_none (job ∷ jobs) (t ∷ totals) (suc i) h = totals_none jobs totals i (omega arith)
 
--- five and seven of them
-pub added_five : (t0 t1 t2 t3 t4 t5 a b c d e : List ℕ) → t1 ≡ t0 ++ a → t2 ≡ t1 ++ b → t3 ≡ t2 ++ c → t4 ≡ t3 ++ d → t5 ≡ t4 ++ e
-    → t5 ≡ t0 ++ (a ++ b ++ c ++ d ++ e)
-added_five t0 t1 t2 t3 t4 t5 a b c d e e1 e2 e3 e4 e5 =
-    e5
-    ∙ ap (λ (t : List ℕ). t ++ e) (e4 ∙ ap (λ (t : List ℕ). t ++ d) (e3 ∙ ap (λ (t : List ℕ). t ++ c) (e2 ∙ ap (λ (t : List ℕ). t ++ b) e1)))
-    ∙ simp append_assoc
-
+-- seven of them
 pub added_seven : (t0 t1 t2 t3 t4 t5 t6 t7 a b c d e f g : List ℕ) → t1 ≡ t0 ++ a → t2 ≡ t1 ++ b → t3 ≡ t2 ++ c → t4 ≡ t3 ++ d → t5 ≡ t4 ++ e
     → t6 ≡ t5 ++ f → t7 ≡ t6 ++ g → t7 ≡ t0 ++ (a ++ b ++ c ++ d ++ e ++ f ++ g)
 added_seven t0 t1 t2 t3 t4 t5 t6 t7 a b c d e f g e1 e2 e3 e4 e5 e6 e7 =
     e7
-    ∙ ap (λ (t : List ℕ). t ++ g) (e6 ∙ ap (λ (t : List ℕ). t ++ f) (added_five t0 t1 t2 t3 t4 t5 a b c d e e1 e2 e3 e4 e5))
+    ∙ ap (λ (t : List ℕ). t ++ g) (e6 ∙ ap (λ (t : List ℕ). t ++ f) (five_more t0 t1 t2 t3 t4 t5 a b c d e e1 e2 e3 e4 e5))
     ∙ simp append_assoc

@@ -2,6 +2,7 @@ pub mod Afters
 pub mod Askable
 pub mod Extents
 pub mod Grounds
+pub mod JobRefusals
 pub mod Ledgers
 pub mod Memory
 pub mod Outcomes

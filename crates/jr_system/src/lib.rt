@@ -26,7 +26,7 @@ pub use closed::Closed;
 pub use extents::PlanBytes;
 pub use files::{Taken, take_files};
 pub use grounds::{Ground, OneEngine, crew_engines};
-pub use jobs::job_plan;
+pub use jobs::{PlannedJob, job_plan};
 pub use ledgers::{begin_ledger, ledger_cut, refuse_ledger, unsynced_on_the_way};
 pub use machine::{Machine, Outlet};
 pub use meminfo::{MemoryFiles, tell_history};

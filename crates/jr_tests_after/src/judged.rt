@@ -123,7 +123,7 @@ fn each_finding_is_told(rt: HostRuntime) -> Result<(), Fail> {
     let plan = plan_of(alloc, 0)?;
     let mut engine = memory(alloc, &plan)?;
     let lines = ledger(alloc)?;
-    let after = judge_after(alloc, &plan, lines.as_slice(), &mut engine)?;
+    let after = judge_after(&rt, alloc, &plan, lines.as_slice(), &mut engine)?;
     let wanted = "file=f kept=1 lost=1 broken=1 torn=1 open=1\n\
         lost: file=f offset=4096 length=4096 kept=0/1/1 found=0/0/1\n\
         torn: file=f offset=8192 length=4096 kept=0/1/2\n\
@@ -137,7 +137,7 @@ fn a_ledger_without_a_sync_promises_nothing(rt: HostRuntime) -> Result<(), Fail>
     let plan = plan_of(alloc, 0)?;
     let mut engine = memory(alloc, &plan)?;
     let lines = [LedgerLine::Written(write(0, 1))];
-    let after = judge_after(alloc, &plan, &lines, &mut engine)?;
+    let after = judge_after(&rt, alloc, &plan, &lines, &mut engine)?;
     assert_told(
         &rt,
         &plan,
@@ -154,7 +154,7 @@ fn a_chunk_that_cant_be_read_is_a_fault(rt: HostRuntime) -> Result<(), Fail> {
     let memory = MemoryEngine::new(alloc, &plan)?;
     let script = Vec::from_array(alloc, [(0, Reply::Fail), (2, Reply::Fail)])?;
     let mut engine = ScriptedEngine::new(memory, script);
-    let after = judge_after(alloc, &plan, &[], &mut engine)?;
+    let after = judge_after(&rt, alloc, &plan, &[], &mut engine)?;
     let wanted =
         "file=f kept=0 lost=0 broken=0 torn=0 open=4\nfault: file=f offset=4096 length=4096\n";
     assert_told(&rt, &plan, &after, wanted, 1)
@@ -168,7 +168,7 @@ fn chunks_of_a_short_read_are_read_again(rt: HostRuntime) -> Result<(), Fail> {
     let script = Vec::from_array(alloc, [(0, Reply::Short(6000)), (3, Reply::Short(4095))])?;
     let mut engine = ScriptedEngine::new(memory, script);
     let lines = ledger(alloc)?;
-    let after = judge_after(alloc, &plan, lines.as_slice(), &mut engine)?;
+    let after = judge_after(&rt, alloc, &plan, lines.as_slice(), &mut engine)?;
     let wanted = "file=f kept=1 lost=1 broken=1 torn=0 open=1\n\
         lost: file=f offset=4096 length=4096 kept=0/1/1 found=0/0/1\n\
         broken: file=f offset=12288 length=4096 kept=0/1/3\n\
@@ -195,7 +195,7 @@ fn chunks_of_a_block_are_judged_each(rt: HostRuntime) -> Result<(), Fail> {
     )?;
     put(&mut engine, 8192 + 512, &[0x55; 64])?;
     let lines = ledger(alloc)?;
-    let after = judge_after(alloc, &plan, lines.as_slice(), &mut engine)?;
+    let after = judge_after(&rt, alloc, &plan, lines.as_slice(), &mut engine)?;
     let wanted = "file=f kept=30 lost=1 broken=1 torn=0 open=8\n\
         lost: file=f offset=5120 length=512 kept=0/1/1 found=0/0/1\n\
         broken: file=f offset=8704 length=512 kept=0/1/2\n";
@@ -210,7 +210,7 @@ fn it_is_told_as_json_and_as_blocks(rt: HostRuntime) -> Result<(), Fail> {
     let script = Vec::from_array(alloc, [(0, Reply::Fail), (1, Reply::Fail)])?;
     let mut engine = ScriptedEngine::new(memory, script);
     let lines = ledger(alloc)?;
-    let after = judge_after(alloc, &plan, lines.as_slice(), &mut engine)?;
+    let after = judge_after(&rt, alloc, &plan, lines.as_slice(), &mut engine)?;
     let unread = after.unread(alloc)?;
     let judgement = Judgement {
         version: "1",

@@ -1,5 +1,6 @@
 use crate::asserts::same;
-use jr_cli::{CliFault, Watch, execute, read_job, workers_of};
+use crate::jobs::read_job;
+use jr_cli::{CliFault, Watch, execute, workers_of};
 use jr_crew::RunFault;
 use jr_engines::{Engine, MemoryEngine, Reply, ScriptedEngine};
 use std::process::Abort;

@@ -7,6 +7,8 @@ mod asserts;
 #[cfg(test)]
 mod crew;
 #[cfg(test)]
+mod jobs;
+#[cfg(test)]
 mod model;
 #[cfg(test)]
 mod numbers;

@@ -1,8 +1,9 @@
 use crate::asserts::same;
+use crate::jobs::read_job;
 use crate::texts::assert_said;
 use jr_cli::{
     CliFault, RunEnd, StopFlag, Watch, execute_serial, print_check, print_part, print_plan,
-    read_job, read_text, read_trace,
+    read_text, read_trace,
 };
 use jr_engines::MemoryEngine;
 use jr_stats::TraceFault;

@@ -1,5 +1,6 @@
 use crate::asserts::same;
-use jr_cli::{Watch, execute_serial, read_job};
+use crate::jobs::read_job;
+use jr_cli::{Watch, execute_serial};
 use jr_engines::{MemoryEngine, Reply, ReplyBytes, ScriptedEngine};
 use std::alloc::Global;
 use std::process::Abort;

@@ -1,15 +1,11 @@
-use Rattle.std.proofs.Common.{◌≡◌, ◌∙◌, ℕ, ◌+◌, ◌-◌, ◌^◌, min, List, take, ap, sym, arith}
+use Rattle.std.proofs.Common.{◌∙◌, ℕ, ◌+◌, ◌-◌, ◌^◌, min, List, take, ap, sym}
 use Rattle.std.specs.Prelude.{sum_by}
 use Rattle.std.proofs.lemmas.List.{take_all}
 use Rattle.std.proofs.lemmas.List.Sums.{sum_by_more}
 use Rattle.jr_after_report.specs.Reports.{FileState}
 use Rattle.jr_after_page.specs.Status.{count_of}
+use Rattle.jr_report_page.proofs.SumLemmas.{capped_more}
 use Rattle.jr_after_page.proofs.status.sum_of.Goals as goal
-
--- one term more, below a most
-capped_more : (most part count total sum next : ℕ) → sum ≡ min most part → next ≡ min (sum + count) most → total ≡ part + count
-    → next ≡ min most total
-capped_more most part count total sum next so more whole = omega arith
 
 pub loop-one-preserved : goal.loop-one-preserved
 loop-one-preserved c =

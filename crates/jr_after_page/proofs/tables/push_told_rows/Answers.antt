@@ -1,7 +1,7 @@
 use Rattle.std.proofs.Common.{ℕ, ◌-◌, List, ◌++◌, length, take, string_bytes, ap, ◌∙◌}
 use Rattle.std.specs.Prelude.{flat_map}
 use Rattle.jr_after_report.specs.declared.lines.Judged.{Judged}
-use Rattle.jr_report_page.proofs.RowLemmas.{added_five}
+use Rattle.jr_report_json.proofs.Members.{five_more}
 use Rattle.jr_report_page.specs.Rows.{more_text}
 use Rattle.jr_report_page.specs.declared.tables.TheConstants.{MOST_ROWS}
 use Rattle.jr_after_page.specs.Page.{told_rows}
@@ -14,7 +14,7 @@ returns c =
     let row = told_row c.args.plan.now in
     let t2 = string_bytes c.push_str-2.new.self in
     let t4 = string_bytes c.push_str-3.new.self in
-    added_five (string_bytes c.args.page.now) (string_bytes c.push_str.new.self) t2 (string_bytes c.push_all_told.new.page) t4
+    five_more (string_bytes c.args.page.now) (string_bytes c.push_str.new.self) t2 (string_bytes c.push_all_told.new.page) t4
     (string_bytes c.push_more.new.page)
     _ _ (flat_map row (take MOST_ROWS c.args.told.now)) _ (more_text (length c.args.told.now - MOST_ROWS))
     c.in_ok-push_str.ensures.bytes c.in_ok-push_str-2.ensures.bytes
