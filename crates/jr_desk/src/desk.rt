@@ -1,4 +1,4 @@
-ghost use Rattle.std.specs.Prelude.{◌≡◌, ◌++◌, ◌∷◌, [], ◌||◌, Bool, true, false, IfOk, IfErr, IfSome, OnOk, OnErr, IsTrue};
+ghost use Rattle.std.specs.Prelude.{◌≡◌, ◌⊎◌, ◌++◌, ◌∷◌, [], ◌||◌, Bool, true, false, IfOk, IfErr, IfSome, OnOk, OnErr, IsTrue};
 ghost use Rattle.std.specs.Prelude.{IsFalse, Ok, Err, None, map, slice_get, is_some};
 ghost use Rattle.jr_model.specs.History.{started, outcome_of, ended_whole, is_judged};
 ghost use Rattle.jr_model.specs.Legal.{is_legal, is_complete, is_void};
@@ -26,9 +26,10 @@ use std::marker::Model;
 
 /// The shared state of a run. Every I/O is handed out by it and ends in it.
 ///
-/// A refused call leaves it unchanged. A call costs a logarithm of what happened; a take also goes past the clones that wait for an
-/// overlap, their phase or their round, and past the writes of a round whose checks fly or are barred. It does so again for each write
-/// that it skips. It doesn't look at the clones at the front that are at rest, nor at those that have as much in flight as they may.
+/// A refused call leaves it unchanged, but for `end_judged`: if memory is wanting for the verdict alone, the end was taken in. A call costs
+/// a logarithm of what happened; a take also goes past the clones that wait for an overlap, their phase or their round, and past the writes
+/// of a round whose checks fly or are barred. It does so again for each write that it skips. It doesn't look at the clones at the front that
+/// are at rest, nor at those that have as much in flight as they may.
 #[derive(Drop)]
 pub struct Desk {
     alloc: Global,
@@ -138,12 +139,22 @@ impl Desk {
     /// Takes in how a check ended that ended whole, and the verdict on it, which it gives: what `end` and then `judge` do, but its
     /// ticket is compared once. Where memory is wanting for the verdict alone, the end was taken in.
     pub fn end_judged(&mut self, by: u32, ruling: &Ruling<'_>) -> Result<Verdict, DeskFault>
+        // Refused as the machine refuses the end, and else only for want of memory.
+        ensures refused { (own : Bool) → Owns self.old ruling.now.ticket own
+            → IfSome (end_fault self.old ruling.now.ticket.id own) (λ fault. (result ≡ Err fault) × (self.new ≡ self.old)) }
+        ensures taken_in { Owns self.old ruling.now.ticket true → end_fault self.old ruling.now.ticket.id true ≡ None
+            → IfErr result (λ fault. fault ≡ DeskFault.Memory) }
         ensures ok { let check = ruling.now.ticket in
             let ended = self.old.history ++ Event.End check.worker check.id ruling.now.outcome ∷ [] in
             IfOk result (λ said. (self.new ≡ record self.old { history = ended ++ Event.Verdict by check.id said ∷ [] })
             × (said ≡ said_of (has_raced ended check.id) (answer_verdict ruling.now))) }
         ensures says { IfOk result (λ said. is_void said ≡ false → said ≡ answer_verdict ruling.now) }
         ensures err { OnErr result ((self.new.plan ≡ self.old.plan) × (self.new.is_stopped ≡ self.old.is_stopped)) }
+
+        // It is as it was, or has taken in the end alone.
+        ensures kept { let check = ruling.now.ticket in
+            let ended = self.old.history ++ Event.End check.worker check.id ruling.now.outcome ∷ [] in
+            IfErr result (λ fault. (self.new ≡ self.old) ⊎ ((fault ≡ DeskFault.Memory) × (self.new ≡ record self.old { history = ended }))) }
     {
         let _ = &self.plan;
         self.end_own(ruling.served())?;
@@ -160,6 +171,7 @@ impl Desk {
         ensures said { IfOk result (λ said. said
             ≡ said_of (has_raced self.old.history ruling.now.ticket.id) (answer_verdict ruling.now)) }
         ensures says { IfOk result (λ said. is_void said ≡ false → said ≡ answer_verdict ruling.now) }
+        ensures memory { IfErr result (λ fault. fault ≡ DeskFault.Memory) }
         ensures err { OnErr result (self.new ≡ self.old) }
     {
         let ticket = ruling.served().ticket();

@@ -1,9 +1,10 @@
 -- A check that has just ended whole is still the desk's own, and has no verdict.
-use Rattle.std.proofs.Common.{◌≡◌, List, [], ◌∷◌, ◌++◌, true, false, refl, sym, ◌∙◌, ap, subst}
+use Rattle.std.proofs.Common.{rules, ◌≡◌, List, [], ◌∷◌, ◌++◌, true, false, refl, sym, ◌∙◌, ap, subst}
 use Rattle.std.specs.Prelude.{Option, Some, None, is_some, slice_get}
 use Rattle.jr_model.specs.declared.events.Event.TheVariants.{End}
 use Rattle.jr_model.specs.declared.events.Outcome.{Outcome}
 use Rattle.jr_model.specs.declared.events.Outcome.TheVariants.{Whole, Failed, Short}
+use Rattle.jr_model.specs.declared.steps.DeskFault.TheVariants.{Memory}
 use Rattle.jr_model.specs.declared.tickets.Ticket.{Ticket}
 use Rattle.jr_model.specs.declared.tickets.TicketKind.{TicketKind}
 use Rattle.jr_model.specs.declared.tickets.TicketKind.TheVariants as ticket
@@ -17,6 +18,7 @@ use Rattle.jr_laws_steps.proofs.JudgedEnded.{flying_unjudged}
 use Rattle.jr_desk_tickets.specs.Kept.{IsOwn}
 use Rattle.jr_desk_tickets.proofs.HandingMoves.{tickets_stay}
 use Rattle.jr_desk.specs.DeskState.{DeskState}
+use Rattle.jr_desk.specs.Refusals.{end_fault}
 use Rattle.jr_desk.proofs.desk.Desk.end_judged.Goals as goal
 
 none_of : (o : Option Outcome) → is_some o ≡ false → o ≡ None
@@ -73,3 +75,10 @@ judge_own-requires-clause-unjudged c =
     subst (λ (a : AnswerParts). is_judged c.end_own.new.self.history a.ticket.id ≡ false) c.served.ensures.value
     (still_unjudged c.args.self.now c.end_own.new.self c.served.result.now c.in_ok-end_own.ensures.ok c.in_ok-end_own.ensures.flying
     (subst (λ (d : DeskState). is_legal d.plan d.history ≡ true) c.self.view_is c.self.invariant.legal))
+
+pub returns-in_err-end_own-clause-taken_in : goal.returns-in_err-end_own-clause-taken_in
+returns-in_err-end_own-clause-taken_in c own none =
+    let said : c.in_err-end_own.field-0.0 ≡ Memory = c.in_err-end_own.ensures.taken_in
+    (subst (λ (a : AnswerParts). IsOwn c.args.self.now.plan c.args.self.now.history a.ticket) (sym c.served.ensures.value) own)
+    (subst (λ (a : AnswerParts). end_fault c.args.self.now a.ticket.id true ≡ None) (sym c.served.ensures.value) none) in
+    search rules
