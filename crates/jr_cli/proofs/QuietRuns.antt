@@ -1,13 +1,14 @@
 -- Where the status is 0 nothing went wrong; so where no two clones have one file, the report is that of the draws alone.
-use Rattle.std.proofs.Common.{◌≡◌, ℕ, zero, suc, List, [], ◌∷◌, ◌++◌, Bool, true, false, not, cond, ◌&&◌, refl, sym, ◌∙◌, subst, arith, append_assoc}
-use Rattle.std.specs.Prelude.{map, count_by, slice_get, nat_lt, Option, Some, None}
+use Rattle.std.proofs.Common.{◌≡◌, ℕ, zero, suc, List, [], ◌∷◌, ◌++◌, Bool, true, false, not, cond, ◌&&◌, refl, sym, ap, ◌∙◌, subst, arith, append_assoc}
+use Rattle.std.specs.Prelude.{map, filter_map, count_by, slice_get, nat_lt, Option, Some, None}
 use Rattle.std.specs.Io.KnownBytes.{Appends}
-use Rattle.std.specs.List.{list_any, list_all}
+use Rattle.std.specs.List.{list_any, list_all, cons_option}
 use Rattle.std.proofs.lemmas.Bool.{and_parts, or_parts, or_from, eq-eqb, ltb-false}
 use Rattle.std.proofs.lemmas.List.Sums.{sum_by-cons}
 use Rattle.jr_model.specs.declared.events.Event.{Event}
 use Rattle.jr_model.specs.declared.events.Event.TheVariants.{Issue, Probe, Skip, End, Verdict}
 use Rattle.jr_model.specs.declared.events.Outcome.{Outcome}
+use Rattle.jr_model.specs.declared.events.Outcome.TheVariants.{Whole, Failed, Short}
 use Rattle.jr_model.specs.declared.events.Started.{Started}
 use Rattle.jr_model.specs.declared.totals.Totals.{Totals}
 use Rattle.jr_model.specs.History.{started, flies, outcome_of, is_judged, ended_whole, is_of_clone}
@@ -22,6 +23,9 @@ use Rattle.jr_model.proofs.HistoryLemmas.{judged_there}
 use Rattle.jr_laws_quiet.specs.Quiet.{NothingRaced, is_calm, is_quiet}
 use Rattle.jr_laws_quiet.proofs.Reports.{quiet_run_unraced}
 use Rattle.jr_laws_steps.proofs.StartedLemmas.{started_stays, middle_may_happen}
+use Rattle.jr_report_faults.specs.declared.faults.Fault.{Fault}
+use Rattle.jr_report_faults.specs.declared.faults.Faults.{Faults}
+use Rattle.jr_report_faults.specs.Faults.{AreFaultsOf, AreFirst, fault_by, fault_with, named}
 use Rattle.jr_cli.specs.Executed.{IsReported, IsQuietlyReported}
 use Rattle.jr_cli.specs.Status.{is_unclean, status_of}
 
@@ -125,6 +129,32 @@ module _ (plan : Plan) (history : List Event) (planned : IsPlanned plan) (legal 
 pub quiet_status : (plan : Plan) (history : List Event) → IsPlanned plan → is_legal plan history ≡ true → status_of (all_totals plan history) ≡ 0 → is_quiet history ≡ true
 quiet_status plan history planned legal ends =
     all_calm plan history planned legal (no_one (list_any is_unclean (all_totals plan history)) ends) [] history refl
+
+-- so no event is a fault
+not_fault : (ios : List Started) (e : Event) → is_calm e ≡ true → fault_by ios e ≡ None
+not_fault ios (End worker io Whole) calm = none (slice_get ios io)
+  where
+    none : (s : Option Started) → fault_with Whole s ≡ None
+    none None = refl
+    none (Some s) = refl
+not_fault ios (End worker io Failed) calm = cc
+not_fault ios (End worker io (Short n)) calm = cc
+not_fault ios (Issue worker kind write piece) calm = refl
+not_fault ios (Probe worker write piece) calm = refl
+not_fault ios (Skip worker write) calm = refl
+not_fault ios (Verdict worker io verdict) calm = refl
+
+none_faulty : (ios : List Started) (events : List Event) → list_all is_calm events ≡ true → filter_map (fault_by ios) events ≡ []
+none_faulty ios [] calm = refl
+none_faulty ios (e ∷ events) calm =
+    let parts = and_parts (is_calm e) (list_all is_calm events) calm in
+    ap (λ (o : Option Fault). cons_option o (filter_map (fault_by ios) events)) (not_fault ios e parts.0)
+    ∙ none_faulty ios events parts.1
+
+pub no_faults : (plan : Plan) (history : List Event) (kept : Faults) → IsPlanned plan → is_legal plan history ≡ true → status_of (all_totals plan history) ≡ 0 → kept.first.items ≡ [] → kept.more ≡ 0 → AreFaultsOf plan history kept
+no_faults plan history kept planned legal clean first more =
+    subst (λ (faults : List Fault). AreFirst plan faults kept) (sym (none_faulty (started history) history (quiet_status plan history planned legal clean)))
+    (record { first = ap (map named) first; more = more })
 
 -- what is reported of a desk is that of its plan and history
 pub reported_on : (found plan : Plan) (kept history : List Event) (blank written : Option (List ℕ)) (status : ℕ) → found ≡ plan → kept ≡ history → IsReported found kept blank written status → IsReported plan history blank written status
