@@ -5,6 +5,8 @@
 #[cfg(test)]
 mod asserts;
 #[cfg(test)]
+mod desks;
+#[cfg(test)]
 mod drops;
 #[cfg(test)]
 mod gates;

@@ -1,9 +1,14 @@
 use crate::asserts::same;
+use crate::desks::{desk_of_one, desk_of_two, shown_by};
 use crate::plans::{checked, plan_of};
-use jr_crew::{Progress, Watch, run, run_serial};
-use jr_engines::{Engine, NullEngine};
+use jr_crew::Progress;
 use jr_model::EngineKind;
+use jr_plan::Plan;
+use std::alloc::Global;
+use std::sync::Wait;
 use std::test::Fail;
+use std::thread::Threads;
+use std::time::Clock;
 
 // I/Os, their bytes, checks, and bad ones.
 fn told(progress: &Progress) -> (u64, u64, u64, u64) {
@@ -15,21 +20,41 @@ fn told(progress: &Progress) -> (u64, u64, u64, u64) {
     )
 }
 
+// Four blocks that are written over engines of zeros and checked by a pattern of this byte.
+fn four_of(alloc: Global, byte: u8, verifiers: u32) -> Result<Plan, Fail> {
+    plan_of(alloc, &checked(4, byte), 1, EngineKind::Null, verifiers)
+}
+
+// What is told of a run by one worker.
+fn told_of_one(alloc: Global, byte: u8) -> Result<(u64, u64, u64, u64), Fail> {
+    let progress = Progress::new();
+    let plan = four_of(alloc, byte, 0)?;
+    let _ended = desk_of_one(alloc, plan, shown_by(&progress))?;
+    Ok(told(&progress))
+}
+
+// What is told of a run by two, with so many verifiers.
+fn told_of_two<R: Threads + Wait + Clock + Sync>(
+    rt: &R,
+    alloc: Global,
+    verifiers: u32,
+) -> Result<(u64, u64, u64, u64), Fail> {
+    let progress = Progress::new();
+    let plan = four_of(alloc, 1, verifiers)?;
+    let _ended = desk_of_two(rt, alloc, plan, shown_by(&progress))?;
+    Ok(told(&progress))
+}
+
+#[test]
+fn nothing_is_told_before_a_run(rt: HostRuntime) {
+    same(&rt, told(&Progress::new()), (0, 0, 0, 0));
+}
+
 #[test]
 fn one_worker_is_watched(rt: HostRuntime) -> Result<(), Fail> {
     // (what an engine of zeros gives back is right for one pattern, and wrong for the other)
     for (byte, bad) in [(0, 0), (1, 4)] {
-        let progress = Progress::new();
-        let watch = Watch {
-            progress: Some(&progress),
-            stop: None,
-            diagnoses: None,
-            ledger: None,
-        };
-        same(&rt, told(&progress), (0, 0, 0, 0));
-        let plan = plan_of(rt.alloc(), &checked(4, byte), 1, EngineKind::Null, 0)?;
-        run_serial(rt.alloc(), plan, &mut NullEngine::new(), watch)?;
-        same(&rt, told(&progress), (4, 16384, 4, bad));
+        same(&rt, told_of_one(rt.alloc(), byte)?, (4, 16384, 4, bad));
     }
     Ok(())
 }
@@ -37,20 +62,11 @@ fn one_worker_is_watched(rt: HostRuntime) -> Result<(), Fail> {
 #[test]
 fn workers_and_verifiers_are_watched(rt: HostRuntime) -> Result<(), Fail> {
     for verifiers in 0..2 {
-        let progress = Progress::new();
-        let watch = Watch {
-            progress: Some(&progress),
-            stop: None,
-            diagnoses: None,
-            ledger: None,
-        };
-        let plan = plan_of(rt.alloc(), &checked(4, 1), 1, EngineKind::Null, verifiers)?;
-        let mut engines: Vec<Box<dyn Engine + Send>> = Vec::new(rt.alloc());
-        for _ in 0..2 {
-            engines.push(Box::new(rt.alloc(), NullEngine::new())?)?;
-        }
-        run(&rt, rt.alloc(), plan, engines, watch)?;
-        same(&rt, told(&progress), (4, 16384, 4, 4));
+        same(
+            &rt,
+            told_of_two(&rt, rt.alloc(), verifiers)?,
+            (4, 16384, 4, 4),
+        );
     }
     Ok(())
 }

@@ -1,12 +1,12 @@
 // Jobs that decline to wait (`serialize_overlap=0`): what a run says where a write overlaps another I/O in flight.
 use crate::asserts::same;
+use crate::desks::{desk_of, desk_of_one, shown_by};
 use crate::gates::two_gates;
 use crate::plans::{NOTHING, checked, plan_of_two};
-use jr_crew::{Progress, Watch, run, run_serial};
+use jr_crew::{Progress, Watch};
 use jr_desk::Desk;
-use jr_engines::NullEngine;
 use jr_model::{IoType, Totals};
-use jr_plan::Workload;
+use jr_plan::{Plan, Workload};
 use std::alloc::Global;
 use std::process::Abort;
 use std::sync::Wait;
@@ -55,7 +55,21 @@ fn totals_of_two(desk: &Desk) -> Result<[Totals; 2], Fail> {
     }
 }
 
-// Are these the totals of two clones, over engines of zeros where both are in flight at once? Nothing is said to be bad meanwhile.
+// The totals of two clones, over engines of zeros where both are in flight at once; and how many verdicts were said to be bad meanwhile.
+fn raced<R: Threads + Wait + Clock + Sync>(
+    rt: &R,
+    alloc: Global,
+    first: &Workload,
+    second: &Workload,
+    verifiers: u32,
+) -> Result<([Totals; 2], u64), Fail> {
+    let progress = Progress::new();
+    let plan = plan_of_two(alloc, first, second, verifiers)?;
+    let engines = two_gates(alloc)?;
+    let desk = desk_of(rt, alloc, plan, engines, shown_by(&progress))?;
+    Ok((totals_of_two(&desk)?, progress.bad()))
+}
+
 fn assert_raced<R: Abort + Threads + Wait + Clock + Sync>(
     rt: &R,
     alloc: Global,
@@ -64,21 +78,8 @@ fn assert_raced<R: Abort + Threads + Wait + Clock + Sync>(
     want: [Totals; 2],
 ) -> Result<(), Fail> {
     for verifiers in 0..3 {
-        let progress = Progress::new();
-        let watch = Watch {
-            progress: Some(&progress),
-            stop: None,
-            diagnoses: None,
-            ledger: None,
-        };
-        let plan = plan_of_two(alloc, first, second, verifiers)?;
-        let ran = run(rt, alloc, plan, two_gates(alloc)?, watch)?;
-        same(
-            rt,
-            (verifiers, totals_of_two(&ran.desk)?),
-            (verifiers, want),
-        );
-        same(rt, (verifiers, progress.bad()), (verifiers, 0));
+        let found = raced(rt, alloc, first, second, verifiers)?;
+        same(rt, (verifiers, found), (verifiers, (want, 0)));
     }
     Ok(())
 }
@@ -108,10 +109,14 @@ fn a_write_that_raced_is_skipped(rt: HostRuntime) -> Result<(), Fail> {
     assert_raced(&rt, rt.alloc(), &first, &writing(), [skipped, WROTE])
 }
 
+fn both_declining(alloc: Global) -> Result<Plan, Fail> {
+    plan_of_two(alloc, &declining(reading()), &declining(writing()), 0)
+}
+
 #[test]
 fn nothing_races_where_one_worker_runs(rt: HostRuntime) -> Result<(), Fail> {
-    let plan = plan_of_two(rt.alloc(), &declining(reading()), &declining(writing()), 0)?;
-    let desk = run_serial(rt.alloc(), plan, &mut NullEngine::new(), Watch::none())?;
+    let plan = both_declining(rt.alloc())?;
+    let desk = desk_of_one(rt.alloc(), plan, Watch::none())?;
     let judged = Totals {
         checks: 1,
         bad: 1,

@@ -1,14 +1,18 @@
 use crate::asserts::same;
-use crate::gates::{two_gates, two_gates_of};
+use crate::desks::{desk_of, four_shares};
+use crate::gates::two_gates_of;
 use crate::plans::{NOTHING, plan_of};
 use jr_crew::{RunFault, Watch, run};
 use jr_desk::Desk;
-use jr_engines::{Engine, SharedMemory};
+use jr_engines::Engine;
 use jr_model::{EngineKind, IoType, Method, Totals, VerifyKind};
 use jr_plan::{Plan, Workload};
 use std::alloc::Global;
 use std::process::Abort;
+use std::sync::Wait;
 use std::test::Fail;
+use std::thread::Threads;
+use std::time::Clock;
 
 // A plan of two writes that may be in flight at once.
 fn two_at_once(alloc: Global) -> Result<Plan, Fail> {
@@ -19,12 +23,21 @@ fn two_at_once(alloc: Global) -> Result<Plan, Fail> {
     plan_of(alloc, &two, 1, EngineKind::Memory, 0)
 }
 
+// The desk of two writes, each at a gate that gives up after so many turns.
+fn desk_at_gates<R: Threads + Wait + Clock + Sync>(
+    rt: &R,
+    alloc: Global,
+    turns: u32,
+) -> Result<Desk, Fail> {
+    let plan = two_at_once(alloc)?;
+    let engines = two_gates_of(alloc, turns)?;
+    desk_of(rt, alloc, plan, engines, Watch::none())
+}
+
 #[test]
 fn two_are_inside_their_engines_at_once(rt: HostRuntime) -> Result<(), Fail> {
-    let plan = two_at_once(rt.alloc())?;
-    let engines = two_gates(rt.alloc())?;
-    let ran = run(&rt, rt.alloc(), plan, engines, Watch::none())?;
-    assert_both_wrote(&rt, &ran.desk);
+    let desk = desk_at_gates(&rt, rt.alloc(), 20_000_000)?;
+    assert_both_wrote(&rt, &desk);
     Ok(())
 }
 
@@ -64,18 +77,19 @@ fn assert_sixteen(rt: &impl Abort, desk: &Desk) {
 // (`checks/build/wants.py` refuses its requests for memory and threads.)
 #[test]
 fn four_workers_write_one_file(rt: HostRuntime) -> Result<(), Fail> {
-    let alloc = rt.alloc();
-    let work = digested(IoType::Write, 4, 16);
-    let plan = plan_of(alloc, &work, 2, EngineKind::Memory, 0)?;
-    let first = SharedMemory::new(rt.clone()?, alloc, &plan)?;
-    let mut engines: Vec<Box<dyn Engine + Send>> = Vec::new(alloc);
-    for _ in 1..4 {
-        engines.push(Box::new(alloc, first.share()?)?)?;
+    let plan = sixteen_of_two(rt.alloc())?;
+    let mut engines: Vec<Box<dyn Engine + Send>> = Vec::new(rt.alloc());
+    for share in four_shares(rt.clone()?, rt.alloc(), &plan)? {
+        engines.push(Box::new(rt.alloc(), share)?)?;
     }
-    engines.push(Box::new(alloc, first)?)?;
-    let ran = run(&rt, alloc, plan, engines, Watch::none())?;
-    assert_sixteen(&rt, &ran.desk);
+    let desk = desk_of(&rt, rt.alloc(), plan, engines, Watch::none())?;
+    assert_sixteen(&rt, &desk);
     Ok(())
+}
+
+fn sixteen_of_two(alloc: Global) -> Result<Plan, Fail> {
+    let work = digested(IoType::Write, 4, 16);
+    plan_of(alloc, &work, 2, EngineKind::Memory, 0)
 }
 
 // A hundred blocks were written and checked, each good.
@@ -90,20 +104,21 @@ fn assert_hundred(rt: &impl Abort, desk: &Desk) {
     same(rt, desk.totals(), [hundred].as_slice());
 }
 
+fn hundred(alloc: Global, verifiers: u32) -> Result<Plan, Fail> {
+    let work = digested(IoType::RandWrite, 8, 100);
+    plan_of(alloc, &work, 1, EngineKind::Memory, verifiers)
+}
+
 #[test]
 fn a_hundred_random_writes_are_good_whoever_judges(rt: HostRuntime) -> Result<(), Fail> {
-    let alloc = rt.alloc();
     for verifiers in [2, 0] {
-        let work = digested(IoType::RandWrite, 8, 100);
-        let plan = plan_of(alloc, &work, 1, EngineKind::Memory, verifiers)?;
-        let first = SharedMemory::new(rt.clone()?, alloc, &plan)?;
-        let mut engines: Vec<Box<dyn Engine + Send>> = Vec::new(alloc);
-        for _ in 1..4 {
-            engines.push(Box::new(alloc, first.share()?)?)?;
+        let plan = hundred(rt.alloc(), verifiers)?;
+        let mut engines: Vec<Box<dyn Engine + Send>> = Vec::new(rt.alloc());
+        for share in four_shares(rt.clone()?, rt.alloc(), &plan)? {
+            engines.push(Box::new(rt.alloc(), share)?)?;
         }
-        engines.push(Box::new(alloc, first)?)?;
-        let ran = run(&rt, alloc, plan, engines, Watch::none())?;
-        assert_hundred(&rt, &ran.desk);
+        let desk = desk_of(&rt, rt.alloc(), plan, engines, Watch::none())?;
+        assert_hundred(&rt, &desk);
     }
     Ok(())
 }
@@ -118,10 +133,8 @@ fn assert_told(rt: &impl Abort, desk: &Desk) {
 
 #[test]
 fn gates_that_soon_give_up_are_told(rt: HostRuntime) -> Result<(), Fail> {
-    let plan = two_at_once(rt.alloc())?;
-    let engines = two_gates_of(rt.alloc(), 100_000)?;
-    let ran = run(&rt, rt.alloc(), plan, engines, Watch::none())?;
-    assert_told(&rt, &ran.desk);
+    let desk = desk_at_gates(&rt, rt.alloc(), 100_000)?;
+    assert_told(&rt, &desk);
     Ok(())
 }
 

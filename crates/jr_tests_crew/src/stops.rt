@@ -1,35 +1,48 @@
 use crate::asserts::same;
-use crate::plans::{checked, plan_of};
-use jr_crew::{StopFlag, Watch, run, run_booked, run_serial, run_serial_asked};
+use crate::desks::{desk_of_one, desk_of_two, four_checked, stopped_by, two_nulls};
+use jr_crew::{StopFlag, run_booked, run_serial_asked};
 use jr_desk::Desk;
-use jr_engines::{Engine, NullEngine};
-use jr_model::EngineKind;
+use jr_engines::NullEngine;
 use std::alloc::Global;
 use std::process::Abort;
+use std::sync::Wait;
 use std::test::Fail;
+use std::thread::Threads;
+use std::time::Clock;
+
+// A flag that was set twice, or not at all.
+fn flag_of(is_set: bool) -> StopFlag {
+    let stop = StopFlag::new();
+    if is_set {
+        stop.set();
+        stop.set();
+    }
+    stop
+}
+
+// The desk of one worker that is asked to stop before it begins, or never.
+fn desk_by_one(alloc: Global, is_set: bool) -> Result<Desk, Fail> {
+    let stop = flag_of(is_set);
+    let plan = four_checked(alloc, 0)?;
+    desk_of_one(alloc, plan, stopped_by(&stop))
+}
+
+// The same of two workers and so many verifiers.
+fn desk_by_two<R: Threads + Wait + Clock + Sync>(
+    rt: &R,
+    alloc: Global,
+    verifiers: u32,
+    is_set: bool,
+) -> Result<Desk, Fail> {
+    let stop = flag_of(is_set);
+    let plan = four_checked(alloc, verifiers)?;
+    desk_of_two(rt, alloc, plan, stopped_by(&stop))
+}
 
 // Nothing was started, and there is more to come.
 fn assert_nothing_begun(rt: &impl Abort, desk: &Desk) {
     same(rt, desk.history().is_empty(), true);
     same(rt, desk.is_complete(), false);
-}
-
-#[test]
-fn one_worker_is_asked_before_it_begins(rt: HostRuntime) -> Result<(), Fail> {
-    let stop = StopFlag::new();
-    same(&rt, stop.is_set(), false);
-    stop.set();
-    same(&rt, stop.is_set(), true);
-    let watch = Watch {
-        progress: None,
-        stop: Some(&stop),
-        diagnoses: None,
-        ledger: None,
-    };
-    let plan = plan_of(rt.alloc(), &checked(4, 0), 1, EngineKind::Null, 0)?;
-    let desk = run_serial(rt.alloc(), plan, &mut NullEngine::new(), watch)?;
-    assert_nothing_begun(&rt, &desk);
-    Ok(())
 }
 
 // All four blocks were written and checked, so nobody has stopped it.
@@ -44,102 +57,68 @@ fn assert_complete(rt: &impl Abort, desk: &Desk) -> Result<(), Fail> {
 }
 
 #[test]
+fn a_flag_is_set_once_it_was_asked(rt: HostRuntime) {
+    same(&rt, flag_of(false).is_set(), false);
+    same(&rt, flag_of(true).is_set(), true);
+}
+
+#[test]
+fn one_worker_is_asked_before_it_begins(rt: HostRuntime) -> Result<(), Fail> {
+    let desk = desk_by_one(rt.alloc(), true)?;
+    assert_nothing_begun(&rt, &desk);
+    Ok(())
+}
+
+#[test]
 fn one_worker_whom_nobody_asks_to_stop_goes_on_to_the_end(rt: HostRuntime) -> Result<(), Fail> {
-    let stop = StopFlag::new();
-    let watch = Watch {
-        progress: None,
-        stop: Some(&stop),
-        diagnoses: None,
-        ledger: None,
-    };
-    let plan = plan_of(rt.alloc(), &checked(4, 0), 1, EngineKind::Null, 0)?;
-    let desk = run_serial(rt.alloc(), plan, &mut NullEngine::new(), watch)?;
+    let desk = desk_by_one(rt.alloc(), false)?;
     assert_complete(&rt, &desk)
 }
 
 #[test]
 fn workers_whom_nobody_asks_to_stop_go_on_to_the_end(rt: HostRuntime) -> Result<(), Fail> {
     for verifiers in [0, 2] {
-        let stop = StopFlag::new();
-        let watch = Watch {
-            progress: None,
-            stop: Some(&stop),
-            diagnoses: None,
-            ledger: None,
-        };
-        let plan = plan_of(rt.alloc(), &checked(4, 0), 1, EngineKind::Null, verifiers)?;
-        let ran = run(&rt, rt.alloc(), plan, two_nulls(rt.alloc())?, watch)?;
-        assert_complete(&rt, &ran.desk)?;
+        let desk = desk_by_two(&rt, rt.alloc(), verifiers, false)?;
+        assert_complete(&rt, &desk)?;
     }
     Ok(())
-}
-
-fn two_nulls(alloc: Global) -> Result<Vec<Box<dyn Engine + Send>>, Fail> {
-    let mut engines: Vec<Box<dyn Engine + Send>> = Vec::new(alloc);
-    for _ in 0..2 {
-        engines.push(Box::new(alloc, NullEngine::new())?)?;
-    }
-    Ok(engines)
 }
 
 #[test]
 fn workers_and_verifiers_are_asked_before_they_begin(rt: HostRuntime) -> Result<(), Fail> {
     for verifiers in 0..3 {
-        let stop = StopFlag::new();
-        stop.set();
-        let watch = Watch {
-            progress: None,
-            stop: Some(&stop),
-            diagnoses: None,
-            ledger: None,
-        };
-        let plan = plan_of(rt.alloc(), &checked(4, 0), 1, EngineKind::Null, verifiers)?;
-        let ran = run(&rt, rt.alloc(), plan, two_nulls(rt.alloc())?, watch)?;
-        assert_nothing_begun(&rt, &ran.desk);
+        let desk = desk_by_two(&rt, rt.alloc(), verifiers, true)?;
+        assert_nothing_begun(&rt, &desk);
     }
     Ok(())
 }
 
-// A flag that was set twice, or not at all.
-fn flag_of(is_set: bool) -> StopFlag {
-    let stop = StopFlag::new();
-    if is_set {
-        stop.set();
-        stop.set();
-    }
-    stop
+// Whether one worker says that it was asked to stop.
+fn was_one_asked(alloc: Global, is_set: bool) -> Result<bool, Fail> {
+    let stop = flag_of(is_set);
+    let plan = four_checked(alloc, 0)?;
+    let ran = run_serial_asked(alloc, plan, &mut NullEngine::new(), stopped_by(&stop))?;
+    Ok(ran.asked.is_some())
 }
 
-#[test]
-fn one_worker_shows_whether_it_was_asked(rt: HostRuntime) -> Result<(), Fail> {
-    for is_set in [false, true] {
-        let stop = flag_of(is_set);
-        let watch = Watch {
-            progress: None,
-            stop: Some(&stop),
-            diagnoses: None,
-            ledger: None,
-        };
-        let plan = plan_of(rt.alloc(), &checked(4, 0), 1, EngineKind::Null, 0)?;
-        let ran = run_serial_asked(rt.alloc(), plan, &mut NullEngine::new(), watch)?;
-        same(&rt, ran.asked.is_some(), is_set);
-    }
-    Ok(())
+// Whether two workers and a verifier say so.
+fn were_two_asked<R: Threads + Wait + Clock + Sync>(
+    rt: &R,
+    alloc: Global,
+    is_set: bool,
+) -> Result<bool, Fail> {
+    let stop = flag_of(is_set);
+    let plan = four_checked(alloc, 1)?;
+    let engines = two_nulls(alloc)?;
+    let ran = run_booked(rt, alloc, plan, engines, stopped_by(&stop))?;
+    Ok(ran.asked.is_some())
 }
 
 #[test]
 fn workers_show_whether_they_were_asked(rt: HostRuntime) -> Result<(), Fail> {
     for is_set in [false, true] {
-        let stop = flag_of(is_set);
-        let watch = Watch {
-            progress: None,
-            stop: Some(&stop),
-            diagnoses: None,
-            ledger: None,
-        };
-        let plan = plan_of(rt.alloc(), &checked(4, 0), 1, EngineKind::Null, 1)?;
-        let ran = run_booked(&rt, rt.alloc(), plan, two_nulls(rt.alloc())?, watch)?;
-        same(&rt, ran.asked.is_some(), is_set);
+        same(&rt, was_one_asked(rt.alloc(), is_set)?, is_set);
+        same(&rt, were_two_asked(&rt, rt.alloc(), is_set)?, is_set);
     }
     Ok(())
 }
