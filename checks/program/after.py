@@ -12,11 +12,12 @@ import hashlib
 import json
 import os
 import random
+import resource
 import struct
 
 from support.case import Case
 from support.pages import read_page
-from support.program import expect, trials
+from support.program import as_nobody, expect, trials
 
 SECTOR = 512
 KINDS = {"md5": 1, "sha1": 2, "sha256": 3}
@@ -141,9 +142,9 @@ def as_json(write):
     return write and {"clone": 0, "pass": write[0], "number": write[1]}
 
 
-def run(place, *words):
+def run(place, *words, **how):
     """How a run ends, and what it prints, as text."""
-    ended = place.run(*words)
+    ended = place.run(*words, **how)
     return ended.status, ended.out.decode(), ended.err.decode()
 
 
@@ -297,7 +298,8 @@ def many_chunks(place):
 
 
 def large_file(place):
-    """Of a file of 9 MiB, which takes several reads and more threads than one, exactly the chunks are told that were changed."""
+    """Of a file of 9 MiB, which takes several reads and more threads than one, exactly the chunks are told that were changed; and so they are
+    by one thread, where no other may be started."""
     place.put("job", "[w]\nfilename=data\nrw=randwrite\nbs=4k\nsize=9m\nverify=md5\n")
     status, _, said = run(place, "--ledger=ledger", "job")
     expect(status == 0, "a run with a ledger", status, said)
@@ -307,9 +309,13 @@ def large_file(place):
     for chunk in changed:
         data[chunk * 4096 + 64 + chunk % 4000] ^= 1
     place.put("data", bytes(data))
-    status, _, said = run(place, "--after=ledger", "--json=json", "job")
+    status, out, said = run(place, "--after=ledger", "--json=json", "job")
     told = [(it["word"], it["offset"], it["length"]) for it in json.loads(place.get("json"))["after"]]
     expect(status == 1 and told == [("broken", it * 4096, 4096) for it in changed], "changed chunks of a large file", status, said, told)
+    # (limits of threads don't bind root)
+    drop = as_nobody().get("preexec_fn", lambda: None)
+    alone = run(place, "--after=ledger", "job", preexec_fn=lambda: (drop(), resource.setrlimit(resource.RLIMIT_NPROC, (0, 0))))
+    expect(alone == (1, out, ""), "the same where no thread may be started", alone)
 
 
 class After(Case):
