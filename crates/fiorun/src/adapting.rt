@@ -1,6 +1,6 @@
 // A job file as it has to be written here, printed in place of a run.
 
-use crate::running::to_output;
+use jr_cli_runs::to_output;
 use jr_cli_words::{Choice, CliFault, write_out};
 use jr_job_adapt::{AdaptFault, Lengths, adapt};
 use jr_system::{Machine, Outlet, Stop};

@@ -1,8 +1,8 @@
 // What is found of a plan's files after a cut, by the ledger of its run.
-use crate::running::to_output;
 use jr_cli_after::{After, AfterFailure, judge_after};
 use jr_cli_notes::Beginning;
 use jr_cli_outputs::{JudgedFiles, Outputs};
+use jr_cli_runs::to_output;
 use jr_cli_words::{Choice, CliFault, memory_or, read_ledger};
 use jr_ledger::{LedgerLine, read_lines};
 use jr_plan::Plan;

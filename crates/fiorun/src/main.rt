@@ -5,9 +5,9 @@ ghost use Rattle.std.specs.Prelude.{IfOk};
 ghost use Rattle.jr_replay_traces.specs.Runs.{IsRunIn};
 
 use adapting::{job_size, print_adapted};
-use going_on::{is_going_on, run_on};
 use jr_cli::{print_check, print_part};
 use jr_cli_outputs::{Finished, Wanted};
+use jr_cli_runs::{SharedRun, Turn, add, boxed, run_job, run_memory, shares, to_output};
 use jr_cli_words::{
     Choice, CliFault, answer_words, choose, memory_or, print_plan, read_text, read_trace,
     workers_of,
@@ -15,12 +15,8 @@ use jr_cli_words::{
 use jr_engines::Engine;
 use jr_plan::Plan;
 use jr_replay_traces::Checked;
-use jr_system::{
-    Machine, Outlet, PlannedJob, Screen, Stop, job_plan, refuse_ledger, tell_all, tell_history,
-};
+use jr_system::{Machine, Outlet, PlannedJob, Screen, Stop, job_plan, tell_all, tell_history};
 use judging::judge;
-use rounds::{Limits, run_all};
-use running::{SharedRun, Turn, add, boxed, run_memory, run_plan, shares, to_output};
 use std::alloc::Global;
 use std::env::Env;
 use std::fs::{File, Files};
@@ -29,10 +25,7 @@ use std::{env, fs, io};
 use traced::TraceReader;
 
 mod adapting;
-mod going_on;
 mod judging;
-mod rounds;
-mod running;
 mod traced;
 
 fn main(rt: HostRuntime) -> ExitCode {
@@ -144,30 +137,7 @@ fn perform<R: Input + Outlet + Machine>(
         show(rt, choice, text.as_slice(), &plan)?;
         return Ok(Turn::Ended(0));
     }
-    carry_out(rt, choice, text.as_slice(), plan, has_notes)
-}
-
-// Runs the plan of this job text: once, again and again, or what is left of it after faults too.
-fn carry_out<R: Outlet + Machine>(
-    rt: &R,
-    choice: &Choice<'_>,
-    text: &[u8],
-    plan: Plan,
-    has_notes: bool,
-) -> Result<Turn, Stop> {
-    let limits = Limits::of(choice)?;
-    refuse_ledger(rt.alloc(), choice, &plan)?;
-    if is_going_on(choice, &plan, limits.is_some())? {
-        let status = run_on(rt, choice, text, plan, has_notes)?;
-        return Ok(Turn::Ended(status));
-    }
-    match limits {
-        Some(limits) => {
-            let status = run_all(rt, choice, text, limits, plan, has_notes)?;
-            Ok(Turn::Ended(status))
-        }
-        None => run_plan(rt, choice, text, plan),
-    }
+    run_job(rt, choice, text.as_slice(), plan, has_notes)
 }
 
 // Prints the plan, or checks a trace of it, as the words say.

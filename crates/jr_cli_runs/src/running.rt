@@ -11,15 +11,15 @@ use jr_model::EngineKind;
 use jr_plan::Plan;
 use jr_system::{
     Asked, Closed, Ground, Machine, MemoryFiles, OneEngine, Outlet, Pace, PlanBytes, Stop, Wiper,
-    asked_by, begin_ledger, crew_engines, has_one_worker, history_bytes, is_watched, ledger_cut,
-    shares_memory, shown, stop_when_short, unsynced_on_the_way,
+    asked_by, begin_ledger, crew_engines, end_ledger, has_one_worker, history_bytes, is_watched,
+    ledger_cut, send_ledger, shares_memory, shown, stop_when_short, unsynced_on_the_way,
 };
 use std::alloc::Global;
 use std::io;
 use std::io::{BufWriter, Printer, Write};
 use std::sync::{Arc, Wait};
 
-// How far the program gets by itself: to its end with this status, to the end of a run, or to a run whose workers share a memory.
+/// How far the program gets by itself: to its end with this status, to the end of a run, or to a run whose workers share a memory.
 #[derive(Drop)]
 pub enum Turn {
     Ended(u8),
@@ -27,8 +27,8 @@ pub enum Turn {
     Shared(SharedRun),
 }
 
-// A run whose workers share a memory: the plan, how many they are, what is asked of it, and what is told after its report. The shares keep
-// the runtime, so they are boxed in `main`.
+/// A run whose workers share a memory: the plan, how many they are, what is asked of it, and what is told after its report. The shares keep
+/// the runtime, so they are boxed in `main`.
 #[derive(Drop)]
 pub struct SharedRun {
     pub plan: Plan,
@@ -38,7 +38,7 @@ pub struct SharedRun {
 }
 
 impl SharedRun {
-    // Why the program ends where the run can't begin. Its outputs are as if it had not been asked for.
+    /// Why the program ends where the run can't begin. Its outputs are as if it had not been asked for.
     pub fn given_up<R: Outlet>(&self, rt: &R, fault: CliFault) -> Stop {
         if let Some(wanted) = &self.wanted {
             wanted.outputs.clear(rt);
@@ -187,7 +187,7 @@ fn files_to_watch<R: Outlet>(rt: &R, choice: &Choice<'_>, plan: &Plan) -> Option
     }
 }
 
-// Where reports and what else standard output gets goes.
+/// Where reports and what else standard output gets goes.
 pub fn to_output<P: Print + AllocGlobal>(rt: &P) -> Result<BufWriter<Printer<'_, P>>, CliFault> {
     match BufWriter::new(rt.alloc(), io::writer(rt)) {
         Ok(out) => Ok(out),
@@ -237,8 +237,10 @@ fn run_wanted<R: Outlet + Machine>(
         return Ok(shared_run(asked, plan, workers));
     }
     let ground = ground_of(rt, choice, wanted, &asked, &plan)?;
-    let ran = run_traced(rt, wanted, &ground, &asked, plan, workers)?;
-    let ran = with_shortage(close(rt, &ground, &asked, ran)?, &asked);
+    send_ledger(rt, &asked);
+    let ran = run_traced(rt, wanted, &ground, &asked, plan, workers);
+    end_ledger(rt, &asked);
+    let ran = with_shortage(close(rt, &ground, &asked, ran?)?, &asked);
     Ok(Turn::Ran(with_ledger(rt.alloc(), choice, &asked, ran)))
 }
 
@@ -316,6 +318,7 @@ fn run_alone<R: Outlet + Machine, V: Write>(
     }
 }
 
+/// Boxes it.
 pub fn boxed<X: Drop>(alloc: Global, one: X) -> Result<Box<X>, CliFault> {
     match Box::new(alloc, one) {
         Ok(made) => Ok(made),
@@ -323,7 +326,7 @@ pub fn boxed<X: Drop>(alloc: Global, one: X) -> Result<Box<X>, CliFault> {
     }
 }
 
-// Puts it after the last one.
+/// Puts it after the last one.
 pub fn add<X: Drop>(all: &mut Vec<X>, one: X) -> Result<(), CliFault> {
     match all.push(one) {
         Ok(()) => Ok(()),
@@ -391,7 +394,7 @@ fn run_nulls<R: Outlet + Machine, V: Write>(
     run_with(rt, asked, plan, engines, events, out)
 }
 
-// The shares of one memory for the plan's files, one for each worker.
+/// The shares of one memory for the plan's files, one for each worker.
 pub fn shares<R: Wait + Clone + Drop>(
     rt: R,
     alloc: Global,
@@ -407,7 +410,7 @@ pub fn shares<R: Wait + Clone + Drop>(
     Ok(shares)
 }
 
-// Runs the job over the shares of a memory, writes its report to standard output, and tells where it found what.
+/// Runs the job over the shares of a memory, writes its report to standard output, and tells where it found what.
 pub fn run_memory<R: Outlet + Machine>(
     rt: &R,
     job: SharedRun,

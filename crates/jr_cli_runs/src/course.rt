@@ -1,19 +1,15 @@
-// Rounds: the job runs again and again, each time with other data, until its time is over, it ran so many times, or something stops it.
-ghost use Rattle.std.specs.Prelude.{◌≤◌};
-
-use crate::running::{asked_for, close, ground_of, run_silent, to_output};
+// What is kept from one round of a job to the next, and what is told of each round and of all.
+use crate::running::{close, run_silent};
 use jr_cli::{Findings, RunEnd, Storage};
-use jr_cli_outputs::{Outputs, Unfailing, Wanted};
+use jr_cli_outputs::{Outputs, Wanted};
 use jr_cli_words::{BlockSize, Choice, CliFault, workers_of};
 use jr_desk::Desk;
 use jr_model::{Memory, Totals};
 use jr_plan::Plan;
 use jr_report_json::RunNotes;
 use jr_report_maps::{bad_blocks, wrong_blocks};
-use jr_rounds::{
-    Sums, duration_seconds, is_bad, plan_of_round, round_json, sums_json, tell_round, tell_sums,
-};
-use jr_system::{Asked, Closed, Ground, Machine, Outcome, Outlet, Pace, Stop, stop_after};
+use jr_rounds::{Sums, is_bad, round_json, sums_json, tell_sums};
+use jr_system::{Asked, Closed, Ground, Machine, Outcome, Outlet, Pace, Stop};
 use std::alloc::Global;
 use std::io::Write;
 use std::sync::Arc;
@@ -22,45 +18,15 @@ use std::time::{Duration, Instant};
 // So long at least from one line of a round's end to the next.
 const LINE_SECONDS: u64 = 1;
 
-// How far a job goes that runs again and again.
+// What the rounds of a job run over, and what is wanted of them.
 #[derive(Clone, Copy)]
-pub struct Limits {
-    // How many rounds at most.
-    rounds: u32,
-    // How long at most.
-    time: Option<Duration>,
-    // Whether another round follows one in which something was bad or failed.
-    is_keeping_going: bool,
-    ghost some: { 1 ≤ rounds },
-}
-
-impl Limits {
-    // What the words say of rounds; nothing where they ask for one run.
-    pub fn of(choice: &Choice<'_>) -> Result<Option<Limits>, CliFault> {
-        let time = time_of(choice)?;
-        if time.is_none() && choice.repeat.is_none() {
-            return Ok(None);
-        }
-        if choice.keep_going && choice.page.is_some() {
-            return Err(CliFault::SeveralRounds);
-        }
-        Ok(Some(Limits {
-            rounds: choice.repeat.unwrap_or(u32::MAX).max(1),
-            time,
-            is_keeping_going: choice.keep_going,
-        }))
-    }
-}
-
-// How long the job may run again and again, if the words say so.
-fn time_of(choice: &Choice<'_>) -> Result<Option<Duration>, CliFault> {
-    let Some(text) = choice.run_for else {
-        return Ok(None);
-    };
-    match duration_seconds(text) {
-        Some(seconds) => Ok(Some(Duration::from_secs(seconds))),
-        None => Err(CliFault::Duration),
-    }
+pub struct Rounds<'a> {
+    pub choice: &'a Choice<'a>,
+    pub wanted: &'a Wanted,
+    pub ground: &'a Ground<'a>,
+    pub asked: &'a Arc<Asked, Global>,
+    pub plan: &'a Plan,
+    pub has_notes: bool,
 }
 
 // What is kept from one round to the next.
@@ -151,6 +117,38 @@ impl Course {
             is_stored: self.missing.is_none(),
         }
     }
+}
+
+// Runs the plan of one round, and takes in what the system said at its end.
+pub fn run_round<R: Outlet + Machine>(
+    rt: &R,
+    over: &Rounds<'_>,
+    plan: Plan,
+    course: &mut Course,
+) -> Result<RunEnd, Stop> {
+    let workers = workers_of(&plan, over.choice.workers);
+    let ran = run_silent(rt, over.ground, over.asked, plan, workers)?;
+    let (ended, closed) = close(rt, over.ground, over.asked, ran)?.into_parts();
+    course.close(closed);
+    if over.asked.is_short() && ended.is_interrupted() {
+        course.miss(Stop::from(CliFault::Memory));
+    }
+    Ok(ended)
+}
+
+// How a round ended. Where it couldn't be run, the sums of those before it are printed.
+pub fn or_sums<V: Write>(
+    alloc: Global,
+    round: u32,
+    plan: &Plan,
+    ran: Result<RunEnd, Stop>,
+    course: &Course,
+    out: &mut V,
+) -> Result<RunEnd, Stop> {
+    if ran.is_err() && round > 0 {
+        let _ = tell_sums(alloc, plan, &course.sums, out);
+    }
+    ran
 }
 
 // Says what came of a round: of the last one, and of those that end a second after the one that was told before.
@@ -303,206 +301,17 @@ impl RoundCounts {
     }
 }
 
-// Runs the plan again and again, and gives the exit status.
-pub fn run_all<R: Outlet + Machine>(
-    rt: &R,
-    choice: &Choice<'_>,
-    job: &[u8],
-    limits: Limits,
-    plan: Plan,
-    has_notes: bool,
-) -> Result<u8, Stop> {
-    let wanted = Wanted::of(rt, choice, &plan, job)?;
-    let ended = run_limited(rt, choice, &wanted, limits, &plan, has_notes);
-    wanted.outputs.clear(rt);
-    ended
-}
-
-fn run_limited<R: Outlet + Machine>(
-    rt: &R,
-    choice: &Choice<'_>,
-    wanted: &Wanted,
-    limits: Limits,
-    plan: &Plan,
-    has_notes: bool,
-) -> Result<u8, Stop> {
-    let asked = asked_for(rt, choice, plan, limits.time.is_some())?;
-    if let Some(time) = limits.time {
-        stop_after(rt, &asked, time)?;
-    }
-    run_asked(rt, choice, wanted, &asked, limits, plan, has_notes)
-}
-
-// The same, once it can be asked to stop. (Each of these functions keeps one thing that is given back: a proof of one that keeps several
-// costs minutes.)
-fn run_asked<R: Outlet + Machine>(
-    rt: &R,
-    choice: &Choice<'_>,
-    wanted: &Wanted,
-    asked: &Arc<Asked, Global>,
-    limits: Limits,
-    plan: &Plan,
-    has_notes: bool,
-) -> Result<u8, Stop> {
-    let ground = ground_of(rt, choice, wanted, asked, plan)?;
-    run_over(rt, choice, wanted, &ground, asked, limits, plan, has_notes)
-}
-
-fn run_over<R: Outlet + Machine>(
-    rt: &R,
-    choice: &Choice<'_>,
-    wanted: &Wanted,
-    ground: &Ground<'_>,
-    asked: &Arc<Asked, Global>,
-    limits: Limits,
-    plan: &Plan,
-    has_notes: bool,
-) -> Result<u8, Stop> {
-    let mut course = Course::begun(rt, choice, plan, has_notes)?;
-    run_course(
-        rt,
-        choice,
-        wanted,
-        ground,
-        asked,
-        limits,
-        plan,
-        &mut course,
-        has_notes,
-    )
-}
-
-fn run_course<R: Outlet + Machine>(
-    rt: &R,
-    choice: &Choice<'_>,
-    wanted: &Wanted,
-    ground: &Ground<'_>,
-    asked: &Arc<Asked, Global>,
-    limits: Limits,
-    plan: &Plan,
-    course: &mut Course,
-    has_notes: bool,
-) -> Result<u8, Stop> {
-    let last = run_rounds(rt, choice, wanted, ground, asked, limits, plan, course)?;
-    Ok(finished(rt, wanted, plan, &last, asked, course, has_notes))
-}
-
-// Runs the rounds, prints what is printed of them and then the sums, and gives how the last one ended.
-fn run_rounds<R: Outlet + Machine>(
-    rt: &R,
-    choice: &Choice<'_>,
-    wanted: &Wanted,
-    ground: &Ground<'_>,
-    asked: &Arc<Asked, Global>,
-    limits: Limits,
-    plan: &Plan,
-    course: &mut Course,
-) -> Result<Option<RunEnd>, Stop> {
-    let mut out = Unfailing::new(to_output(rt)?);
-    let workers = workers_of(plan, choice.workers);
-    for round in 0..limits.rounds {
-        let ran = run_round(rt, ground, asked, plan, round, workers, course);
-        let ended = or_sums(rt.alloc(), round, plan, ran, course, &mut out)?;
-        let is_last = ends(limits, round, &ended, asked, course);
-        tell_one(
-            rt, choice, wanted, round, plan, &ended, is_last, course, &mut out,
-        )?;
-        if is_last {
-            return Ok(Some(ended));
-        }
-    }
-    Ok(None)
-}
-
-// How a round ended. Where it couldn't be run, the sums of those before it are printed.
-pub fn or_sums<V: Write>(
-    alloc: Global,
-    round: u32,
-    plan: &Plan,
-    ran: Result<RunEnd, Stop>,
-    course: &Course,
-    out: &mut V,
-) -> Result<RunEnd, Stop> {
-    if ran.is_err() && round > 0 {
-        let _ = tell_sums(alloc, plan, &course.sums, out);
-    }
-    ran
-}
-
-// Tells a round, and behind the last one the sums.
-fn tell_one<R: Outlet + Machine, V: Write>(
-    rt: &R,
-    choice: &Choice<'_>,
-    wanted: &Wanted,
-    round: u32,
-    plan: &Plan,
-    ended: &RunEnd,
-    is_last: bool,
-    course: &mut Course,
-    out: &mut Unfailing<V>,
-) -> Result<(), Stop> {
-    tell_round(rt.alloc(), round, &ended.desk, is_last, out)?;
-    course.add(&ended.desk, ended.desk.totals());
-    tell_line(rt, course, round, &ended.desk, is_last);
-    let told = tell_outputs(rt, wanted, course, round, ended);
-    course.heed(told);
-    let kept = wanted.outputs.keep_trace(rt, choice, round, &ended.desk);
-    course.heed(kept);
-    if is_last {
-        tell_sums(rt.alloc(), plan, &course.sums, out)?;
-        if out.has_failed {
-            course.miss(Stop::from(CliFault::Write));
-        }
-    }
-    Ok(())
-}
-
-// Runs one round.
-fn run_round<R: Outlet + Machine>(
-    rt: &R,
-    ground: &Ground<'_>,
-    asked: &Arc<Asked, Global>,
-    plan: &Plan,
-    round: u32,
-    workers: u32,
-    course: &mut Course,
-) -> Result<RunEnd, Stop> {
-    let Ok(plan) = plan_of_round(rt.alloc(), plan, round) else {
-        return Err(Stop::from(CliFault::Memory));
-    };
-    let ran = run_silent(rt, ground, asked, plan, workers)?;
-    let (ended, closed) = close(rt, ground, asked, ran)?.into_parts();
-    course.close(closed);
-    if asked.is_short() && ended.is_interrupted() {
-        course.miss(Stop::from(CliFault::Memory));
-    }
-    Ok(ended)
-}
-
-// Whether no other round follows: this was as many as were wanted, something was bad and the words don't say to go on, it was stopped, its time
-// is over, or something couldn't be stored or written.
-fn ends(limits: Limits, round: u32, ended: &RunEnd, asked: &Asked, course: &Course) -> bool {
-    round >= limits.rounds - 1
-        || is_bad(&ended.desk) && !limits.is_keeping_going
-        || ended.is_interrupted()
-        || asked.is_time_over()
-        || course.missing.is_some()
-}
-
 // Tells what is told at the end of all rounds, and gives the exit status.
 pub fn finished<R: Outlet + Machine>(
     rt: &R,
-    wanted: &Wanted,
-    plan: &Plan,
+    over: &Rounds<'_>,
     last: &Option<RunEnd>,
-    asked: &Asked,
     course: &mut Course,
-    has_notes: bool,
 ) -> u8 {
     if let Some(ended) = last {
-        tell_end(rt, wanted, plan, ended, course);
+        tell_end(rt, over.wanted, over.plan, ended, course);
     }
-    status(rt, last, asked, course, has_notes)
+    status(rt, last, over.asked, course, over.has_notes)
 }
 
 fn tell_end<R: Outlet + Machine>(

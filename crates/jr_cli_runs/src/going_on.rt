@@ -1,9 +1,9 @@
 // Going on after faults: what is left of a job after a run in which a fault halted clones is run again, until nothing is left.
-use crate::rounds::{Course, finished, or_sums, tell_line, tell_outputs};
-use crate::running::{asked_for, close, ground_of, run_silent, to_output};
+use crate::course::{Course, Rounds, or_sums, run_round, tell_line, tell_outputs};
+use crate::running::to_output;
 use jr_cli::RunEnd;
-use jr_cli_outputs::{Unfailing, Wanted};
-use jr_cli_words::{Choice, CliFault, workers_of, write_out};
+use jr_cli_outputs::Unfailing;
+use jr_cli_words::{Choice, CliFault, write_out};
 use jr_desk::Desk;
 use jr_escape::Escaped;
 use jr_model::EngineKind;
@@ -12,10 +12,9 @@ use jr_rounds::{gathered, is_bad, plan_of_round, seed_offset, tell_round, tell_s
 use jr_rounds_rest::{
     Task, first_tasks, goes_on, next_round, parts_text, tasks_left, untried_text,
 };
-use jr_system::{Asked, Ground, Machine, Outlet, Stop};
+use jr_system::{Machine, Outlet, Stop};
 use std::alloc::Global;
 use std::io::Write;
-use std::sync::Arc;
 
 // Whether the words ask to go on after faults, where they may.
 pub fn is_going_on(choice: &Choice<'_>, plan: &Plan, has_rounds: bool) -> Result<bool, CliFault> {
@@ -34,25 +33,8 @@ pub fn is_going_on(choice: &Choice<'_>, plan: &Plan, has_rounds: bool) -> Result
     Ok(true)
 }
 
-// Runs the plan and then, round by round, what is left of it after faults, and gives the exit status.
-pub fn run_on<R: Outlet + Machine>(
-    rt: &R,
-    choice: &Choice<'_>,
-    job: &[u8],
-    plan: Plan,
-    has_notes: bool,
-) -> Result<u8, Stop> {
-    if has_notes {
-        tell_staying(rt, &plan);
-    }
-    let wanted = Wanted::of(rt, choice, &plan, job)?;
-    let ended = run_wanted(rt, choice, &wanted, &plan, has_notes);
-    wanted.outputs.clear(rt);
-    ended
-}
-
 // Says which clones don't go on.
-fn tell_staying<R: Eprint>(rt: &R, plan: &Plan) {
+pub fn tell_staying<R: Eprint>(rt: &R, plan: &Plan) {
     for i in 0..plan.clones() {
         let job = plan.clone_at(i);
         if !goes_on(plan, job) {
@@ -65,92 +47,23 @@ fn tell_staying<R: Eprint>(rt: &R, plan: &Plan) {
     }
 }
 
-fn run_wanted<R: Outlet + Machine>(
+// Runs the plan and then, round by round, what is left of it after faults; prints what is printed of the rounds, and gives how the last one
+// ended.
+pub fn run_parts<R: Outlet + Machine>(
     rt: &R,
-    choice: &Choice<'_>,
-    wanted: &Wanted,
-    plan: &Plan,
-    has_notes: bool,
-) -> Result<u8, Stop> {
-    let asked = asked_for(rt, choice, plan, false)?;
-    run_asked(rt, choice, wanted, &asked, plan, has_notes)
-}
-
-// The same, once it can be asked to stop. (Each of these functions keeps one thing that is given back, as those in rounds.rt.)
-fn run_asked<R: Outlet + Machine>(
-    rt: &R,
-    choice: &Choice<'_>,
-    wanted: &Wanted,
-    asked: &Arc<Asked, Global>,
-    plan: &Plan,
-    has_notes: bool,
-) -> Result<u8, Stop> {
-    let ground = ground_of(rt, choice, wanted, asked, plan)?;
-    run_over(rt, choice, wanted, &ground, asked, plan, has_notes)
-}
-
-fn run_over<R: Outlet + Machine>(
-    rt: &R,
-    choice: &Choice<'_>,
-    wanted: &Wanted,
-    ground: &Ground<'_>,
-    asked: &Arc<Asked, Global>,
-    plan: &Plan,
-    has_notes: bool,
-) -> Result<u8, Stop> {
-    let mut course = Course::begun(rt, choice, plan, has_notes)?;
-    let workers = choice.workers;
-    run_course(
-        rt,
-        workers,
-        wanted,
-        ground,
-        asked,
-        plan,
-        &mut course,
-        has_notes,
-    )
-}
-
-fn run_course<R: Outlet + Machine>(
-    rt: &R,
-    workers: Option<u32>,
-    wanted: &Wanted,
-    ground: &Ground<'_>,
-    asked: &Arc<Asked, Global>,
-    plan: &Plan,
-    course: &mut Course,
-    has_notes: bool,
-) -> Result<u8, Stop> {
-    let last = run_parts(rt, workers, wanted, ground, asked, plan, course)?;
-    Ok(finished(rt, wanted, plan, &last, asked, course, has_notes))
-}
-
-// Runs the rounds, prints what is printed of them, and gives how the last one ended.
-fn run_parts<R: Outlet + Machine>(
-    rt: &R,
-    workers: Option<u32>,
-    wanted: &Wanted,
-    ground: &Ground<'_>,
-    asked: &Arc<Asked, Global>,
-    plan: &Plan,
+    over: &Rounds<'_>,
     course: &mut Course,
 ) -> Result<Option<RunEnd>, Stop> {
-    let mut todo = ToDo::new(rt.alloc(), plan)?;
-    let part = todo.whole(rt.alloc())?;
+    let mut todo = ToDo::new(rt.alloc(), over.plan)?;
+    let first = todo.whole(rt.alloc())?;
     let mut out = Unfailing::new(to_output(rt)?);
-    run_tasks(
-        rt, workers, wanted, ground, asked, part, &mut todo, course, &mut out,
-    )
+    run_tasks(rt, over, first, &mut todo, course, &mut out)
 }
 
 // Runs this part, and then what is still to be done, round by round.
 fn run_tasks<R: Outlet + Machine, V: Write>(
     rt: &R,
-    workers: Option<u32>,
-    wanted: &Wanted,
-    ground: &Ground<'_>,
-    asked: &Arc<Asked, Global>,
+    over: &Rounds<'_>,
     first: Plan,
     todo: &mut ToDo<'_>,
     course: &mut Course,
@@ -158,9 +71,9 @@ fn run_tasks<R: Outlet + Machine, V: Write>(
 ) -> Result<Option<RunEnd>, Stop> {
     let mut part = first;
     for round in 0..u32::MAX {
-        let ran = run_part(rt, ground, asked, part, workers, course);
-        let ended = or_sums(rt.alloc(), round, todo.plan, ran, course, out)?;
-        match next_part(rt, wanted, round, &ended, todo, course, out)? {
+        let ran = run_round(rt, over, part, course);
+        let ended = or_sums(rt.alloc(), round, over.plan, ran, course, out)?;
+        match next_part(rt, over, round, &ended, todo, course, out)? {
             Some(next) => part = next,
             None => return Ok(Some(ended)),
         }
@@ -171,7 +84,7 @@ fn run_tasks<R: Outlet + Machine, V: Write>(
 // Takes in what happened in a round, tells it, and gives the plan of the next one.
 fn next_part<R: Outlet + Machine, V: Write>(
     rt: &R,
-    wanted: &Wanted,
+    over: &Rounds<'_>,
     round: u32,
     ended: &RunEnd,
     todo: &mut ToDo<'_>,
@@ -181,7 +94,7 @@ fn next_part<R: Outlet + Machine, V: Write>(
     let done = todo.take_in(rt.alloc(), &ended.desk)?;
     let next = todo.next(rt.alloc(), round, ended, course)?;
     let is_last = next.is_none();
-    match tell_part(rt, wanted, round, ended, &done, is_last, todo, course, out) {
+    match tell_part(rt, over, round, ended, &done, is_last, todo, course, out) {
         Ok(()) => Ok(next),
         Err(stop) => Err(stop),
     }
@@ -190,7 +103,7 @@ fn next_part<R: Outlet + Machine, V: Write>(
 // Tells a round that had these tasks, and behind the last one the sums.
 fn tell_part<R: Outlet + Machine, V: Write>(
     rt: &R,
-    wanted: &Wanted,
+    over: &Rounds<'_>,
     round: u32,
     ended: &RunEnd,
     done: &[Task],
@@ -204,9 +117,9 @@ fn tell_part<R: Outlet + Machine, V: Write>(
         tell_parts(alloc, round, done, out)?;
     }
     tell_round(alloc, round, &ended.desk, is_last, out)?;
-    add_part(alloc, todo.plan, done, &ended.desk, course)?;
+    add_part(alloc, over.plan, done, &ended.desk, course)?;
     tell_line(rt, course, round, &ended.desk, is_last);
-    let told = tell_outputs(rt, wanted, course, round, ended);
+    let told = tell_outputs(rt, over.wanted, course, round, ended);
     course.heed(told);
     if is_last {
         todo.tell(alloc, course, out)?;
@@ -226,25 +139,6 @@ fn tell_parts<V: Write>(
 ) -> Result<(), CliFault> {
     let text = parts_text(alloc, round, done)?;
     write_out(text.as_slice(), out)
-}
-
-// Runs the plan of one round.
-fn run_part<R: Outlet + Machine>(
-    rt: &R,
-    ground: &Ground<'_>,
-    asked: &Arc<Asked, Global>,
-    part: Plan,
-    workers: Option<u32>,
-    course: &mut Course,
-) -> Result<RunEnd, Stop> {
-    let workers = workers_of(&part, workers);
-    let ran = run_silent(rt, ground, asked, part, workers)?;
-    let (ended, closed) = close(rt, ground, asked, ran)?.into_parts();
-    course.close(closed);
-    if asked.is_short() && ended.is_interrupted() {
-        course.miss(Stop::from(CliFault::Memory));
-    }
-    Ok(ended)
 }
 
 // Adds what the clones of a round did to the sums of the job's clones that they are parts of.
