@@ -1,8 +1,7 @@
-ghost use Rattle.std.specs.Prelude.{◌≡◌, ◌++◌, OnOk, string_bytes};
+ghost use Rattle.std.specs.Prelude.{◌≡◌, ◌++◌, OnOk, codes, decimal};
 ghost use Rattle.jr_ledger.specs.Lines.{written_text, begun_text, returned_text, line_text};
 
-use jr_model::WriteId;
-use std::alloc::AllocError;
+use jr_model::{Memory, WriteId, push_number, push_text};
 
 /// One sync of a file.
 #[derive(Clone, Copy, Debug, PartialEq, Eq)]
@@ -25,8 +24,8 @@ pub enum LedgerLine {
 }
 
 // Appends a line, with its line feed.
-pub(crate) fn push_line(text: &mut String, line: &LedgerLine) -> Result<(), AllocError>
-    ensures { OnOk result (string_bytes text.new ≡ string_bytes text.old ++ line_text line.now) }
+pub(crate) fn push_line(text: &mut Vec<u8>, line: &LedgerLine) -> Result<(), Memory>
+    ensures { OnOk result (text.new.items ≡ text.old.items ++ line_text line.now) }
 {
     match line {
         LedgerLine::Written(write) => push_written(text, write),
@@ -36,29 +35,41 @@ pub(crate) fn push_line(text: &mut String, line: &LedgerLine) -> Result<(), Allo
 }
 
 #[tactic(auto, unfolding(crate::specs::Lines::written_text))]
-fn push_written(text: &mut String, write: &WriteId) -> Result<(), AllocError>
-    ensures { OnOk result (string_bytes text.new ≡ string_bytes text.old ++ written_text write.now) }
+fn push_written(text: &mut Vec<u8>, write: &WriteId) -> Result<(), Memory>
+    ensures { OnOk result (text.new.items ≡ text.old.items ++ written_text write.now) }
 {
-    let clone = write.clone;
-    let pass = write.pass;
-    let number = write.number;
-    write!(text, "w {clone} {pass} {number}\n")
+    push_text(text, "w ")?;
+    push_number(text, u64::from(write.clone))?;
+    push_text(text, " ")?;
+    push_number(text, u64::from(write.pass))?;
+    push_text(text, " ")?;
+    push_number(text, u64::from(write.number))?;
+    push_text(text, "\n")
 }
 
 #[tactic(auto, unfolding(crate::specs::Lines::begun_text))]
-fn push_begun(text: &mut String, sync: &SyncId) -> Result<(), AllocError>
-    ensures { OnOk result (string_bytes text.new ≡ string_bytes text.old ++ begun_text sync.now) }
+fn push_begun(text: &mut Vec<u8>, sync: &SyncId) -> Result<(), Memory>
+    ensures { OnOk result (text.new.items ≡ text.old.items ++ begun_text sync.now) }
 {
-    let file = sync.file;
-    let number = sync.number;
-    write!(text, "b {file} {number}\n")
+    push_text(text, "b ")?;
+    push_sync(text, sync)
 }
 
 #[tactic(auto, unfolding(crate::specs::Lines::returned_text))]
-fn push_returned(text: &mut String, sync: &SyncId) -> Result<(), AllocError>
-    ensures { OnOk result (string_bytes text.new ≡ string_bytes text.old ++ returned_text sync.now) }
+fn push_returned(text: &mut Vec<u8>, sync: &SyncId) -> Result<(), Memory>
+    ensures { OnOk result (text.new.items ≡ text.old.items ++ returned_text sync.now) }
 {
-    let file = sync.file;
-    let number = sync.number;
-    write!(text, "s {file} {number}\n")
+    push_text(text, "s ")?;
+    push_sync(text, sync)
+}
+
+// Appends a sync's file and its number, with the line feed.
+fn push_sync(text: &mut Vec<u8>, sync: &SyncId) -> Result<(), Memory>
+    ensures { OnOk result (text.new.items
+        ≡ text.old.items ++ decimal sync.now.file ++ codes " " ++ decimal sync.now.number ++ codes "\n") }
+{
+    push_number(text, u64::from(sync.file))?;
+    push_text(text, " ")?;
+    push_number(text, sync.number)?;
+    push_text(text, "\n")
 }

@@ -16,6 +16,8 @@ use std::marker::Model;
 pub struct Recorder {
     text: Vec<u8>,
     begun: Vec<u64>,
+    // The line that is added, made in a room that is kept: a run adds one for each of its writes.
+    line: Vec<u8>,
 }
 
 impl Model for Recorder {
@@ -34,22 +36,21 @@ impl Recorder {
     {
         let text = head_text(alloc, plan)?;
         let begun = vec![in alloc; 0; plan.files().len()]?;
-        Ok(Recorder { text, begun })
+        Ok(Recorder {
+            text,
+            begun,
+            line: Vec::new(alloc),
+        })
     }
 
     /// A write ended so. Before its end is handed to the desk.
-    pub fn write_ended(
-        &mut self,
-        alloc: Global,
-        write: &WriteId,
-        outcome: &Outcome,
-    ) -> Result<(), Memory>
+    pub fn write_ended(&mut self, write: &WriteId, outcome: &Outcome) -> Result<(), Memory>
         ensures text { OnOk result (self.new.text ≡ self.old.text ++ end_text write.now outcome.now) }
         ensures begun { self.new.begun ≡ self.old.begun }
         ensures unchanged { OnErr result (self.new ≡ self.old) }
     {
         match outcome {
-            Outcome::Whole => self.push(alloc, &LedgerLine::Written(*write)),
+            Outcome::Whole => self.push(&LedgerLine::Written(*write)),
             Outcome::Failed | Outcome::Short(_) => Ok(()),
         }
     }
@@ -65,7 +66,7 @@ impl Recorder {
     }
 
     /// A sync of a file is about to be asked for: its name, which its return is told by.
-    pub fn sync_begins(&mut self, alloc: Global, file: u32) -> Result<SyncId, Memory>
+    pub fn sync_begins(&mut self, file: u32) -> Result<SyncId, Memory>
         requires file { file < length self.old.begun }
         requires few { slice_index self.old.begun file + 1 < 2 ^ 64 }
         ensures sync { IfOk result (λ sync. sync ≡ next_sync file (slice_index self.old.begun file)) }
@@ -77,19 +78,19 @@ impl Recorder {
             file,
             number: self.begun[file as usize],
         };
-        self.push(alloc, &LedgerLine::Begun(sync))?;
+        self.push(&LedgerLine::Begun(sync))?;
         self.begun[file as usize] += 1;
         Ok(sync)
     }
 
     /// A sync has returned: well, or with a failure.
-    pub fn sync_returned(&mut self, alloc: Global, sync: &SyncId, well: bool) -> Result<(), Memory>
+    pub fn sync_returned(&mut self, sync: &SyncId, well: bool) -> Result<(), Memory>
         ensures text { OnOk result (self.new.text ≡ self.old.text ++ return_text sync.now well) }
         ensures begun { self.new.begun ≡ self.old.begun }
         ensures unchanged { OnErr result (self.new ≡ self.old) }
     {
         if well {
-            self.push(alloc, &LedgerLine::Returned(*sync))
+            self.push(&LedgerLine::Returned(*sync))
         } else {
             Ok(())
         }
@@ -111,14 +112,14 @@ impl Recorder {
     }
 
     // Appends a line.
-    fn push(&mut self, alloc: Global, line: &LedgerLine) -> Result<(), Memory>
+    fn push(&mut self, line: &LedgerLine) -> Result<(), Memory>
         ensures text { OnOk result (self.new.text ≡ self.old.text ++ line_text line.now) }
         ensures begun { self.new.begun ≡ self.old.begun }
         ensures unchanged { OnErr result (self.new ≡ self.old) }
     {
-        let mut text = String::new(alloc);
-        push_line(&mut text, line)?;
-        self.text.extend_from_slice(text.as_bytes())?;
+        self.line.clear();
+        push_line(&mut self.line, line)?;
+        self.text.extend_from_slice(self.line.as_slice())?;
         Ok(())
     }
 }

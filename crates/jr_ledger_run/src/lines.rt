@@ -37,11 +37,16 @@ impl Held {
         self.failed
     }
 
+    // How many bytes of lines haven't gone out yet.
+    fn waiting(&self) -> usize {
+        self.recorder.text().len()
+    }
+
     // Adds the end of a write.
     fn write_ended(&mut self, write: &WriteId, outcome: &Outcome)
         ensures first { IsSome self.old.failed → self.new.failed ≡ self.old.failed }
     {
-        let added = self.recorder.write_ended(self.alloc, write, outcome);
+        let added = self.recorder.write_ended(write, outcome);
         self.heed(added);
     }
 
@@ -57,7 +62,7 @@ impl Held {
             self.fail(io::Error::from(ErrorKind::InvalidInput));
             return None;
         }
-        match self.recorder.sync_begins(self.alloc, file) {
+        match self.recorder.sync_begins(file) {
             Ok(sync) => {
                 let begun = self.syncs.begins(&sync);
                 self.heed(begun);
@@ -77,7 +82,7 @@ impl Held {
         match self.syncs.returned(self.alloc, sync, is_well) {
             Ok(recorded) => {
                 for one in recorded.iter() {
-                    let added = self.recorder.sync_returned(self.alloc, one, true);
+                    let added = self.recorder.sync_returned(one, true);
                     self.heed(added);
                 }
             }
@@ -116,15 +121,33 @@ impl Held {
     }
 }
 
+// So many bytes of lines wait at most: about as many as a pipe takes at once.
+const MOST_WAITING: usize = 4096;
+
 /// Some lines of a ledger, which go out together. Nobody else adds any meanwhile.
 #[derive(Drop)]
 pub struct Lines<'a> {
     held: MutexGuard<'a, Held>,
+    // Whether none waited before them.
+    are_first: bool,
 }
 
 impl<'a> Lines<'a> {
     pub(crate) fn new(held: MutexGuard<'a, Held>) -> Lines<'a> {
-        Lines { held }
+        Lines {
+            are_first: held.waiting() == 0,
+            held,
+        }
+    }
+
+    // Whether who sends the lines that wait has had none to send until now.
+    pub(crate) fn are_awaited(&self) -> bool {
+        self.are_first && self.held.waiting() > 0
+    }
+
+    // Whether they are so few, with those that wait, that they may wait too.
+    pub(crate) fn may_wait(&self) -> bool {
+        self.held.waiting() < MOST_WAITING
     }
 
     /// A write has ended so: one line if it is whole, and else none.

@@ -31,13 +31,13 @@ fn what_is_recorded_is_read(rt: HostRuntime) -> Result<(), Fail> {
     let alloc = rt.alloc();
     let plan = plan_of(alloc, "f", 8)?;
     let mut recorder = Recorder::new(alloc, &plan)?;
-    recorder.write_ended(alloc, &write(0), &Outcome::Whole)?;
-    recorder.write_ended(alloc, &write(1), &Outcome::Failed)?;
-    recorder.write_ended(alloc, &write(2), &Outcome::Short(512))?;
+    recorder.write_ended(&write(0), &Outcome::Whole)?;
+    recorder.write_ended(&write(1), &Outcome::Failed)?;
+    recorder.write_ended(&write(2), &Outcome::Short(512))?;
     same(&rt, recorder.can_begin(1), false);
     if recorder.can_begin(0) {
-        let sync = recorder.sync_begins(alloc, 0)?;
-        recorder.sync_returned(alloc, &sync, true)?;
+        let sync = recorder.sync_begins(0)?;
+        recorder.sync_returned(&sync, true)?;
     }
     let lines = read_lines(alloc, &plan, recorder.text())?;
     let sync = SyncId { file: 0, number: 0 };

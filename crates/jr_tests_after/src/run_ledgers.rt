@@ -46,13 +46,7 @@ fn record<R: Wait>(rt: &R, ledger: &RunLedger) {
     ledger.sync_returned(later, true);
 }
 
-fn assert_recorded(
-    rt: &(impl AllocGlobal + Abort),
-    alloc: Global,
-    plan: &Plan,
-    text: &[u8],
-) -> Result<(), Fail> {
-    let lines = read_lines(alloc, plan, text)?;
+fn assert_recorded(rt: &impl Abort, lines: &[LedgerLine]) {
     let wanted = [
         LedgerLine::Written(write(0)),
         LedgerLine::Begun(FIRST),
@@ -64,28 +58,115 @@ fn assert_recorded(
     for (line, wanted) in lines.iter().zip(wanted.iter()) {
         same(rt, *line, *wanted);
     }
-    Ok(())
+}
+
+// A ledger that goes to a file of this folder. (Each of these functions keeps one or two things that are given back: a test of many costs
+// minutes.)
+fn ledger_in<R: Files<File = File>>(
+    rt: &R,
+    alloc: Global,
+    plan: &Plan,
+    folder: &str,
+    every: Option<u32>,
+) -> Result<RunLedger, Fail> {
+    let path = path_in(alloc, folder, "lines")?;
+    let out = made(rt, path.as_str())?;
+    Ok(RunLedger::new(alloc, plan, Some(out), every)?)
+}
+
+// One that syncs a file of the folder after each two of its writes.
+fn syncing_in<R: Files<File = File>>(
+    rt: &R,
+    alloc: Global,
+    plan: &Plan,
+    folder: &str,
+) -> Result<RunLedger, Fail> {
+    let ledger = ledger_in(rt, alloc, plan, folder, Some(2))?;
+    let files = one_file(rt, alloc, folder)?;
+    ledger.sync_these(alloc, files)?;
+    Ok(ledger)
+}
+
+fn one_file<R: Files<File = File>>(rt: &R, alloc: Global, folder: &str) -> Result<Vec<File>, Fail> {
+    let path = path_in(alloc, folder, "data")?;
+    let mut files = Vec::new(alloc);
+    files.push(made(rt, path.as_str())?)?;
+    Ok(files)
+}
+
+// What has gone out of it.
+fn lines_in<R: Files<File = File> + AllocGlobal>(
+    rt: &R,
+    alloc: Global,
+    plan: &Plan,
+    folder: &str,
+) -> Result<Vec<LedgerLine>, Fail> {
+    let path = path_in(alloc, folder, "lines")?;
+    let text = fs::read(rt, path.as_str())?;
+    Ok(read_lines(alloc, plan, text.as_slice())?)
+}
+
+fn recorded_in<R: Files<File = File> + AllocGlobal + Wait + Abort>(
+    rt: &R,
+    alloc: Global,
+    folder: &str,
+) -> Result<Vec<LedgerLine>, Fail> {
+    let plan = plan_of(alloc, "f", 8)?;
+    let ledger = syncing_in(rt, alloc, &plan, folder)?;
+    record(rt, &ledger);
+    same(rt, ledger.is_cut(), false);
+    same(rt, ledger.cut_by().is_some(), false);
+    same(rt, ledger.unsynced().is_some(), false);
+    lines_in(rt, alloc, &plan, folder)
 }
 
 #[test]
 fn lines_go_out_as_it_happens(rt: HostRuntime) -> Result<(), Fail> {
-    let alloc = rt.alloc();
     let folder = fresh_folder(&rt, process::id(rt.process()), "ledger")?;
-    let path = path_in(alloc, folder.as_str(), "data")?;
-    let lines = path_in(alloc, folder.as_str(), "lines")?;
-    let plan = plan_of(alloc, path.as_str(), 8)?;
-    let mut files = Vec::new(alloc);
-    files.push(made(&rt, path.as_str())?)?;
-    let out = made(&rt, lines.as_str())?;
-    let ledger = RunLedger::new(alloc, &plan, Some(out), Some(2))?;
-    ledger.sync_these(alloc, files)?;
-    record(&rt, &ledger);
-    same(&rt, ledger.is_cut(), false);
-    same(&rt, ledger.cut_by().is_some(), false);
-    same(&rt, ledger.unsynced().is_some(), false);
-    let text = fs::read(&rt, lines.as_str())?;
+    let recorded = recorded_in(&rt, rt.alloc(), folder.as_str())?;
     fs::remove_dir_all(&rt, folder.as_str())?;
-    assert_recorded(&rt, alloc, &plan, text.as_slice())
+    assert_recorded(&rt, recorded.as_slice());
+    Ok(())
+}
+
+fn add_write<R: Wait>(rt: &R, ledger: &RunLedger, number: u32) {
+    if let Some(mut lines) = ledger.lines(rt) {
+        lines.write_ended(&write(number), &Outcome::Whole);
+        ledger.send(lines);
+    }
+}
+
+// How many lines have gone out: of a write, of one more that is left to a thread that sends, with a sync, and of a third write at the end.
+fn sent_in<R: Files<File = File> + AllocGlobal + Wait>(
+    rt: &R,
+    alloc: Global,
+    folder: &str,
+) -> Result<[usize; 4], Fail> {
+    let plan = plan_of(alloc, "f", 8)?;
+    let ledger = ledger_in(rt, alloc, &plan, folder, None)?;
+    ledger.begin();
+    add_write(rt, &ledger, 0);
+    let alone = lines_in(rt, alloc, &plan, folder)?.len();
+    ledger.leave_to_sender();
+    add_write(rt, &ledger, 1);
+    let waiting = lines_in(rt, alloc, &plan, folder)?.len();
+    let _sync = ledger.sync_begins(0);
+    let synced = lines_in(rt, alloc, &plan, folder)?.len();
+    add_write(rt, &ledger, 2);
+    ledger.end(rt);
+    let ended = lines_in(rt, alloc, &plan, folder)?.len();
+    Ok([alone, waiting, synced, ended])
+}
+
+#[test]
+fn a_line_that_is_left_to_a_thread_goes_out_with_a_sync_and_at_the_end(
+    rt: HostRuntime,
+) -> Result<(), Fail> {
+    let folder = fresh_folder(&rt, process::id(rt.process()), "sender")?;
+    let sent = sent_in(&rt, rt.alloc(), folder.as_str())?;
+    fs::remove_dir_all(&rt, folder.as_str())?;
+    same(&rt, sent, [1, 1, 3, 4]);
+    Ok(())
 }
 
 #[test]
