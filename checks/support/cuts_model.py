@@ -190,19 +190,17 @@ class Account:
         return found
 
     def broken_order(self):
-        """What of the order of lines isn't as it must be: a line of a write that hadn't ended, or over whose bytes another write had been asked
-        for when it was noted; a sync's line that isn't right before the sync was asked for, or one of its return before it returned well.
-        A sync's line is written out as it is noted. A write's may be written out later: it is taken to be noted as soon as it may have been,
-        once the write had ended and the lines above were noted."""
-        seqs, ended, asked, returned, begun = self.seqs(), {}, Spans(), {}, {}
-        last, noted = {}, 0
-        for now, (tag, *rest) in enumerate(self.events):
+        """What of the order of lines isn't as it must be: a line of a write that hadn't ended, or over whose bytes another write was asked
+        for; a sync's line that isn't right before the sync was asked for, or one of its return before it returned well."""
+        seqs, ended, asked, returned, begun = self.seqs(), set(), Spans(), {}, {}
+        last = {}
+        for tag, *rest in self.events:
             if tag == "write":
                 seq, thread, *where = map(int, rest)
-                asked.add(now, seq, *where)
+                asked.add(seq, *where)
                 last[thread] = "write"
             elif tag == "wrote":
-                ended[int(rest[0])] = now
+                ended.add(int(rest[0]))
             elif tag == "sync":
                 number, thread, file = map(int, rest[:3])
                 if isinstance(last.get(thread), tuple):
@@ -216,18 +214,14 @@ class Account:
                 seq = seqs.get(tuple(map(int, rest[2:5])))
                 if seq not in ended:
                     yield f"line w {rest[2:5]} of a write that hadn't ended"
-                    continue
-                noted = max(noted, ended[seq])
-                if asked.over.get(seq, now) < noted:
+                elif asked.is_over(seq):
                     yield f"line w {rest[2:5]}, and another write was asked for over it"
             elif tag == "note" and rest[1] == "b":
                 last[int(rest[0])] = (int(rest[2]), int(rest[3]))
-                noted = now
             elif tag == "note" and rest[1] == "s":
                 sync = begun.get((int(rest[2]), int(rest[3])))
                 if not returned.get(sync):
                     yield f"line s {rest[2:4]} of a sync that hadn't returned"
-                noted = now
 
     def syncs_of(self, file):
         """How many writes of the file had ended before each sync of it was asked for."""
@@ -255,15 +249,19 @@ class Account:
 
 
 class Spans:
-    """When each write was first written over, by a write that was asked for later."""
+    """Which write was asked for last over each sector, and where each lies."""
 
     def __init__(self):
-        self.last, self.over = {}, {}
+        self.last, self.where = {}, {}
 
-    def add(self, now, seq, file, offset, length):
-        """A write of these bytes is asked for now."""
-        for it in range(offset // SECTOR, (offset + length) // SECTOR):
-            before = self.last.get((file, it))
-            if before is not None:
-                self.over.setdefault(before, now)
-            self.last[file, it] = seq
+    def sectors(self, seq):
+        file, offset, length = self.where[seq]
+        return ((file, it) for it in range(offset // SECTOR, (offset + length) // SECTOR))
+
+    def add(self, seq, file, offset, length):
+        self.where[seq] = file, offset, length
+        for it in self.sectors(seq):
+            self.last[it] = seq
+
+    def is_over(self, seq):
+        return any(self.last[it] > seq for it in self.sectors(seq))

@@ -11,8 +11,8 @@ use jr_model::EngineKind;
 use jr_plan::Plan;
 use jr_system::{
     Asked, Closed, Ground, Machine, MemoryFiles, OneEngine, Outlet, Pace, PlanBytes, Stop, Wiper,
-    asked_by, begin_ledger, crew_engines, end_ledger, has_one_worker, history_bytes, is_watched,
-    ledger_cut, send_ledger, shares_memory, shown, stop_when_short, unsynced_on_the_way,
+    asked_by, begin_ledger, crew_engines, has_one_worker, history_bytes, is_watched, ledger_cut,
+    shares_memory, shown, stop_when_short, unsynced_on_the_way,
 };
 use std::alloc::Global;
 use std::io;
@@ -27,13 +27,16 @@ pub enum Turn {
     Shared(SharedRun),
 }
 
-/// A run whose workers share a memory: the plan, how many they are, what is asked of it, and what is told after its report. The shares keep
-/// the runtime, so they are boxed in `main`.
+/// A run whose workers share a memory. The shares keep the runtime, so they are boxed in `main`.
 #[derive(Drop)]
 pub struct SharedRun {
+    /// The plan that it carries out.
     pub plan: Plan,
+    /// How many workers it has.
     pub workers: u32,
+    // What is asked of it.
     asked: Arc<Asked, Global>,
+    // What is told after its report.
     wanted: Option<Wanted>,
 }
 
@@ -237,10 +240,8 @@ fn run_wanted<R: Outlet + Machine>(
         return Ok(shared_run(asked, plan, workers));
     }
     let ground = ground_of(rt, choice, wanted, &asked, &plan)?;
-    send_ledger(rt, &asked);
-    let ran = run_traced(rt, wanted, &ground, &asked, plan, workers);
-    end_ledger(rt, &asked);
-    let ran = with_shortage(close(rt, &ground, &asked, ran?)?, &asked);
+    let ran = run_traced(rt, wanted, &ground, &asked, plan, workers)?;
+    let ran = with_shortage(close(rt, &ground, &asked, ran)?, &asked);
     Ok(Turn::Ran(with_ledger(rt.alloc(), choice, &asked, ran)))
 }
 

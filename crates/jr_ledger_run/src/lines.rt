@@ -37,11 +37,6 @@ impl Held {
         self.failed
     }
 
-    // How many bytes of lines haven't gone out yet.
-    fn waiting(&self) -> usize {
-        self.recorder.text().len()
-    }
-
     // Adds the end of a write.
     fn write_ended(&mut self, write: &WriteId, outcome: &Outcome)
         ensures first { IsSome self.old.failed → self.new.failed ≡ self.old.failed }
@@ -121,33 +116,15 @@ impl Held {
     }
 }
 
-// So many bytes of lines wait at most: about as many as a pipe takes at once.
-const MOST_WAITING: usize = 4096;
-
 /// Some lines of a ledger, which go out together. Nobody else adds any meanwhile.
 #[derive(Drop)]
 pub struct Lines<'a> {
     held: MutexGuard<'a, Held>,
-    // Whether none waited before them.
-    are_first: bool,
 }
 
 impl<'a> Lines<'a> {
     pub(crate) fn new(held: MutexGuard<'a, Held>) -> Lines<'a> {
-        Lines {
-            are_first: held.waiting() == 0,
-            held,
-        }
-    }
-
-    // Whether who sends the lines that wait has had none to send until now.
-    pub(crate) fn are_awaited(&self) -> bool {
-        self.are_first && self.held.waiting() > 0
-    }
-
-    // Whether they are so few, with those that wait, that they may wait too.
-    pub(crate) fn may_wait(&self) -> bool {
-        self.held.waiting() < MOST_WAITING
+        Lines { held }
     }
 
     /// A write has ended so: one line if it is whole, and else none.

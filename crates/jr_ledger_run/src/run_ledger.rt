@@ -9,12 +9,7 @@ use std::alloc::Global;
 use std::fs::File;
 use std::sync::atomic::{AtomicBool, AtomicU64, Ordering};
 use std::sync::{Mutex, OnceLock, Wait};
-use std::thread::Parker;
-use std::time::Duration;
 use std::{io, thread};
-
-// A line of a write waits so many milliseconds for others, before all go out together.
-const MOMENT_MILLISECONDS: u64 = 1;
 
 /// What is written down of a run while it goes on, and what of its files is synced on the way. Any thread may add to it.
 #[derive(Drop)]
@@ -25,10 +20,6 @@ pub struct RunLedger {
     is_cut: AtomicBool,
     cut_by: OnceLock<io::Error>,
     unsynced: OnceLock<(u32, io::Error)>,
-    // Whether a thread sends the lines that wait, what it sleeps on while none do, and whether it is to end.
-    has_sender: AtomicBool,
-    sender: Parker,
-    is_over: AtomicBool,
 }
 
 // A file of the plan, opened to be synced, and how many of its writes have ended: counted without the lock, since most such runs keep no
@@ -59,9 +50,6 @@ impl RunLedger {
             is_cut: AtomicBool::new(false),
             cut_by: OnceLock::new(),
             unsynced: OnceLock::new(),
-            has_sender: AtomicBool::new(false),
-            sender: Parker::new(),
-            is_over: AtomicBool::new(false),
         })
     }
 
@@ -81,7 +69,7 @@ impl RunLedger {
     /// Writes out the first line, before anything is done to the plan's files.
     pub fn begin(&self) {
         if let Some(lines) = self.lines_alone() {
-            self.send_now(lines);
+            self.send(lines);
         }
     }
 
@@ -93,7 +81,7 @@ impl RunLedger {
         }
     }
 
-    /// The same for a caller that can't sleep: it looks again and again.
+    /// The lines for a caller that can't sleep: it looks again and again.
     pub fn lines_alone(&self) -> Option<Lines<'_>> {
         let lines = self.lines.as_ref()?;
         for _ in 0..u64::MAX {
@@ -105,63 +93,11 @@ impl RunLedger {
         None
     }
 
-    /// Hands over these lines. If a thread sends, lines of writes wait for it and for others, for a millisecond at most; otherwise they
-    /// are written out at once.
+    /// Writes these lines out. Where that fails nothing more is written, and the run is to stop.
     pub fn send(&self, lines: Lines<'_>) {
-        if !self.has_sender.load(Ordering::SeqCst) || !lines.may_wait() {
-            self.send_now(lines);
-            return;
-        }
-        let are_awaited = lines.are_awaited();
-        drop(lines);
-        if are_awaited {
-            self.sender.unpark();
-        }
-    }
-
-    // Writes these lines out, behind those that wait. Where that fails nothing more is written, and the run is to stop.
-    fn send_now(&self, lines: Lines<'_>) {
         if let Some(error) = lines.send() {
             let _ = self.cut_by.try_set(error);
             self.is_cut.store(true, Ordering::SeqCst);
-        }
-    }
-
-    /// Sends the lines that wait, a millisecond after the first of them came, until the run is over. One thread calls it, beside those that
-    /// run; `leave_to_sender` tells them of it.
-    pub fn send_on<R: Wait>(&self, rt: &R) {
-        let moment = Parker::new();
-        for _ in rt.forever() {
-            self.sender.park(rt);
-            moment.park_timeout(rt, Duration::from_millis(MOMENT_MILLISECONDS));
-            if self.is_over.load(Ordering::SeqCst) {
-                return;
-            }
-            self.send_waiting(rt);
-        }
-    }
-
-    /// Whether lines are wanted, and not only syncs.
-    pub fn has_lines(&self) -> bool {
-        self.lines.is_some()
-    }
-
-    /// From now on a thread sends the lines that wait.
-    pub fn leave_to_sender(&self) {
-        self.has_sender.store(true, Ordering::SeqCst);
-    }
-
-    /// The run is over. What waits is written out, and lines that still come are at once.
-    pub fn end<R: Wait>(&self, rt: &R) {
-        self.has_sender.store(false, Ordering::SeqCst);
-        self.send_waiting(rt);
-        self.is_over.store(true, Ordering::SeqCst);
-        self.sender.unpark();
-    }
-
-    fn send_waiting<R: Wait>(&self, rt: &R) {
-        if let Some(lines) = self.lines(rt) {
-            self.send_now(lines);
         }
     }
 
@@ -210,7 +146,7 @@ impl RunLedger {
     pub fn sync_begins(&self, file: u32) -> Option<SyncId> {
         let mut lines = self.lines_alone()?;
         let sync = lines.sync_begins(file);
-        self.send_now(lines);
+        self.send(lines);
         sync
     }
 
@@ -221,7 +157,7 @@ impl RunLedger {
             && let Some(mut lines) = self.lines_alone()
         {
             lines.sync_returned(&sync, is_well);
-            self.send_now(lines);
+            self.send(lines);
         }
     }
 }

@@ -4,17 +4,16 @@ ghost use Rattle.jr_system.specs.Ledgers.{has_rounds, ledger_fault, unjudgeable}
 
 use crate::asked::Asked;
 use crate::files::Taken;
-use crate::machine::{Machine, Outlet};
+use crate::machine::Outlet;
 use crate::stops::Stop;
 use jr_after_plans::after_fault;
 use jr_cli_words::{Choice, CliFault};
 use jr_ledger_run::RunLedger;
 use jr_model::EngineKind;
 use jr_plan::Plan;
-use std::alloc::{AllocError, Global};
+use std::alloc::Global;
 use std::fs::File;
-use std::sync::{Arc, Wait};
-use std::thread;
+use std::sync::Arc;
 
 /// Refuses a ledger that the words ask for, where none can be kept of the plan's run: of several rounds, of a job that has no files, and of
 /// one that can't be judged by it.
@@ -92,35 +91,6 @@ pub fn begin_ledger(
     ledger.begin();
     asked.record(ledger);
     Ok(())
-}
-
-/// Has a thread send the lines that wait, if the run keeps a ledger. A run that can't have that thread writes out each line at once.
-pub fn send_ledger<R: Machine>(rt: &R, asked: &Arc<Asked, Global>) {
-    if !asked.ledger().is_some_and(|ledger| ledger.has_lines()) {
-        return;
-    }
-    let own: Result<R, AllocError> = rt.clone();
-    let (Ok(theirs), Ok(own)) = (Arc::try_clone(asked), own) else {
-        return;
-    };
-    // (it is never joined: who reads the ledger may have stopped to)
-    let begun = thread::spawn(rt, move || {
-        if let Some(ledger) = theirs.ledger() {
-            ledger.send_on(&own);
-        }
-    });
-    if begun.is_ok()
-        && let Some(ledger) = asked.ledger()
-    {
-        ledger.leave_to_sender();
-    }
-}
-
-/// The run is over: what waits of its ledger is written out.
-pub fn end_ledger<R: Wait>(rt: &R, asked: &Asked) {
-    if let Some(ledger) = asked.ledger() {
-        ledger.end(rt);
-    }
 }
 
 impl<'a> Taken<'a> {

@@ -27,9 +27,7 @@ pub use extents::PlanBytes;
 pub use files::{Taken, take_files};
 pub use grounds::{Ground, OneEngine, crew_engines};
 pub use jobs::{PlannedJob, job_plan};
-pub use ledgers::{
-    begin_ledger, end_ledger, ledger_cut, refuse_ledger, send_ledger, unsynced_on_the_way,
-};
+pub use ledgers::{begin_ledger, ledger_cut, refuse_ledger, unsynced_on_the_way};
 pub use machine::{Machine, Outlet};
 pub use meminfo::{MemoryFiles, tell_history};
 pub use memory::{MemoryState, history_bytes, is_watched};

@@ -129,43 +129,49 @@ fn lines_go_out_as_it_happens(rt: HostRuntime) -> Result<(), Fail> {
     Ok(())
 }
 
-fn add_write<R: Wait>(rt: &R, ledger: &RunLedger, number: u32) {
+fn add_write<R: Wait>(rt: &R, ledger: &RunLedger, number: u32, outcome: Outcome) {
     if let Some(mut lines) = ledger.lines(rt) {
-        lines.write_ended(&write(number), &Outcome::Whole);
+        lines.write_ended(&write(number), &outcome);
         ledger.send(lines);
     }
 }
 
-// How many lines have gone out: of a write, of one more that is left to a thread that sends, with a sync, and of a third write at the end.
+// A step of a run: the first line of the ledger, a write, one that failed, one more that is whole, a sync that begins, and its return.
+fn take_step<R: Wait>(rt: &R, ledger: &RunLedger, step: usize) {
+    match step {
+        0 => ledger.begin(),
+        1 => add_write(rt, ledger, 0, Outcome::Whole),
+        2 => add_write(rt, ledger, 1, Outcome::Failed),
+        3 => add_write(rt, ledger, 2, Outcome::Whole),
+        4 => {
+            let _sync = ledger.sync_begins(0);
+        }
+        _ => ledger.sync_returned(Some(FIRST), true),
+    }
+}
+
+// How many lines have gone out after each of these steps, the first line not counted.
 fn sent_in<R: Files<File = File> + AllocGlobal + Wait>(
     rt: &R,
     alloc: Global,
     folder: &str,
-) -> Result<[usize; 4], Fail> {
+) -> Result<[usize; 6], Fail> {
     let plan = plan_of(alloc, "f", 8)?;
     let ledger = ledger_in(rt, alloc, &plan, folder, None)?;
-    ledger.begin();
-    add_write(rt, &ledger, 0);
-    let alone = lines_in(rt, alloc, &plan, folder)?.len();
-    ledger.leave_to_sender();
-    add_write(rt, &ledger, 1);
-    let waiting = lines_in(rt, alloc, &plan, folder)?.len();
-    let _sync = ledger.sync_begins(0);
-    let synced = lines_in(rt, alloc, &plan, folder)?.len();
-    add_write(rt, &ledger, 2);
-    ledger.end(rt);
-    let ended = lines_in(rt, alloc, &plan, folder)?.len();
-    Ok([alone, waiting, synced, ended])
+    let mut sent = [0; 6];
+    for step in 0..6 {
+        take_step(rt, &ledger, step);
+        sent[step] = lines_in(rt, alloc, &plan, folder)?.len();
+    }
+    Ok(sent)
 }
 
 #[test]
-fn a_line_that_is_left_to_a_thread_goes_out_with_a_sync_and_at_the_end(
-    rt: HostRuntime,
-) -> Result<(), Fail> {
-    let folder = fresh_folder(&rt, process::id(rt.process()), "sender")?;
+fn each_line_has_gone_out_before_the_next_is_made(rt: HostRuntime) -> Result<(), Fail> {
+    let folder = fresh_folder(&rt, process::id(rt.process()), "at_once")?;
     let sent = sent_in(&rt, rt.alloc(), folder.as_str())?;
     fs::remove_dir_all(&rt, folder.as_str())?;
-    same(&rt, sent, [1, 1, 3, 4]);
+    same(&rt, sent, [0, 1, 1, 2, 3, 4]);
     Ok(())
 }
 
