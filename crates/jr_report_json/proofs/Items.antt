@@ -7,6 +7,7 @@ use Rattle.serde_json.specs.Data.{Data}
 use Rattle.serde_json.specs.Written.{compact_text}
 use Rattle.jr_model.specs.declared.totals.Totals.{Totals}
 use Rattle.jr_model.specs.Plan.{SubJob}
+use Rattle.jr_desk_totals.proofs.SideBySide.{next_of_both, none_of_both}
 use Rattle.jr_report_faults.specs.Faults.{NamedFault}
 use Rattle.jr_report_json.specs.Json.{clone_json, clones_json, fault_json, faults_json}
 use Rattle.jr_report_json.specs.Rows.{item_text, reason_at, rest_text, texts_of, told_by}
@@ -16,37 +17,22 @@ next_item : (place : ℕ) (d : Data) (ds : List Data) → rest_text place (d ∷
 next_item place d ds = sym (append_assoc _ (compact_text d) (rest_text (suc place) ds))
 
 -- the clones that are left
-clones_suc : (jobs : List SubJob) (totals : List Totals) (i : ℕ) (job : SubJob) (d : Totals) → slice_get jobs i ≡ Some job → i < length totals
-    → clones_json (drop i jobs) (drop i totals) ≡ clone_json job (get_or totals i d) ∷ clones_json (drop (suc i) jobs) (drop (suc i) totals)
-clones_suc [] totals i job d at within = cc
-clones_suc (first ∷ jobs) [] i job d at within = absurd (omega arith)
-clones_suc (first ∷ jobs) (t ∷ totals) zero job d at within =
-    ap (λ (j : SubJob). clone_json j t ∷ clones_json jobs totals) (same first job at)
-  where
-    same : (a b : SubJob) → Some a ≡ Some b → a ≡ b
-    same a b h = cc
-clones_suc (first ∷ jobs) (t ∷ totals) (suc i) job d at within = clones_suc jobs totals i job d at (omega arith)
-
 pub clones_more : (jobs : List SubJob) (totals : List Totals) (i : ℕ) (job : SubJob) (d : Totals) → slice_get jobs i ≡ Some job → i < length totals
     → rest_text i (clones_json (drop i jobs) (drop i totals))
     ≡ item_text i (clone_json job (get_or totals i d)) ++ rest_text (i + 1) (clones_json (drop (i + 1) jobs) (drop (i + 1) totals))
 clones_more jobs totals i job d at within =
-    rw add-one (ap (λ (ds : List Data). rest_text i ds) (clones_suc jobs totals i job d at within)
-    ∙ next_item i (clone_json job (get_or totals i d)) (clones_json (drop (suc i) jobs) (drop (suc i) totals)))
+    ap (λ (ds : List Data). rest_text i ds)
+    (next_of_both clones_json (λ job t rest. clone_json job t ∷ rest) (λ job jobs t totals. refl) jobs totals i job d at within)
+    ∙ rw add-one (next_item i (clone_json job (get_or totals i d)) (clones_json (drop (suc i) jobs) (drop (suc i) totals)))
 
 -- there are none past the shorter of the two
 pub clones_none : (jobs : List SubJob) (totals : List Totals) (i : ℕ) → min (length jobs) (length totals) ≤ i
     → clones_json (drop i jobs) (drop i totals) ≡ []
-clones_none [] totals zero h = refl
-clones_none [] totals (suc i) h = refl
-clones_none (job ∷ jobs) [] zero h = refl
-clones_none (job ∷ jobs) [] (suc i) h = nothing (drop i jobs)
+clones_none = none_of_both clones_json [] (λ totals. refl) without
   where
-    nothing : (rest : List SubJob) → clones_json rest [] ≡ []
-    nothing [] = refl
-    nothing (j ∷ rest) = refl
-clones_none (job ∷ jobs) (t ∷ totals) zero h = absurd (omega arith)
-clones_none (job ∷ jobs) (t ∷ totals) (suc i) h = clones_none jobs totals i (omega arith)
+    without : (jobs : List SubJob) → clones_json jobs [] ≡ []
+    without [] = refl
+    without (job ∷ jobs) = refl
 
 -- all that are left, each by its row
 pub rows_more : {X : Type 0} (row : X → Data) (xs : List X) (i : ℕ) (x : X) → slice_get xs i ≡ Some x

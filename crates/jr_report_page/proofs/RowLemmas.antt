@@ -1,39 +1,24 @@
 -- Rows, one after another.
-use Rattle.std.proofs.Common.{◌≡◌, ℕ, zero, suc, ◌+◌, ◌<◌, ◌≤◌, min, List, [], ◌∷◌, ◌++◌, length, get_or, drop, refl, ap, ◌∙◌, arith, add-one, append_assoc}
+use Rattle.std.proofs.Common.{◌≡◌, ℕ, ◌+◌, ◌<◌, ◌≤◌, min, List, [], ◌∷◌, ◌++◌, length, get_or, drop, refl, ap, ◌∙◌, append_assoc}
 use Rattle.std.specs.Prelude.{Some, slice_get}
 use Rattle.jr_model.specs.declared.totals.Totals.{Totals}
 use Rattle.jr_model.specs.Plan.{SubJob}
+use Rattle.jr_desk_totals.proofs.SideBySide.{next_of_both, none_of_both}
 use Rattle.jr_report_json.proofs.Members.{five_more}
 use Rattle.jr_report_page.specs.Rows.{totals_row, totals_rows}
 
 -- the next row of totals, and those after it
-totals_suc : (jobs : List SubJob) (totals : List Totals) (i : ℕ) (job : SubJob) (d : Totals) → slice_get jobs i ≡ Some job → i < length totals
-    → totals_rows (drop i jobs) (drop i totals) ≡ totals_row job (get_or totals i d) ++ totals_rows (drop (suc i) jobs) (drop (suc i) totals)
-totals_suc [] totals i job d at within = cc
-totals_suc (first ∷ jobs) [] i job d at within = absurd (omega arith)
-totals_suc (first ∷ jobs) (t ∷ totals) zero job d at within =
-    ap (λ (j : SubJob). totals_row j t ++ totals_rows jobs totals) (same first job at)
-  where
-    same : (a b : SubJob) → Some a ≡ Some b → a ≡ b
-    same a b h = cc
-totals_suc (first ∷ jobs) (t ∷ totals) (suc i) job d at within = totals_suc jobs totals i job d at (omega arith)
-
 pub totals_more : (jobs : List SubJob) (totals : List Totals) (i : ℕ) (job : SubJob) (d : Totals) → slice_get jobs i ≡ Some job → i < length totals
     → totals_rows (drop i jobs) (drop i totals) ≡ totals_row job (get_or totals i d) ++ totals_rows (drop (i + 1) jobs) (drop (i + 1) totals)
-totals_more jobs totals i job d at within = rw add-one (totals_suc jobs totals i job d at within)
+totals_more = next_of_both totals_rows (λ job t rest. totals_row job t ++ rest) (λ job jobs t totals. refl)
 
 -- there are none past the shorter of the two
 pub totals_none : (jobs : List SubJob) (totals : List Totals) (i : ℕ) → min (length jobs) (length totals) ≤ i → totals_rows (drop i jobs) (drop i totals) ≡ []
-totals_none [] totals zero h = refl
-totals_none [] totals (suc i) h = refl
-totals_none (job ∷ jobs) [] zero h = refl
-totals_none (job ∷ jobs) [] (suc i) h = nothing (drop i jobs)
+totals_none = none_of_both totals_rows [] (λ totals. refl) without
   where
-    nothing : (rest : List SubJob) → totals_rows rest [] ≡ []
-    nothing [] = refl
-    nothing (j ∷ rest) = refl
-totals_none (job ∷ jobs) (t ∷ totals) zero h = absurd (omega arith)
-totals_none (job ∷ jobs) (t ∷ totals) (suc i) h = totals_none jobs totals i (omega arith)
+    without : (jobs : List SubJob) → totals_rows jobs [] ≡ []
+    without [] = refl
+    without (job ∷ jobs) = refl
 
 -- seven of them
 pub added_seven : (t0 t1 t2 t3 t4 t5 t6 t7 a b c d e f g : List ℕ) → t1 ≡ t0 ++ a → t2 ≡ t1 ++ b → t3 ≡ t2 ++ c → t4 ≡ t3 ++ d → t5 ≡ t4 ++ e
