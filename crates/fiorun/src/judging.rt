@@ -39,7 +39,7 @@ fn judge_into<R: Outlet + Machine>(
     judge_by(rt, choice, plan, job, outputs, lines.as_slice(), &begun)
 }
 
-// The same, by these lines of a ledger.
+// Judges the files of the plan by these lines of a ledger.
 fn judge_by<R: Outlet + Machine>(
     rt: &R,
     choice: &Choice<'_>,
@@ -54,7 +54,7 @@ fn judge_by<R: Outlet + Machine>(
     judge_files(rt, plan, job, outputs, lines, &files, begun)
 }
 
-// The same, of these files.
+// Judges these files by the lines of a ledger.
 fn judge_files<R: Outlet + Machine>(
     rt: &R,
     plan: &Plan,

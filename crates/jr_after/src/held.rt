@@ -22,7 +22,7 @@ pub(crate) fn is_held(planned: &PlannedWrite, part: &Piece, bytes: &[u8], room: 
     is_whole_held(&narrow, part, bytes, room)
 }
 
-// The same by the whole of the write's block.
+// Whether this part of the write's block has these bytes; the whole of the block is made to see it.
 fn is_whole_held(planned: &PlannedWrite, part: &Piece, bytes: &[u8], room: &mut [u8]) -> bool
     requires fits { ticket_fits (ticket_of planned.now) ≡ true }
     requires from { planned.now.piece.offset ≤ part.now.offset }

@@ -30,10 +30,15 @@ use std::marker::Model;
 pub struct Findings<'a> {
     plan: &'a Plan,
     history: &'a [Event],
+    // What each clone did.
     totals: &'a [Totals],
+    // The bad verdicts, in the order in which they were given.
     bads: Vec<Bad>,
+    // The bad verdicts by clone, pass and number.
     sorted: Vec<Bad>,
+    // The I/Os and checks that failed or ended short.
     faults: Faults,
+    // Whether the run came to its end.
     is_complete: bool,
 }
 
@@ -111,7 +116,7 @@ impl<'a> Findings<'a> {
         self.bads.as_slice()
     }
 
-    /// The same by clone, pass and number, as the report has them.
+    /// The bad verdicts by clone, pass and number, as the report has them.
     pub fn bads_in_order(&self) -> &[Bad]
         ensures { map miscompare_of result.now ≡ in_order self.now.plan (miscompares self.now.history) }
     {

@@ -29,7 +29,7 @@ pub(crate) enum Content {
     Ledger,
     // The list of the bad blocks of the plan's only file, with blocks of this size.
     BadBlocks(BlockSize),
-    // The same with the blocks of faults.
+    // The list of the bad blocks and of those of faults.
     WrongBlocks(BlockSize),
     // The report as JSON.
     Json,
@@ -37,12 +37,15 @@ pub(crate) enum Content {
     Page,
 }
 
-// An output: the path that the words give it, where that leads, and how it is written.
+// An output.
 #[derive(Drop)]
 pub(crate) struct Output {
     pub(crate) content: Content,
+    // The path that the words give it.
     path: String,
+    // Where that leads.
     target: Target,
+    // How it is written.
     way: Way,
     road: Road,
 }

@@ -12,14 +12,18 @@ use jr_replay_traces::Checked;
 use jr_system::{Closed, Outlet, Stop};
 use std::time::Clock;
 
-/// What is to be told of a run beside its report: its outputs, whether maps are shown and notes are wanted; and what is known of the run from
-/// its beginning on.
+/// What is to be told of a run apart from its report.
 #[derive(Drop)]
 pub struct Wanted {
+    /// Where it goes.
     pub outputs: Outputs,
+    // Whether the maps of its files are shown.
     has_maps: bool,
+    // Whether notes are wanted.
     has_notes: bool,
+    // When and where the run began.
     begun: Beginning,
+    // The text of its job file.
     job: Vec<u8>,
 }
 

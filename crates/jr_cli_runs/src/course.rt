@@ -21,10 +21,15 @@ const LINE_SECONDS: u64 = 1;
 // What the rounds of a job run over, and what is wanted of them.
 #[derive(Clone, Copy)]
 pub struct Rounds<'a> {
+    // The words of the command line.
     pub choice: &'a Choice<'a>,
+    // What is told of the rounds.
     pub wanted: &'a Wanted,
+    // What their I/Os are carried out over.
     pub ground: &'a Ground<'a>,
+    // What is asked of each round.
     pub asked: &'a Arc<Asked, Global>,
+    // The plan of the first round.
     pub plan: &'a Plan,
     pub has_notes: bool,
 }

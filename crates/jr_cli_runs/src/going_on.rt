@@ -10,7 +10,7 @@ use jr_model::EngineKind;
 use jr_plan::Plan;
 use jr_rounds::{gathered, is_bad, plan_of_round, seed_offset, tell_round, tell_sums};
 use jr_rounds_rest::{
-    Task, first_tasks, goes_on, next_round, parts_text, tasks_left, untried_text,
+    Task, clone_goes_on, first_tasks, next_round, parts_text, tasks_left, untried_text,
 };
 use jr_system::{Machine, Outlet, Stop};
 use std::alloc::Global;
@@ -37,7 +37,7 @@ pub fn is_going_on(choice: &Choice<'_>, plan: &Plan, has_rounds: bool) -> Result
 pub fn tell_staying<R: Eprint>(rt: &R, plan: &Plan) {
     for i in 0..plan.clones() {
         let job = plan.clone_at(i);
-        if !goes_on(plan, job) {
+        if !clone_goes_on(plan, job) {
             let name = job.job();
             let name = Escaped(&name);
             let _ = eprintln!(rt;

@@ -53,7 +53,7 @@ fn time_of(choice: &Choice<'_>) -> Result<Option<Duration>, CliFault> {
 }
 
 // Runs the rounds, prints what is printed of them and then the sums, and gives how the last one ended.
-pub fn run_rounds<R: Outlet + Machine>(
+pub fn carry_out_rounds<R: Outlet + Machine>(
     rt: &R,
     over: &Rounds<'_>,
     limits: Limits,

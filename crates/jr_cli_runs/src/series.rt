@@ -1,7 +1,7 @@
 // A series of runs of one job. (Each of these functions keeps one thing that is given back: a proof of one that keeps several costs minutes.)
 use crate::course::{Course, Rounds, finished};
 use crate::going_on::{run_parts, tell_staying};
-use crate::rounds::{Limits, run_rounds};
+use crate::rounds::{Limits, carry_out_rounds};
 use crate::running::{asked_for, ground_of};
 use jr_cli_outputs::Wanted;
 use jr_cli_words::Choice;
@@ -98,7 +98,7 @@ fn run_course<R: Outlet + Machine>(
     course: &mut Course,
 ) -> Result<u8, Stop> {
     let last = match series {
-        Series::Again(limits) => run_rounds(rt, over, limits, course)?,
+        Series::Again(limits) => carry_out_rounds(rt, over, limits, course)?,
         Series::Rest => run_parts(rt, over, course)?,
     };
     Ok(finished(rt, over, &last, course))

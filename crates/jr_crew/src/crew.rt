@@ -40,13 +40,16 @@ use std::thread;
 use std::thread::{PromisedHandle, Threads};
 use std::time::Clock;
 
-/// What `run_booked` gives: what `run` does, with books that take less memory, and what asked the run to stop, if it did so before it
-/// was complete.
+/// What `run_booked` gives: what `run` does, with books that take less memory.
 #[derive(Drop)]
 pub struct Booked<'w> {
+    /// The desk, with the history of the run.
     pub desk: Desk,
+    /// The engines of the workers, in their order.
     pub engines: Vec<Box<dyn Engine + Send>>,
+    /// What each worker completed.
     pub books: Vec<Book>,
+    /// What asked the run to stop, if it did so before it was complete.
     pub asked: Option<StopRequest<'w>>,
 }
 
@@ -75,7 +78,7 @@ pub fn run_booked<'w, R: Threads + Wait + Clock + Sync>(
     run_as::<Brand, R>(rt, alloc, plan, engines, watch, &handoff, pass)
 }
 
-// The same, where the plan and the hand-over have their names.
+// Runs where the plan and the hand-over have their names.
 fn run_as<'w, P: Naming + Send + Sync, R: Threads + Wait + Clock + Sync>(
     rt: &R,
     alloc: Global,

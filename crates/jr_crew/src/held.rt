@@ -21,18 +21,24 @@ use std::sync::{Condvar, Mutex, MutexGuard, Wait};
 use std::thread;
 use std::time::{Clock, Duration};
 
-// What lies under the lock: the desk of that plan, why the run was ended before its time, if it was, how many I/Os and checks workers
-// have in hand, how many workers haven't begun, how many wait for something to do, and how many rest. One that waits, or one that rests, may
-// have been called and not have come yet.
+// What lies under the lock.
 #[derive(Drop)]
 pub struct Held<P: Naming> {
+    // The desk of the plan that has this name.
     desk: Desk,
+    // Why the run was ended before its time, if it was.
     halt: Option<Halt>,
+    // How many I/Os and checks the workers have in hand.
     in_hand: u64,
+    // How many workers haven't begun.
     absent: u64,
+    // How many workers wait for something to do.
     waiting: u64,
+    // How many workers rest, since there are more of them than the lock can serve.
     resting: u64,
+    // Whether one that waits was called and hasn't come yet.
     is_called: bool,
+    // Whether one that rests was called and hasn't come yet.
     is_roused: bool,
     of: PhantomData<P>,
     ghost plan_is: { desk.plan ≡ P.plan },
@@ -204,16 +210,22 @@ pub enum GoOn {
     End,
 }
 
-// The desk under its lock, how many come for the lock and haven't got it, what those sleep on that can't go on, and those that rest, how
-// much a worker takes at once, whether the workers are too many, and what another thread has of the run.
+// What the workers of a run share.
 #[derive(Drop)]
 pub struct Shared<'p, P: Naming> {
+    // The desk, under its lock.
     held: Mutex<Held<P>>,
+    // How many have come for the lock and haven't got it.
     coming: AtomicU64,
+    // What workers sleep on that wait for something to do.
     changed: Condvar,
+    // What workers sleep on that rest.
     rested: Condvar,
+    // How much a worker takes at once.
     shares: Shares,
+    // Whether the workers are too many.
     crowd: Crowd,
+    // What another thread has of the run.
     watch: Watch<'p>,
 }
 

@@ -20,7 +20,7 @@ pub struct CarriedOut<'a> {
     ghost ruled: { ruling ≡ (if inline && is_to_judge served.now then Some served.now else None) },
 }
 
-// The same once the desk has taken it in, with what is said of it where it was judged here.
+// What was carried out, once the desk has taken it in, with what is said of it where it was judged here.
 #[derive(Drop)]
 pub struct TakenIn<'a> {
     pub served: &'a Served,

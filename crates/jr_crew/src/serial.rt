@@ -191,7 +191,7 @@ fn end(desk: &mut Desk, served: &Served) -> Result<(), RunFault>
     }
 }
 
-// The same for a check that ended whole, which it judges.
+// Hands in a check that ended whole, which it judges.
 fn end_judged(desk: &mut Desk, served: &Served, watch: &Watch<'_>) -> Result<(), RunFault>
     requires open { IsOpen desk.old served.now.ticket }
     requires whole { is_to_judge served.now ≡ true }

@@ -17,12 +17,15 @@ use std::alloc::Global;
 use std::sync::Wait;
 use std::time::Clock;
 
-// Where a worker stands: what it shares with all others, whether it judges its own checks, and its number.
+// Where a worker stands.
 #[derive(Drop)]
 pub struct Post<'a, P: Naming> {
     pub alloc: Global,
+    // What it shares with all others.
     pub shared: &'a Shared<'a, P>,
+    // Whether it judges its own checks.
     pub inline: bool,
+    // Its number among the workers.
     pub number: u32,
 }
 
@@ -45,12 +48,16 @@ pub(crate) fn work<P: Naming, R: Wait + Clock>(
     book
 }
 
-// What a worker has in hand: the tickets that it took, the buffers that it has free, and its book; and how long its turns take.
+// What a worker has in hand.
 #[derive(Drop)]
 pub struct Load {
+    // The tickets that it took and hasn't carried out.
     pub tickets: Vec<Ticket>,
+    // The buffers that it has free.
     pub buffers: Vec<Vec<u8>>,
+    // What it has completed.
     pub book: Book,
+    // How long its turns take.
     pub turns: Turns,
 }
 

@@ -100,7 +100,7 @@ impl<'a> Account<'a> {
         is_handed(self.tickets, methods, known, entry)
     }
 
-    // The same, with the ticket made again.
+    // Whether this check is the history's own: its ticket is made again to see it.
     fn is_own_check(&self, known: &BookValues, entry: &BookEntry) -> bool
         requires { IsKnown known.now entry.now }
         ensures { IsTrue result → slice_get (tickets_of self.now.plan self.now.history) entry.now.id

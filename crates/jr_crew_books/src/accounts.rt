@@ -82,7 +82,7 @@ pub fn are_books(
     ))
 }
 
-// The same: the history is walked once, with a place in each book.
+// Whether the books are those of the history, which is walked once, with a place in each book.
 fn are_followed(
     account: &Account<'_>,
     methods: &[Method],
@@ -203,7 +203,7 @@ fn are_gone_past(books: &[Book], places: &[usize]) -> bool
     true
 }
 
-// The same as the history has it.
+// The end that a book has to show, as the history has it.
 fn ending_of(
     table: &[Option<Verdict>],
     inline: bool,

@@ -62,7 +62,7 @@ fn launch_at(tickets: &TicketTable, id: IoId) -> Option<&Launch>
     tickets.launches.get(id as usize)
 }
 
-// The same of the one of which this is kept.
+// Whether the entry is of the ticket of which this is kept.
 fn is_launched(methods: &[Method], known: &BookValues, entry: &BookEntry, launch: &Launch) -> bool
     ensures { IsTrue result → (plan : Planned) (headers : List (List ℕ)) → AreMethodsOf plan methods.now
         → ticket_again plan headers entry.now.id launch.now ≡ (done_as known.now entry.now).ticket }

@@ -111,7 +111,7 @@ fn last_of<T: Copy>(known: &[T], count: u32) -> Option<T>
     known.get(count as usize - 1).copied()
 }
 
-// The same, where it stands.
+// The last one known before this count, where it stands.
 fn last_in<T>(known: &[T], count: u32) -> Option<&T>
     ensures { option_copied result ≡ last_of known.now count }
 {

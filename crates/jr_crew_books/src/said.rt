@@ -18,7 +18,7 @@ pub fn are_said(
     Ok(are_said_next(history, workers, books, places.as_mut_slice()))
 }
 
-// The same: the history is walked once, with a place in each book.
+// Whether what the books say are the verdicts of the history, which is walked once, with a place in each book.
 fn are_said_next(
     history: &[Event],
     workers: usize,

@@ -1,14 +1,19 @@
 use jr_model::{Ticket, Verdict};
 use std::sync::atomic::{AtomicU64, Ordering};
 
-/// How far a run is, for a thread beside it to read while the run goes on: what was started of the jobs' own reads and writes, and
-/// what was said of checks. Each number is right when it is read; they aren't read at one moment.
+/// How far a run is, for another thread to read while the run goes on. Each number is right when it is read; they aren't read at one
+/// moment.
 #[derive(Drop)]
 pub struct Progress {
+    // The jobs' own reads and writes that were started.
     ios: AtomicU64,
+    // The bytes of these.
     bytes: AtomicU64,
+    // The checks that were judged, void ones among them.
     checks: AtomicU64,
+    // The bytes of these.
     checked: AtomicU64,
+    // Those of them that were bad.
     bad: AtomicU64,
 }
 

@@ -11,9 +11,13 @@ pub const MOST_BYTES: u64 = 256 << 10;
 /// How many I/Os a worker takes at once: what the depths give to each worker.
 #[derive(Drop)]
 pub struct Shares {
+    // How many workers the run has.
     workers: u64,
+    // How deep each clone is, and the place of its phase.
     by_clone: Vec<Deep>,
+    // The depths of the clones of each phase together.
     by_phase: Vec<u64>,
+    // The depths of all clones together.
     depths: u64,
 }
 

@@ -55,13 +55,16 @@ impl StopFlag {
     }
 }
 
-/// What another thread has of a run while it goes on: how far it is, and a flag that asks it to stop; where what stands in bad blocks is
-/// kept, and the ledger of its writes.
+/// What another thread has of a run while it goes on.
 #[derive(Clone, Copy, Drop)]
 pub struct Watch<'a> {
+    /// How far it is.
     pub progress: Option<&'a Progress>,
+    /// The flag that asks it to stop.
     pub stop: Option<&'a StopFlag>,
+    /// Where what stands in bad blocks is kept.
     pub diagnoses: Option<&'a Diagnoses>,
+    /// The ledger of its writes.
     pub ledger: Option<&'a RunLedger>,
 }
 

@@ -109,7 +109,7 @@ impl Desk {
         self.end_own(served)
     }
 
-    // The same, which says of a ticket that isn't refused that it is the desk's own and had not ended.
+    // Takes in an end. A ticket that isn't refused is the desk's own, and had not ended.
     fn end_own(&mut self, served: &Served) -> Result<(), DeskFault>
         ensures refused { (own : Bool) → Owns self.old served.now.ticket own
             → IfSome (end_fault self.old served.now.ticket.id own) (λ fault. result ≡ Err fault) }

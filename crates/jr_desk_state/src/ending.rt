@@ -45,7 +45,7 @@ pub fn end(
     Ok(())
 }
 
-// The same, where its clone isn't known to wait for an end.
+// Takes in an end whose clone isn't known to wait for one.
 fn end_released(
     plan: &Plan,
     board: &mut Board,
@@ -104,7 +104,7 @@ pub fn judge(
     Ok(())
 }
 
-// The same, where no clone is marked for it.
+// Takes in a verdict where no clone is marked for it.
 fn judge_one(
     plan: &Plan,
     board: &mut Board,

@@ -162,7 +162,7 @@ pub(crate) fn last_phase(plan: &Plan) -> u32
     last
 }
 
-// The same, found by a look at all clones.
+// The phase that is open, found by a look at all clones.
 fn phase_of_all(plan: &Plan, board: &Board) -> u32
     requires { IsBoard plan.now board.now }
     ensures { (clone : ℕ) (job : Clone) → clone_of plan.now clone ≡ Some job

@@ -195,7 +195,7 @@ fn await_verdict(counts: &mut Counts, outcome: Outcome)
     }
 }
 
-// The same in its totals.
+// The end of an I/O or a check, in the totals of its clone.
 fn total_end(totals: &mut Totals, kind: TicketKind, len: u32, outcome: Outcome)
     requires small { AreSmall totals.old }
     requires block { len ≤ 2 ^ 24 }
@@ -229,7 +229,7 @@ fn count_verdict(counts: &mut Counts, is_fatal: bool, verdict: Verdict)
     }
 }
 
-// The same in its totals.
+// A verdict, in the totals of its clone.
 fn total_verdict(totals: &mut Totals, verdict: Verdict)
     requires { AreSmall totals.old }
     ensures { totals.new ≡ totals_judged verdict totals.old }

@@ -90,7 +90,7 @@ impl Flight {
         self.is_clear_near(piece, dir, declines)
     }
 
-    // The same, by what stands near the piece.
+    // Whether the piece is clear. Only what stands near it can be in its way.
     fn is_clear_near(&self, piece: &Piece, dir: Dir, declines: bool) -> bool
         requires some { 1 ≤ piece.now.len }
         requires largest { piece.now.len ≤ LARGEST_BLOCK }
@@ -198,7 +198,7 @@ impl Flight {
         self.is_raced_near(io)
     }
 
-    // The same, by what stands near the I/O.
+    // Whether it is raced by a write in flight: only what stands near it can be one.
     fn is_raced_near(&self, io: &Io) -> bool
         requires some { 1 ≤ io.now.piece.len }
         requires largest { io.now.piece.len ≤ LARGEST_BLOCK }

@@ -72,7 +72,7 @@ pub(crate) fn header_verdict(kind: VerifyKind, header: &[u8; 64], bytes: &[u8]) 
     }
 }
 
-// The same where the digest of the data area is known to be the one in the header.
+// What a header says where the digest of the data area is known to be the one in it.
 pub(crate) fn told_verdict(written: &[u8; 64], bytes: &[u8]) -> Verdict
     requires { 64 ≤ length bytes.now }
     ensures { (kind : Kind) → digest_of kind (drop 64 bytes.now) ≡ digest_in kind written.now

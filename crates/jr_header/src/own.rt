@@ -84,7 +84,7 @@ fn own_chunks_verdict(kind: VerifyKind, interval: u32, piece: &Piece, bytes: &[u
     cut_chunks_verdict(kind, interval, piece, bytes)
 }
 
-// The same where the interval does cut the piece.
+// The first chunk of a piece that isn't its own write's, where the interval cuts the piece.
 fn cut_chunks_verdict(kind: VerifyKind, interval: u32, piece: &Piece, bytes: &[u8]) -> Verdict
     requires chunks { IsInChunks interval piece.now }
     requires length { length bytes.now ≡ piece.now.len }

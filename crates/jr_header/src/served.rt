@@ -144,8 +144,8 @@ pub fn serve(engine: &mut dyn Engine, ticket: Ticket, buffer: Vec<u8>) -> Served
     served_at_once(engine, ticket, buffer, false)
 }
 
-/// The same for a ticket whose check expects what its own write put there, as those of a desk do. To judge a good check then takes no
-/// digest.
+/// What the engine answers to a ticket whose check expects what its own write put there, as those of a desk do. To judge a good check
+/// then takes no digest.
 pub fn serve_own(engine: &mut dyn Engine, ticket: Ticket, buffer: Vec<u8>) -> Served
     requires fits { ticket_fits ticket ≡ true }
     requires own { ExpectsOwn ticket }

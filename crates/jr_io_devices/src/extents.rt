@@ -36,7 +36,7 @@ impl Extent {
         }
     }
 
-    /// The same bytes as those of what their device is a part of.
+    /// These bytes, as those of what their device is a part of.
     pub(crate) fn part_of(self, below: Below) -> Extent
         ensures { result ≡ extent_in self below }
     {
@@ -46,7 +46,7 @@ impl Extent {
         }
     }
 
-    // The same bytes as those of the whole in which their device begins at this byte.
+    // These bytes, as those of the whole in which their device begins at this byte.
     fn within(self, whole: Identity, start: u64) -> Extent
         ensures { result ≡ within self whole start }
     {

@@ -32,7 +32,7 @@ fn number_in(digits: &str) -> Option<u64>
     }
 }
 
-/// The same of one that has 32 bits.
+/// The decimal number of 32 bits that stands there, if one does.
 pub(crate) fn small_number_in(digits: &str) -> Option<u32>
     ensures { (n : ℕ) → n < 2 ^ 32 → digits.now ≡ decimal n → result ≡ Some n }
 {

@@ -53,8 +53,8 @@ pub fn claim<R: Files<File = File>>(
     claim_direct(rt, alloc, plan, claims, Directs::none(), &[])
 }
 
-/// The same, but some of the files go past the system's cache. What is read of those comes from the device, with no sync before;
-/// those that can't go past it are as the others.
+/// Claims the files of the plan, some of which go past the system's cache. What is read of those comes from the device, with no sync
+/// before; those that can't go past it are as the others.
 ///
 /// Refused is also a file whose file system takes no such calls, one of which a clone would use parts of sectors, and one that the run keeps
 /// for something else, before any is extended.
@@ -79,7 +79,7 @@ pub fn claim_direct<R: Files<File = File>>(
     claimed
 }
 
-// The same, but what was made stays; it stands in `made`.
+// Claims them. What was made stays if one is refused; it stands in `made`.
 fn claimed<R: Files<File = File>>(
     rt: &R,
     alloc: Global,

@@ -41,7 +41,7 @@ impl<F: Positioned> FileEngine<F> {
         FileEngine::by_room(files, Room::none())
     }
 
-    /// The same, with room for the blocks of files that are direct.
+    /// The engine over these files, with room for the blocks of those that are direct.
     pub fn by_room(files: Vec<F>, room: Room) -> FileEngine<F>
         ensures { result ≡ record { calls = 0; failures = 0; files = map F.view files.items } }
     {

@@ -39,7 +39,7 @@ pub(crate) fn extended<R: Files>(
     result
 }
 
-// The same, but what was extended stays so; it stands in `longer`.
+// Extends the files of the plan. What was extended stays so if one is refused; it stands in `longer`.
 fn extend_all<R: Files>(
     rt: &R,
     alloc: Global,

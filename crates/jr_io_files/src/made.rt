@@ -14,13 +14,16 @@ pub(crate) struct Made {
     identity: Identity,
 }
 
-// What is found at the path of a file that was made: whether this run has its lock, whether it has bytes, what it is, and what stands at
-// the path once it is locked.
+// What is found at the path of a file that was made.
 #[derive(Clone, Copy)]
 struct Found {
+    // Whether this run has its lock.
     is_locked: bool,
+    // Whether it has no bytes.
     is_empty: bool,
+    // What was opened there.
     opened: Identity,
+    // What stands at the path once that is locked.
     there: Identity,
 }
 

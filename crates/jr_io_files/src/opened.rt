@@ -88,7 +88,7 @@ impl OpenedFile {
         })
     }
 
-    /// The same file, whose calls go past the system's cache now. Those of a device do; some file systems take such a call and go by their
+    /// This file, whose calls go past the system's cache now. Those of a device do; some file systems take such a call and go by their
     /// cache all the same, so a plain file is looked at before it is read, as any other.
     pub fn past_cache(self, sectors: Sectors) -> OpenedFile
         ensures { name_of result ≡ name_of self }
@@ -164,8 +164,8 @@ impl OpenedFile {
         lengthen(&mut self.file(), high)
     }
 
-    /// The same if it is open for reading alone: it is opened anew by its name, and only if it is too short. Another file isn't lengthened
-    /// that has that name by now.
+    /// Lengthens one that is open for reading alone: it is opened anew by its name, and only if it is too short. Another file that has that
+    /// name by now isn't lengthened.
     pub fn lengthen_by_name<R: Files>(&self, rt: &R, high: u64) -> io::Result<()> {
         if self.length()? >= high {
             return Ok(());
@@ -378,7 +378,7 @@ impl OpenedFile {
         Ok(synced)
     }
 
-    // The same, with its lines in the run's ledger.
+    // Syncs it, with its lines in the run's ledger.
     fn sync_data(&self) -> io::Result<()> {
         let Some((ledger, number)) = self.ledger.get() else {
             return self.sync_system();
@@ -389,7 +389,7 @@ impl OpenedFile {
         synced
     }
 
-    // The same, with no lines. A file that no clone writes may lie where there are no syncs: nothing has to be stored there.
+    // Syncs it, with no lines. A file that no clone writes may lie where there are no syncs: nothing has to be stored there.
     fn sync_system(&self) -> io::Result<()> {
         match self.file().sync_data() {
             Err(error) if !self.uses.is_written && is_no_sync(&error) => Ok(()),

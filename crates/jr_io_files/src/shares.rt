@@ -148,7 +148,7 @@ impl SharedFile {
         self.file.lengthen(high)
     }
 
-    /// The same of a file that is open for reading alone: it is opened anew by its name, and only if it is too short.
+    /// Lengthens one that is open for reading alone: it is opened anew by its name, and only if it is too short.
     pub(crate) fn lengthen_by_name<R: Files>(&self, rt: &R, high: u64) -> io::Result<()> {
         self.file.lengthen_by_name(rt, high)
     }
@@ -163,8 +163,8 @@ impl FileEngine<SharedFile> {
         self.share_with(alloc, None)
     }
 
-    /// The same. By this dropper what a check reads is dropped from the system's cache before, and memory for direct files begins on a page.
-    /// No other engine may have it.
+    /// One more engine. By this dropper what a check reads is dropped from the system's cache before, and memory for direct files begins on
+    /// a page. No other engine may have it.
     pub fn share_with(
         &self,
         alloc: Global,

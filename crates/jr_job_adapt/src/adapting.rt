@@ -91,7 +91,7 @@ pub fn adapt<L: Lengths>(
     }
 }
 
-// The same of a text that says these sections.
+// What is made of a text that says these sections.
 fn adapt_read<L: Lengths>(
     alloc: Global,
     text: &[u8],

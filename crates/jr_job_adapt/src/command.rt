@@ -30,7 +30,7 @@ impl Command {
         command
     }
 
-    // The same with a line.
+    // The command once this line is read too.
     fn with(self, line: &Line) -> Command {
         let mut command = self;
         let value = line.value().unwrap_or("1");

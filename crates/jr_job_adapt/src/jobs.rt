@@ -50,7 +50,7 @@ fn with_all(options: JobOptions, lines: &[Line]) -> JobOptions
     all
 }
 
-// The same with a line, or with what stands in its place.
+// These options after a line, or after what stands in its place.
 fn with_line(alloc: Global, options: JobOptions, line: &Line) -> Result<JobOptions, AllocError>
     requires { AreInRange options }
     ensures { IfOk result AreInRange }
@@ -61,7 +61,7 @@ fn with_line(alloc: Global, options: JobOptions, line: &Line) -> Result<JobOptio
     }
 }
 
-// The same with the lines of a section.
+// These options after the lines of a section.
 fn with_section(
     alloc: Global,
     options: JobOptions,
@@ -188,7 +188,7 @@ impl Job {
         self.sized(alloc, state, size, lengths)
     }
 
-    // The same of the lines of one rank.
+    // Settles the lines of one rank: why the job can't be adapted, if it can't.
     fn settle(
         &mut self,
         alloc: Global,

@@ -31,7 +31,7 @@ impl State {
         }
     }
 
-    // The same for a job below.
+    // A copy, for a job below.
     pub(crate) fn copied(&self, alloc: Global) -> Result<State, AllocError> {
         Ok(State {
             concerns: Vec::from_slice(alloc, self.concerns.as_slice())?,
@@ -60,7 +60,7 @@ impl State {
         Ok(())
     }
 
-    // The same of a section that is a global one.
+    // Adds the lines of a section if it is a global one.
     pub(crate) fn add_global(
         &mut self,
         alloc: Global,

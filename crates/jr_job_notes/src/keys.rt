@@ -877,7 +877,7 @@ fn row_of(rows: &[Row], key: &str, value: &str) -> Option<Row> {
     None
 }
 
-// The same, of several tables.
+// The first row of several tables that speaks of this key with this value.
 fn first_row(tables: &[&'static [Row]], key: &str, value: &str) -> Option<Row> {
     for rows in tables {
         if let Some(row) = row_of(rows, key, value) {

@@ -30,7 +30,7 @@ impl Open {
         }
     }
 
-    // The same with more lines.
+    // What is open once these lines are read too.
     pub(crate) fn with_lines(self, lines: &[Line]) -> Open {
         let mut open = self;
         for line in lines {

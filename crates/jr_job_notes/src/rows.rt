@@ -44,7 +44,7 @@ pub enum Way {
 pub enum Fate {
     /// It only measures, or what it says holds anyway.
     Dropped(Way),
-    /// The same is said in another way.
+    /// Another line says exactly this.
     Same(Way),
     /// Nearly the same is said, and this is lost.
     Nearly(Way, &'static str),

@@ -23,7 +23,7 @@ impl Said {
         }
     }
 
-    // The same with more lines.
+    // What is said once these lines are read too.
     pub(crate) fn with_lines(self, lines: &[Line]) -> Said {
         let mut said = self;
         for line in lines {

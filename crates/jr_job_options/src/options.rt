@@ -18,11 +18,11 @@ pub struct JobOptions {
     pub read_percent: u8,
     /// The block size of reads (`bs`), which counts if `bssplit` gives none.
     pub read_size: u32,
-    /// The same of writes.
+    /// The block size of writes (`bs`), which counts if `bssplit` gives none.
     pub write_size: u32,
     /// The block sizes of reads and their percentages (`bssplit`).
     pub read_split: Option<Split>,
-    /// The same of writes.
+    /// The block sizes of writes and their percentages (`bssplit`).
     pub write_split: Option<Split>,
     /// How many bytes each clone has (`size`).
     pub size: Option<u64>,
@@ -99,7 +99,7 @@ impl JobOptions {
         }
     }
 
-    // The same with one more line, which wins over earlier ones of its key.
+    // These options after one more line, which wins over earlier ones of its key.
     fn with(self, setting: Setting) -> JobOptions
         requires range { AreInRange self }
         requires new_range { IsInRange setting }
@@ -142,7 +142,7 @@ impl JobOptions {
         options
     }
 
-    /// The same with more lines, or the first fault in them.
+    /// These options after more lines, or the first fault in them.
     pub fn with_lines(self, lines: &[Line]) -> Result<JobOptions, JobFault>
         requires range { AreInRange self }
         ensures value { result ≡ options_from (Ok self) lines.now }

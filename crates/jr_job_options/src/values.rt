@@ -56,7 +56,7 @@ fn by_direction(text: &str) -> Option<(&str, &str, &str)>
     }
 }
 
-// The same, where the values aren't all empty.
+// The values of reads, writes and trims, if they aren't all empty.
 fn values_in(text: &str) -> Option<(&str, &str, &str)>
     ensures { option_map (λ v. (v.0.now, v.1.now, v.2.now)) result ≡ values_in text.now }
 {

@@ -85,7 +85,7 @@ impl Syncs {
         Ok(syncs)
     }
 
-    // The same once the sync has returned, with those that may be recorded now.
+    // The syncs once this one has returned, with those that may be recorded now.
     fn ended(&self, alloc: Global, sync: &SyncId, well: bool) -> Result<Syncs, Memory>
         ensures { IfOk result (λ syncs. syncs ≡ ended self.now sync.now well) }
     {
@@ -99,7 +99,7 @@ impl Syncs {
         left.awaiting(alloc, sync)
     }
 
-    // The same without this sync among those under way; none waits for it.
+    // The syncs without this one among those under way; none waits for it.
     fn without(&self, alloc: Global, sync: &SyncId) -> Result<Syncs, Memory>
         ensures { IfOk result (λ syncs. syncs ≡ without self.now sync.now) }
     {
@@ -111,7 +111,7 @@ impl Syncs {
         Ok(left)
     }
 
-    // The same after a sync of this file has failed: none of it that waits is recorded.
+    // The syncs after one of this file has failed: none of it that waits is recorded.
     fn spoilt(mut self, alloc: Global, file: u32) -> Result<Syncs, Memory>
         ensures { IfOk result (λ syncs. syncs ≡ spoilt self file) }
     {
@@ -120,7 +120,7 @@ impl Syncs {
         Ok(self)
     }
 
-    // The same with this one that returned well, which waits for those of its file that are under way.
+    // The syncs with this one that returned well, which waits for those of its file that are under way.
     fn awaiting(mut self, alloc: Global, sync: &SyncId) -> Result<Syncs, Memory>
         ensures { IfOk result (λ syncs. syncs ≡ awaiting self sync.now) }
     {
@@ -137,7 +137,7 @@ impl Syncs {
         those_free(alloc, self.holds.as_slice(), self.waiting.as_slice())
     }
 
-    // The same without these.
+    // The syncs without those that wait for nothing.
     fn settled(mut self, alloc: Global) -> Result<Syncs, Memory>
         ensures { IfOk result (λ syncs. syncs ≡ settled self) }
     {

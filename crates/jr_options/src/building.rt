@@ -64,7 +64,7 @@ fn planned_job(phase: u32, options: JobOptions, section: &Section) -> Result<Pla
     requires phase { phase ≤ 64 }
     requires range { AreInRange options }
     ensures value { result ≡ shaped_job phase options (shape_of options section.now.line) }
-    // The same of what it answers: the job has these options, and is the one that they make.
+    // Of what it answers: the job has these options, and is the one that they make.
     ensures options { IfOk result (λ job. job.options ≡ options) }
     ensures planned { IfOk result (λ job. Ok job ≡ shaped_job phase job.options (shape_of job.options section.now.line)) }
     ensures range { IfOk result (λ job. AreInRange job.options) }

@@ -24,7 +24,7 @@ impl<'a> Names<'a> {
         }
     }
 
-    // The same with more lines, which win.
+    // The names after more lines, which win.
     pub(crate) fn with_lines(&self, lines: &'a [Line]) -> Names<'a>
         ensures file_name { option_copied result.file_name ≡ value_from (option_copied self.now.file_name) (codes "filename") lines.now }
         ensures directory { option_copied result.directory ≡ value_from (option_copied self.now.directory) (codes "directory") lines.now }

@@ -213,7 +213,7 @@ impl SubJob {
         self.workload.direct
     }
 
-    // The same clone with a seed that is so much further on.
+    // This clone with a seed that is so much further on.
     pub(crate) fn reseeded(&self, alloc: Global, by: u64) -> Result<SubJob, AllocError>
         ensures { IfOk result (λ job. job ≡ moved_seed by self.now) }
     {

@@ -125,7 +125,7 @@ impl Plan {
         wish_of(&self.clones, file)
     }
 
-    /// The same plan with the seed of each clone so much further on, modulo 2^64: the same places are written with other data, and a random
+    /// This plan with the seed of each clone so much further on, modulo 2^64: the same places are written with other data, and a random
     /// clone goes another way.
     pub fn reseeded(&self, alloc: Global, by: u64) -> Result<Plan, AllocError>
         ensures { IfOk result (λ plan. plan ≡ reseeded self.now by) }

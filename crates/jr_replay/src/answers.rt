@@ -306,7 +306,7 @@ pub fn may_judge(plan: &Plan, past: &Past, io: usize, verdict: Verdict) -> bool
     may_judge_if(past.has_raced(io), plan, past.ledger(), io, verdict)
 }
 
-/// The same in a legal run.
+/// Whether this check of a legal run may be judged so.
 pub fn may_be_judged(plan: &Plan, course: &Course<'_>, io: usize, verdict: Verdict) -> bool
     requires { IsCourse plan.now course.now }
     ensures { result

@@ -77,7 +77,7 @@ fn is_unchecked(ledger: &Ledger, pass: &PlannedPass<'_>, draw: &Draw) -> bool
     is_write_draw(draw) && has_rounds(pass.job()) && !ledger.is_taken_up(&pass.write_id(draw))
 }
 
-// The same of a clone that isn't halted and has room, with nothing in flight in its check's way.
+// Whether this write is still to be taken up by a clone that isn't halted and has room, with nothing in flight in its check's way.
 fn is_left(plan: &Plan, course: &Course<'_>, pass: &PlannedPass<'_>, draw: &Draw) -> bool
     requires course { IsCourse plan.now course.now }
     requires there { clone_of plan.now pass.now.job.clone ≡ Some pass.now.job }

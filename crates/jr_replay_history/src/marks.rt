@@ -36,7 +36,7 @@ pub struct Marks {
     pub condemned: HashSet<u32>,
     // The ends of writes, the oldest first.
     pub written: Vec<WriteEnd>,
-    // The same by the parts of files that they lie over.
+    // The ends of writes by the parts of files that they lie over.
     pub parts: Parts,
 }
 

@@ -27,7 +27,7 @@ fn if_read(clone: u32, whole: bool, io: Option<Started>) -> Option<Started>
     }
 }
 
-// The same for a write.
+// The clone's write that an event ends with all its bytes.
 fn if_write(clone: u32, whole: bool, io: Option<Started>) -> Option<Started>
     ensures { result ≡ if_wanted is_write clone whole io }
 {

@@ -30,7 +30,7 @@ pub fn check_trace(alloc: Global, plan: &Plan, text: &[u8]) -> Result<Vec<Totals
     Ok(totals)
 }
 
-/// The same for a run that may have been stopped: what each clone did, if each line may follow those before it, whether there
+/// The totals of a run that may have been stopped: what each clone did, if each line may follow those before it, whether there
 /// was more to come or not.
 pub fn check_part(alloc: Global, plan: &Plan, text: &[u8]) -> Result<Vec<Totals>, TraceFault>
     ensures ok { IfOk result (λ totals. check_of_part plan.now text.now ≡ Ok totals.items) }

@@ -86,7 +86,7 @@ pub fn faults_of(
     Ok(faults)
 }
 
-/// The same if these I/Os and checks were started, in this order.
+/// The faults of a run in which these I/Os and checks were started, in this order.
 pub fn faults_among(
     alloc: Global,
     plan: &Plan,

@@ -59,7 +59,7 @@ pub fn run_rounds<T: RoundRunner, V: Write>(
         let made = plan_of_round(alloc, plan, round)?;
         let ended = match runner.run(made, round) {
             Ok(ended) => ended,
-            Err(fault) => return Err(broken(alloc, plan, &sums, fault, out)),
+            Err(fault) => return Err(tell_broken_off(alloc, plan, &sums, fault, out)),
         };
         let turn = end_round(alloc, round, &ended, until, &mut sums, runner, out)?;
         found = found_with(found, &ended.desk);
@@ -123,7 +123,7 @@ fn ends_after(until: Until, round: u32, ended: &RunEnd) -> bool
 }
 
 // Why rounds end where one can't be run, for this reason: their sums are printed, if there were any.
-fn broken<E, V: Write>(
+fn tell_broken_off<E, V: Write>(
     alloc: Global,
     plan: &Plan,
     sums: &Sums,

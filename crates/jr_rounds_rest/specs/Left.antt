@@ -37,12 +37,12 @@ disturbs job other =
     && nat_lt (max job.start other.start) (min (region_end job) (region_end other))
 
 -- a clone of a job goes on behind a fault if it goes in order, and no other clone writes where it does
-abbrev pub goes_on : Plan → SubJob → Bool
-goes_on plan job = is_in_order job.io_type && not (list_any (disturbs job) plan.clones)
+abbrev pub clone_goes_on : Plan → SubJob → Bool
+clone_goes_on plan job = is_in_order job.io_type && not (list_any (disturbs job) plan.clones)
 
 abbrev pub goes_on_at : Plan → Option SubJob → Bool
 goes_on_at plan None = false
-goes_on_at plan (Some job) = goes_on plan job
+goes_on_at plan (Some job) = clone_goes_on plan job
 
 -- at the start nothing of a clone was tried
 abbrev pub task_of : SubJob → Task

@@ -3,7 +3,7 @@ use Rattle.std.specs.Prelude.{ℕ, suc, ◌*◌, Bool, true, false, List, [], �
 use Rattle.jr_model.specs.Plan.{Plan, SubJob}
 use Rattle.jr_model.specs.Report.{field}
 use Rattle.jr_rounds_rest.specs.declared.tasks.Task.{Task}
-use Rattle.jr_rounds_rest.specs.Left.{goes_on}
+use Rattle.jr_rounds_rest.specs.Left.{clone_goes_on}
 use Rattle.jr_rounds_rest.specs.Untried.{untried_bytes}
 
 abbrev pub does_word : Bool → List ℕ
@@ -30,7 +30,7 @@ bytes_line job bytes = codes "untried: " ++ job.job ++ codes ":" ++ field (codes
 
 -- the line that says how many bytes of a clone were never tried; a clone that doesn't go on has none
 abbrev pub untried_line : Plan → List Task → SubJob → List ℕ
-untried_line plan tasks job = if goes_on plan job then bytes_line job (untried_bytes job.clone tasks) else []
+untried_line plan tasks job = if clone_goes_on plan job then bytes_line job (untried_bytes job.clone tasks) else []
 
 abbrev pub untried_text : Plan → List Task → List ℕ
 untried_text plan tasks = flat_map (untried_line plan tasks) plan.clones

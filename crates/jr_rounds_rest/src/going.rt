@@ -1,13 +1,13 @@
 ghost use Rattle.std.specs.Prelude.{◌≡◌};
 ghost use Rattle.std.specs.List.{list_any};
-ghost use Rattle.jr_rounds_rest.specs.Left.{disturbs, goes_on, is_in_order, region_end};
+ghost use Rattle.jr_rounds_rest.specs.Left.{disturbs, clone_goes_on, is_in_order, region_end};
 
 use jr_model::IoType;
 use jr_plan::{Plan, SubJob};
 
 /// Whether a clone of the plan goes on after a fault: it goes through its region in order, and no other clone writes where it does.
-pub fn goes_on(plan: &Plan, job: &SubJob) -> bool
-    ensures { result ≡ goes_on plan.now job.now }
+pub fn clone_goes_on(plan: &Plan, job: &SubJob) -> bool
+    ensures { result ≡ clone_goes_on plan.now job.now }
 {
     is_in_order(job.io_type()) && !is_disturbed(plan, job)
 }

@@ -3,7 +3,7 @@ ghost use Rattle.jr_model.specs.Pieces.{piece_end};
 ghost use Rattle.jr_model.specs.Plan.{clone_of};
 ghost use Rattle.jr_rounds_rest.specs.Left.{further, goes_on_at, left_at, left_of, reached, rest_from, tasks_left};
 
-use crate::going::{goes_on, region_end};
+use crate::going::{clone_goes_on, region_end};
 use crate::tasks::Task;
 use crate::unchecked::{checks_of, unchecked};
 use jr_model::{Event, Memory, Piece};
@@ -87,7 +87,7 @@ fn goes_on_at(plan: &Plan, clone: u32) -> bool
     ensures { result ≡ goes_on_at plan.now (clone_of plan.now clone) }
 {
     let place = clone as usize;
-    place < plan.clones() && goes_on(plan, plan.clone_at(place))
+    place < plan.clones() && clone_goes_on(plan, plan.clone_at(place))
 }
 
 // The end of the last piece that the clone issued in its first pass, in bytes.

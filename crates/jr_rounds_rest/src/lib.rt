@@ -10,7 +10,7 @@ mod unchecked;
 mod untried;
 
 pub use drafting::next_round;
-pub use going::goes_on;
+pub use going::clone_goes_on;
 pub use left::tasks_left;
 pub use tasks::{Task, first_tasks};
 pub use texts::{parts_text, untried_text};

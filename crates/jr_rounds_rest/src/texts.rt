@@ -1,7 +1,7 @@
 ghost use Rattle.std.specs.Prelude.{◌≡◌, ◌++◌, IfOk, OnOk};
 ghost use Rattle.jr_rounds_rest.specs.Told.{bytes_line, does_word, part_line, part_lines, task_fields, untried_line, untried_text};
 
-use crate::going::goes_on;
+use crate::going::clone_goes_on;
 use crate::tasks::Task;
 use crate::untried::untried_bytes;
 use jr_model::{Memory, push_field, push_text};
@@ -64,7 +64,7 @@ pub fn untried_text(alloc: Global, plan: &Plan, tasks: &[Task]) -> Result<Vec<u8
 fn push_untried(text: &mut Vec<u8>, plan: &Plan, tasks: &[Task], job: &SubJob) -> Result<(), Memory>
     ensures { OnOk result (text.new.items ≡ text.old.items ++ untried_line plan.now tasks.now job.now) }
 {
-    if !goes_on(plan, job) {
+    if !clone_goes_on(plan, job) {
         return Ok(());
     }
     push_bytes(text, job, untried_bytes(job.clone_number(), tasks))

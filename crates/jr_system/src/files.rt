@@ -24,13 +24,17 @@ use std::fs;
 use std::fs::{File, Files};
 use std::os::unix::fs::FileTypeExt;
 
-/// The plan's files, open for this run, and the launcher that takes them out of the system's cache.
+/// The plan's files, open for this run.
 #[derive(Drop)]
 pub struct Taken<'a> {
     pub(crate) files: FileEngine<SharedFile>,
+    // What takes them out of the system's cache.
     pub(crate) launcher: Launcher<'a>,
+    // What checks read them through.
     pub(crate) reads: Reads,
+    // Whether some are direct, if the jobs say anything of it.
     pub(crate) direct: Option<bool>,
+    // What notes say of them.
     pub(crate) remarks: Remarks,
 }
 

@@ -15,13 +15,16 @@ const WORTH_TELLING: u64 = 64;
 // No system has so many groups above one another.
 const MOST_GROUPS: u32 = 64;
 
-// Where the groups of a system are that limit memory, and how they call it: the limit, what is used, and of that the pages of files, which
-// are given back if others need them.
+// How the groups of a system that limit memory name what they say.
 #[derive(Clone, Copy)]
 struct GroupNames {
+    // The folder of the group above all others.
     root: &'static str,
+    // The file of a group's limit.
     limit: &'static str,
+    // The file that says how much is used.
     used: &'static str,
+    // Of what is used the pages of files, which are given back if others need them.
     pages: [&'static str; 2],
 }
 

@@ -12,13 +12,16 @@ use jr_report_faults::{Fault, FaultNote, Faults};
 use std::alloc::{AllocError, Global};
 use std::io;
 
-/// Whether notes are wanted, the names of the files that they may speak of, whether nothing drops what checks are to read anew, and whether
-/// they may be answered by the system's cache.
+/// What notes may say of the files of a run.
 #[derive(Drop)]
 pub struct Remarks {
+    // Whether notes are wanted.
     has_notes: bool,
+    // The names of the files that they may speak of.
     names: Vec<String>,
+    // Whether nothing drops what checks are to read anew.
     is_undropped: bool,
+    // Whether checks may be answered by the system's cache.
     is_cached: bool,
 }
 

@@ -274,7 +274,7 @@ impl Meter {
         }
     }
 
-    // The same for two threads, if there is memory for it.
+    // A meter for two threads, if there is memory for it.
     fn shared<R: Clock + AllocGlobal>(rt: &R, extent: PlanBytes) -> Option<Arc<Meter, Global>> {
         Arc::new(rt.alloc(), Meter::new(rt, extent)).ok()
     }

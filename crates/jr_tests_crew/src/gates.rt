@@ -81,7 +81,7 @@ pub(crate) fn two_gates(alloc: Global) -> Result<Vec<Box<dyn Engine + Send>>, Fa
     two_gates_of(alloc, 20_000_000)
 }
 
-// The same with gates that give up after so many turns.
+// Two engines with one gate that gives up after so many turns.
 pub(crate) fn two_gates_of(alloc: Global, turns: u32) -> Result<Vec<Box<dyn Engine + Send>>, Fail> {
     let inside = Arc::new(alloc, AtomicU64::new(0))?;
     let mut engines: Vec<Box<dyn Engine + Send>> = Vec::new(alloc);

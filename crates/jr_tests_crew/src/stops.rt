@@ -27,7 +27,7 @@ fn desk_by_one(alloc: Global, is_set: bool) -> Result<Desk, Fail> {
     desk_of_one(alloc, plan, stopped_by(&stop))
 }
 
-// The same of two workers and so many verifiers.
+// The desk of two workers and so many verifiers that are asked to stop before they begin, or never.
 fn desk_by_two<R: Threads + Wait + Clock + Sync>(
     rt: &R,
     alloc: Global,

@@ -82,7 +82,7 @@ fn another(ticket: &Ticket) -> Ticket {
     other
 }
 
-// The same ticket under a number that the desk never started.
+// This ticket under a number that the desk never started.
 fn unknown(ticket: &Ticket) -> Ticket {
     let mut other = *ticket;
     other.id = other.id.saturating_add(100);

@@ -153,7 +153,7 @@ fn two_clones_over_one_file(rt: HostRuntime) -> Result<(), Fail> {
     assert_played(&rt, rt.alloc(), &clones, &steps, &replies, &totals)
 }
 
-// The same writes, which may overlap.
+// Checked writes that may overlap.
 fn declining(cells: u32) -> Workload {
     Workload {
         declines: true,

@@ -126,7 +126,7 @@ fn draw_dir(seed: &mut u64) -> Dir {
     }
 }
 
-// The same answers of a plain list of what is in flight.
+// What a plain list of what is in flight answers.
 
 fn flies(ios: &[Ended], id: IoId) -> bool {
     ios.iter().any(|other| other.io.id == id)

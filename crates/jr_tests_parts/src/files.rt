@@ -94,7 +94,7 @@ fn shared<R: Files<File = File>>(
     claim(rt, alloc, plan, claims)
 }
 
-// The same of files that are to be direct, where no launcher can be asked.
+// Claims files that are to be direct, where no launcher can be asked.
 fn unasked<R: Files<File = File>>(
     rt: &R,
     alloc: Global,
@@ -111,22 +111,54 @@ fn unasked<R: Files<File = File>>(
     claim_direct(rt, alloc, plan, claims, directs, &[])
 }
 
+// Two engines over one file of this folder.
+fn assert_own<R: Files<File = File> + Abort>(
+    rt: &R,
+    alloc: Global,
+    folder: &str,
+) -> Result<(), Fail> {
+    let plan = checked(alloc, folder, "a.0.0")?;
+    let mut engine = own(rt, alloc, plan)?;
+    let mut other = FileEngine::new(rt, alloc, &checked(alloc, folder, "a.0.0")?)?;
+    assert_fresh(rt, &mut engine, &mut other);
+    Ok(())
+}
+
+// An engine over a file of this name in the folder, whose checks read so.
+fn assert_read<R: Files<File = File> + Abort>(
+    rt: &R,
+    alloc: Global,
+    folder: &str,
+    name: &str,
+    reads: Reads,
+) -> Result<(), Fail> {
+    let plan = checked(alloc, folder, name)?;
+    let engine = shared(rt, alloc, &plan, reads)?;
+    assert_shared(rt, alloc, engine)
+}
+
+// An engine over a file of this folder that is to be direct, where no launcher can be asked.
+fn assert_unasked<R: Files<File = File> + Abort>(
+    rt: &R,
+    alloc: Global,
+    folder: &str,
+) -> Result<(), Fail> {
+    let plan = checked(alloc, folder, "d.0.0")?;
+    let engine = unasked(rt, alloc, &plan)?;
+    same(rt, engine.is_direct(0), false);
+    assert_shared(rt, alloc, engine)
+}
+
 // Engines of files in this folder, each over the file of its own.
 fn assert_opened<R: Files<File = File> + Abort>(
     rt: &R,
     alloc: Global,
     folder: &str,
 ) -> Result<(), Fail> {
-    let mut engine = own(rt, alloc, checked(alloc, folder, "a.0.0")?)?;
-    let mut other = FileEngine::new(rt, alloc, &checked(alloc, folder, "a.0.0")?)?;
-    assert_fresh(rt, &mut engine, &mut other);
-    let engine = shared(rt, alloc, &checked(alloc, folder, "b.0.0")?, Reads::Synced)?;
-    assert_shared(rt, alloc, engine)?;
-    let engine = shared(rt, alloc, &checked(alloc, folder, "c.0.0")?, Reads::Cached)?;
-    assert_shared(rt, alloc, engine)?;
-    let engine = unasked(rt, alloc, &checked(alloc, folder, "d.0.0")?)?;
-    same(rt, engine.is_direct(0), false);
-    assert_shared(rt, alloc, engine)
+    assert_own(rt, alloc, folder)?;
+    assert_read(rt, alloc, folder, "b.0.0", Reads::Synced)?;
+    assert_read(rt, alloc, folder, "c.0.0", Reads::Cached)?;
+    assert_unasked(rt, alloc, folder)
 }
 
 #[test]

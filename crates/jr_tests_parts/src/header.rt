@@ -38,7 +38,7 @@ fn a_write(kind: VerifyKind, pattern: &[u8], len: u32) -> Ticket {
     }
 }
 
-// The same with a header at each interval.
+// This ticket with a header at each interval.
 fn in_chunks(mut ticket: Ticket, interval: u32) -> Ticket {
     ticket.method.interval = interval;
     ticket

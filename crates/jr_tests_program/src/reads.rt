@@ -44,7 +44,7 @@ fn reply_of(flipped: Option<u32>) -> Reply {
     }
 }
 
-// The same of both jobs, where these are the lines of the second.
+// What both jobs come to, where these are the lines of the second.
 fn assert_read_back<R: AllocGlobal + Abort + Threads + Wait + Clock + Sync>(
     rt: &R,
     in_a: &str,

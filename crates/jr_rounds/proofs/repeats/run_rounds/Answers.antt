@@ -22,11 +22,11 @@ returns-in-Err-clause-broken g c =
     let goes_on = c.args.is_keeping_going in
     let blank = g.V.Write.contents c.args.out.now in
     let between = g.V.Write.contents c.loop-round.out in
-    let written = g.V.Write.contents c.broken.new.out in
+    let written = g.V.Write.contents c.tell_broken_off.new.out in
     let s = c.loop-round.invariant.so_far in
     break_by (BreaksWith plan c.loop-round.sums between written) (HasBroken plan goes_on blank written)
     (λ h. broken_after plan goes_on c.loop-round.round c.loop-round.sums c.loop-round.found blank between written s.0 s.1 h)
-    c.broken.result c.broken.ensures
+    c.tell_broken_off.result c.tell_broken_off.ensures
 
 pub returns-then-turn-clause-ran : goal.returns-then-turn-clause-ran
 returns-then-turn-clause-ran g c =
