@@ -1,12 +1,13 @@
 // What is found of a plan's files after a cut, by the ledger of its run.
 use jr_cli_after::{After, AfterFailure, judge_after};
+use jr_cli_grounds::{Taken, refuse_judgement, take_to_read};
 use jr_cli_notes::Beginning;
 use jr_cli_outputs::{JudgedFiles, Outputs};
 use jr_cli_runs::to_output;
 use jr_cli_words::{Choice, CliFault, memory_or, read_ledger};
 use jr_ledger::{LedgerLine, read_lines};
 use jr_plan::Plan;
-use jr_system::{Machine, Outlet, Stop, Taken, refuse_judgement, take_to_read};
+use jr_system::{Machine, Outlet, Stop};
 use std::fs;
 use std::io::Write;
 

@@ -6,6 +6,7 @@ ghost use Rattle.jr_replay_traces.specs.Runs.{IsRunIn};
 
 use adapting::{job_size, print_adapted};
 use jr_cli::{print_check, print_part};
+use jr_cli_grounds::{PlannedJob, job_plan};
 use jr_cli_outputs::{Finished, Wanted};
 use jr_cli_runs::{SharedRun, Turn, add, boxed, run_job, run_memory, shares, to_output};
 use jr_cli_words::{
@@ -15,7 +16,7 @@ use jr_cli_words::{
 use jr_engines::Engine;
 use jr_plan::Plan;
 use jr_replay_traces::Checked;
-use jr_system::{Machine, Outlet, PlannedJob, Screen, Stop, job_plan, tell_all, tell_history};
+use jr_system::{Machine, Outlet, Screen, Stop, tell_all, tell_history};
 use judging::judge;
 use std::alloc::Global;
 use std::env::Env;

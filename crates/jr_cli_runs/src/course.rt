@@ -1,6 +1,7 @@
 // What is kept from one round of a job to the next, and what is told of each round and of all.
 use crate::running::{close, run_silent};
 use jr_cli::{Findings, RunEnd, Storage};
+use jr_cli_grounds::{Ground, Outcome};
 use jr_cli_outputs::{Outputs, Wanted};
 use jr_cli_words::{BlockSize, Choice, CliFault, workers_of};
 use jr_desk::Desk;
@@ -9,7 +10,7 @@ use jr_plan::Plan;
 use jr_report_json::RunNotes;
 use jr_report_maps::{bad_blocks, wrong_blocks};
 use jr_rounds::{Sums, is_bad, round_json, sums_json, tell_sums};
-use jr_system::{Asked, Closed, Ground, Machine, Outcome, Outlet, Pace, Stop};
+use jr_system::{Asked, Closed, Machine, Outlet, Pace, Stop};
 use std::alloc::Global;
 use std::io::Write;
 use std::sync::Arc;

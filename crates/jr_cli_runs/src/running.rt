@@ -1,8 +1,12 @@
 // Runs of a plan over its kind of engine.
 ghost use Rattle.std.specs.Prelude.{◌≤◌, ◌^◌, IfOk};
-ghost use Rattle.jr_system.specs.Grounds.{IsGroundOf};
+ghost use Rattle.jr_cli_grounds.specs.Grounds.{IsGroundOf};
 
 use jr_cli::{RunEnd, execute, execute_serial};
+use jr_cli_grounds::{
+    Ground, OneEngine, begin_ledger, crew_engines, has_one_worker, ledger_cut, shares_memory,
+    unsynced_on_the_way,
+};
 use jr_cli_outputs::{Finished, Nowhere, TraceFile, Unfailing, Wanted};
 use jr_cli_words::{Choice, CliFault, Wiping, workers_of};
 use jr_engines::{Engine, NullEngine, SharedMemory};
@@ -10,9 +14,8 @@ use jr_io_files::{FileEngine, SharedFile};
 use jr_model::EngineKind;
 use jr_plan::Plan;
 use jr_system::{
-    Asked, Closed, Ground, Machine, MemoryFiles, OneEngine, Outlet, Pace, PlanBytes, Stop, Wiper,
-    asked_by, begin_ledger, crew_engines, has_one_worker, history_bytes, is_watched, ledger_cut,
-    shares_memory, shown, stop_when_short, unsynced_on_the_way,
+    Asked, Closed, Machine, MemoryFiles, Outlet, Pace, PlanBytes, Stop, Wiper, asked_by,
+    history_bytes, is_watched, shown, stop_when_short,
 };
 use std::alloc::Global;
 use std::io;

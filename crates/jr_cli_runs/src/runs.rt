@@ -2,9 +2,10 @@ use crate::going_on::is_going_on;
 use crate::rounds::Limits;
 use crate::running::{Turn, run_plan};
 use crate::series::{Series, run_series};
+use jr_cli_grounds::refuse_ledger;
 use jr_cli_words::{Choice, CliFault};
 use jr_plan::Plan;
-use jr_system::{Machine, Outlet, Stop, refuse_ledger};
+use jr_system::{Machine, Outlet, Stop};
 
 /// Runs the plan of this job text: once, again and again, or what is left of it after faults too. A run whose workers share a memory is still
 /// to come.

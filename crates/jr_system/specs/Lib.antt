@@ -1,13 +1,5 @@
-pub mod Afters
 pub mod Askable
 pub mod Extents
-pub mod Grounds
-pub mod JobRefusals
-pub mod Ledgers
 pub mod Memory
-pub mod Outcomes
 pub mod Signs
 pub mod Stops
-pub mod Taken
-pub mod Wanted
-pub mod Ways

@@ -123,7 +123,7 @@ impl Asked {
     }
 
     // What it is shared by.
-    pub(crate) fn shared_ledger(&self) -> Option<&Arc<RunLedger, Global>> {
+    pub fn shared_ledger(&self) -> Option<&Arc<RunLedger, Global>> {
         self.ledger.get()
     }
 

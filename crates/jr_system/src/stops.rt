@@ -126,6 +126,14 @@ impl Stop {
         Stop::at_path(alloc, CliFault::ReadTrace, "read", path, error)
     }
 
+    /// The ledger of this path can't be opened.
+    pub fn unread_ledger(alloc: Global, path: &str, error: io::Error) -> Stop
+        ensures memory { error_kind error ≡ ErrorKind.OutOfMemory → result ≡ CliFault.Memory }
+        ensures other { error_kind error ≢ ErrorKind.OutOfMemory → result ≡ CliFault.ReadLedger }
+    {
+        Stop::at_path(alloc, CliFault::ReadLedger, "read", path, error)
+    }
+
     /// What is to be written to the file of this path can't be.
     pub fn unwritten(alloc: Global, path: &str, error: io::Error) -> Stop
         ensures memory { error_kind error ≡ ErrorKind.OutOfMemory → result ≡ CliFault.Memory }
@@ -156,7 +164,7 @@ impl Stop {
     }
 
     // This couldn't be done to the file of this path.
-    pub(crate) fn at_path(
+    fn at_path(
         alloc: Global,
         fault: CliFault,
         act: &'static str,
@@ -170,12 +178,7 @@ impl Stop {
         Stop::file(memory_or(&error, fault), act, name, error)
     }
 
-    pub(crate) fn file(
-        fault: CliFault,
-        act: &'static str,
-        name: Option<String>,
-        error: io::Error,
-    ) -> Stop
+    fn file(fault: CliFault, act: &'static str, name: Option<String>, error: io::Error) -> Stop
         ensures { result ≡ fault }
     {
         match name {

@@ -13,7 +13,7 @@ pub struct Outcome {
 
 impl Outcome {
     ghost use Rattle.std.specs.Prelude.{◌≡◌};
-    ghost use Rattle.jr_system.specs.Outcomes.{status_of_outcome};
+    ghost use Rattle.jr_cli_grounds.specs.Outcomes.{status_of_outcome};
 
     /// The exit status of the program.
     pub fn status(self) -> u8

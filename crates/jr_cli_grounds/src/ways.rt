@@ -1,6 +1,6 @@
 // Who carries out the I/Os of a run.
 ghost use Rattle.std.specs.Prelude.{◌≡◌};
-ghost use Rattle.jr_system.specs.Ways.{has_one_worker, is_alone, is_memory, shares_memory};
+ghost use Rattle.jr_cli_grounds.specs.Ways.{has_one_worker, is_alone, is_memory, shares_memory};
 
 use jr_model::EngineKind;
 use jr_plan::Plan;

@@ -5,10 +5,10 @@ use Rattle.jr_model.specs.declared.workloads.EngineKind.TheVariants as kind
 use Rattle.jr_model.specs.Plan.{Plan}
 use Rattle.jr_model.specs.Replies.{fresh_memory}
 use Rattle.jr_io_files.specs.Engines.{IsFresh, opened_views}
-use Rattle.jr_system.specs.declared.grounds.Ground.{Ground}
-use Rattle.jr_system.specs.declared.grounds.Ground.TheVariants as ground
-use Rattle.jr_system.specs.declared.grounds.OneEngine.{OneEngine}
-use Rattle.jr_system.specs.declared.grounds.OneEngine.TheVariants as one
+use Rattle.jr_cli_grounds.specs.declared.grounds.Ground.{Ground}
+use Rattle.jr_cli_grounds.specs.declared.grounds.Ground.TheVariants as ground
+use Rattle.jr_cli_grounds.specs.declared.grounds.OneEngine.{OneEngine}
+use Rattle.jr_cli_grounds.specs.declared.grounds.OneEngine.TheVariants as one
 
 -- over files these are open, each by its name, for a plan whose engine is of files; else there is nothing to open
 abbrev pub IsGroundOf : Plan → Ground → Type 0

@@ -1,16 +1,15 @@
 // What carries out the I/Os of a run.
 ghost use Rattle.std.specs.Prelude.{◌≡◌, All, IfOk, vec_len};
 ghost use Rattle.jr_io_files.specs.Engines.{IsFresh};
-ghost use Rattle.jr_system.specs.Grounds.{IsEngineOf, IsGroundOf};
+ghost use Rattle.jr_cli_grounds.specs.Grounds.{IsEngineOf, IsGroundOf};
 
 use crate::files::{Taken, take_files};
-use crate::show::Screen;
-use crate::stops::Stop;
 use jr_cli_words::{Choice, CliFault};
 use jr_engines::{MemoryEngine, NullEngine};
 use jr_io_files::{FileEngine, Reserved, SharedFile};
 use jr_model::EngineKind;
 use jr_plan::Plan;
+use jr_system::{Screen, Stop};
 use std::alloc::AllocGlobal;
 use std::fs::{File, Files};
 

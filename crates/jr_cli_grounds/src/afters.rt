@@ -3,20 +3,19 @@ ghost use Rattle.std.specs.Prelude.{◌≡◌, ◌≢◌, ◌⊎◌, IfOk, IfErr
 ghost use Rattle.std.specs.IoError.{error_kind};
 ghost use Rattle.jr_io_files.specs.Engines.{IsFresh};
 ghost use Rattle.jr_io_files.specs.ToRead.{views_to_read};
-ghost use Rattle.jr_system.specs.Afters.{has_run_words, has_traces, judgement_fault};
-ghost use Rattle.jr_system.specs.Taken.{reads_of};
+ghost use Rattle.jr_cli_grounds.specs.Afters.{has_run_words, has_traces, judgement_fault};
+ghost use Rattle.jr_cli_grounds.specs.Taken.{reads_of};
 
 use crate::files::{Taken, claims_of, drop_pipes_of};
 use crate::ledgers::{has_rounds, refuse, unjudgeable};
 use crate::remarks::Remarks;
-use crate::show::Screen;
-use crate::stops::Stop;
 use jr_cli_words::{Choice, CliFault};
 use jr_escape::Escaped;
 use jr_io_blocks::Launcher;
 use jr_io_files::{Reserved, claim_to_read};
 use jr_model::{Dir, Piece};
 use jr_plan::Plan;
+use jr_system::{Screen, Stop};
 use std::alloc::{AllocGlobal, Global};
 use std::fs::{File, Files};
 use std::io;
@@ -119,15 +118,5 @@ impl<'a> Taken<'a> {
                 "fiorun: note: cannot read {len} bytes of {name} at {offset}: it ends there"
             ),
         };
-    }
-}
-
-impl Stop {
-    /// The ledger of this path can't be opened.
-    pub fn unread_ledger(alloc: Global, path: &str, error: io::Error) -> Stop
-        ensures memory { error_kind error ≡ ErrorKind.OutOfMemory → result ≡ CliFault.Memory }
-        ensures other { error_kind error ≢ ErrorKind.OutOfMemory → result ≡ CliFault.ReadLedger }
-    {
-        Stop::at_path(alloc, CliFault::ReadLedger, "read", path, error)
     }
 }

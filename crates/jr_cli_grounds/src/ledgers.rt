@@ -1,16 +1,14 @@
 // The ledger of a run: whether the words may ask for one, what it takes of the run's files, and why it couldn't be kept.
 ghost use Rattle.std.specs.Prelude.{◌≡◌, IfErr, OnOk, Some, None};
-ghost use Rattle.jr_system.specs.Ledgers.{has_rounds, ledger_fault, unjudgeable};
+ghost use Rattle.jr_cli_grounds.specs.Ledgers.{has_rounds, ledger_fault, unjudgeable};
 
-use crate::asked::Asked;
 use crate::files::Taken;
-use crate::machine::Outlet;
-use crate::stops::Stop;
 use jr_after_plans::after_fault;
 use jr_cli_words::{Choice, CliFault};
 use jr_ledger_run::RunLedger;
 use jr_model::EngineKind;
 use jr_plan::Plan;
+use jr_system::{Asked, Outlet, Stop};
 use std::alloc::Global;
 use std::fs::File;
 use std::sync::Arc;

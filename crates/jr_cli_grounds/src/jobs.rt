@@ -3,13 +3,13 @@ ghost use Rattle.std.specs.Prelude.{◌≡◌, Ok, Err, None, IfOk, IfErr, IfSom
 ghost use Rattle.std.specs.Option.{option_copied};
 ghost use Rattle.jr_job_options.specs.declared.faults.JobFault.TheVariants.{Memory as OutOfMemory};
 ghost use Rattle.jr_options.specs.PlanOf.{plan_of};
-ghost use Rattle.jr_system.specs.JobRefusals.{IsPlanOf, IsRefusedBy, IsWantOfMemory, job_refusal, sections_refusal};
+ghost use Rattle.jr_cli_grounds.specs.JobRefusals.{IsPlanOf, IsRefusedBy, IsWantOfMemory, job_refusal, sections_refusal};
 
-use crate::stops::Stop;
 use jr_cli_words::{Choice, CliFault};
 use jr_job_notes::{Note, job_notes, plan_notes, unread_notes};
 use jr_options::plan;
 use jr_plan::Plan;
+use jr_system::Stop;
 use jr_text::{Section, TextFault, sections};
 use std::alloc::Global;
 

@@ -1,14 +1,13 @@
 // What is said of a run beside its report, where notes are wanted.
 ghost use Rattle.std.specs.Prelude.{◌≡◌, IfOk, IfErr, vec_len};
 
-use crate::show::Screen;
-use crate::stops::Stop;
 use jr_cli_words::{Choice, CliFault};
 use jr_escape::Escaped;
 use jr_io_files::{FileEngine, FileFault, SharedFile, Unsynced};
 use jr_model::{Dir, Outcome, TicketKind};
 use jr_plan::Plan;
 use jr_report_faults::{Fault, FaultNote, Faults};
+use jr_system::{Screen, Stop};
 use std::alloc::{AllocError, Global};
 use std::io;
 

@@ -4,7 +4,7 @@ use Rattle.jr_model.specs.Plan.{Plan}
 use Rattle.jr_cli_words.specs.declared.words.Choice.{Choice}
 use Rattle.jr_cli_words.specs.declared.faults.CliFault.{CliFault}
 use Rattle.jr_cli_words.specs.declared.faults.CliFault.TheVariants as fault
-use Rattle.jr_system.specs.Ledgers.{has_rounds, unjudgeable}
+use Rattle.jr_cli_grounds.specs.Ledgers.{has_rounds, unjudgeable}
 
 -- the words ask for a trace, or for one to be checked
 abbrev pub has_traces : Choice → Bool

@@ -4,13 +4,10 @@ ghost use Rattle.std.specs.List.{list_any, range_with_len};
 ghost use Rattle.std.specs.Option.{option_copied};
 ghost use Rattle.jr_plan.specs.Wishes.{wish_of};
 ghost use Rattle.jr_io_files.specs.Engines.{IsFresh, IsOpenFault, opened_views};
-ghost use Rattle.jr_system.specs.Taken.{asks_launcher, claims_of, directs_of, drop_pipes_of, is_direct, reads_of};
-ghost use Rattle.jr_system.specs.Wanted.{is_wanted, wishes_of};
+ghost use Rattle.jr_cli_grounds.specs.Taken.{asks_launcher, claims_of, directs_of, drop_pipes_of, is_direct, reads_of};
+ghost use Rattle.jr_cli_grounds.specs.Wanted.{is_wanted, wishes_of};
 
-use crate::closed::Closed;
 use crate::remarks::{Remarks, reasons_of};
-use crate::show::Screen;
-use crate::stops::Stop;
 use jr_cli_words::{Choice, CliFault};
 use jr_escape::Escaped;
 use jr_io_blocks::{Dropper, Launcher};
@@ -19,6 +16,7 @@ use jr_io_files::{
 };
 use jr_plan::{Plan, Wish};
 use jr_report_faults::Faults;
+use jr_system::{Closed, Screen, Stop};
 use std::alloc::{AllocError, Global};
 use std::fs;
 use std::fs::{File, Files};
