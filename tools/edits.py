@@ -11,7 +11,7 @@ each of which must be refused too. It ends with 0 if each was. With names it tri
 
 The list is checks/edits/REFUSED. It says of each edit that was refused of which sources: a checksum of the edit and of its crate's src/ and
 specs/, without lines of comments. Proofs aren't in it: an edit is refused since its body doesn't keep its contract, and no proof changes that.
-An edit that wasn't refused has a "-". What a crate's edits gave goes into the list as soon as the crate is done, so an interrupted run loses
+An edit that wasn't refused has a "-". Which edits were refused goes into the list after each eight of them, so an interrupted run loses
 little. A crate's contracts also speak of definitions of crates below it. What changes there isn't in the checksum: name the crates to try all
 of theirs.
 
@@ -40,6 +40,8 @@ REFUSED = os.path.join(EDITS, "REFUSED")
 UNTRIED = os.path.join(EDITS, "UNTRIED")
 # What a check from nothing takes, in checks of an edit.
 WHOLE = 6
+# After so many edits it is looked at whether the crate is still proved over what their checks have left.
+GROUP = 8
 MEMORY = 3_000_000
 # In minutes.
 DAY = 1440.0
@@ -229,7 +231,7 @@ class Share:
     """Edits of one crate that are tried in turn, as they and the crate's sources are when the first begins."""
 
     def __init__(self, name, edits):
-        self.name, self.edits = name, edits
+        self.name, self.edits, self.found = name, edits, {}
 
     def cost(self):
         return (len(self.edits) + WHOLE) * lines_of(self.name)
@@ -254,29 +256,34 @@ class Share:
         return tried
 
     def try_over(self, prover, kept, tell):
-        """Tries the edits over what those before have proved: what of them holds."""
-        tried = {edit: self.try_one(prover, edit, kept, tell) for edit in self.edits}
-        status, _, _ = self.check(prover, {}, kept)
-        if status:
-            tell(self.name, f"isn't proved over that work (status {status}): all once more, from nothing")
-            return {}
-        return {edit: it for edit, it in tried.items() if it.is_refused}
+        """Tries the edits over what those before have proved, and notes which were refused, as far as that holds."""
+        for at in range(0, len(self.edits), GROUP):
+            tried = {edit: self.try_one(prover, edit, kept, tell) for edit in self.edits[at:at + GROUP]}
+            status, _, _ = self.check(prover, {}, kept)
+            if status:
+                tell(self.name, f"isn't proved over that work (status {status}): those that are left once more, from nothing")
+                return
+            self.keep({edit: it for edit, it in tried.items() if it.is_refused})
+
+    def keep(self, tried):
+        """Notes in the list what became of these edits."""
+        note({edit: self.sums[edit] if it.is_refused else "-" for edit, it in tried.items()})
+        self.found |= tried
 
     def try_all(self, prover, tell):
-        """Tries the edits, notes in the list which were refused, and returns what became of each."""
+        """Tries the edits, and notes in the list which were refused."""
         with tempfile.TemporaryDirectory(prefix="more-edits-") as room:
             self.whole, kept = os.path.join(room, "whole"), os.path.join(room, "kept")
             for part in PARTS:
                 if os.path.isdir(os.path.join(folder_of(self.name), part)):
                     shutil.copytree(os.path.join(folder_of(self.name), part), os.path.join(self.whole, part))
             self.texts = texts_of(self.edits)
-            sums = checksums(self.name, self.whole, self.texts)
-            tried = self.try_over(prover, kept, tell) if len(self.edits) > 1 else {}
+            self.sums = checksums(self.name, self.whole, self.texts)
+            if len(self.edits) > 1:
+                self.try_over(prover, kept, tell)
             for edit in self.edits:
-                if edit not in tried:
-                    tried[edit] = self.try_one(prover, edit, None, tell)
-        note({edit: sums[edit] if it.is_refused else "-" for edit, it in tried.items()})
-        return tried
+                if edit not in self.found:
+                    self.keep({edit: self.try_one(prover, edit, None, tell)})
 
 
 # Which are tried side by side.
@@ -326,9 +333,9 @@ class Teller:
 
 
 def try_shares(shares, jobs, minutes, teller, may_lack=False):
-    """Tries them side by side, and returns what became of each edit. Those of a share that hasn't ended after so many minutes may be
+    """Tries them side by side, and returns what became of each edit. Some of a share that hasn't ended after so many minutes may be
     lacking, if that is allowed."""
-    prover, tried = Prover(), {}
+    prover = Prover()
     limit = threading.Timer(max(minutes, 0) * 60, prover.end)
     limit.daemon = True
     limit.start()
@@ -336,11 +343,11 @@ def try_shares(shares, jobs, minutes, teller, may_lack=False):
         try:
             for it in concurrent.futures.as_completed([pool.submit(share.try_all, prover, teller.tell) for share in shares]):
                 if not (may_lack and isinstance(it.exception(), Ended)):
-                    tried |= it.result()
+                    it.result()
         except BaseException:
             prover.end()
             raise
-    return tried
+    return {edit: it for share in shares for edit, it in share.found.items()}
 
 
 def try_edits(edits, jobs, minutes, is_named, may_lack=False):
