@@ -421,7 +421,9 @@ class Stop(Case):
                 numbers = lines_of(err.read())
             expect((it.returncode, out) == (0, plain.stdout), f"another report, or status {it.returncode}: {out}")
             expect(len(numbers) == 5 and all(percent <= 100 for percent, *_ in numbers), "other lines:", numbers)
-            expect(len({ios for _, ios, *_ in numbers}) == 5, "the same line twice:", numbers)
+            ios = [it for _, it, *_ in numbers]
+            # (on a busy machine nothing may have been done between two of them)
+            expect(ios == sorted(ios) and ios[0] < ios[-1], "not one after another:", numbers)
 
     def test_a_signal_at_the_end_does_no_harm(self):
         """A short run, and signals one after another until it has ended: the launcher's own last moments are among theirs."""
