@@ -1,9 +1,11 @@
 #!/usr/bin/env python3
-"""bench/ledger.py PROGRAM [FOLDER..] prints what a ledger costs, in processor seconds: 65,536 random writes of 4 KiB to a file of each folder (the
-one that it is started in), synced after each 1,000 of them, without a ledger and with one in /tmp; medians of five. And how long a judgement
-takes beside a checked read of the same file by one worker and by four, with chunks of 4 KiB and of 512 bytes: in seconds, and in processor
-seconds."""
+"""bench/ledger.py PROGRAM [FOLDER..] prints what a ledger costs: 131,072 random writes of 4 KiB to a file of each folder (the one that it
+is started in), synced after each 1,000 of them, without a ledger and with one in the folder LEDGERS (/tmp; a tmpfs that isn't below /dev),
+in turn: the medians of the seconds, what the ledger adds by these and by pairs of runs, and by pairs in processor seconds. RUNS says how
+many runs of each there are (11). And how long a judgement takes beside a checked read of the same file by one worker and by four, with
+chunks of 4 KiB and of 512 bytes: in seconds, and in processor seconds; medians of five."""
 
+import itertools
 import os
 import statistics
 import subprocess
@@ -11,7 +13,8 @@ import sys
 import tempfile
 import time
 
-JOB = "[w]\nfilename=ledger-data\nrw=randwrite\nbs=4k\nsize=128m\niodepth=8\nverify={}\ndo_verify=0\nloops=2\n"
+JOB = "[w]\nfilename=ledger-data\nrw=randwrite\nbs=4k\nsize=128m\niodepth=8\nverify={}\ndo_verify=0\nloops=4\n"
+RUNS = int(os.environ.get("RUNS", "11"))
 CHUNKS = {"4 KiB": "bs=4k\n", "512 bytes": "bs=64k\nverify_interval=512\n"}
 FILE = "[w]\nfilename=ledger-data\nsize=256m\nverify=md5\n"
 
@@ -29,11 +32,6 @@ def times(program, folder, job, *words):
     return time.monotonic() - begun, used.ru_utime + used.ru_stime
 
 
-def seconds(program, folder, job, *words):
-    """The processor seconds of a run."""
-    return times(program, folder, job, *words)[1]
-
-
 def medians(kinds):
     """The median of five runs of each kind, in turn; of pairs the median of each half."""
     took = {name: [] for name in kinds}
@@ -43,23 +41,32 @@ def medians(kinds):
     return [[statistics.median(half) for half in zip(*it)] if isinstance(it[0], tuple) else statistics.median(it) for it in took.values()]
 
 
+def pairs(program, folder, job, words, ledger):
+    """Runs without a ledger and with one, in turn, each of them first as often as the other."""
+    sides = ([], (f"--ledger={ledger}",))
+    for number in range(RUNS):
+        took = {side: times(program, folder, job, *words, *sides[side]) for side in ((0, 1), (1, 0))[number % 2]}
+        yield took[0], took[1]
+
+
+def more(without, with_it):
+    return f"{100 * (with_it / without - 1):.1f} %"
+
+
 def ledgers(program, folder, ledger):
-    for workers in (1, 4):
-        for digest in ("md5", "sha256"):
-            words = [f"--workers={workers}", "--sync-every=1000"]
-            job = JOB.format(digest)
-            without, with_it = medians({
-                "without": lambda job=job, words=words: seconds(program, folder, job, *words),
-                "with": lambda job=job, words=words: seconds(program, folder, job, *words, f"--ledger={ledger}"),
-            })
-            more = 100 * (with_it / without - 1)
-            print(f"| {folder} | {workers} | {digest} | {without:.3f} | {with_it:.3f} | {more:.1f} % |", flush=True)
+    for workers, digest in itertools.product((1, 4), ("md5", "sha256")):
+        words = [f"--workers={workers}", "--sync-every=1000"]
+        took = list(pairs(program, folder, JOB.format(digest), words, ledger))
+        without, with_it = (statistics.median(it[side][0] for it in took) for side in (0, 1))
+        by_pairs = [more(1, statistics.median(it[1][half] / it[0][half] for it in took)) for half in (0, 1)]
+        row = [folder, workers, digest, f"{without:.3f}", f"{with_it:.3f}", more(without, with_it), *by_pairs]
+        print("| " + " | ".join(map(str, row)) + " |", flush=True)
 
 
 def judgements(program, folder, ledger):
     for name, chunks in CHUNKS.items():
         write = FILE + chunks + "rw=randwrite\ndo_verify=0\n"
-        seconds(program, folder, write, f"--ledger={ledger}")
+        times(program, folder, write, f"--ledger={ledger}")
         reads = FILE + chunks + "rw=read\niodepth=16\n"
         found = medians({
             "judged": lambda write=write: times(program, folder, write, f"--after={ledger}"),
@@ -73,9 +80,9 @@ def main(words):
     if not words:
         sys.exit(__doc__)
     program, folders = os.path.realpath(words[0]), words[1:] or ["."]
-    with tempfile.TemporaryDirectory(prefix="ledger-") as room:
+    with tempfile.TemporaryDirectory(prefix="ledger-", dir=os.environ.get("LEDGERS")) as room:
         ledger = os.path.join(room, "ledger")
-        print("| File in | workers | digest | without | with | more |\n|-|-|-|-|-|-|")
+        print("| File in | workers | digest | without | with | more, by medians | by pairs | processor seconds, by pairs |\n|-|-|-|-|-|-|-|-|")
         for folder in folders:
             ledgers(program, folder, ledger)
         print("\n| File in | chunks | judged | read by one worker | by four |\n|-|-|-|-|-|")
