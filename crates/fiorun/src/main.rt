@@ -53,18 +53,20 @@ fn main(rt: HostRuntime) -> ExitCode {
         run_memory(&rt, job, engines)
     };
     let mut has_notes = rt.is_shown();
-    let ended = match begin(&rt, &mut has_notes) {
-        Ok(Turn::Ended(status)) => Ok(status),
-        Ok(Turn::Ran(ran)) => Ok(told(&rt, &ran, has_notes)),
-        Ok(Turn::Shared(job)) => match run_shared(job) {
-            Ok(ran) => Ok(told(&rt, &ran, has_notes)),
-            Err(stop) => Err(stop),
-        },
-        Err(stop) => Err(stop),
+    let status = match begin(&rt, &mut has_notes) {
+        Ok(Turn::Ended(status)) => status,
+        Ok(Turn::Ran(ran)) => status_of(&rt, Ok(ran), has_notes),
+        Ok(Turn::Shared(job)) => status_of(&rt, run_shared(job), has_notes),
+        Err(stop) => status_of(&rt, Err(stop), has_notes),
     };
-    match ended {
-        Ok(status) => ExitCode::from(status),
-        Err(stop) => ExitCode::from(stop.tell(&rt, has_notes)),
+    ExitCode::from(status)
+}
+
+// The exit status of a run, or of the reason why there was none. What there is to say of it is said.
+fn status_of<R: Eprint>(rt: &R, ran: Result<Finished, Stop>, has_notes: bool) -> u8 {
+    match ran {
+        Ok(ran) => told(rt, &ran, has_notes),
+        Err(stop) => stop.tell(rt, has_notes),
     }
 }
 

@@ -33,12 +33,28 @@ fn a_write_bars_its_bytes_alone(rt: HostRuntime) -> Result<(), Fail> {
     let mut flight = Flight::new(rt.alloc())?;
     let write = io(0, piece(0, 0, 4096), Dir::Write, false);
     flight.begin(write)?;
-    assert!(rt; flight.flies(0));
-    assert!(rt; !flight.clear(&piece(0, 4095, 1), Dir::Read, false));
-    assert!(rt; flight.clear(&piece(0, 4096, 512), Dir::Write, false));
-    assert!(rt; flight.clear(&piece(1, 0, 4096), Dir::Write, false));
+    same(&rt, flight.flies(0), true);
+    same(
+        &rt,
+        flight.clear(&piece(0, 4095, 1), Dir::Read, false),
+        false,
+    );
+    same(
+        &rt,
+        flight.clear(&piece(0, 4096, 512), Dir::Write, false),
+        true,
+    );
+    same(
+        &rt,
+        flight.clear(&piece(1, 0, 4096), Dir::Write, false),
+        true,
+    );
     same(&rt, flight.end(0), ended(write, false));
-    assert!(rt; flight.clear(&piece(0, 4095, 1), Dir::Read, false));
+    same(
+        &rt,
+        flight.clear(&piece(0, 4095, 1), Dir::Read, false),
+        true,
+    );
     Ok(())
 }
 
@@ -47,10 +63,18 @@ fn a_read_bars_writes_alone(rt: HostRuntime) -> Result<(), Fail> {
     let mut flight = Flight::new(rt.alloc())?;
     let read = io(7, piece(0, 8192, 4096), Dir::Read, false);
     flight.begin(read)?;
-    assert!(rt; flight.clear(&piece(0, 8192, 4096), Dir::Read, false));
-    assert!(rt; !flight.clear(&piece(0, 8192, 4096), Dir::Write, false));
+    same(
+        &rt,
+        flight.clear(&piece(0, 8192, 4096), Dir::Read, false),
+        true,
+    );
+    same(
+        &rt,
+        flight.clear(&piece(0, 8192, 4096), Dir::Write, false),
+        false,
+    );
     same(&rt, flight.end(8), Err(FlightFault::Stranger));
-    assert!(rt; !flight.flies(8));
+    same(&rt, flight.flies(8), false);
     same(&rt, flight.end(7), ended(read, false));
     same(&rt, flight.end(7), Err(FlightFault::Stranger));
     Ok(())
@@ -63,9 +87,13 @@ fn a_write_races_what_declines_to_wait(rt: HostRuntime) -> Result<(), Fail> {
     let read = io(3, piece(0, 8192, 4096), Dir::Read, true);
     let write = io(4, piece(0, 4096, 8192), Dir::Write, false);
     flight.begin(read)?;
-    assert!(rt; flight.clear(&piece(0, 4096, 8192), Dir::Write, false));
-    assert!(rt; !flight.mark(&write));
-    assert!(rt; flight.raced(3) && !flight.flies(4));
+    same(
+        &rt,
+        flight.clear(&piece(0, 4096, 8192), Dir::Write, false),
+        true,
+    );
+    same(&rt, flight.mark(&write), false);
+    same(&rt, flight.raced(3) && !flight.flies(4), true);
     flight.put(Ended {
         io: write,
         raced: false,
@@ -83,9 +111,17 @@ fn two_writes_race_each_other_alone(rt: HostRuntime) -> Result<(), Fail> {
     let second = io(2, piece(0, 4095, 1), Dir::Write, true);
     flight.begin(aside)?;
     flight.begin(first)?;
-    assert!(rt; flight.clear(&piece(0, 4095, 1), Dir::Write, true));
+    same(
+        &rt,
+        flight.clear(&piece(0, 4095, 1), Dir::Write, true),
+        true,
+    );
     flight.begin(second)?;
-    assert!(rt; flight.raced(1) && flight.raced(2) && !flight.raced(0) && !flight.raced(3));
+    same(
+        &rt,
+        flight.raced(1) && flight.raced(2) && !flight.raced(0) && !flight.raced(3),
+        true,
+    );
     same(&rt, flight.end(2), ended(second, true));
     same(&rt, flight.end(1), ended(first, true));
     same(&rt, flight.end(0), ended(aside, false));
@@ -186,7 +222,7 @@ fn agrees_with_a_plain_list(rt: HostRuntime) -> Result<(), Fail> {
             let io = io(id, piece, dir, declines);
             if flight.begin(io).is_err() {
                 same(&rt, (round, flight.raced(id)), (round, false));
-                assert!(rt; !flight.flies(id), "round {round}");
+                same(&rt, (round, flight.flies(id)), (round, false));
                 flight.begin(io)?;
             }
             begin(&mut ios, io)?;

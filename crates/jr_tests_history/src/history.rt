@@ -118,7 +118,7 @@ fn a_checked_read_awaits_its_verdict(rt: HostRuntime) -> Result<(), Fail> {
         past = past.followed_by(rt.alloc(), *event)?;
         assert_under_way(&rt, &past, flies, waits);
     }
-    assert!(rt; past.ledger().is_condemned(1));
+    same(&rt, past.ledger().is_condemned(1), true);
     Ok(())
 }
 
@@ -137,9 +137,9 @@ fn assert_ran(rt: &impl Abort, past: &Past, events: &[Event]) {
         past.in_flight().first().map(|io| io.write),
         Some(write(2)),
     );
-    assert!(rt; past.flies(3));
-    assert!(rt; !past.flies(2));
-    assert!(rt; !past.flies(4));
+    same(rt, past.flies(3), true);
+    same(rt, past.flies(2), false);
+    same(rt, past.flies(4), false);
     same(rt, past.started_at(2).map(|io| io.piece), Some(block(0)));
 }
 
@@ -150,18 +150,18 @@ fn what_a_run_says(rt: HostRuntime) -> Result<(), Fail> {
     same(&rt, ledger.len(), 9);
     same(&rt, ledger.outcome_of(2), Some(Outcome::Whole));
     same(&rt, ledger.outcome_of(3), None);
-    assert!(rt; ledger.is_judged(2));
-    assert!(rt; !ledger.is_judged(1));
+    same(&rt, ledger.is_judged(2), true);
+    same(&rt, ledger.is_judged(1), false);
     same(&rt, ledger.issued_count(1, 2), 3);
     same(&rt, ledger.issued_count(2, 1), 0);
-    assert!(rt; ledger.is_taken_up(&write(0)));
-    assert!(rt; ledger.is_taken_up(&write(1)));
-    assert!(rt; !ledger.is_taken_up(&write(2)));
-    assert!(rt; ledger.is_settled(&write(0)));
-    assert!(rt; ledger.is_settled(&write(1)));
-    assert!(rt; !ledger.is_settled(&write(2)));
-    assert!(rt; !ledger.is_faulty(1));
-    assert!(rt; !ledger.is_condemned(1));
+    same(&rt, ledger.is_taken_up(&write(0)), true);
+    same(&rt, ledger.is_taken_up(&write(1)), true);
+    same(&rt, ledger.is_taken_up(&write(2)), false);
+    same(&rt, ledger.is_settled(&write(0)), true);
+    same(&rt, ledger.is_settled(&write(1)), true);
+    same(&rt, ledger.is_settled(&write(2)), false);
+    same(&rt, ledger.is_faulty(1), false);
+    same(&rt, ledger.is_condemned(1), false);
     same(&rt, ledger.written().len(), 2);
     Ok(())
 }
@@ -171,7 +171,7 @@ fn a_check_is_taken_up_before_it_is_settled(rt: HostRuntime) -> Result<(), Fail>
     let past = past_of(rt.alloc(), &run()[..5])?;
     let ledger = past.ledger();
     let is_open = ledger.is_taken_up(&write(0)) && !ledger.is_settled(&write(0));
-    assert!(rt; is_open);
+    same(&rt, is_open, true);
     Ok(())
 }
 
@@ -192,10 +192,10 @@ fn faults_and_bad_verdicts_are_of_their_clone(rt: HostRuntime) -> Result<(), Fai
 
 // A fault and a bad verdict are of clone 1 alone.
 fn assert_of_clone_1(rt: &impl Abort, past: &Past) {
-    assert!(rt; past.ledger().is_faulty(1));
-    assert!(rt; !past.ledger().is_faulty(0));
-    assert!(rt; past.ledger().is_condemned(1));
-    assert!(rt; !past.ledger().is_condemned(0));
+    same(rt, past.ledger().is_faulty(1), true);
+    same(rt, past.ledger().is_faulty(0), false);
+    same(rt, past.ledger().is_condemned(1), true);
+    same(rt, past.ledger().is_condemned(0), false);
 }
 
 // No run has such a history: the I/O ends before it is issued, and ends twice.
@@ -211,7 +211,7 @@ fn an_end_before_its_start_counts(rt: HostRuntime) -> Result<(), Fail> {
     )?;
     same(&rt, past.in_flight().len(), 0);
     same(&rt, past.ledger().outcome_of(0), Some(Outcome::Whole));
-    assert!(rt; past.ledger().is_faulty(1));
+    same(&rt, past.ledger().is_faulty(1), true);
     same(&rt, past.ledger().written().len(), 2);
     same(&rt, last_write(&past, 0, 0), None);
     Ok(())
@@ -258,7 +258,7 @@ fn what_a_write_overlaps_in_flight_has_raced(rt: HostRuntime) -> Result<(), Fail
 // Of the first two I/Os these raced, and no other did.
 fn assert_raced(rt: &impl Abort, past: &Past, raced: (bool, bool)) {
     same(rt, (past.has_raced(0), past.has_raced(1)), raced);
-    assert!(rt; !past.has_raced(2));
+    same(rt, past.has_raced(2), false);
 }
 
 // Two writes at once, and then a third.
@@ -287,8 +287,8 @@ fn assert_last(rt: &impl Abort, past: &Past, last: WriteId, other: WriteId) {
     same(rt, last_write(past, 0, 1), Some(last));
     same(rt, last_write(past, 0, 2), None);
     same(rt, last_write(past, 1, 1), None);
-    assert!(rt; is_intact(past, &last, &block(0)));
-    assert!(rt; !is_intact(past, &other, &block(0)));
+    same(rt, is_intact(past, &last, &block(0)), true);
+    same(rt, is_intact(past, &other, &block(0)), false);
 }
 
 // So many bytes of the first file, from an offset on.
@@ -347,9 +347,9 @@ fn assert_border(rt: &impl Abort, past: &Past) {
 
 // The first write is intact before the second alone.
 fn assert_overwritten(rt: &impl Abort, before: &Past, past: &Past, over: &Piece, behind: &Piece) {
-    assert!(rt; is_intact(before, &write(0), over));
-    assert!(rt; !is_intact(past, &write(0), over));
-    assert!(rt; is_intact(past, &write(1), behind));
+    same(rt, is_intact(before, &write(0), over), true);
+    same(rt, is_intact(past, &write(0), over), false);
+    same(rt, is_intact(past, &write(1), behind), true);
 }
 
 // A piece of four parts, of which a later write covers the third.
@@ -378,6 +378,6 @@ fn a_large_piece_lies_over_each_of_its_parts(rt: HostRuntime) -> Result<(), Fail
         );
     }
     same(&rt, last_write(&past, 0, 512), None);
-    assert!(rt; !is_intact(&past, &write(0), &large));
+    same(&rt, is_intact(&past, &write(0), &large), false);
     Ok(())
 }

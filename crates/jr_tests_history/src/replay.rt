@@ -106,8 +106,8 @@ fn a_checked_run_is_legal_and_complete(rt: HostRuntime) -> Result<(), Fail> {
     let plan = plan_of(rt.alloc(), &[(checked(2), "f", 0)])?;
     let history = two_checked();
     same(&rt, legal_front(rt.alloc(), &plan, &history)?, 10);
-    assert!(rt; complete(rt.alloc(), &plan, &history)?);
-    assert!(rt; !complete(rt.alloc(), &plan, front(&history, 9))?);
+    same(&rt, complete(rt.alloc(), &plan, &history)?, true);
+    same(&rt, complete(rt.alloc(), &plan, front(&history, 9))?, false);
     Ok(())
 }
 
@@ -148,7 +148,7 @@ fn a_checked_read_is_said_what_its_own_headers_say(rt: HostRuntime) -> Result<()
         end(0, 0, Outcome::Whole),
     ];
     same(&rt, legal_front(rt.alloc(), &plan, &begun)?, 2);
-    assert!(rt; !complete(rt.alloc(), &plan, &begun)?);
+    same(&rt, complete(rt.alloc(), &plan, &begun)?, false);
     let verdicts = [
         (Verdict::Good, true),
         (Verdict::Bad(What::Header), true),
@@ -161,9 +161,9 @@ fn a_checked_read_is_said_what_its_own_headers_say(rt: HostRuntime) -> Result<()
         same(&rt, (verdict, found), (verdict, is_allowed));
     }
     let plain = issue_as(IssueKind::Read, 0, write(0, 0), block(0));
-    assert!(rt; !allowed(rt.alloc(), &plan, &[], &plain)?);
+    same(&rt, allowed(rt.alloc(), &plan, &[], &plain)?, false);
     let history = [begun[0], begun[1], good(0, 0)];
-    assert!(rt; complete(rt.alloc(), &plan, &history)?);
+    same(&rt, complete(rt.alloc(), &plan, &history)?, true);
     Ok(())
 }
 
@@ -181,7 +181,7 @@ fn a_fault_halts_its_clone(rt: HostRuntime) -> Result<(), Fail> {
     let plan = plan_of(rt.alloc(), &[(checked(2), "f", 0)])?;
     let history = [issue(0, write(0, 0), block(0)), end(0, 0, Outcome::Failed)];
     same(&rt, choice(rt.alloc(), &plan, &history, 0)?, None);
-    assert!(rt; complete(rt.alloc(), &plan, &history)?);
+    same(&rt, complete(rt.alloc(), &plan, &history)?, true);
     assert_none_written(&rt, rt.alloc(), &history)
 }
 
@@ -228,9 +228,9 @@ fn assert_skipped(
         write: write(0, 0),
     };
     same(rt, choice(alloc, plan, history, 0)?, Some(skip));
-    assert!(rt; allowed(alloc, plan, history, &skip)?);
+    same(rt, allowed(alloc, plan, history, &skip)?, true);
     let check = probe(0, write(0, 0), block(0));
-    assert!(rt; !allowed(alloc, plan, history, &check)?);
+    same(rt, allowed(alloc, plan, history, &check)?, false);
     Ok(())
 }
 
@@ -239,8 +239,8 @@ fn assert_overwritten(rt: &impl Abort, past: &Past) {
     same(rt, last_write(past, 0, 7), Some(write(1, 0)));
     same(rt, last_write(past, 0, 8), Some(write(0, 1)));
     same(rt, last_write(past, 0, 16), None);
-    assert!(rt; !is_intact(past, &write(0, 0), &block(0)));
-    assert!(rt; is_intact(past, &write(1, 0), &block(0)));
+    same(rt, is_intact(past, &write(0, 0), &block(0)), false);
+    same(rt, is_intact(past, &write(1, 0), &block(0)), true);
 }
 
 // The first clone declines; the second one writes its block while that is written, or checked.

@@ -73,17 +73,17 @@ fn awaits(tallies: &Tallies, clone: usize) -> bool
 }
 
 fn end(rt: &impl Abort, tallies: &mut Tallies, clone: usize, kind: TicketKind, outcome: Outcome) {
-    assert!(rt; can_count(tallies, clone));
-    assert!(rt; flies(tallies, clone, kind));
+    same(rt, can_count(tallies, clone), true);
+    same(rt, flies(tallies, clone, kind), true);
     tallies.ended(clone, kind, 4096, outcome);
 }
 
 // A write is issued, ends, and is being checked; and its check ends.
 fn write_and_check(rt: &impl Abort, tallies: &mut Tallies, clone: usize) {
-    assert!(rt; can_count(tallies, clone));
+    same(rt, can_count(tallies, clone), true);
     tallies.issued(clone);
     end(rt, tallies, clone, TicketKind::Write, Outcome::Whole);
-    assert!(rt; can_count(tallies, clone));
+    same(rt, can_count(tallies, clone), true);
     tallies.probed(clone);
     end(rt, tallies, clone, TicketKind::Probe, Outcome::Whole);
 }
@@ -97,8 +97,8 @@ fn judge(
 ) -> Result<(), Fail> {
     let clone = bad.write.clone as usize;
     tallies.reserve()?;
-    assert!(rt; can_count(tallies, clone));
-    assert!(rt; awaits(tallies, clone));
+    same(rt, can_count(tallies, clone), true);
+    same(rt, awaits(tallies, clone), true);
     tallies.judged(bad.write, bad.piece, is_fatal, verdict);
     Ok(())
 }
@@ -149,9 +149,9 @@ fn each_clone_has_its_own(rt: HostRuntime) -> Result<(), Fail> {
     judge(&rt, &mut tallies, &bad(0), true, Verdict::Good)?;
     write_and_check(&rt, &mut tallies, 0);
     judge(&rt, &mut tallies, &bad(0), true, Verdict::Void)?;
-    assert!(rt; can_count(&tallies, 0));
+    same(&rt, can_count(&tallies, 0), true);
     tallies.issued(0);
-    assert!(rt; can_count(&tallies, 1));
+    same(&rt, can_count(&tallies, 1), true);
     tallies.skipped(1);
     let going = [counts(1, 0, 0, false), counts(0, 0, 0, false)];
     same(&rt, tallies.counts.as_slice(), going.as_slice());

@@ -147,7 +147,7 @@ fn assert_strangers(rt: &impl Abort, plan: &Plan, table: &TicketTable, own: &Tic
 }
 
 fn end(rt: &impl Abort, table: &mut TicketTable, id: u32, outcome: Outcome, raced: bool) {
-    assert!(rt; (id as usize) < table.states.len());
+    same(rt, (id as usize) < table.states.len(), true);
     table.end(id, outcome, raced);
 }
 
@@ -162,7 +162,7 @@ fn is_at(table: &TicketTable, id: u32, ended: bool, whole: bool, judged: bool) -
 fn hand_check(rt: &impl Abort, plan: &Plan, table: &mut TicketTable, id: u32) -> Result<(), Fail> {
     let ticket = ticket_of(plan, id, TicketKind::Probe, 1, header(7))?;
     table.reserve()?;
-    assert!(rt; table.headers.len() < 9);
+    same(rt, table.headers.len() < 9, true);
     table.hand(&ticket);
     Ok(())
 }
@@ -172,22 +172,22 @@ fn each_goes_its_own_way(rt: HostRuntime) -> Result<(), Fail> {
     let plan = two_clones(rt.alloc())?;
     let mut table = TicketTable::new(rt.alloc());
     for id in 0..4u32 {
-        assert!(rt; is_at(&table, id, false, false, false));
+        same(&rt, is_at(&table, id, false, false, false), true);
         hand_check(&rt, &plan, &mut table, id)?;
-        assert!(rt; is_at(&table, id, false, false, false));
+        same(&rt, is_at(&table, id, false, false, false), true);
     }
     same(&rt, table.states.len(), 4);
     end(&rt, &mut table, 2, Outcome::Short(512), false);
     end(&rt, &mut table, 1, Outcome::Whole, false);
     end(&rt, &mut table, 3, Outcome::Whole, true);
-    assert!(rt; is_at(&table, 0, false, false, false));
-    assert!(rt; is_at(&table, 1, true, true, false));
-    assert!(rt; is_at(&table, 2, true, false, false));
-    assert!(rt; is_at(&table, 3, true, true, false));
-    assert!(rt; table.has_raced(3) && !table.has_raced(1));
+    same(&rt, is_at(&table, 0, false, false, false), true);
+    same(&rt, is_at(&table, 1, true, true, false), true);
+    same(&rt, is_at(&table, 2, true, false, false), true);
+    same(&rt, is_at(&table, 3, true, true, false), true);
+    same(&rt, table.has_raced(3) && !table.has_raced(1), true);
     same(&rt, table.states.len(), 4);
     table.judge(1);
-    assert!(rt; is_at(&table, 1, true, true, true));
+    same(&rt, is_at(&table, 1, true, true, true), true);
     end(&rt, &mut table, 0, Outcome::Failed, true);
     let states = [
         IoState::Faulty,
@@ -196,6 +196,6 @@ fn each_goes_its_own_way(rt: HostRuntime) -> Result<(), Fail> {
         IoState::Raced,
     ];
     same(&rt, table.states.as_slice(), states.as_slice());
-    assert!(rt; is_at(&table, 4, false, false, false));
+    same(&rt, is_at(&table, 4, false, false, false), true);
     Ok(())
 }
