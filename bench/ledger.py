@@ -1,9 +1,10 @@
 #!/usr/bin/env python3
-"""bench/ledger.py PROGRAM [FOLDER..] prints what a ledger costs: 131,072 random writes of 4 KiB to a file of each folder (the one that it
-is started in), synced after each 1,000 of them, without a ledger and with one in the folder LEDGERS (/tmp; a tmpfs that isn't below /dev),
-in turn: the medians of the seconds, what the ledger adds by these and by pairs of runs, and by pairs in processor seconds. RUNS says how
-many runs of each there are (11). And how long a judgement takes beside a checked read of the same file by one worker and by four, with
-chunks of 4 KiB and of 512 bytes: in seconds, and in processor seconds; medians of five."""
+"""bench/ledger.py PROGRAM [FOLDER..] prints what a ledger costs: 131,072 random writes of 4 KiB to a file in each folder (the one that it
+is started in), by one worker and by four, and by four to files of four jobs, synced after each 1,000 of them, without a ledger and with one
+in the folder LEDGERS (/tmp; a tmpfs that isn't below /dev), in turn: the medians of the seconds, what the ledger adds by these and by pairs
+of runs, and by pairs in processor seconds. RUNS says how many runs of each there are (11). And how long a judgement takes beside a checked
+read of the same file by one worker and by four, with chunks of 4 KiB and of 512 bytes: in seconds, and in processor seconds; medians of
+five."""
 
 import itertools
 import os
@@ -13,7 +14,8 @@ import sys
 import tempfile
 import time
 
-JOB = "[w]\nfilename=ledger-data\nrw=randwrite\nbs=4k\nsize=128m\niodepth=8\nverify={}\ndo_verify=0\nloops=4\n"
+JOB = "[w]\nnumjobs={}\nrw=randwrite\nbs=4k\nsize={}m\niodepth=8\nverify={}\ndo_verify=0\nloops=4\n"
+MEBIBYTES = 128
 RUNS = int(os.environ.get("RUNS", "11"))
 CHUNKS = {"4 KiB": "bs=4k\n", "512 bytes": "bs=64k\nverify_interval=512\n"}
 FILE = "[w]\nfilename=ledger-data\nsize=256m\nverify=md5\n"
@@ -54,12 +56,12 @@ def more(without, with_it):
 
 
 def ledgers(program, folder, ledger):
-    for workers, digest in itertools.product((1, 4), ("md5", "sha256")):
+    for (workers, jobs), digest in itertools.product(((1, 1), (4, 1), (4, 4)), ("md5", "sha256")):
         words = [f"--workers={workers}", "--sync-every=1000"]
-        took = list(pairs(program, folder, JOB.format(digest), words, ledger))
+        took = list(pairs(program, folder, JOB.format(jobs, MEBIBYTES // jobs, digest), words, ledger))
         without, with_it = (statistics.median(it[side][0] for it in took) for side in (0, 1))
         by_pairs = [more(1, statistics.median(it[1][half] / it[0][half] for it in took)) for half in (0, 1)]
-        row = [folder, workers, digest, f"{without:.3f}", f"{with_it:.3f}", more(without, with_it), *by_pairs]
+        row = [folder, workers, jobs, digest, f"{without:.3f}", f"{with_it:.3f}", more(without, with_it), *by_pairs]
         print("| " + " | ".join(map(str, row)) + " |", flush=True)
 
 
@@ -82,13 +84,14 @@ def main(words):
     program, folders = os.path.realpath(words[0]), words[1:] or ["."]
     with tempfile.TemporaryDirectory(prefix="ledger-", dir=os.environ.get("LEDGERS")) as room:
         ledger = os.path.join(room, "ledger")
-        print("| File in | workers | digest | without | with | more, by medians | by pairs | processor seconds, by pairs |\n|-|-|-|-|-|-|-|-|")
+        print("| Files in | workers | jobs | digest | without | with | more, by medians | by pairs | processor seconds, by pairs |\n|-|-|-|-|-|-|-|-|-|")
         for folder in folders:
             ledgers(program, folder, ledger)
         print("\n| File in | chunks | judged | read by one worker | by four |\n|-|-|-|-|-|")
         for folder in folders:
             judgements(program, folder, ledger)
-            os.remove(os.path.join(folder, "ledger-data"))
+            for name in ("ledger-data", *(f"w.{clone}.0" for clone in range(4))):
+                os.remove(os.path.join(folder, name))
 
 
 if __name__ == "__main__":
