@@ -1,6 +1,6 @@
 """The tables of docs/USING.md of what is refused and what to write instead, and those of the program.
 
-The program's stand in crates/jr_job_notes/src/keys.rt: the tables KEYS of the keys that aren't read, and VALUES of the values that aren't.
+The program's stand in crates/jr_job_keys/src/keys.rt: the tables KEYS of the keys that aren't read, and VALUES of the values that aren't.
 Where USING has others, they are printed as they have to stand there. No note grows past 220 characters, no word is spoken of twice,
 KEYS has no key that is read, and READ has those that are.
 """
@@ -79,7 +79,7 @@ class Keys(unittest.TestCase):
     """Whether the tables of what is refused are the program's."""
 
     def setUp(self):
-        self.source = source("jr_job_notes", "keys.rt")
+        self.source = source("jr_job_keys", "keys.rt")
         self.known = re.findall(r'\("(\w+)", Key::', source("jr_job_options", "words.rt"))
         self.tables = {name: table(self.source, name) for name in HEADS}
         self.said = f"{sum(map(len, self.tables.values()))} rows"

@@ -13,10 +13,7 @@ from collections import defaultdict
 from support.program import TOP, expect
 
 # Each is a set of lemmas that say the same, as CRATE.MODULE.NAME, with the reason why it stands.
-EXCUSED = {
-    # (no crate below both has the counts of tallies and the laws of rounds)
-    frozenset({"jr_desk_state.RestKept.rest_longer", "jr_replay.PhaseLaws.rest_longer"}): "their crates share none that could have it",
-}
+EXCUSED: dict[frozenset[str], str] = {}
 
 DECLARED = re.compile(r"(?:unfoldable |abbrev )?(?:pub )?([^\s:(){}]+) : (.*)")
 TYPED = re.compile(r"(?:abbrev )?(?:pub )?(?:record|data) (\S+) .*")

@@ -4,7 +4,6 @@ use Rattle.std.specs.Prelude.{Bool, ◌||◌}
 use Rattle.std.specs.List.{list_any}
 use Rattle.jr_model.specs.declared.blocks.Piece.{Piece}
 use Rattle.jr_model.specs.Plan.{Plan}
-use Rattle.jr_model.specs.Report.{Miscompare}
 use Rattle.jr_desk_totals.specs.Bads.{miscompare_of}
 use Rattle.jr_desk_totals.specs.declared.tallies.Bad.{Bad}
 use Rattle.jr_report_maps.specs.BadBlocks.{AreBadBlocks, is_bad_block}

@@ -14,12 +14,10 @@ use std::alloc::{AllocError, Global};
 pub(crate) fn told_row(alloc: Global, plan: &Plan, one: &Judged) -> Result<Value, AllocError>
     ensures { IfOk result (λ value. view value ≡ told_json plan.now one.now) }
 {
-    let found = found_value(alloc, &one.finding)?;
-    let kept = kept_value(alloc, &one.finding)?;
     json!(in alloc; {
         "file": plan.file_name(one.chunk.file),
-        "found": found,
-        "kept": kept,
+        "found": found_value(alloc, &one.finding)?,
+        "kept": kept_value(alloc, &one.finding)?,
         "length": one.chunk.len,
         "offset": one.chunk.offset,
         "word": word_of(&one.finding)

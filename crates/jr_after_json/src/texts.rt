@@ -1,8 +1,6 @@
 // The text of a judgement, row by row.
-ghost use Rattle.std.specs.Prelude.{◌≡◌, ◌++◌, IfOk, OnOk, codes, false, flat_map, map};
-ghost use Rattle.serde_json.specs.Data.{string};
-ghost use Rattle.serde_json.specs.View.{view};
-ghost use Rattle.serde_json.specs.Written.{compact_text, has_float};
+ghost use Rattle.std.specs.Prelude.{◌≡◌, ◌++◌, IfOk, OnOk, codes, flat_map, map};
+ghost use Rattle.serde_json.specs.Written.{compact_text};
 ghost use Rattle.jr_report_json.specs.Rows.{array_text, item_text};
 ghost use Rattle.jr_after_json.specs.Json.{file_json, judgement_json, told_in, told_json, unread_json};
 ghost use Rattle.jr_after_json.specs.Written.{about_of, back_text, front_text, middle_text};
@@ -11,7 +9,7 @@ use crate::rows::{file_row, told_row, unread_row};
 use jr_after_report::{FileReport, Judged};
 use jr_model::{Memory, Piece, push_number, push_text};
 use jr_plan::Plan;
-use serde_json::Value;
+use jr_report_json::{push_item, push_string};
 use std::alloc::Global;
 
 /// What the program says of itself, and of the files that it judged.
@@ -78,9 +76,9 @@ fn push_middle(
     push_text(text, ",\"files\":")?;
     push_files(text, alloc, plan, unread, found)?;
     push_text(text, ",\"fiorun\":")?;
-    push_version(text, alloc, judgement.version)?;
+    push_string(text, alloc, judgement.version)?;
     push_text(text, ",\"logic\":")?;
-    push_version(text, alloc, judgement.logic)?;
+    push_string(text, alloc, judgement.logic)?;
     Ok(())
 }
 
@@ -198,22 +196,4 @@ fn push_chunk(
 {
     let row = unread_row(alloc, plan, chunk)?;
     push_item(text, alloc, place, &row)
-}
-
-fn push_version(text: &mut Vec<u8>, alloc: Global, version: &str) -> Result<(), Memory>
-    ensures { OnOk result (text.new.items ≡ text.old.items ++ compact_text (string version.now)) }
-{
-    let value = Value::try_from_str(alloc, version)?;
-    push_item(text, alloc, 0, &value)
-}
-
-// The item of this place.
-fn push_item(text: &mut Vec<u8>, alloc: Global, place: usize, value: &Value) -> Result<(), Memory>
-    ensures { OnOk result (has_float (view value.now) ≡ false → text.new.items ≡ text.old.items ++ item_text place (view value.now)) }
-{
-    if place != 0 {
-        push_text(text, ",")?;
-    }
-    let item = value.to_string(alloc)?;
-    push_text(text, item.as_str())
 }

@@ -417,28 +417,18 @@ module _ (plan : Plan) (history : List Event) (worker : ℕ) (dir : IssueKind) (
       put_in b = ap (λ (r : Round). cond b (with_exhausted r) r) (waits_issued dir write standing.rounds.round)
 
 -- what an issue asks of the round, of a write or of a read
-pub issue_fills_by : (plan : Plan) (history : List Event) (worker : ℕ) (dir : IssueKind) (write : WriteId) (piece : Piece) (job : SubJob) (standing : Standing)
+pub issue_fills : (plan : Plan) (history : List Event) (worker : ℕ) (dir : IssueKind) (write : WriteId) (piece : Piece) (job : SubJob) (standing : Standing)
     → IsNext plan history (Issue worker dir write piece)
     → clone_of plan write.clone ≡ Some job
     → has_rounds job ≡ true
     → IsStanding history job standing
     → is_committed standing.rounds ≡ true
     → (takes_writes standing.rounds.round ≡ true) × (comes_last standing.rounds.round write ≡ true)
-issue_fills_by plan history worker dir write piece job standing next at has is settled =
+issue_fills plan history worker dir write piece job standing next at has is settled =
     let same : current_round job history ≡ standing.rounds.round = sym (round_is plan history worker dir write piece job next at standing is has settled) in (
       subst (λ (r : Round). takes_writes r ≡ true) same (takes_now plan history worker dir write piece job next at standing is has),
       subst (λ (r : Round). comes_last r write ≡ true) same (last_now plan history worker dir write piece job next at standing is has),
     )
-
--- of a write
-pub issue_fills : (plan : Plan) (history : List Event) (worker : ℕ) (write : WriteId) (piece : Piece) (job : SubJob) (standing : Standing)
-    → IsNext plan history (Issue worker issue.Write write piece)
-    → clone_of plan write.clone ≡ Some job
-    → has_rounds job ≡ true
-    → IsStanding history job standing
-    → is_committed standing.rounds ≡ true
-    → (takes_writes standing.rounds.round ≡ true) × (comes_last standing.rounds.round write ≡ true)
-issue_fills plan history worker write piece = issue_fills_by plan history worker issue.Write write piece
 
 -- the same, by what holds at each direction
 pub written_is : (dir : IssueKind) (write : WriteId) (o : Option WriteId) → (dir ≡ issue.Write → o ≡ Some write) → (dir ≡ issue.Read → o ≡ None) → (dir ≡ issue.ReadCheck → o ≡ None) → o ≡ written dir write

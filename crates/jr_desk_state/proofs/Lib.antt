@@ -17,6 +17,7 @@ pub mod RestKept
 pub mod RestMoves
 pub mod Serving
 pub mod StandingDues
+pub mod StandingHere
 pub mod StandingMoves
 pub mod StandingSets
 pub mod StandingStays

@@ -1,14 +1,19 @@
 -- What is kept of a run goes on being that of its history, where an event is put to it.
-use Rattle.std.proofs.Common.{◌≡◌, ◌<◌, ◌≤◌, ℕ, suc, List, [], ◌∷◌, length, get_or, true, refl, sym, ap, subst, arith, length-append}
-use Rattle.std.specs.Prelude.{Some, slice_get}
-use Rattle.std.proofs.lemmas.Option.{slice_get_read, slice_get_within}
+use Rattle.std.proofs.Common.{◌≡◌, ◌^◌, ◌≤◌, ℕ, suc, List, [], ◌∷◌, length, true, sym, ◌∙◌, ap, subst, arith, length-append}
+use Rattle.std.specs.Prelude.{Some}
+use Rattle.std.proofs.Math.ListN.{set}
 use Rattle.jr_model.specs.declared.events.Event.{Event}
+use Rattle.jr_model.specs.History.{started}
 use Rattle.jr_model.specs.Legal.{is_legal, may_happen}
 use Rattle.jr_model.specs.Plan.{Plan, SubJob, clone_of}
 use Rattle.jr_model.proofs.LegalLaws.{is_legal-more}
+use Rattle.jr_model.proofs.PlanLemmas.{own_place, own_number}
 use Rattle.jr_laws_steps.specs.Nexts.{IsNext, grown}
-use Rattle.jr_desk_totals.specs.Tallying.{IsTallied}
+use Rattle.jr_laws_steps.proofs.StartedFew.{started_small}
+use Rattle.jr_desk_totals.specs.Tallying.{CanCount, IsTallied}
+use Rattle.jr_desk_totals.proofs.TallyMoves.{can_count}
 use Rattle.jr_desk_tickets.specs.Handing.{IsHanded}
+use Rattle.jr_desk_tickets.proofs.HandingMoves.{headers_within}
 use Rattle.jr_desk_state.specs.declared.board.Board.{Board}
 use Rattle.jr_desk_state.specs.declared.resting.Rested.{Rested}
 use Rattle.jr_desk_state.specs.declared.standings.Standing.{Standing}
@@ -19,30 +24,40 @@ use Rattle.jr_desk_state.specs.Standings.{AreOthersPrepared, AreStanding, IsStan
 use Rattle.jr_desk_state.specs.Waitings.{AreWaiting}
 use Rattle.jr_desk_state.specs.WriteLogs.{IsLog}
 use Rattle.jr_desk_state.proofs.RestKept.{rested_grows}
-
--- each clone of the plan has its standing
-pub clone_stands : (plan : Plan) (board : Board) (c : ℕ) (job : SubJob) → IsBoard plan board → clone_of plan c ≡ Some job
-    → c < length board.standings.items
-clone_stands plan board c job is planned =
-    omega (arith, slice_get_within plan.clones c job planned, is.standings.count)
-
--- what is read at a clone's place is its standing
-pub stands_at : (plan : Plan) (board : Board) (c : ℕ) (job : SubJob) (standing : Standing) → IsBoard plan board
-    → clone_of plan c ≡ Some job → standing ≡ get_or board.standings.items c standing → slice_get board.standings.items c ≡ Some standing
-stands_at plan board c job standing is planned read =
-    let same : length board.standings.items ≡ length board.standings.items = refl in
-    slice_get_read board.standings.items (length board.standings.items) c standing same (clone_stands plan board c job is planned) read
-
--- and it stands after the history
-pub stands_now : (plan : Plan) (board : Board) (c : ℕ) (job : SubJob) (standing : Standing) → IsBoard plan board
-    → clone_of plan c ≡ Some job → standing ≡ get_or board.standings.items c standing → IsStanding board.history.items job standing
-stands_now plan board c job standing is planned read =
-    is.standings.each c job standing planned (stands_at plan board c job standing is planned read)
+use Rattle.jr_desk_state.proofs.StandingHere.{StandsHere}
+use Rattle.jr_desk_state.proofs.StartingStandings.{standing_moves}
 
 -- an event that may happen next after the history of a board
 pub next_of : (plan : Plan) (board : Board) (event : Event) → IsBoard plan board → may_happen plan board.history.items event ≡ true
     → IsNext plan board.history.items event
 next_of plan board event is may = record { planned = is.planned; legal = is.legal; may = may }
+
+-- what was started is few
+pub few_started : {plan : Plan} {board : Board} → IsBoard plan board → length (started board.history.items) ≤ 2 ^ 31
+few_started {plan = plan} {board = board} is = started_small plan board.history.items is.planned is.legal
+
+pub few_headers : {plan : Plan} {board : Board} → IsBoard plan board → length board.tickets.headers.items ≤ 2 ^ 31
+few_headers {plan = plan} {board = board} is =
+    omega (arith, headers_within plan board.history.items board.tickets is.tickets, few_started is)
+
+-- a clone of the plan can be counted on
+pub counts_on : {plan : Plan} {board : Board} {job : SubJob} (c : ℕ) → IsBoard plan board → clone_of plan c ≡ Some job → CanCount board.tallies c
+counts_on {plan = plan} {board = board} {job = job} c is planned =
+    can_count plan board.history.items board.tallies c job is.planned is.legal is.tallies planned
+
+-- one clone moves with an event, and the others stand as before
+pub one_moves : {plan : Plan} {board : Board} {c : ℕ} {job : SubJob} {standing : Standing} (event : Event) (new : Standing)
+    → StandsHere plan board c job standing
+    → IsStanding (grown board.history.items event) job new
+    → ((other : SubJob) (one : Standing) → IsStanding board.history.items other one → clone_of plan other.clone ≡ Some other
+    → (c ≡ other.clone → ⊥) → IsStanding (grown board.history.items event) other one)
+    → AreStanding plan (grown board.history.items event) (set board.standings.items c new)
+one_moves {plan = plan} {board = board} {c = c} {job = job} event new here moved others =
+    let before = board.history.items in
+    standing_moves plan before (grown before event) board.standings.items c job new here.is.standings here.planned moved
+    (λ k other one there apart stood.
+    others other one stood (own_place plan k other here.is.planned there)
+    (λ (same : c ≡ other.clone). apart (same ∙ sym (own_number plan k other here.is.planned there))))
 
 -- where each index goes on with the history, so does the board
 pub board_grows : (plan : Plan) (before after : Board) (event : Event)

@@ -24,21 +24,22 @@ use Rattle.jr_model.specs.LastWrite.{is_intact}
 use Rattle.jr_model.specs.Legal.{may_happen, may_issue, may_take_up, is_this_probe, step_of, step_of_draw, step_of_clone}
 use Rattle.jr_model.specs.Machine.{seed_of_draw}
 use Rattle.jr_model.specs.Plan.{Plan, SubJob, clone_of, issued_as, declines_of}
-use Rattle.jr_model.specs.Rounds.{has_rounds, pass_of, write_id}
+use Rattle.jr_model.specs.Rounds.{pass_of, write_id}
 use Rattle.jr_writes.specs.declared.logs.Logged.{Logged}
 use Rattle.jr_writes.specs.LoggedWrites.{logged}
 use Rattle.jr_flight.specs.declared.ios.Io.{Io}
 use Rattle.jr_laws_log.specs.Flying.{dir_of, io_of}
-use Rattle.jr_laws_steps.proofs.StepLaws.{IsNamed}
+use Rattle.jr_laws_rounds.proofs.ChoiceSteps.{can_take}
+use Rattle.jr_laws_steps.proofs.StepLaws.{IsNamed, may_probe_of}
 use Rattle.jr_desk_tickets.specs.Kept.{tickets_of}
 use Rattle.jr_desk_tickets.specs.Tickets.{method_of, seed_of, expected_by, ticket_of}
 use Rattle.jr_desk_tickets.proofs.OwnTickets.{ticket_started}
 use Rattle.jr_desk_state.specs.declared.board.Board.{Board}
 use Rattle.jr_desk_state.specs.declared.standings.Issued.{Issued}
 use Rattle.jr_desk_state.specs.declared.standings.Standing.{Standing}
-use Rattle.jr_desk_state.specs.Boards.{IsBoard}
 use Rattle.jr_desk_state.specs.WriteLogs.{checked_by}
 use Rattle.jr_desk_state.proofs.LogMoves.{log_intact}
+use Rattle.jr_desk_state.proofs.StandingHere.{StandsHere, of_job, stands}
 
 -- what was issued in the pass that its clone is in has its ticket, with its draw's seed
 pub record HasTicket (plan : Plan) (history : List Event) (write : WriteId) (id : ℕ) : Type 0 where
@@ -46,19 +47,17 @@ pub record HasTicket (plan : Plan) (history : List Event) (write : WriteId) (id 
   pub at : slice_get (tickets_of plan history) id ≡ Some ticket
   pub seed : ticket.seed ≡ seed_of_draw (slice_get (draws_of plan write.clone write.pass) write.number)
 
-has_ticket : (plan : Plan) (board : Board) (write : WriteId) (job : SubJob) (standing : Standing) (issued : Issued)
-    → IsBoard plan board
-    → clone_of plan write.clone ≡ Some job
-    → slice_get board.standings.items write.clone ≡ Some standing
+has_ticket : {plan : Plan} {board : Board} {job : SubJob} {standing : Standing} (write : WriteId) (issued : Issued)
+    → StandsHere plan board write.clone job standing
     → standing.pass ≡ write.pass
     → slice_get standing.issued.items write.number ≡ Some issued
     → HasTicket plan board.history.items write issued.id
-has_ticket plan board write job standing issued is planned at here got =
-    let was = (is.standings.each write.clone job standing planned at).issued write.number issued got in
+has_ticket {plan = plan} {board = board} {job = job} {standing = standing} write issued here pass got =
+    let was = (stands here).issued write.number issued got in
     let made : ℕ → ℕ → WriteId = λ (c : ℕ). λ (p : ℕ). record { clone = c; pass = p; number = write.number } in
-    let clone : job.clone ≡ write.clone = (is.planned.drafted.placed write.clone job planned).number in
+    let clone : job.clone ≡ write.clone = (here.is.planned.drafted.placed write.clone job here.planned).number in
     let named : was.io.write ≡ write =
-    was.named ∙ ap (λ (c : ℕ). made c standing.pass) clone ∙ ap (made write.clone) here in
+    was.named ∙ ap (λ (c : ℕ). made c standing.pass) clone ∙ ap (made write.clone) pass in
     record {
       ticket = ticket_of plan (issued.id, was.io);
       at = ticket_started plan board.history.items issued.id was.io was.at;
@@ -71,17 +70,15 @@ got_issued None id found = cc
 got_issued (Some issued) id found = (issued, refl, same_Some issued.id id found)
 
 -- the seed that is read of the ticket of the number under which it was issued
-pub seed_kept : (plan : Plan) (board : Board) (write : WriteId) (job : SubJob) (standing : Standing) (id seed : ℕ)
-    → IsBoard plan board
-    → clone_of plan write.clone ≡ Some job
-    → slice_get board.standings.items write.clone ≡ Some standing
+pub seed_kept : {plan : Plan} {board : Board} {job : SubJob} {standing : Standing} (write : WriteId) (id seed : ℕ)
+    → StandsHere plan board write.clone job standing
     → standing.pass ≡ write.pass
     → option_map (λ (issued : Issued). issued.id) (slice_get standing.issued.items write.number) ≡ Some id
     → ((t : Ticket) → slice_get (tickets_of plan board.history.items) id ≡ Some t → seed ≡ t.seed)
     → seed ≡ seed_of_draw (slice_get (draws_of plan write.clone write.pass) write.number)
-seed_kept plan board write job standing id seed is planned at here found read =
+seed_kept {plan = plan} {board = board} {standing = standing} write id seed here pass found read =
     let got = got_issued (slice_get standing.issued.items write.number) id found in
-    let has = has_ticket plan board write job standing got.0 is planned at here got.1 in
+    let has = has_ticket write got.0 here pass got.1 in
     read has.ticket (ap (slice_get (tickets_of plan board.history.items)) (sym got.2) ∙ has.at) ∙ has.seed
 
 -- the ticket of an issue
@@ -194,23 +191,24 @@ abbrev wanted_of : Option Logged → Expected
 wanted_of o = unwrap_or (option_map (λ (entry : Logged). entry.expected) o) expected.Nothing
 
 -- so the log has what it is checked by
-pub probe_expects : (plan : Plan) (board : Board) (worker : ℕ) (write : WriteId) (piece : Piece) (job : SubJob) (draw : Draw)
-    (pass : ℕ)
-    → IsBoard plan board
-    → IsNamed plan write job draw
-    → has_rounds job ≡ true
-    → draw.piece ≡ piece
-    → pass < job.passes
-    → pass ≡ write.pass
+pub probe_expects : {plan : Plan} {board : Board} {job : SubJob} {standing : Standing} (worker : ℕ) (write : WriteId) (piece : Piece)
+    → StandsHere plan board write.clone job standing
+    → standing.pass ≡ write.pass
     → may_happen plan board.history.items (Probe worker write piece) ≡ true
     → wanted_of (logged board.log.writes write) ≡ checked_by plan write piece
-probe_expects plan board worker write piece job draw pass is named rounds there within here may =
+probe_expects {plan = plan} {board = board} {standing = standing} worker write piece here pass may =
     let history = board.history.items in
     let entry : Piece → Logged = λ (p : Piece). record { piece = p; expected = checked_by plan write p } in
-    let below : write.pass < job.passes = subst (λ (p : ℕ). p < job.passes) here within in
-    ap (λ (entries : List (WriteId × Logged)). wanted_of (logged entries write)) is.log.entries
+    let probed = may_probe_of plan history worker write piece may in
+    let job = probed.0.job in
+    let draw = probed.0.draw in
+    let named = probed.0.named in
+    let rounds = (can_take plan history (pass_of job write.pass) draw probed.0.may).rounds in
+    let within = of_job here (λ (j : SubJob). standing.pass < j.passes) (stands here).in_pass.within job named.planned in
+    let below : write.pass < job.passes = subst (λ (p : ℕ). p < job.passes) pass within in
+    ap (λ (entries : List (WriteId × Logged)). wanted_of (logged entries write)) here.is.log.entries
     ∙ ap wanted_of
-    (log_intact plan history write.clone write.pass write.number job draw is.planned is.legal named.planned rounds below named.drawn)
+    (log_intact plan history write.clone write.pass write.number job draw here.is.planned here.is.legal named.planned rounds below named.drawn)
     ∙ ap (λ (b : Bool). wanted_of (cond b (Some (entry draw.piece)) None))
     (probe_intact plan history worker write piece job draw named may)
-    ∙ ap (checked_by plan write) there
+    ∙ ap (checked_by plan write) probed.1

@@ -1,5 +1,5 @@
 -- A clone that waits for an end of its own goes on waiting until one comes.
-use Rattle.std.proofs.Common.{◌≡◌, ◌+◌, ◌-◌, ◌*◌, ◌^◌, ◌<◌, ◌≤◌, ◌⊎◌, ℕ, List, [], ◌∷◌, ◌++◌, length, Bool, true, false, cond, not, sym, ◌∙◌, ap, subst, arith, inl, inr}
+use Rattle.std.proofs.Common.{◌≡◌, ◌+◌, ◌-◌, ◌*◌, ◌^◌, ◌<◌, ◌≤◌, ◌⊎◌, ℕ, List, [], ◌∷◌, ◌++◌, length, true, false, cond, not, sym, ◌∙◌, ap, subst, arith, inl, inr}
 use Rattle.std.specs.Prelude.{Option, Some, None, slice_get, ◌==◌}
 use Rattle.std.proofs.lemmas.Bool.{or_cases, or_left, or_right, cases_Bool, cases_lt, both_ways, ne_eqb, le-ltb, lt-ltb, not-true}
 use Rattle.std.proofs.lemmas.Option.{same_Some}
@@ -26,7 +26,7 @@ use Rattle.jr_desk_totals.proofs.TallyMoves.{counts_are}
 use Rattle.jr_desk_state.specs.declared.waiting.Waiting.{Waiting}
 use Rattle.jr_desk_state.specs.Waitings.{AreWaiting, is_blocked, is_marked, waits_for_own}
 use Rattle.jr_desk_state.proofs.ChoiceMoves.{chosen, step_blocked}
-use Rattle.jr_desk_state.proofs.RestKept.{none_at_rest, rest_longer}
+use Rattle.jr_desk_state.proofs.RestKept.{none_at_rest, rests_on}
 
 -- nothing of the clone ends by the event, which names this I/O
 abbrev pub EndsNothing : ℕ → Option Started → Event → Type 0
@@ -91,7 +91,7 @@ waits_longer plan h e job next there ends waits =
     elim (or_cases (is_blocked h job) (is_at_rest h job) waits) [
       | inl blocked ↦ or_left (is_blocked later job) (is_at_rest later job) (blocked_longer plan h e job next.legal next.may ends blocked)
       | inr rests ↦ or_right (is_blocked later job) (is_at_rest later job)
-          (rest_longer plan next.planned job there h e next.legal next.may rests)
+          (rests_on plan h e job next there rests)
     ]
 
 -- those that are known to wait do so after an event that ends nothing of one of them

@@ -3,6 +3,7 @@ pub mod Compared
 pub mod Counted
 pub mod Few
 pub mod Moved
+pub mod Resting
 pub mod SideBySide
 pub mod Tallied
 pub mod TallyMoves

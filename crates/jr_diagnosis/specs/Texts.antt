@@ -1,5 +1,5 @@
 -- Believed: what is told of a bad block, in words and numbers (of this project).
-use Rattle.std.specs.Prelude.{ℕ, ◌==◌, Bool, true, false, List, [], ◌∷◌, ◌++◌, codes, flat_map, find, map, Option, if◌then◌else◌}
+use Rattle.std.specs.Prelude.{ℕ, Bool, true, false, List, ◌++◌, codes, flat_map, find, Option}
 use Rattle.jr_model.specs.declared.events.WriteId.{WriteId}
 use Rattle.jr_model.specs.History.{same_write}
 use Rattle.std.specs.Fmt.{decimal}

@@ -12,7 +12,7 @@ use Rattle.std.proofs.lemmas.Str.{chars-append, chars-IsAscii, chars-nil, chars_
 use Rattle.std.proofs.lemmas.Str.Ascii.{IsAscii-cons, IsAscii-nil}
 use lib.Utf8.{scalar, scalars}
 use Rattle.jr_escape.specs.Escapes.{escaped_char, is_hidden}
-use Rattle.jr_escape.specs.Laws.{is_changed, NothingIsHidden, PlainStays}
+use Rattle.jr_escape.specs.Laws.{is_changed, ShownHidesNothing, PlainStays}
 
 -- a printed character of ASCII
 record IsPrinted (b : ℕ) : Type 0 where
@@ -108,7 +108,7 @@ all_shown text_of each (c ∷ cs) s =
     ∙ list_any-append is_hidden (chars (text_of c)) (chars (flat_map text_of cs))
     ∙ or_from _ _ first.none (all_shown text_of each cs parts.1)
 
-pub nothing_hidden : NothingIsHidden
+pub nothing_hidden : ShownHidesNothing
 nothing_hidden text is_text = all_shown escaped_char char_shown (chars text) (scalars-chars text is_text)
 
 -- a character that isn't changed is none of these

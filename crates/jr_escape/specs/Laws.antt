@@ -5,8 +5,8 @@ use Rattle.std.specs.Str.{IsUtf8}
 use Rattle.jr_escape.specs.Escapes.{escaped, is_hidden}
 
 -- none of its characters is one that a line may not have
-abbrev pub NothingIsHidden : Type 0
-NothingIsHidden = (text : List ℕ) → IsUtf8 text → list_any is_hidden (chars (escaped text)) ≡ false
+abbrev pub ShownHidesNothing : Type 0
+ShownHidesNothing = (text : List ℕ) → IsUtf8 text → list_any is_hidden (chars (escaped text)) ≡ false
 
 -- a backslash, or such a character
 abbrev pub is_changed : ℕ → Bool

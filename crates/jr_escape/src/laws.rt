@@ -1,8 +1,8 @@
-ghost use Rattle.jr_escape.specs.Laws.{NothingIsHidden, PlainStays};
+ghost use Rattle.jr_escape.specs.Laws.{ShownHidesNothing, PlainStays};
 
 /// No character of a text that is shown so is one that a terminal or a browser obeys or doesn't show.
-pub fn nothing_is_hidden()
-    ensures { NothingIsHidden }
+pub fn shown_hides_nothing()
+    ensures { ShownHidesNothing }
 {}
 
 /// A text that has none of these and no backslash is shown as it is.

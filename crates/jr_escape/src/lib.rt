@@ -6,5 +6,5 @@ mod laws;
 mod texts;
 
 pub use chars::{EscapedChar, is_hidden};
-pub use laws::{nothing_is_hidden, plain_stays};
+pub use laws::{plain_stays, shown_hides_nothing};
 pub use texts::{Escaped, EscapedLines};

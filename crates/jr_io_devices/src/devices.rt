@@ -1,8 +1,10 @@
 ghost use Rattle.std.specs.Prelude.{◌≡◌, string_bytes, IfOk};
 ghost use Rattle.jr_io_devices.specs.Devices.{numbers_of, numbers_text};
 
-use crate::numbers::small_number_in;
+use crate::numbers::{line_at, small_number_in};
 use std::alloc::{AllocError, Global};
+use std::io;
+use std::rt::Files;
 
 /// The numbers of a device's driver and, under it, of the device.
 #[derive(Clone, Copy, Debug, PartialEq, Eq)]
@@ -35,6 +37,19 @@ impl DeviceNumbers {
         })
     }
 
+    /// The numbers in this file of a folder of the kernel's, if it has some.
+    pub(crate) fn at<R: Files>(
+        rt: &R,
+        alloc: Global,
+        folder: &str,
+        file: &str,
+    ) -> io::Result<Option<DeviceNumbers>> {
+        match line_at(rt, alloc, folder, file) {
+            Ok(line) => Ok(DeviceNumbers::in_text(line.as_str())),
+            Err(error) => Err(error),
+        }
+    }
+
     /// The one number that the system gives of a file, for these.
     pub(crate) fn number(self) -> u64
         ensures { numbers_of result ≡ self }
@@ -52,5 +67,11 @@ impl DeviceNumbers {
         let major = self.major;
         let minor = self.minor;
         format!(in alloc; "{major}:{minor}")
+    }
+
+    /// The device's folder among those of the kernel.
+    pub(crate) fn folder(self, alloc: Global) -> Result<String, AllocError> {
+        let DeviceNumbers { major, minor } = self;
+        format!(in alloc; "/sys/dev/block/{major}:{minor}")
     }
 }

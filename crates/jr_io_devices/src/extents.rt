@@ -18,7 +18,7 @@ pub struct Extent {
 }
 
 /// What a device is a part of.
-#[derive(Clone, Copy, Debug, PartialEq, Eq)]
+#[derive(Clone, Copy)]
 pub(crate) enum Below {
     /// The disk of a partition, and the first sector of the partition there.
     Disk(Identity, u64),

@@ -11,7 +11,7 @@ use std::{fs, io};
 const MOST_LAYERS: usize = 32;
 
 /// The devices that the bytes of a file go through, and which bytes of the lowest disk or file they are.
-#[derive(Debug, Drop)]
+#[derive(Drop)]
 pub struct Layers {
     /// The bytes of the lowest.
     pub extent: Extent,
@@ -22,7 +22,7 @@ pub struct Layers {
 }
 
 /// A block device that a loop device stands on.
-#[derive(Debug, Drop)]
+#[derive(Drop)]
 pub(crate) struct Backing {
     pub name: String,
     pub numbers: DeviceNumbers,
@@ -31,8 +31,13 @@ pub(crate) struct Backing {
 impl Layers {
     /// Those of the file with these numbers. The lowest is the last that the system says something of.
     pub fn of<R: Files>(rt: &R, alloc: Global, numbers: FileNumbers) -> io::Result<Layers> {
+        Layers::under(rt, alloc, numbers.identity())
+    }
+
+    /// Those of the file of this identity.
+    pub(crate) fn under<R: Files>(rt: &R, alloc: Global, what: Identity) -> io::Result<Layers> {
         let mut layers = Layers {
-            extent: whole(rt, alloc, numbers.identity())?,
+            extent: whole(rt, alloc, what)?,
             devices: Vec::new(alloc),
             backing: Vec::new(alloc),
         };
@@ -46,7 +51,7 @@ impl Layers {
 
     /// Whether the bytes go through the device of this number.
     pub(crate) fn has(&self, device: u64) -> bool {
-        self.devices.iter().any(|it| *it == device)
+        self.devices.as_slice().contains(&device)
     }
 
     /// The devices among them that loop devices stand on.
@@ -60,18 +65,28 @@ impl Layers {
             return Ok(false);
         };
         self.devices.push(device)?;
-        let numbers = DeviceNumbers::of(device).text(alloc)?;
-        let place = format!(in alloc; "/sys/dev/block/{numbers}")?;
-        if let Some(disk) = disk_of(rt, alloc, place.as_str())? {
+        let folder = DeviceNumbers::of(device).folder(alloc)?;
+        if let Some(disk) = disk_of(rt, alloc, folder.as_str())? {
             self.extent = self.extent.part_of(disk);
             return Ok(true);
         }
-        let Some((file, name)) = file_under(rt, alloc, place.as_str())? else {
+        self.goes_to_file(rt, alloc, folder.as_str())
+    }
+
+    // Goes down to the file under the loop device whose folder this is, if there is one.
+    fn goes_to_file<R: Files>(&mut self, rt: &R, alloc: Global, folder: &str) -> io::Result<bool> {
+        let Some(offset) = number_at(rt, alloc, folder, "loop/offset")? else {
             return Ok(false);
         };
-        self.extent = self.extent.part_of(file);
-        if let Identity::Device(device) = self.extent.what {
-            let numbers = DeviceNumbers::of(device);
+        let name = line_at(rt, alloc, folder, "loop/backing_file")?;
+        // (a file that was removed has no name any more)
+        let Ok(metadata) = fs::metadata(rt, name.as_str()) else {
+            return Ok(false);
+        };
+        let file = FileNumbers::of(&metadata);
+        self.extent = self.extent.part_of(Below::File(file.identity(), offset));
+        if file.is_block_device {
+            let numbers = DeviceNumbers::of(file.device);
             self.backing.push(Backing { name, numbers })?;
         }
         Ok(true)
@@ -83,45 +98,26 @@ fn whole<R: Files>(rt: &R, alloc: Global, what: Identity) -> io::Result<Extent> 
     let Identity::Device(device) = what else {
         return Ok(Extent::whole(what));
     };
-    let numbers = DeviceNumbers::of(device).text(alloc)?;
-    let path = format!(in alloc; "/sys/dev/block/{numbers}/size")?;
-    match number_at(rt, alloc, path.as_str())? {
-        Some(sectors) => Ok(Extent {
+    let folder = DeviceNumbers::of(device).folder(alloc)?;
+    match number_at(rt, alloc, folder.as_str(), "size") {
+        Ok(Some(sectors)) => Ok(Extent {
             what,
             start: 0,
             length: sector_start(sectors),
         }),
-        None => Ok(Extent::whole(what)),
+        Ok(None) => Ok(Extent::whole(what)),
+        Err(error) => Err(error),
     }
 }
 
 // The disk of the partition whose folder this is.
-fn disk_of<R: Files>(rt: &R, alloc: Global, place: &str) -> io::Result<Option<Below>> {
-    let path = format!(in alloc; "{place}/start")?;
-    let Some(sector) = number_at(rt, alloc, path.as_str())? else {
+fn disk_of<R: Files>(rt: &R, alloc: Global, folder: &str) -> io::Result<Option<Below>> {
+    let Some(sector) = number_at(rt, alloc, folder, "start")? else {
         return Ok(None);
     };
-    let path = format!(in alloc; "{place}/../dev")?;
-    let line = line_at(rt, alloc, path.as_str())?;
-    let Some(disk) = DeviceNumbers::in_text(line.as_str()) else {
-        return Ok(None);
-    };
-    let disk = Identity::Device(disk.number());
-    Ok(Some(Below::Disk(disk, sector)))
-}
-
-// The file under the loop device whose folder this is, and the file's name.
-fn file_under<R: Files>(rt: &R, alloc: Global, place: &str) -> io::Result<Option<(Below, String)>> {
-    let path = format!(in alloc; "{place}/loop/offset")?;
-    let Some(offset) = number_at(rt, alloc, path.as_str())? else {
-        return Ok(None);
-    };
-    let path = format!(in alloc; "{place}/loop/backing_file")?;
-    let name = line_at(rt, alloc, path.as_str())?;
-    // (a file that was removed has no name any more)
-    let Ok(metadata) = fs::metadata(rt, name.as_str()) else {
-        return Ok(None);
-    };
-    let file = FileNumbers::of(&metadata).identity();
-    Ok(Some((Below::File(file, offset), name)))
+    match DeviceNumbers::at(rt, alloc, folder, "../dev") {
+        Ok(Some(disk)) => Ok(Some(Below::Disk(Identity::Device(disk.number()), sector))),
+        Ok(None) => Ok(None),
+        Err(error) => Err(error),
+    }
 }

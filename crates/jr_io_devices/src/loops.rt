@@ -1,24 +1,23 @@
 // The loop devices of the system that stand on a file.
 use crate::devices::DeviceNumbers;
 use crate::extents::Extent;
-use crate::identities::FileNumbers;
-use crate::in_use::is_entry;
+use crate::identities::Identity;
 use crate::layers::Layers;
 use crate::numbers::line_at;
-use crate::tables::names_of;
+use crate::tables::{is_nul, names_of};
 use std::alloc::Global;
 use std::io;
 use std::io::ErrorKind;
 use std::rt::Files;
 
 /// The loop devices that stand on a file.
-#[derive(Debug, Drop)]
+#[derive(Drop)]
 pub struct Loops {
     all: Vec<Loop>,
 }
 
 /// A loop device that stands on a file, and which bytes of the lowest disk or file it has.
-#[derive(Debug, Drop)]
+#[derive(Drop)]
 pub(crate) struct Loop {
     pub name: String,
     pub numbers: DeviceNumbers,
@@ -28,25 +27,38 @@ pub(crate) struct Loop {
 impl Loops {
     /// Those that the system has now. An error is want of memory, or says that they can't be seen.
     pub fn of<R: Files>(rt: &R, alloc: Global) -> io::Result<Loops> {
-        let mut all = Vec::new(alloc);
-        let names = names_of(rt, alloc, "/sys/block/")?;
+        let names = names_of(rt, alloc, "/sys/block", "")?;
         if names.is_empty() {
             return Err(io::Error::from(ErrorKind::NotFound));
         }
-        for name in names.as_slice().split(|byte| *byte == 0) {
-            if is_entry(name) && name.starts_with(b"loop") {
-                let name = String::from_utf8_lossy(alloc, name)?;
-                if let Some(found) = loop_of(rt, alloc, name)? {
-                    all.push(found)?;
-                }
-            }
+        let mut loops = Loops {
+            all: Vec::new(alloc),
+        };
+        for name in names.as_slice().split(is_nul) {
+            loops.add(rt, alloc, name)?;
         }
-        Ok(Loops { all })
+        Ok(loops)
     }
 
     /// All of them.
     pub(crate) fn all(&self) -> &[Loop] {
         self.all.as_slice()
+    }
+
+    // Adds the device of this name, if it is a loop device that stands on a file.
+    fn add<R: Files>(&mut self, rt: &R, alloc: Global, name: &[u8]) -> io::Result<()> {
+        if name.starts_with(b"loop") {
+            let name = String::from_utf8_lossy(alloc, name)?;
+            if let Some(numbers) = loop_numbers(rt, alloc, name.as_str())? {
+                let extent = extent_of(rt, alloc, numbers)?;
+                self.all.push(Loop {
+                    name,
+                    numbers,
+                    extent,
+                })?;
+            }
+        }
+        Ok(())
     }
 }
 
@@ -57,27 +69,17 @@ impl Loop {
     }
 }
 
-// The loop device of this name, if it stands on a file.
-fn loop_of<R: Files>(rt: &R, alloc: Global, name: String) -> io::Result<Option<Loop>> {
-    let path = format!(in alloc; "/sys/block/{name}/loop/offset")?;
-    if line_at(rt, alloc, path.as_str())?.is_empty() {
+// The numbers of the loop device of this name, if it stands on a file.
+fn loop_numbers<R: Files>(rt: &R, alloc: Global, name: &str) -> io::Result<Option<DeviceNumbers>> {
+    let folder = format!(in alloc; "/sys/block/{name}")?;
+    if line_at(rt, alloc, folder.as_str(), "loop/offset")?.is_empty() {
         return Ok(None);
     }
-    let path = format!(in alloc; "/sys/block/{name}/dev")?;
-    let line = line_at(rt, alloc, path.as_str())?;
-    let Some(numbers) = DeviceNumbers::in_text(line.as_str()) else {
-        return Ok(None);
-    };
-    let file = FileNumbers {
-        is_block_device: true,
-        file_system: 0,
-        inode: 0,
-        device: numbers.number(),
-    };
-    let extent = Layers::of(rt, alloc, file)?.extent;
-    Ok(Some(Loop {
-        name,
-        numbers,
-        extent,
-    }))
+    DeviceNumbers::at(rt, alloc, folder.as_str(), "dev")
+}
+
+// Which bytes of the lowest disk or file a device has.
+fn extent_of<R: Files>(rt: &R, alloc: Global, numbers: DeviceNumbers) -> io::Result<Extent> {
+    let device = Identity::Device(numbers.number());
+    Ok(Layers::under(rt, alloc, device)?.extent)
 }

@@ -6,20 +6,36 @@ use std::alloc::Global;
 use std::io;
 use std::rt::Files;
 
-/// The number that stands alone in this file, if it can be read there.
-pub(crate) fn number_at<R: Files>(rt: &R, alloc: Global, path: &str) -> io::Result<Option<u64>> {
-    let line = line_at(rt, alloc, path)?;
-    Ok(number_in(line.as_str()))
+/// The number that stands alone in this file of a folder, if it can be read there.
+pub(crate) fn number_at<R: Files>(
+    rt: &R,
+    alloc: Global,
+    folder: &str,
+    file: &str,
+) -> io::Result<Option<u64>> {
+    match line_at(rt, alloc, folder, file) {
+        Ok(line) => Ok(number_in(line.as_str())),
+        Err(error) => Err(error),
+    }
 }
 
-/// The one line of this file, or nothing if it isn't there.
-pub(crate) fn line_at<R: Files>(rt: &R, alloc: Global, path: &str) -> io::Result<String> {
-    let text = text_of(rt, alloc, path)?;
-    let line = match text.as_slice() {
+/// The one line of this file of a folder, or nothing if it isn't there.
+pub(crate) fn line_at<R: Files>(
+    rt: &R,
+    alloc: Global,
+    folder: &str,
+    file: &str,
+) -> io::Result<String> {
+    let text = text_of(rt, alloc, folder, file)?;
+    Ok(String::from_utf8_lossy(alloc, without_end(text.as_slice()))?)
+}
+
+// The text without the end of its line.
+fn without_end(text: &[u8]) -> &[u8] {
+    match text {
         [line @ .., b'\n'] => line,
         line => line,
-    };
-    Ok(String::from_utf8_lossy(alloc, line)?)
+    }
 }
 
 /// The number that these digits are.

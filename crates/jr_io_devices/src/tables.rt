@@ -21,18 +21,31 @@ const MOST_READ: u64 = 1 << 28;
 // What the system answers for a device that has gone while its folder was looked at.
 const ENODEV: i32 = 19;
 
-/// All that the system answers for a file, or nothing if it isn't there. An error is want of memory, or says that its end wasn't seen.
-pub(crate) fn text_of<R: Files>(rt: &R, alloc: Global, path: &str) -> io::Result<Vec<u8>> {
-    match File::open(rt, path) {
+/// All that the system answers for this file of a folder, or nothing if it isn't there. An error is want of memory, or says that its
+/// end wasn't seen.
+pub(crate) fn text_of<R: Files>(
+    rt: &R,
+    alloc: Global,
+    folder: &str,
+    file: &str,
+) -> io::Result<Vec<u8>> {
+    let path = format!(in alloc; "{folder}/{file}")?;
+    match File::open(rt, path.as_str()) {
         Ok(file) => taken(alloc, file),
         Err(error) => nothing_there(alloc, error),
     }
 }
 
-/// The names in a folder, each ended by a NUL, or nothing if it isn't there. A link is followed if the path ends in a slash.
-/// An error is want of memory, or says that not all were seen.
-pub(crate) fn names_of<R: Files>(rt: &R, alloc: Global, path: &str) -> io::Result<Vec<u8>> {
-    match rt.open_dir(path) {
+/// The names in this folder of another, each ended by a NUL, or nothing if it isn't there. A link is followed if the path ends in a
+/// slash. An error is want of memory, or says that not all were seen.
+pub(crate) fn names_of<R: Files>(
+    rt: &R,
+    alloc: Global,
+    place: &str,
+    folder: &str,
+) -> io::Result<Vec<u8>> {
+    let path = format!(in alloc; "{place}/{folder}")?;
+    match rt.open_dir(path.as_str()) {
         Ok(folder) => taken(alloc, folder),
         Err(error) => nothing_there(alloc, error),
     }
@@ -57,11 +70,21 @@ fn nothing_there(alloc: Global, error: io::Error) -> io::Result<Vec<u8>> {
     }
 }
 
+/// Whether a name in such a folder ends here.
+pub(crate) fn is_nul(byte: &u8) -> bool {
+    *byte == 0
+}
+
+/// Whether a line of such a table ends here.
+pub(crate) fn is_newline(byte: &u8) -> bool {
+    *byte == b'\n'
+}
+
 /// The first line of a table of mounts that has these numbers.
 pub(crate) fn mount_of<'a>(mounts: &'a [u8], device: &[u8]) -> Option<&'a [u8]>
     ensures { IfSome result (λ line. IsMountOf device.now line.now) }
 {
-    for line in mounts.split(|byte| *byte == b'\n') {
+    for line in mounts.split(is_newline) {
         if is_mount_of(line, device) {
             return Some(line);
         }

@@ -17,12 +17,13 @@ pub enum Use {
 
 impl fmt::Display for Use {
     fn fmt<W: fmt::Write>(&self, f: &mut fmt::Formatter<W>) -> fmt::Result {
-        match self {
-            Use::Mounted(place) => write!(f, "mounted at {place}"),
-            Use::Swap => write!(f, "swap"),
-            Use::PartOf(name) => write!(f, "part of {name}"),
-            Use::Under(name) => write!(f, "under {name}"),
-            Use::Over(name) => write!(f, "over {name}"),
-        }
+        let (how, name) = match self {
+            Use::Mounted(place) => ("mounted at ", place.as_str()),
+            Use::Swap => ("swap", ""),
+            Use::PartOf(name) => ("part of ", name.as_str()),
+            Use::Under(name) => ("under ", name.as_str()),
+            Use::Over(name) => ("over ", name.as_str()),
+        };
+        write!(f, "{how}{name}")
     }
 }

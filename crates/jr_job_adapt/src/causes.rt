@@ -39,7 +39,7 @@ fn is_faulty(above: &Result<JobOptions, JobFault>, section: &Section) -> bool
     ensures { result ≡ is_faulty above.now section.now }
 {
     match with_lines(above, section.lines()) {
-        Ok(options) => options.shape(section.line()).is_err(),
+        Ok(options) => options.shape(section.line_number()).is_err(),
         Err(_) => true,
     }
 }

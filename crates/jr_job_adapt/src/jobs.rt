@@ -6,7 +6,7 @@ use crate::following::is_global;
 use crate::settled::{Settled, settle};
 use crate::state::{State, line_of, way_of};
 use crate::turns::turn_line;
-use jr_job_notes::Way;
+use jr_job_keys::Way;
 use jr_job_options::{JobFault, JobOptions};
 use jr_text::{Line, Section};
 use std::alloc::{AllocError, Global};
@@ -133,7 +133,7 @@ fn draft_of<L: Lengths>(
     state.add(alloc, sections, number)?;
     let mut job = Job {
         number,
-        line: section.line(),
+        line: section.line_number(),
         options: with_section(alloc, globals, section)?,
         extras: Vec::new(alloc),
     };

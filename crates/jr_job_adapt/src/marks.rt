@@ -40,7 +40,7 @@ fn add_section(marks: &mut Vec<Mark>, section: &Section, out: bool) -> Result<()
     ensures { OnOk result (marks.new.items ≡ marks.old.items ++ section_marks out section.now) }
 {
     if out {
-        add(marks, section.line(), false)?;
+        add(marks, section.line_number(), false)?;
     }
     add_lines(marks, section.lines(), out)
 }
@@ -58,10 +58,10 @@ fn add_line(marks: &mut Vec<Mark>, line: &Line, out: bool) -> Result<(), AllocEr
     ensures { OnOk result (marks.new.items ≡ marks.old.items ++ line_marks out line.now) }
 {
     if told_of(line).is_some() {
-        return add(marks, line.line(), true);
+        return add(marks, line.number(), true);
     }
     if out {
-        return add(marks, line.line(), false);
+        return add(marks, line.number(), false);
     }
     Ok(())
 }

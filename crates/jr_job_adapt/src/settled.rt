@@ -1,6 +1,7 @@
 // What a refused line comes to in a job that it counts for.
 
-use jr_job_notes::{Way, fio_number};
+use jr_job_keys::Way;
+use jr_job_notes::fio_number;
 use jr_job_options::JobOptions;
 use jr_model::MOST_PASSES;
 use jr_text::Line;

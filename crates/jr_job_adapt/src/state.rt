@@ -2,7 +2,7 @@
 
 use crate::following::is_global;
 use crate::turns::{Turn, Turned, turn_line};
-use jr_job_notes::Way;
+use jr_job_keys::Way;
 use jr_text::{Line, Section};
 use std::alloc::{AllocError, Global};
 

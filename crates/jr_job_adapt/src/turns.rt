@@ -1,6 +1,7 @@
 // What becomes of a refused line in its place.
 
-use jr_job_notes::{Fate, Told, Way, fio_seconds, other_words, told_of};
+use jr_job_keys::{Fate, Told, Way};
+use jr_job_notes::{fio_seconds, other_words, told_of};
 use jr_text::Line;
 use std::alloc::{AllocError, Global};
 
@@ -57,7 +58,7 @@ fn by_way(alloc: Global, line: &Line, told: Told, way: Way) -> Result<Turned, Al
 // A line with another key or value, where that one is taken.
 fn in_place(alloc: Global, line: &Line, told: Told, way: Way) -> Result<Turned, AllocError> {
     let (key, value) = other_words(alloc, line, way)?;
-    let made = Line::new(line.line(), key, value);
+    let made = Line::new(line.number(), key, value);
     if told_of(&made).is_some() {
         return Ok(plain(alloc, told, Turn::Yours("its value")));
     }

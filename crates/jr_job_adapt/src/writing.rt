@@ -45,7 +45,7 @@ impl Writer {
         raw: &str,
     ) -> Result<(), AllocError> {
         if let (Some(section), Some(draft)) = (sections.get(self.begun), drafts.get(self.begun))
-            && section.line() as usize == number
+            && section.line_number() as usize == number
         {
             self.begun = self.begun.saturating_add(1);
             self.place = 0;
@@ -54,7 +54,7 @@ impl Writer {
         let own = self.begun.saturating_sub(1);
         if let (Some(section), Some(draft)) = (sections.get(own), drafts.get(own))
             && let Some(line) = section.lines().get(self.place)
-            && line.line() as usize == number
+            && line.number() as usize == number
         {
             self.place = self.place.saturating_add(1);
             self.write_option(alloc, line, draft, raw)?;

@@ -38,7 +38,7 @@ pub(crate) fn jobs(
         } else if is_planned(section, only) {
             jobs.push(Job {
                 name: shown(alloc, section.name())?,
-                line: section.line(),
+                line: section.line_number(),
                 options: with_lines(globals, lines),
                 said: said.with_lines(lines),
                 open: open.with_lines(lines),

@@ -2,15 +2,12 @@
 #![tactic(auto)]
 
 mod jobs;
-mod keys;
 mod laws;
 mod lines;
-mod near;
 mod notes;
 mod numbers;
 mod open;
 mod others;
-mod rows;
 mod said;
 mod unread;
 mod whole;
@@ -20,4 +17,3 @@ pub use lines::{line_notes, told_of};
 pub use notes::{Note, job_notes, plan_notes, unread_notes};
 pub use numbers::{fio_number, fio_seconds};
 pub use others::other_words;
-pub use rows::{Fate, Told, Way};

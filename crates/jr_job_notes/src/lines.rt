@@ -3,10 +3,9 @@ ghost use Rattle.jr_options.specs.Refusals.{counts, line_fault};
 ghost use Rattle.jr_options.specs.Surveys.{is_global, is_planned};
 ghost use Rattle.jr_job_notes.specs.Notes.{is_refused, lines_noted, noted, sections_noted};
 
-use crate::keys::{key_told, value_told};
 use crate::notes::Note;
 use crate::others::example;
-use crate::rows::Told;
+use jr_job_keys::{Told, key_told, value_told};
 use jr_job_options::JobOptions;
 use jr_options::JobFault;
 use jr_text::{Line, Section};
@@ -143,7 +142,7 @@ fn note_of(alloc: Global, line: &Line, fault: JobFault) -> Result<Note, AllocErr
 {
     let text = line_text(alloc, line, told_as(line, fault))?;
     Ok(Note {
-        line: Some(line.line()),
+        line: Some(line.number()),
         text,
     })
 }

@@ -2,7 +2,7 @@
 
 use crate::lines::is_refused;
 use crate::numbers::{fio_number, fio_seconds, in_bytes, pattern, range_split};
-use crate::rows::{Fate, Way};
+use jr_job_keys::{Fate, Way};
 use jr_text::Line;
 use std::alloc::{AllocError, Global};
 
@@ -93,7 +93,7 @@ fn by_way(alloc: Global, line: &Line, way: Way) -> Result<Option<String>, AllocE
 // The line in other words, where these are taken.
 fn in_other_words(alloc: Global, line: &Line, way: Way) -> Result<Option<String>, AllocError> {
     let (key, value) = other_words(alloc, line, way)?;
-    let made = Line::new(line.line(), key, value);
+    let made = Line::new(line.number(), key, value);
     if is_refused(&made) {
         return Ok(None);
     }

@@ -1,5 +1,5 @@
 -- The shape of a sound job is the one that its options say.
-use Rattle.std.proofs.Common.{◌≡◌, ℕ, ◌/◌, Bool, true, false, not, ◌&&◌, ◌||◌, cond, Option, Some, None, Result, Ok, Err, ap, ◌∙◌, sym, refl}
+use Rattle.std.proofs.Common.{◌≡◌, ℕ, ◌/◌, Bool, true, false, not, ◌||◌, cond, Option, Some, None, Result, Ok, Err, ap, ◌∙◌, sym, refl}
 use Rattle.std.specs.Prelude.{◌==◌, unwrap_or, IfOk}
 use Rattle.jr_model.specs.Tickets.{has_pattern}
 use Rattle.jr_job_options.specs.declared.faults.JobFault.{JobFault}

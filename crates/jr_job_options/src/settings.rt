@@ -51,8 +51,8 @@ pub(crate) fn setting_of(line: &Line) -> Result<Setting, JobFault>
     ensures range { IfOk result IsInRange }
 {
     match words::key(line.key()) {
-        Some(key) => valued_setting(key, line.value(), line.line()),
-        None => Err(JobFault::Unknown(line.line())),
+        Some(key) => valued_setting(key, line.value(), line.number()),
+        None => Err(JobFault::Unknown(line.number())),
     }
 }
 

@@ -1,6 +1,6 @@
 -- The last write of a block along a legal history, and why a check in flight stays intact.
-use Rattle.std.proofs.Common.{◌≡◌, ℕ, zero, suc, ◌+◌, ◌*◌, ◌/◌, ◌<◌, ◌≤◌, List, [], ◌∷◌, ◌++◌, length, Bool, true, false, cond, ◌&&◌, ◌||◌, not, refl, sym, ◌∙◌, ap, subst, arith, inl, inr, append_assoc, append-nil}
-use Rattle.std.specs.Prelude.{◌⊎◌, Option, Some, None, slice_get, is_none, nat_lt, fold}
+use Rattle.std.proofs.Common.{◌≡◌, ℕ, zero, suc, ◌+◌, ◌*◌, ◌/◌, ◌<◌, ◌≤◌, List, [], ◌∷◌, ◌++◌, length, Bool, true, false, cond, ◌&&◌, not, refl, sym, ◌∙◌, ap, subst, arith, inl, inr, append_assoc, append-nil}
+use Rattle.std.specs.Prelude.{◌⊎◌, Option, Some, None, slice_get, is_none, nat_lt}
 use Rattle.std.specs.Option.{option_or}
 use Rattle.std.specs.List.{list_any, list_all, cons_option, range_with_len}
 use Rattle.std.proofs.lemmas.Bool.{and_parts, and_from, or_parts, false≢true, eq-eqb, ne_eqb, lt-ltb, cases_eq}
@@ -13,14 +13,12 @@ use Rattle.jr_model.specs.declared.events.Outcome.{Outcome}
 use Rattle.jr_model.specs.declared.events.Started.{Started}
 use Rattle.jr_model.specs.declared.events.WriteId.{WriteId}
 use Rattle.jr_model.specs.declared.tickets.TicketKind.TheVariants as ticket
-use Rattle.jr_model.specs.declared.workloads.Draw.{Draw}
-use Rattle.jr_model.specs.History.{started, started_by, end_of, first_given, outcome_of, flies, in_flight, is_probe, is_write, ended_whole}
+use Rattle.jr_model.specs.History.{started, started_by, end_of, outcome_of, flies, in_flight, is_probe, is_write, ended_whole}
 use Rattle.jr_model.specs.LastWrite.{covers_block, last_after_end, last_after, last_write, is_this_write, is_intact}
 use Rattle.jr_model.specs.Legal.{may_happen, legal_after, is_legal, end_fits}
 use Rattle.jr_model.specs.Pieces.{pieces_overlap}
-use Rattle.jr_model.specs.declared.events.IssueKind.{IssueKind}
 use Rattle.jr_model.specs.declared.events.IssueKind.TheVariants.{Read, Write, ReadCheck}
-use Rattle.jr_model.specs.Plan.{Plan, SubJob, issued_as}
+use Rattle.jr_model.specs.Plan.{Plan}
 use Rattle.jr_laws_quiet.proofs.Races.{last_write_push}
 use Rattle.jr_model.proofs.RaceLaws.{raced_push}
 use Rattle.jr_model.specs.Races.{writes_over, writes_over_io, races_by, has_raced}

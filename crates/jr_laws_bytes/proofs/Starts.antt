@@ -2,7 +2,7 @@
 use Rattle.std.proofs.Common.{◌≡◌, ℕ, zero, suc, ◌+◌, List, [], ◌∷◌, ◌++◌, Bool, true, false, cond, ◌&&◌, not, refl, sym, ◌∙◌, ap, subst, arith, append_assoc, append-nil, add-zero}
 use Rattle.std.specs.Prelude.{Option, Some, None, slice_get, filter_map, is_none, ◌==◌}
 use Rattle.std.specs.List.{list_any, enumerate_from, cons_option}
-use Rattle.std.proofs.lemmas.Bool.{and_parts, or_parts, not-true, false≢true}
+use Rattle.std.proofs.lemmas.Bool.{and_parts, or_parts, false≢true}
 use Rattle.std.proofs.lemmas.Option.{same_Some}
 use Rattle.jr_model.specs.declared.events.IssueKind.TheVariants.{Read, Write, ReadCheck}
 use Rattle.jr_model.specs.declared.blocks.Piece.{Piece}
@@ -18,7 +18,7 @@ use Rattle.jr_model.specs.Draws.{draws_of_job}
 use Rattle.jr_model.specs.History.{started, started_by, outcome_of, in_flight, if_flying, is_probe, kind_for, same_write, same_piece}
 use Rattle.jr_model.specs.Honest.{before_start}
 use Rattle.jr_model.specs.LastWrite.{is_intact}
-use Rattle.jr_model.specs.Legal.{may_happen, may_take_up, may_issue, legal_after, is_legal, is_clear, conflicts, step_of, step_of_draw, step_of_clone, same_issue, is_this_issue, is_this_probe, takes_up, is_halted, has_room, phase_is_open}
+use Rattle.jr_model.specs.Legal.{may_happen, may_take_up, may_issue, legal_after, is_legal, is_clear, step_of, step_of_draw, step_of_clone, same_issue, is_this_issue, is_this_probe, takes_up, is_halted, has_room, phase_is_open}
 use Rattle.jr_model.specs.Plan.{Plan, SubJob, clone_of, issued_as}
 use Rattle.jr_model.specs.Rounds.{Pass, pass_of, write_id, is_write_draw, issued_count, has_rounds, group_index, is_open, waits_for_round, is_current}
 use Rattle.jr_model.proofs.Equality.{eq_piece, eq_write, eq_issue}

@@ -10,7 +10,7 @@ pub fn miscompares_exactly()
     ensures { MiscomparesExactly }
 {}
 
-/// From its start until it ends, a check reads blocks that its own write wrote last.
+/// From its start until it ends, a check that has not raced reads blocks that its own write wrote last.
 pub fn checks_stay_intact()
     ensures { ChecksStayIntact }
 {}

@@ -1,10 +1,9 @@
 -- The last write of a block after one more event; when a piece is intact, block by block.
 use Rattle.std.proofs.Common.{◌≡◌, ℕ, suc, ◌+◌, ◌/◌, ◌%◌, ◌<◌, List, [], ◌∷◌, ◌++◌, length, Bool, true, false, cond, ◌&&◌, not, refl, sym, ◌∙◌, ap, subst, arith, inl, inr}
-use Rattle.std.specs.Prelude.{◌⊎◌, Option, Some, None, slice_get, nat_lt, nat_le, ◌==◌, is_none, fold}
+use Rattle.std.specs.Prelude.{◌⊎◌, Option, Some, None, slice_get, nat_lt, nat_le, ◌==◌, is_none}
 use Rattle.std.specs.Option.{option_or}
-use Rattle.std.specs.List.{list_all, cons_option}
+use Rattle.std.specs.List.{list_all}
 use Rattle.std.proofs.lemmas.Bool.{and_parts, eqb-true, ltb-true, both_ways, false_from_ne_true, true_from_ne_false}
-use Rattle.std.proofs.lemmas.List.Sums.{fold_push}
 use Rattle.std.proofs.lemmas.Option.{same_Some}
 use Rattle.jr_model.specs.declared.limits.TheConstants.{SECTOR, LARGEST_BLOCK, LARGEST_END}
 use Rattle.jr_model.specs.declared.blocks.Piece.{Piece}
@@ -16,7 +15,7 @@ use Rattle.jr_model.specs.declared.events.Started.{Started}
 use Rattle.jr_model.specs.declared.events.WriteId.{WriteId}
 use Rattle.jr_model.specs.declared.tickets.TicketKind.{TicketKind}
 use Rattle.jr_model.specs.declared.tickets.TicketKind.TheVariants as ticket
-use Rattle.jr_model.specs.History.{started, started_by, end_of, first_given, outcome_of, flies, ended_whole, is_write, is_probe, same_write}
+use Rattle.jr_model.specs.History.{started, end_of, first_given, outcome_of, flies, ended_whole, is_write, is_probe, same_write}
 use Rattle.jr_model.specs.LastWrite.{covers_block, last_after, last_after_end, last_write, is_this_write, blocks_of, is_intact}
 use Rattle.jr_model.specs.Legal.{is_legal, may_happen, end_fits}
 use Rattle.jr_model.specs.Plan.{Plan}

@@ -21,7 +21,6 @@ use Rattle.jr_model.specs.Totals.{is_skip_of}
 use Rattle.jr_plan.specs.Files.{are_apart}
 use Rattle.jr_model.specs.PlanFacts.{IsPlanned}
 use Rattle.jr_laws_quiet.proofs.Races.{unraced, raced_before, quiet_is_fine}
-use Rattle.jr_model.specs.Races.{has_raced}
 use Rattle.jr_model.proofs.PlaceLemmas.{any_found, any_at, ranged_at}
 use Rattle.jr_model.proofs.PlanLemmas.{numbered_of}
 use Rattle.jr_model.proofs.HistoryLemmas.{issue_is_no_probe}

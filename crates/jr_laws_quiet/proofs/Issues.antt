@@ -18,7 +18,7 @@ use Rattle.jr_model.specs.declared.tickets.TicketKind.TheVariants as ticket
 use Rattle.jr_model.specs.declared.workloads.Draw.{Draw}
 use Rattle.jr_model.specs.Draws.{draws_of_job}
 use Rattle.jr_model.specs.History.{started, started_by, kind_for, is_of_clone}
-use Rattle.jr_model.specs.Legal.{is_legal, is_complete, is_over, is_halted, halts, is_fault, is_bad, is_io_of, may_issue, may_take_up, is_clear, has_room, phase_is_open, takes_up}
+use Rattle.jr_model.specs.Legal.{is_legal, is_complete, is_over, is_halted, halts, is_fault, is_io_of, may_issue, may_take_up, is_clear, has_room, phase_is_open, takes_up}
 use Rattle.jr_model.specs.Plan.{Plan, SubJob, IsNumbered, clone_of, issued_as}
 use Rattle.jr_model.specs.Rounds.{Pass, pass_of, passes_of, write_id, is_write_draw, issues_of, issued_count, all_issued, is_current, waits_for_round, pass_finished, clone_finished, nothing_flies_in, rounds_closed, has_rounds, is_open, group_index}
 use Rattle.jr_model.specs.Totals.{moved, moved_by, if_wanted}

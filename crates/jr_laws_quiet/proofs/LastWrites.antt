@@ -1,8 +1,8 @@
 -- Where nothing raced, a write started after each earlier one that it overlaps had ended, so where no write of a block is in
 -- flight, its last write is the one that was issued last.
-use Rattle.std.proofs.Common.{◌≡◌, ℕ, zero, suc, List, [], ◌∷◌, ◌++◌, length, Bool, true, false, cond, ◌&&◌, ◌||◌, refl, sym, ◌∙◌, ap, subst, arith, inl, inr, append-nil, zero-add}
-use Rattle.std.specs.Prelude.{Option, Some, None, slice_get, nat_lt, ◌==◌, is_none, is_some, fold, filter_map}
-use Rattle.std.specs.List.{list_any, list_all, cons_option, enumerate_from}
+use Rattle.std.proofs.Common.{◌≡◌, ℕ, List, [], ◌∷◌, ◌++◌, length, Bool, true, false, cond, ◌&&◌, ◌||◌, refl, sym, ◌∙◌, ap, subst, arith, inl, inr, append-nil}
+use Rattle.std.specs.Prelude.{Option, Some, None, slice_get, nat_lt, ◌==◌, is_none, is_some}
+use Rattle.std.specs.List.{list_any, cons_option}
 use Rattle.std.proofs.lemmas.Bool.{and_parts, and_from, ne_eqb, ltb-true, cases_Bool, cases_eq, not-true, or_parts, or_left, or_right, both_ways, true_from_ne_false}
 use Rattle.std.proofs.lemmas.List.Sums.{fold_push}
 use Rattle.std.proofs.lemmas.Option.{slice_get_within}
@@ -17,10 +17,10 @@ use Rattle.jr_model.specs.declared.events.Outcome.TheVariants.{Whole, Failed, Sh
 use Rattle.jr_model.specs.declared.events.Started.{Started}
 use Rattle.jr_model.specs.declared.events.WriteId.{WriteId}
 use Rattle.jr_model.specs.declared.tickets.TicketKind.TheVariants as ticket
-use Rattle.jr_model.specs.History.{started, started_by, kind_for, end_of, outcome_of, flies, is_write, in_flight, if_flying}
+use Rattle.jr_model.specs.History.{started, started_by, kind_for, end_of, outcome_of, flies, is_write, in_flight}
 use Rattle.jr_model.specs.LastWrite.{covers_block, last_after, last_after_end, last_write}
 use Rattle.jr_model.specs.Races.{has_raced}
-use Rattle.jr_model.specs.Legal.{is_legal, end_fits, conflicts, is_clear, may_happen}
+use Rattle.jr_model.specs.Legal.{is_legal, end_fits, conflicts, may_happen}
 use Rattle.jr_model.specs.Pieces.{pieces_overlap}
 use Rattle.jr_model.specs.Plan.{Plan}
 use Rattle.jr_model.specs.Rounds.{is_write_draw, pass_of}
@@ -31,7 +31,7 @@ use Rattle.jr_model.proofs.PieceLemmas.{shared_block}
 use Rattle.jr_laws_quiet.specs.Quiet.{is_quiet, NothingRaced, issued_over, last_issued, writes_block}
 use Rattle.jr_laws_quiet.specs.Declining.{none_declines}
 use Rattle.jr_laws_quiet.proofs.Steps.{are_fine}
-use Rattle.jr_laws_quiet.proofs.Steps.{IsStep, along, refers, all_refer, got_push, Agrees, issue_of, write_kind}
+use Rattle.jr_laws_quiet.proofs.Steps.{IsStep, along, got_push, issue_of, write_kind}
 use Rattle.jr_laws_quiet.proofs.Ends.{has_ended, has_ended_push, not_ended_yet, none_is_none, some_if}
 use Rattle.jr_laws_quiet.proofs.Issues.{may_issue_parts}
 pub use Rattle.jr_laws_quiet.proofs.Flights.{found_flying}

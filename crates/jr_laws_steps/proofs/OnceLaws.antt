@@ -1,8 +1,8 @@
 -- No draw is issued twice and no write checked twice, so with a random map no block is.
-use Rattle.std.proofs.Common.{◌≡◌, ℕ, suc, ◌+◌, ◌*◌, ◌<◌, ◌≤◌, List, ◌∷◌, ◌++◌, length, get_or, Bool, true, false, cond, ◌&&◌, ◌||◌, not, refl, sym, ◌∙◌, ap, subst, arith, inl, inr, min, max}
-use Rattle.std.specs.Prelude.{Some, slice_get, nat_lt, ◌==◌}
+use Rattle.std.proofs.Common.{◌≡◌, ℕ, suc, ◌+◌, ◌*◌, ◌<◌, ◌≤◌, List, ◌∷◌, ◌++◌, length, get_or, Bool, true, false, cond, ◌&&◌, ◌||◌, not, refl, sym, ◌∙◌, ap, subst, arith, inl, inr}
+use Rattle.std.specs.Prelude.{Some, slice_get, ◌==◌}
 use Rattle.std.specs.List.{list_any, AllPairs}
-use Rattle.std.proofs.lemmas.Bool.{and_parts, and_from, or_left, or_right, eq-eqb, eqb-true, lt-ltb, ltb-true, cases_order, false_from_ne_true, false≢true, not-true, both_ways}
+use Rattle.std.proofs.lemmas.Bool.{and_from, or_left, or_right, eq-eqb, cases_order, false_from_ne_true, false≢true, not-true, both_ways}
 use Rattle.std.proofs.lemmas.List.Sums.{sum_by-append, sum_by-cons}
 use Rattle.std.proofs.lemmas.Option.{slice_get_within, get_or_from_slice_get, same_Some}
 use Rattle.jr_model.specs.declared.blocks.Piece.{Piece}
@@ -17,7 +17,7 @@ use Rattle.jr_model.specs.declared.workloads.Draw.{Draw}
 use Rattle.jr_model.specs.Draws.{draws_over, draws_of_job}
 use Rattle.jr_model.specs.History.{started, started_by, kind_for, is_probe, same_write}
 use Rattle.jr_model.specs.Legal.{may_happen, takes_up, is_legal}
-use Rattle.jr_model.specs.Pieces.{piece_end, pieces_overlap}
+use Rattle.jr_model.specs.Pieces.{pieces_overlap}
 use Rattle.jr_model.specs.Plan.{Plan, SubJob, clone_of}
 use Rattle.jr_model.specs.Rounds.{Pass, pass_of, issues_of, issued_count}
 use Rattle.jr_model.specs.Words.{seeded, pass_seed, pass_words}

@@ -1,4 +1,3 @@
-pub mod FieldLemmas
 pub mod ReadingLemmas
 pub mod SyncLaws
 pub mod WorkedLines

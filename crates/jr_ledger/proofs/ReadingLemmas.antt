@@ -6,7 +6,8 @@ use Rattle.jr_model.proofs.ListLemmas.{first_part}
 use Rattle.jr_ledger.specs.declared.faults.LedgerFault.{LedgerFault}
 use Rattle.jr_ledger.specs.declared.faults.LedgerFault.TheVariants.{Line, OtherJob}
 use Rattle.jr_ledger.specs.declared.lines.LedgerLine.{LedgerLine}
-use Rattle.jr_ledger.specs.Fields.{is_word, read_line}
+use Rattle.jr_fields.specs.Fields.{field_is}
+use Rattle.jr_ledger.specs.Fields.{read_line}
 use Rattle.jr_ledger.specs.Reading.{is_head, is_newline, lines_by, line_then, lines_read, lines_after, lines_among}
 
 -- a line that is followed by others, or by what was cut
@@ -53,12 +54,12 @@ module _ (b c : Bool) (lines : Result (List LedgerLine) LedgerFault) where
 pub by_head : (digest text head rest : List ℕ) → slice_split is_newline text ≡ head ∷ slice_split is_newline rest → lines_by digest text ≡ lines_after digest head (slice_split is_newline rest)
 by_head digest text head rest cut = ap (lines_among digest) cut ∙ lines_among_next digest head rest
 
-pub other_job : (digest text head rest : List ℕ) → slice_split is_newline text ≡ head ∷ slice_split is_newline rest → is_head head ≡ true → is_word (drop 16 head) digest ≡ false → lines_by digest text ≡ Err OtherJob
+pub other_job : (digest text head rest : List ℕ) → slice_split is_newline text ≡ head ∷ slice_split is_newline rest → is_head head ≡ true → field_is (drop 16 head) digest ≡ false → lines_by digest text ≡ Err OtherJob
 other_job digest text head rest cut h i =
     by_head digest text head rest cut
-    ∙ of_other_job (is_head head) (is_word (drop 16 head) digest) (lines_read [] 2 (slice_split is_newline rest)) h i
+    ∙ of_other_job (is_head head) (field_is (drop 16 head) digest) (lines_read [] 2 (slice_split is_newline rest)) h i
 
-pub this_job : (digest text head rest : List ℕ) → slice_split is_newline text ≡ head ∷ slice_split is_newline rest → is_head head ≡ true → is_word (drop 16 head) digest ≡ true → lines_by digest text ≡ lines_read [] 2 (slice_split is_newline rest)
+pub this_job : (digest text head rest : List ℕ) → slice_split is_newline text ≡ head ∷ slice_split is_newline rest → is_head head ≡ true → field_is (drop 16 head) digest ≡ true → lines_by digest text ≡ lines_read [] 2 (slice_split is_newline rest)
 this_job digest text head rest cut h i =
     by_head digest text head rest cut
-    ∙ of_this_job (is_head head) (is_word (drop 16 head) digest) (lines_read [] 2 (slice_split is_newline rest)) h i
+    ∙ of_this_job (is_head head) (field_is (drop 16 head) digest) (lines_read [] 2 (slice_split is_newline rest)) h i

@@ -7,9 +7,9 @@ use Rattle.std.proofs.lemmas.List.Folds.{list_any-append}
 use Rattle.std.proofs.lemmas.Map.Views.{any-filter_same}
 use Rattle.jr_ledger.specs.declared.lines.SyncId.{SyncId}
 use Rattle.jr_ledger.specs.declared.syncs.Hold.{Hold}
-use Rattle.jr_ledger.specs.Syncs.{SyncEvent, asked, returned, same_sync, is_return_of, is_good_return_of, is_failure_in, has_returned, is_asked_among, is_backed, may_be_recorded}
+use Rattle.jr_ledger.specs.Syncs.{SyncEvent, asked, returned, same_sync, is_good_return_of, is_failure_in, has_returned, is_asked_among, is_backed, may_be_recorded}
 use Rattle.jr_ledger.specs.SyncSteps.{SyncsState, no_syncs, has_failed, is_of, begun, is_other, is_other_hold, without, is_elsewhere, spoilt, hold_of, awaiting, ended, is_hold_of, is_held, is_free, recorded, settled}
-use Rattle.jr_ledger.specs.Laws.{syncs_after, recorded_by, OnlySoundRecorded}
+use Rattle.jr_ledger.specs.Laws.{syncs_after, OnlySoundRecorded}
 
 -- one name is one sync
 eq_sync : (a b : SyncId) → same_sync a b ≡ true → a ≡ b

@@ -1,5 +1,5 @@
 -- Claimed: no sync is recorded that may have lost anything (of this project).
-use Rattle.std.specs.Prelude.{◌≡◌, Bool, true, List, [], ◌∷◌}
+use Rattle.std.specs.Prelude.{◌≡◌, true, List, [], ◌∷◌}
 use Rattle.std.specs.List.{list_any}
 use Rattle.jr_ledger.specs.declared.lines.SyncId.{SyncId}
 use Rattle.jr_ledger.specs.Syncs.{SyncEvent, asked, returned, same_sync, may_be_recorded}

@@ -6,7 +6,8 @@ use Rattle.jr_model.specs.Plan.{Plan}
 use Rattle.jr_ledger.specs.declared.faults.LedgerFault.{LedgerFault}
 use Rattle.jr_ledger.specs.declared.faults.LedgerFault.TheVariants.{Line, OtherJob, Memory}
 use Rattle.jr_ledger.specs.declared.lines.LedgerLine.{LedgerLine}
-use Rattle.jr_ledger.specs.Fields.{is_word, read_line}
+use Rattle.jr_fields.specs.Fields.{field_is}
+use Rattle.jr_ledger.specs.Fields.{read_line}
 use Rattle.jr_ledger.specs.Identity.{job_digest}
 
 abbrev pub is_newline : ℕ → Bool
@@ -22,7 +23,7 @@ head_text plan = head_word ++ job_digest plan ++ codes "\n"
 
 -- it is the first line of a ledger, of whatever job: 64 bytes say which
 abbrev pub is_head : List ℕ → Bool
-is_head head = is_word (take 16 head) head_word && (length head == 80)
+is_head head = field_is (take 16 head) head_word && (length head == 80)
 
 -- what follows a line, if it is a line of a ledger
 abbrev pub line_then : ℕ → Option LedgerLine → (LedgerLine → Result (List LedgerLine) LedgerFault) → Result (List LedgerLine) LedgerFault
@@ -40,7 +41,7 @@ lines_read above n (text ∷ next ∷ more) =
 abbrev pub lines_after : List ℕ → List ℕ → List (List ℕ) → Result (List LedgerLine) LedgerFault
 lines_after digest head rest =
     if is_head head
-    then (if is_word (drop 16 head) digest then lines_read [] 2 rest else Err OtherJob)
+    then (if field_is (drop 16 head) digest then lines_read [] 2 rest else Err OtherJob)
     else Err (Line 1)
 
 -- the lines of a text that is cut at its line feeds

@@ -1,13 +1,10 @@
-ghost use Rattle.std.specs.Prelude.{◌≡◌, ◌<◌, ◌≤◌, ◌^◌, All, length, true};
-ghost use Rattle.std.specs.Char.{is_ascii_digit};
-ghost use Rattle.std.specs.List.{before_first, list_all};
-ghost use Rattle.std.specs.Option.{SomeIff};
-ghost use Rattle.std.specs.Str.Parse.{digits_value};
-ghost use Rattle.jr_ledger.specs.Fields.{is_space, fields_of, field_at, is_word, is_numeral, number_in, number_at, if_small, small_at};
-ghost use Rattle.jr_ledger.specs.Fields.{write_of, sync_of, write_in, sync_in, read_line};
+ghost use Rattle.std.specs.Prelude.{◌≡◌};
+ghost use Rattle.jr_fields.specs.Fields.{fields_of};
+ghost use Rattle.jr_ledger.specs.Fields.{if_small, small_at, write_of, sync_of, write_in, sync_in, read_line};
 
 use crate::lines::{LedgerLine, SyncId};
-use jr_model::{WriteId, all_digits, digits_number};
+use jr_fields::{field_at, field_count, field_is, number_at};
+use jr_model::WriteId;
 
 // What a line of a ledger says, without its line feed; nothing where it is no line of a ledger.
 pub(crate) fn read_line(line: &[u8]) -> Option<LedgerLine>
@@ -15,13 +12,13 @@ pub(crate) fn read_line(line: &[u8]) -> Option<LedgerLine>
 {
     let tag = field_at(line, 0);
     let count = field_count(line);
-    if is_word(tag, b"w") && count == 4 {
+    if field_is(tag, b"w") && count == 4 {
         return Some(LedgerLine::Written(write_in(line)?));
     }
-    if is_word(tag, b"b") && count == 3 {
+    if field_is(tag, b"b") && count == 3 {
         return Some(LedgerLine::Begun(sync_in(line)?));
     }
-    if is_word(tag, b"s") && count == 3 {
+    if field_is(tag, b"s") && count == 3 {
         return Some(LedgerLine::Returned(sync_in(line)?));
     }
     None
@@ -58,12 +55,6 @@ fn sync_of(file: Option<u32>, number: Option<u64>) -> Option<SyncId>
     })
 }
 
-fn is_word(field: &[u8], word: &[u8]) -> bool
-    ensures { result ≡ is_word field.now word.now }
-{
-    field == word
-}
-
 fn small_at(line: &[u8], place: usize) -> Option<u32>
     ensures { result ≡ small_at (fields_of line.now) place }
 {
@@ -80,59 +71,4 @@ fn if_small(number: Option<u64>) -> Option<u32>
     } else {
         None
     }
-}
-
-fn number_at(line: &[u8], place: usize) -> Option<u64>
-    ensures { result ≡ number_at (fields_of line.now) place }
-{
-    number_in(field_at(line, place))
-}
-
-// The number that a field writes in decimal digits, without leading zeros.
-fn number_in(field: &[u8]) -> Option<u64>
-    ensures { result ≡ number_in field.now }
-{
-    if is_numeral(field) {
-        digits_number(field)
-    } else {
-        None
-    }
-}
-
-fn is_numeral(field: &[u8]) -> bool
-    ensures { result ≡ is_numeral field.now }
-{
-    !field.is_empty() && all_digits(field) && (field.len() == 1 || field[0] != b'0')
-}
-
-// How many fields a line has.
-fn field_count(line: &[u8]) -> usize
-    ensures { result ≡ length (fields_of line.now) }
-{
-    line.iter().filter(|byte| **byte == b' ').count() + 1
-}
-
-// A field of a line; an empty one where it has none at this place.
-fn field_at(line: &[u8], place: usize) -> &[u8]
-    ensures { result.now ≡ field_at (fields_of line.now) place }
-{
-    let mut rest = line;
-    for _ in 0..place {
-        let end = field_len(rest);
-        let count = rest.len();
-        if end >= count {
-            return &[];
-        }
-        let (_, after) = rest.split_at(end + 1);
-        rest = after;
-    }
-    &rest[..field_len(rest)]
-}
-
-// How many bytes stand before the first space.
-fn field_len(text: &[u8]) -> usize
-    ensures value { result ≡ length (before_first is_space text.now) }
-    ensures bound { result < 2 ^ 63 }
-{
-    text.iter().take_while(|byte| **byte != b' ').count()
 }

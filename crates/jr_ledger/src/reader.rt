@@ -1,7 +1,7 @@
 ghost use Rattle.std.specs.Prelude.{◌≡◌, ◌∷◌, [], ◌<◌, ◌^◌, IfErr, IfOk, MatchOption, OnErr, OnOk, Ok, length};
 ghost use Rattle.std.specs.Prelude.{◌++◌, drop, true};
 ghost use Rattle.std.specs.List.{before_first, slice_split};
-ghost use Rattle.jr_ledger.specs.Fields.{is_word};
+ghost use Rattle.jr_fields.specs.Fields.{field_is};
 ghost use Rattle.jr_ledger.specs.Reading.{IsRefusal, is_newline, is_head, lines_read, lines_by, lines_in};
 
 use crate::faults::LedgerFault;
@@ -51,7 +51,7 @@ fn is_head(head: &[u8]) -> bool
 // Whether a first line names the job with this digest.
 fn names_job(head: &[u8], digest: &[u8]) -> bool
     requires { is_head head.now ≡ true }
-    ensures { result ≡ is_word (drop 16 head.now) digest.now }
+    ensures { result ≡ field_is (drop 16 head.now) digest.now }
 {
     &head[16..] == digest
 }

@@ -64,7 +64,7 @@ impl Levels {
             return Some(cell);
         }
         let word = self.next_in_second(from / BITS + 1)?;
-        Some(words::first_in_word(&self.lowest, word))
+        Some(words::least_clear_in(&self.lowest, word))
     }
 
     // The least clear bit of the second level from `from` on.
@@ -77,7 +77,7 @@ impl Levels {
             return Some(bit);
         }
         let word = self.next_in_third(from / BITS + 1)?;
-        Some(words::first_in_word(&self.second, word))
+        Some(words::least_clear_in(&self.second, word))
     }
 
     // The least clear bit of the third level from `from` on.
@@ -90,7 +90,7 @@ impl Levels {
             return Some(bit);
         }
         let word = words::next_in_word(&self.top, from / BITS + 1)?;
-        Some(words::first_in_word(&self.third, word))
+        Some(words::least_clear_in(&self.third, word))
     }
 
     /// How many cells from the clear cell `from` on are clear without a gap, at most `want`.

@@ -58,7 +58,7 @@ pub(crate) fn next_in_word(words: &[u64], from: usize) -> Option<usize>
 }
 
 /// The least clear bit of a word that isn't full.
-pub(crate) fn first_in_word(words: &[u64], word: usize) -> usize
+pub(crate) fn least_clear_in(words: &[u64], word: usize) -> usize
     requires few { 64 * length words.now < 2 ^ 64 }
     requires clear { is_full words.now word ≡ false }
     ensures bit { IsLeastClear words.now (64 * word) result }

@@ -1,5 +1,5 @@
 -- What an option or a result is, by what is known of it.
-use Rattle.std.proofs.Common.{◌≡◌, List, [], Bool, true, false, cond, refl, inl, inr}
+use Rattle.std.proofs.Common.{◌≡◌, [], Bool, true, false, cond, refl, inl, inr}
 use Rattle.std.specs.Prelude.{◌⊎◌, Option, Some, None, Result, Ok, Err, OnErr, is_none, option_map, option_to_list}
 use Rattle.std.specs.Option.{option_or}
 use Rattle.std.specs.List.{cons_option}

@@ -1,5 +1,5 @@
 -- A plan's clones by their numbers, and a clone's passes.
-use Rattle.std.proofs.Common.{◌≡◌, ℕ, ◌<◌, map, refl, sym, ap, ◌∙◌, arith, zero-add}
+use Rattle.std.proofs.Common.{◌≡◌, ℕ, ◌<◌, sym, ap, ◌∙◌, zero-add}
 use Rattle.std.specs.Prelude.{Some, slice_get}
 use Rattle.std.specs.List.{range_with_len}
 use Rattle.jr_model.specs.Plan.{Plan, SubJob, IsNumbered, clone_of}

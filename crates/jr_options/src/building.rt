@@ -70,7 +70,7 @@ fn planned_job(phase: u32, options: JobOptions, section: &Section) -> Result<Pla
     ensures range { IfOk result (λ job. AreInRange job.options) }
     ensures shape { IfOk result (λ job. HasShape job.options job.shape) }
 {
-    match options.shape(section.line()) {
+    match options.shape(section.line_number()) {
         Ok(shape) => Ok(PlannedJob {
             phase: phase + u32::from(options.stonewall),
             options,

@@ -41,7 +41,7 @@ impl Survey {
             }),
             Ok(Reading::Job(options)) => Ok(Survey {
                 globals: self.globals,
-                tally: self.tally.with_job(&options, section.line()),
+                tally: self.tally.with_job(&options, section.line_number()),
             }),
             Ok(Reading::Skipped) => Ok(self),
             Err(fault) => Err(fault),

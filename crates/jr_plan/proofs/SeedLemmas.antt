@@ -1,5 +1,5 @@
 -- Other seeds change nothing of what holds of a plan's clones.
-use Rattle.std.proofs.Common.{◌≡◌, ℕ, zero, suc, ◌+◌, ◌*◌, List, [], ◌∷◌, fold, length, map, slice_get, Some, arith, subst, refl}
+use Rattle.std.proofs.Common.{◌≡◌, ℕ, zero, suc, ◌+◌, ◌*◌, List, [], ◌∷◌, fold, map, slice_get, Some, arith, subst, refl}
 use Rattle.std.proofs.lemmas.List.{length-map}
 use Rattle.jr_model.specs.Plan.{SubJob, FileSpec}
 use Rattle.jr_model.specs.PlanFacts.{AreDrafted, IsPlaced, KeepsLimits, work_of}

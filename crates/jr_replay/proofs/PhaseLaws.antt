@@ -1,41 +1,33 @@
 -- What the order of a clone's issues says of its next step in a legal history.
 use Rattle.std.proofs.Common.{◌≡◌, ℕ, suc, ◌+◌, ◌<◌, List, [], ◌∷◌, ◌++◌, take, Bool, true, false, ◌&&◌, ◌||◌, not, refl, sym, ◌∙◌, ap, subst, arith, inl, inr}
-use Rattle.std.specs.Prelude.{◌⊎◌, ◌==◌, None, Some, slice_get, nat_le}
+use Rattle.std.specs.Prelude.{◌⊎◌, Some, slice_get, nat_le}
 use Rattle.std.specs.List.{list_any, list_all, range_with_len}
-use Rattle.std.proofs.lemmas.Bool.{and_parts, and_from, and_left, or_cases, or_left, or_right, cases_Bool, cases_eq, cases_lt, eqb-true, ne_eqb, not-true, false_from_ne_true, both_ways}
+use Rattle.std.proofs.lemmas.Bool.{and_parts, and_from, and_left, or_cases, or_left, or_right, cases_eq, cases_lt, not-true, false_from_ne_true, both_ways}
 use Rattle.jr_model.specs.declared.events.Event.{Event}
 use Rattle.jr_model.specs.declared.events.Event.TheVariants.{Issue, Probe, Skip, End, Verdict}
-use Rattle.jr_model.specs.declared.blocks.Piece.{Piece}
-use Rattle.jr_model.specs.declared.events.IssueKind.{IssueKind}
-use Rattle.jr_model.specs.declared.events.WriteId.{WriteId}
 use Rattle.jr_model.specs.declared.workloads.Draw.{Draw}
 use Rattle.jr_model.specs.Draws.{draws_of_job}
-use Rattle.jr_model.specs.History.{is_probe, started}
-use Rattle.jr_model.specs.Legal.{is_io_of, is_legal, may_happen, may_take_up, is_halted, is_over, is_at_rest, phase_is_open, takes_up}
+use Rattle.jr_model.specs.Legal.{is_legal, may_happen, is_at_rest, phase_is_open, takes_up}
 use Rattle.jr_model.specs.Plan.{Plan, SubJob, clone_of}
-use Rattle.jr_model.specs.Rounds.{Pass, pass_of, passes_of, write_id, is_write_draw, writes_of, issued_count, has_rounds, group_index, group_count, is_full, is_closed, no_issue_flies, is_open, waits_for_round, pass_finished, clone_finished}
+use Rattle.jr_model.specs.Rounds.{Pass, pass_of, passes_of, write_id, is_write_draw, writes_of, issued_count, has_rounds, group_index, group_count, is_full, is_closed, no_issue_flies, is_open, waits_for_round, pass_finished}
 use Rattle.jr_model.specs.PlanFacts.{IsPlanned}
 use Rattle.jr_model.proofs.PlaceLemmas.{all_from, got_filtered}
-use Rattle.jr_model.proofs.PlanLemmas.{pass_at, numbered_of}
+use Rattle.jr_model.proofs.PlanLemmas.{numbered_of}
 use Rattle.jr_model.proofs.HistoryLemmas.{by_events}
 use Rattle.jr_model.proofs.BoolLemmas.{same_truth}
 use Rattle.jr_model.proofs.LegalLaws.{number_of_draw}
-use Rattle.jr_laws_steps.proofs.StepLaws.{may_probe_of}
-use Rattle.jr_desk_totals.specs.Tallies.{Tally, awaited, flying_checks, flying_issues, tally_of}
-use Rattle.jr_desk_totals.proofs.Bads.{ends_counted, verdicts_counted}
-use Rattle.jr_desk_totals.proofs.Compared.{is_at_rest-counts}
-use Rattle.jr_desk_totals.proofs.Counted.{tally-more, tally_after-other}
+use Rattle.jr_desk_totals.proofs.Resting.{rest_longer}
 use Rattle.jr_laws_quiet.proofs.Checks.{settled_taken}
 use Rattle.jr_laws_quiet.proofs.Groups.{got_filter}
 use Rattle.jr_laws_quiet.proofs.Issues.{all_at, issued_same}
 use Rattle.jr_laws_quiet.proofs.Members.{in_own_group, index_mono}
-use Rattle.jr_laws_rounds.proofs.ChoiceSteps.{can_issue, can_take, unbegun_not_taken}
+use Rattle.jr_laws_rounds.proofs.ChoiceSteps.{can_issue}
 use Rattle.jr_laws_rounds.proofs.CurrentLast.{issued_by_other}
 use Rattle.jr_laws_rounds.proofs.CurrentRounds.{member_settled, waited_for, waiting_group, waits_with}
 use Rattle.jr_laws_rounds.proofs.CurrentPhases.{groups_turn}
-use Rattle.jr_laws_rounds.proofs.StandingPasses.{current_parts, done_parts, issue_in, none_taken, take_in, unbegun}
+use Rattle.jr_laws_rounds.proofs.StandingPasses.{issue_in, unbegun}
 use Rattle.jr_laws_rounds.proofs.StandingSteps.{always_in_pass, before_at, before_from, finished_before}
-use Rattle.jr_laws_rounds.proofs.StandingOver.{over_longer}
+use Rattle.jr_laws_rounds.proofs.StandingOver.{none_checked, none_issued, over_longer}
 use Rattle.jr_replay_passes.specs.Passes.{IsLastBelow, NoneBelow}
 use Rattle.jr_replay_passes.proofs.RankLemmas.{IsOwn}
 
@@ -174,104 +166,6 @@ module _ (plan : Plan) (planned : IsPlanned plan) (job : SubJob) (there : clone_
 
 -- ---- a clone at rest stays so
 
-module _ (plan : Plan) (planned : IsPlanned plan) (other : SubJob) (there : clone_of plan other.clone ≡ Some other) (h : List Event) (legal : is_legal plan h ≡ true) (over : is_over h other ≡ true) where
-  -- nothing more of a clone that is over is issued
-  none_issued : (worker : ℕ) (kind : IssueKind) (write : WriteId) (piece : Piece) → may_happen plan h (Issue worker kind write piece) ≡ true → write.clone ≡ other.clone → ⊥
-  none_issued worker kind write piece may own =
-      let pass = pass_of other write.pass in
-      let issue = issue_in plan planned other there h worker kind write piece may own in
-      let can = can_issue plan h pass issue.draw issue.may in
-      let now = current_parts h pass can.current in
-      elim (or_cases (is_halted h other) (clone_finished h other) over) [
-        | inl halted ↦ both_ways (is_halted h other) (not-true (is_halted h other) can.going) halted
-        | inr finished ↦
-            both_ways (pass_finished h pass) now.unfinished
-            (all_at (pass_finished h) (passes_of other) write.pass pass finished (pass_at other write.pass now.within))
-      ]
-
-  -- nor checked
-  none_checked : (worker : ℕ) (write : WriteId) (piece : Piece) → may_happen plan h (Probe worker write piece) ≡ true → write.clone ≡ other.clone → ⊥
-  none_checked worker write piece may own =
-      let pass = pass_of other write.pass in
-      let take = take_in plan planned other there h write (may_probe_of plan h worker write piece may).0 own in
-      let can = can_take plan h pass take.draw take.may in
-      let now = always_in_pass plan planned other there h legal in
-      elim (or_cases (is_halted h other) (clone_finished h other) over) [
-        | inl halted ↦ both_ways (is_halted h other) (not-true (is_halted h other) can.going) halted
-        | inr finished ↦
-            both_ways (may_take_up plan h pass take.draw)
-            (elim (cases_lt now.0 write.pass) [
-              | inl later ↦ unbegun_not_taken plan h other write.pass write.number take.draw take.drawn (now.1.after write.pass later)
-              | inr within ↦
-                  none_taken plan h other write.pass write.number take.draw take.drawn
-                  (done_parts h pass (all_at (pass_finished h) (passes_of other) write.pass pass finished (pass_at other write.pass (omega (arith, within, now.1.within))))).closed
-            ])
-            take.may
-      ]
-
-  -- so its counts stay where they are 0
-  same_tally : (e : Event) → may_happen plan h e ≡ true → flying_issues h other.clone + flying_checks h other.clone ≡ 0 → awaited h other.clone ≡ 0 → tally_of (h ++ e ∷ []) other.clone ≡ tally_of h other.clone
-  same_tally (Issue worker kind write piece) may flown told =
-      let e = Issue worker kind write piece in
-      elim (cases_eq write.clone other.clone) [
-        | inl own ↦ absurd (none_issued worker kind write piece may own)
-        | inr apart ↦ tally-more plan h e other.clone legal may ∙ tally_after-other other.clone None e (tally_of h other.clone) (ne_eqb write.clone other.clone apart)
-      ]
-  same_tally (Probe worker write piece) may flown told =
-      let e = Probe worker write piece in
-      elim (cases_eq write.clone other.clone) [
-        | inl own ↦ absurd (none_checked worker write piece may own)
-        | inr apart ↦ tally-more plan h e other.clone legal may ∙ tally_after-other other.clone None e (tally_of h other.clone) (ne_eqb write.clone other.clone apart)
-      ]
-  same_tally (Skip worker write) may flown told = tally-more plan h (Skip worker write) other.clone legal may
-  same_tally (End worker io outcome) may flown told =
-      let e = End worker io outcome in
-      let names = ends_counted plan h worker io outcome legal may in
-      elim (cases_eq names.ended.write.clone other.clone) [
-        | inl own ↦
-            absurd (elim (cases_Bool (is_probe names.ended.kind)) [
-              | inl check ↦
-                  let some = names.check check in
-                  let same = ap (flying_checks h) own in
-                  omega (arith, flown, some, same)
-              | inr issue ↦
-                  let some = names.issue issue in
-                  let same = ap (flying_issues h) own in
-                  omega (arith, flown, some, same)
-            ])
-        | inr apart ↦
-            tally-more plan h e other.clone legal may
-            ∙ tally_after-other other.clone (slice_get (started h) io) e (tally_of h other.clone)
-            (ap (is_io_of other.clone) names.there ∙ ne_eqb names.ended.write.clone other.clone apart)
-      ]
-  same_tally (Verdict worker io verdict) may flown told =
-      let e = Verdict worker io verdict in
-      let names = verdicts_counted plan h worker io verdict legal may in
-      elim (cases_eq names.judged.write.clone other.clone) [
-        | inl own ↦
-            absurd (let some = names.verdict in
-            let same = ap (awaited h) own in
-            omega (arith, told, some, same))
-        | inr apart ↦
-            tally-more plan h e other.clone legal may
-            ∙ tally_after-other other.clone (slice_get (started h) io) e (tally_of h other.clone)
-            (ap (is_io_of other.clone) names.there ∙ ne_eqb names.judged.write.clone other.clone apart)
-      ]
-
-rest_longer : (plan : Plan) → IsPlanned plan → (other : SubJob) → clone_of plan other.clone ≡ Some other → (h : List Event) (e : Event) → is_legal plan h ≡ true → may_happen plan h e ≡ true → is_at_rest h other ≡ true → is_at_rest (h ++ e ∷ []) other ≡ true
-rest_longer plan planned other there h e legal may rest =
-    let c = other.clone in
-    let later = h ++ e ∷ [] in
-    let still = λ (t : Tally). t.issues + t.checks == 0 in
-    let told = λ (t : Tally). t.verdicts == 0 in
-    let parts = and_parts (is_over h other && still (tally_of h c)) (told (tally_of h c)) (sym (is_at_rest-counts h other) ∙ rest) in
-    let two = and_parts (is_over h other) (still (tally_of h c)) parts.0 in
-    let same = same_tally plan planned other there h legal two.0 e may (eqb-true (flying_issues h c + flying_checks h c) 0 two.1) (eqb-true (awaited h c) 0 parts.1) in
-    is_at_rest-counts later other
-    ∙ and_from (is_over later other && still (tally_of later c)) (told (tally_of later c))
-    (and_from (is_over later other) (still (tally_of later c)) (over_longer plan planned other there h e legal may two.0) (ap still same ∙ two.1))
-    (ap told same ∙ parts.1)
-
 module _ (plan : Plan) (planned : IsPlanned plan) (job : SubJob) (there : clone_of plan job.clone ≡ Some job) where
   -- where a draw of the clone was issued the clones of earlier phases are at rest
   abbrev PhasesRest : List Event → Type 0
@@ -287,7 +181,9 @@ module _ (plan : Plan) (planned : IsPlanned plan) (job : SubJob) (there : clone_
         | inl later ↦ or_left (nat_le job.phase other.phase) (is_at_rest (h ++ e ∷ []) other) later
         | inr rests ↦
             or_right (nat_le job.phase other.phase) (is_at_rest (h ++ e ∷ []) other)
-            (rest_longer plan planned other (subst (λ (n : ℕ). clone_of plan n ≡ Some other) (sym (numbered_of plan planned i other at)) at) h e legal may rests)
+            (let own = subst (λ (n : ℕ). clone_of plan n ≡ Some other) (sym (numbered_of plan planned i other at)) at in
+            rest_longer plan other h legal (none_issued plan planned other own h legal) (none_checked plan planned other own h legal) e may
+            (over_longer plan planned other own h e legal may) rests)
       ]
 
   phases_step : (h : List Event) (e : Event) → is_legal plan h ≡ true → PhasesRest h → may_happen plan h e ≡ true → PhasesRest (h ++ e ∷ [])

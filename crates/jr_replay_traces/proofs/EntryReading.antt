@@ -21,7 +21,8 @@ use Rattle.jr_replay_traces.specs.declared.entries.Finding.TheVariants as findin
 use Rattle.jr_replay_traces.specs.declared.entries.Name.{Name}
 use Rattle.jr_replay_traces.specs.TraceChecks.{ending_fits, entry_fits, finding_fits, is_small, name_fits}
 use Rattle.jr_replay_traces.specs.TraceLaws.{ending_of, entry_of, finding_of, name_of}
-use Rattle.jr_replay_traces.specs.TraceLines.{chunk_finding, end_of, ending_in, entry_in, fields_of, finding_in, named, read_line, skip_of, start_of, verdict_of}
+use Rattle.jr_fields.specs.Fields.{fields_of}
+use Rattle.jr_replay_traces.specs.TraceLines.{chunk_finding, end_of, ending_in, entry_in, finding_in, named, read_line, skip_of, start_of, verdict_of}
 use Rattle.jr_replay_traces.specs.Traces.{draw_fields, event_text, outcome_fields, spaced, verdict_fields}
 use Rattle.jr_replay_traces.proofs.LineReading.{number_more, number_read, word_more}
 

@@ -1,7 +1,6 @@
 pub mod Accepted
 pub mod EntryReading
 pub mod EventLemmas
-pub mod FieldLemmas
 pub mod LineEnds
 pub mod LineReading
 pub mod LineWriting

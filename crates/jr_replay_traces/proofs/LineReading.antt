@@ -11,7 +11,7 @@ use Rattle.std.proofs.lemmas.Fmt.{decimal_digit, decimal_nonempty, digits_decima
 use Rattle.std.proofs.lemmas.List.Splits.{slice_split_none}
 use Rattle.std.proofs.lemmas.Str.Parse.{IsNumeralModel, numerals_by_value}
 use Rattle.jr_model.proofs.ListLemmas.{All-from_test, first_part}
-use Rattle.jr_replay_traces.specs.TraceLines.{fields_of, is_numeral, is_space, number_in}
+use Rattle.jr_fields.specs.Fields.{fields_of, is_numeral, is_space, number_in}
 use Rattle.jr_replay_traces.specs.Traces.{spaced}
 
 -- digits and their value

@@ -22,7 +22,8 @@ use Rattle.jr_model.specs.declared.events.Part.TheVariants as part
 use Rattle.jr_model.proofs.OptionLemmas.{made_of}
 use Rattle.jr_replay_traces.specs.declared.entries.Name.{Name}
 use Rattle.jr_replay_traces.specs.declared.entries.Start.{Start}
-use Rattle.jr_replay_traces.specs.TraceLines.{counted_finding, chunk_finding, part_of, end_in, end_of, ending_in, entry_in, field_at, fields_of, finding_in, is_numeral, is_word, name_at, named, number_at, number_in, read_line, skip_in, skip_of, start_in, start_of, verdict_in, verdict_of, word_finding}
+use Rattle.jr_fields.specs.Fields.{field_at, fields_of, is_numeral, field_is, number_at, number_in}
+use Rattle.jr_replay_traces.specs.TraceLines.{counted_finding, chunk_finding, part_of, end_in, end_of, ending_in, entry_in, finding_in, name_at, named, read_line, skip_in, skip_of, start_in, start_of, verdict_in, verdict_of, word_finding}
 use Rattle.jr_replay_traces.proofs.LineReading.{digits_model}
 use Rattle.jr_replay_traces.proofs.ReadingLemmas.{from_cond}
 
@@ -148,7 +149,7 @@ module _ (fields : List (List ℕ)) where
   number_is : (k n : ℕ) → number_at fields k ≡ Some n → field_at fields k ≡ decimal n
   number_is k n h = number_written (field_at fields k) n h
 
-  word_is : (k : ℕ) (word : List ℕ) → is_word (field_at fields k) word ≡ true → field_at fields k ≡ word
+  word_is : (k : ℕ) (word : List ℕ) → field_is (field_at fields k) word ≡ true → field_at fields k ≡ word
   word_is k word h = same_text (field_at fields k) word (sym h)
 
   -- a draw from field k on
@@ -157,34 +158,34 @@ module _ (fields : List (List ℕ)) where
       let parts = named_by (number_at fields j) (number_at fields k) (number_at fields l) write h in
       cons_is (number_is j write.clone parts.0) (cons_is (number_is k write.pass parts.1) (cons_is (number_is l write.number parts.2) refl))
 
-  start_is : (tag : List ℕ) (start : Start) → (is_word (field_at fields 0) tag && (length fields == 6)) ≡ true → start_in fields ≡ Some start → fields ≡ tag ∷ start_fields start
+  start_is : (tag : List ℕ) (start : Start) → (field_is (field_at fields 0) tag && (length fields == 6)) ≡ true → start_in fields ≡ Some start → fields ≡ tag ∷ start_fields start
   unfolding fields_from
   start_is tag start tests h =
-      let test = and_parts (is_word (field_at fields 0) tag) (length fields == 6) tests in
+      let test = and_parts (field_is (field_at fields 0) tag) (length fields == 6) tests in
       let parts = start_by (number_at fields 1) (number_at fields 2) (name_at fields 3 4 5) start h in
       so_many fields 6 test.1
       ∙ cons_is (word_is 0 tag test.0) (cons_is (number_is 1 start.worker parts.0) (cons_is (number_is 2 start.io parts.1) (name_is 3 4 5 start.write parts.2)))
 
-  skip_is : (x : Entry) → (is_word (field_at fields 0) (codes "S") && (length fields == 5)) ≡ true → skip_in fields ≡ Some x → fields ≡ entry_fields x
+  skip_is : (x : Entry) → (field_is (field_at fields 0) (codes "S") && (length fields == 5)) ≡ true → skip_in fields ≡ Some x → fields ≡ entry_fields x
   unfolding fields_from
   skip_is x tests h =
-      let test = and_parts (is_word (field_at fields 0) (codes "S")) (length fields == 5) tests in
+      let test = and_parts (field_is (field_at fields 0) (codes "S")) (length fields == 5) tests in
       let parts = skip_by (number_at fields 1) (name_at fields 2 3 4) x h in
       so_many fields 5 test.1
       ∙ cons_is (word_is 0 (codes "S") test.0) (cons_is (number_is 1 parts.0 parts.2) (name_is 2 3 4 parts.1 parts.3))
       ∙ ap entry_fields parts.4
 
   -- a word behind three fields, or a word and a number
-  word_last : (word : List ℕ) → (length fields == 4) ≡ true → is_word (field_at fields 3) word ≡ true → fields ≡ field_at fields 0 ∷ field_at fields 1 ∷ field_at fields 2 ∷ word ∷ []
+  word_last : (word : List ℕ) → (length fields == 4) ≡ true → field_is (field_at fields 3) word ≡ true → fields ≡ field_at fields 0 ∷ field_at fields 1 ∷ field_at fields 2 ∷ word ∷ []
   unfolding fields_from
   word_last word four h =
       so_many fields 4 four
       ∙ ap (λ (w : List ℕ). field_at fields 0 ∷ field_at fields 1 ∷ field_at fields 2 ∷ w ∷ []) (word_is 3 word h)
 
-  number_last : (word : List ℕ) (n : ℕ) → (length fields == 5 && is_word (field_at fields 3) word) ≡ true → number_at fields 4 ≡ Some n → fields ≡ field_at fields 0 ∷ field_at fields 1 ∷ field_at fields 2 ∷ word ∷ decimal n ∷ []
+  number_last : (word : List ℕ) (n : ℕ) → (length fields == 5 && field_is (field_at fields 3) word) ≡ true → number_at fields 4 ≡ Some n → fields ≡ field_at fields 0 ∷ field_at fields 1 ∷ field_at fields 2 ∷ word ∷ decimal n ∷ []
   unfolding fields_from
   number_last word n tests h =
-      let test = and_parts (length fields == 5) (is_word (field_at fields 3) word) tests in
+      let test = and_parts (length fields == 5) (field_is (field_at fields 3) word) tests in
       so_many fields 5 test.0
       ∙ ap (λ (rest : List (List ℕ)). field_at fields 0 ∷ field_at fields 1 ∷ field_at fields 2 ∷ rest) (cons_is (word_is 3 word test.1) (cons_is (number_is 4 n h) refl))
 
@@ -194,14 +195,14 @@ module _ (fields : List (List ℕ)) where
       let behind : Ending → List (List ℕ) = λ e. field_at fields 0 ∷ field_at fields 1 ∷ field_at fields 2 ∷ ending_fields e in
       elim (cases_cond (length fields == 4) _ _ (Some said) h) [
         | inl four ↦
-            elim (cases_cond (is_word (field_at fields 3) (codes "whole")) _ _ (Some said) four.1) [
+            elim (cases_cond (field_is (field_at fields 3) (codes "whole")) _ _ (Some said) four.1) [
               | inl whole ↦ word_last (codes "whole") four.0 whole.0 ∙ ap behind (same_Some ending.Whole said whole.1)
               | inr other ↦
-                  let failed = from_cond (is_word (field_at fields 3) (codes "failed")) (Some ending.Failed) said other in
+                  let failed = from_cond (field_is (field_at fields 3) (codes "failed")) (Some ending.Failed) said other in
                   word_last (codes "failed") four.0 failed.0 ∙ ap behind (same_Some ending.Failed said failed.1)
             ]
         | inr other ↦
-            let short = from_cond (length fields == 5 && is_word (field_at fields 3) (codes "short")) (option_map ending.Short (number_at fields 4)) said other in
+            let short = from_cond (length fields == 5 && field_is (field_at fields 3) (codes "short")) (option_map ending.Short (number_at fields 4)) said other in
             let count = made_of ending.Short (number_at fields 4) said short.1 in
             number_last (codes "short") count.0 short.0 count.1 ∙ ap behind count.2
       ]
@@ -209,19 +210,19 @@ module _ (fields : List (List ℕ)) where
   finding_word : (said : Finding) → (length fields == 4) ≡ true → word_finding (field_at fields 3) ≡ Some said → fields ≡ field_at fields 0 ∷ field_at fields 1 ∷ field_at fields 2 ∷ finding_fields said
   finding_word said four h =
       let behind : Finding → List (List ℕ) = λ f. field_at fields 0 ∷ field_at fields 1 ∷ field_at fields 2 ∷ finding_fields f in
-      elim (cases_cond (is_word (field_at fields 3) (codes "good")) _ _ (Some said) h) [
+      elim (cases_cond (field_is (field_at fields 3) (codes "good")) _ _ (Some said) h) [
         | inl good ↦ word_last (codes "good") four good.0 ∙ ap behind (same_Some finding.Good said good.1)
         | inr not_good ↦
-            elim (cases_cond (is_word (field_at fields 3) (codes "header")) _ _ (Some said) not_good) [
+            elim (cases_cond (field_is (field_at fields 3) (codes "header")) _ _ (Some said) not_good) [
               | inl header ↦ word_last (codes "header") four header.0 ∙ ap behind (same_Some finding.Header said header.1)
               | inr not_header ↦
-                  elim (cases_cond (is_word (field_at fields 3) (codes "digest")) _ _ (Some said) not_header) [
+                  elim (cases_cond (field_is (field_at fields 3) (codes "digest")) _ _ (Some said) not_header) [
                     | inl digest ↦ word_last (codes "digest") four digest.0 ∙ ap behind (same_Some finding.Digest said digest.1)
                     | inr not_digest ↦
-                        elim (cases_cond (is_word (field_at fields 3) (codes "data")) _ _ (Some said) not_digest) [
+                        elim (cases_cond (field_is (field_at fields 3) (codes "data")) _ _ (Some said) not_digest) [
                           | inl area ↦ word_last (codes "data") four area.0 ∙ ap behind (same_Some finding.DataArea said area.1)
                           | inr other ↦
-                              let void = from_cond (is_word (field_at fields 3) (codes "void")) (Some finding.Void) said other in
+                              let void = from_cond (field_is (field_at fields 3) (codes "void")) (Some finding.Void) said other in
                               word_last (codes "void") four void.0 ∙ ap behind (same_Some finding.Void said void.1)
                         ]
                   ]
@@ -229,19 +230,19 @@ module _ (fields : List (List ℕ)) where
       ]
 
   -- a part's word and a number
-  number_last_is : (word : List ℕ) (n : ℕ) → (length fields == 5) ≡ true → is_word (field_at fields 3) word ≡ true → number_at fields 4 ≡ Some n → fields ≡ field_at fields 0 ∷ field_at fields 1 ∷ field_at fields 2 ∷ word ∷ decimal n ∷ []
-  number_last_is word n five test h = number_last word n (and_from (length fields == 5) (is_word (field_at fields 3) word) five test) h
+  number_last_is : (word : List ℕ) (n : ℕ) → (length fields == 5) ≡ true → field_is (field_at fields 3) word ≡ true → number_at fields 4 ≡ Some n → fields ≡ field_at fields 0 ∷ field_at fields 1 ∷ field_at fields 2 ∷ word ∷ decimal n ∷ []
+  number_last_is word n five test h = number_last word n (and_from (length fields == 5) (field_is (field_at fields 3) word) five test) h
 
-  part_is : (found : Part) → part_of (field_at fields 3) ≡ Some found → is_word (field_at fields 3) (part_word found) ≡ true
+  part_is : (found : Part) → part_of (field_at fields 3) ≡ Some found → field_is (field_at fields 3) (part_word found) ≡ true
   part_is found h =
-      elim (cases_cond (is_word (field_at fields 3) (codes "header")) _ _ (Some found) h) [
-        | inl header ↦ subst (λ (p : Part). is_word (field_at fields 3) (part_word p) ≡ true) (same_Some part.Header found header.1) header.0
+      elim (cases_cond (field_is (field_at fields 3) (codes "header")) _ _ (Some found) h) [
+        | inl header ↦ subst (λ (p : Part). field_is (field_at fields 3) (part_word p) ≡ true) (same_Some part.Header found header.1) header.0
         | inr not_header ↦
-            elim (cases_cond (is_word (field_at fields 3) (codes "digest")) _ _ (Some found) not_header) [
-              | inl digest ↦ subst (λ (p : Part). is_word (field_at fields 3) (part_word p) ≡ true) (same_Some part.Digest found digest.1) digest.0
+            elim (cases_cond (field_is (field_at fields 3) (codes "digest")) _ _ (Some found) not_header) [
+              | inl digest ↦ subst (λ (p : Part). field_is (field_at fields 3) (part_word p) ≡ true) (same_Some part.Digest found digest.1) digest.0
               | inr other ↦
-                  let area = from_cond (is_word (field_at fields 3) (codes "data")) (Some part.DataArea) found other in
-                  subst (λ (p : Part). is_word (field_at fields 3) (part_word p) ≡ true) (same_Some part.DataArea found area.1) area.0
+                  let area = from_cond (field_is (field_at fields 3) (codes "data")) (Some part.DataArea) found other in
+                  subst (λ (p : Part). field_is (field_at fields 3) (part_word p) ≡ true) (same_Some part.DataArea found area.1) area.0
             ]
       ]
 
@@ -258,7 +259,7 @@ module _ (fields : List (List ℕ)) where
         | inl four ↦ finding_word said four.0 four.1
         | inr other ↦
             let five = from_cond (length fields == 5) (counted_finding (field_at fields 3) (number_at fields 4)) said other in
-            elim (cases_cond (is_word (field_at fields 3) (codes "byte")) _ _ (Some said) five.1) [
+            elim (cases_cond (field_is (field_at fields 3) (codes "byte")) _ _ (Some said) five.1) [
               | inl byte ↦
                   let place = made_of finding.Byte (number_at fields 4) said byte.1 in
                   number_last_is (codes "byte") place.0 five.0 byte.0 place.1
@@ -267,26 +268,26 @@ module _ (fields : List (List ℕ)) where
             ]
       ]
 
-  end_is : (x : Entry) → is_word (field_at fields 0) (codes "E") ≡ true → end_in fields ≡ Some x → fields ≡ entry_fields x
+  end_is : (x : Entry) → field_is (field_at fields 0) (codes "E") ≡ true → end_in fields ≡ Some x → fields ≡ entry_fields x
   end_is x test h =
       let parts = end_by (number_at fields 1) (number_at fields 2) (ending_in fields) x h in
       ending_is parts.2 parts.5
       ∙ cons_is (word_is 0 (codes "E") test) (cons_is (number_is 1 parts.0 parts.3) (cons_is (number_is 2 parts.1 parts.4) refl))
       ∙ ap entry_fields parts.6
 
-  verdict_is : (x : Entry) → is_word (field_at fields 0) (codes "V") ≡ true → verdict_in fields ≡ Some x → fields ≡ entry_fields x
+  verdict_is : (x : Entry) → field_is (field_at fields 0) (codes "V") ≡ true → verdict_in fields ≡ Some x → fields ≡ entry_fields x
   verdict_is x test h =
       let parts = verdict_by (number_at fields 1) (number_at fields 2) (finding_in fields) x h in
       finding_is parts.2 parts.5
       ∙ cons_is (word_is 0 (codes "V") test) (cons_is (number_is 1 parts.0 parts.3) (cons_is (number_is 2 parts.1 parts.4) refl))
       ∙ ap entry_fields parts.6
 
-  issue_is : (x : Entry) → (is_word (field_at fields 0) (codes "I") && (length fields == 6)) ≡ true → option_map entry.Issue (start_in fields) ≡ Some x → fields ≡ entry_fields x
+  issue_is : (x : Entry) → (field_is (field_at fields 0) (codes "I") && (length fields == 6)) ≡ true → option_map entry.Issue (start_in fields) ≡ Some x → fields ≡ entry_fields x
   issue_is x tests h =
       let start = made_of entry.Issue (start_in fields) x h in
       start_is (codes "I") start.0 tests start.1 ∙ ap entry_fields start.2
 
-  probe_is : (x : Entry) → (is_word (field_at fields 0) (codes "P") && (length fields == 6)) ≡ true → option_map entry.Probe (start_in fields) ≡ Some x → fields ≡ entry_fields x
+  probe_is : (x : Entry) → (field_is (field_at fields 0) (codes "P") && (length fields == 6)) ≡ true → option_map entry.Probe (start_in fields) ≡ Some x → fields ≡ entry_fields x
   probe_is x tests h =
       let start = made_of entry.Probe (start_in fields) x h in
       start_is (codes "P") start.0 tests start.1 ∙ ap entry_fields start.2
@@ -294,19 +295,19 @@ module _ (fields : List (List ℕ)) where
   -- the fields of a line are those of what it says
   entry_is : (x : Entry) → entry_in fields ≡ Some x → fields ≡ entry_fields x
   entry_is x h =
-      elim (cases_cond (is_word (field_at fields 0) (codes "I") && (length fields == 6)) _ _ (Some x) h) [
+      elim (cases_cond (field_is (field_at fields 0) (codes "I") && (length fields == 6)) _ _ (Some x) h) [
         | inl issue ↦ issue_is x issue.0 issue.1
         | inr not_issue ↦
-            elim (cases_cond (is_word (field_at fields 0) (codes "P") && (length fields == 6)) _ _ (Some x) not_issue) [
+            elim (cases_cond (field_is (field_at fields 0) (codes "P") && (length fields == 6)) _ _ (Some x) not_issue) [
               | inl probe ↦ probe_is x probe.0 probe.1
               | inr not_probe ↦
-                  elim (cases_cond (is_word (field_at fields 0) (codes "S") && (length fields == 5)) _ _ (Some x) not_probe) [
+                  elim (cases_cond (field_is (field_at fields 0) (codes "S") && (length fields == 5)) _ _ (Some x) not_probe) [
                     | inl skip ↦ skip_is x skip.0 skip.1
                     | inr not_skip ↦
-                        elim (cases_cond (is_word (field_at fields 0) (codes "E")) _ _ (Some x) not_skip) [
+                        elim (cases_cond (field_is (field_at fields 0) (codes "E")) _ _ (Some x) not_skip) [
                           | inl ends ↦ end_is x ends.0 ends.1
                           | inr not_end ↦
-                              let judges = from_cond (is_word (field_at fields 0) (codes "V")) (verdict_in fields) x not_end in
+                              let judges = from_cond (field_is (field_at fields 0) (codes "V")) (verdict_in fields) x not_end in
                               verdict_is x judges.0 judges.1
                         ]
                   ]

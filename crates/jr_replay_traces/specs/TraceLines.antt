@@ -1,10 +1,7 @@
 -- Believed: what a line of a trace says (the format is of this project): its fields are divided by single spaces.
-use Rattle.std.specs.Prelude.{ℕ, ◌^◌, ◌==◌, nat_eq, nat_lt, Bool, not, ◌&&◌, ◌||◌, List, [], length, slice_get, slice_index, Option, Some, None, unwrap_or, codes, if◌then◌else◌}
-use Rattle.std.specs.Char.{is_ascii_digit}
-use Rattle.std.specs.Cmp.Lexicographic.{pointwise}
-use Rattle.std.specs.List.{list_all, slice_split}
+use Rattle.std.specs.Prelude.{ℕ, ◌==◌, ◌&&◌, List, length, Option, Some, None, codes, if◌then◌else◌}
 use Rattle.std.specs.Option.{option_map}
-use Rattle.std.specs.Str.Parse.{digits_value}
+use Rattle.jr_fields.specs.Fields.{fields_of, field_at, field_is, number_at}
 use Rattle.jr_model.specs.declared.events.Part.{Part}
 use Rattle.jr_model.specs.declared.events.Part.TheVariants as part
 use Rattle.jr_replay_traces.specs.declared.entries.Ending.{Ending}
@@ -15,34 +12,6 @@ use Rattle.jr_replay_traces.specs.declared.entries.Finding.{Finding}
 use Rattle.jr_replay_traces.specs.declared.entries.Finding.TheVariants as finding
 use Rattle.jr_replay_traces.specs.declared.entries.Name.{Name}
 use Rattle.jr_replay_traces.specs.declared.entries.Start.{Start}
-
-abbrev pub is_space : ℕ → Bool
-is_space b = b == 32
-
-abbrev pub fields_of : List ℕ → List (List ℕ)
-fields_of line = slice_split is_space line
-
--- field k; an empty one where there is none
-abbrev pub field_at : List (List ℕ) → ℕ → List ℕ
-field_at fields k = unwrap_or (slice_get fields k) []
-
-abbrev pub is_word : List ℕ → List ℕ → Bool
-is_word field word = pointwise nat_eq field word
-
--- decimal digits, the first of them 0 only where it stands alone
-abbrev pub is_numeral : List ℕ → Bool
-is_numeral field =
-    nat_lt 0 (length field) && list_all is_ascii_digit field
-    && (length field == 1 || not (slice_index field 0 == 48))
-
--- the number that a field writes, if it is below 2 to the power of 64
-abbrev pub number_in : List ℕ → Option ℕ
-number_in field =
-    let n = digits_value 10 field in
-    if is_numeral field && nat_lt n (2 ^ 64) then Some n else None
-
-abbrev pub number_at : List (List ℕ) → ℕ → Option ℕ
-number_at fields k = number_in (field_at fields k)
 
 -- the draw that three numbers name
 abbrev pub named : Option ℕ → Option ℕ → Option ℕ → Option Name
@@ -78,9 +47,9 @@ abbrev pub ending_in : List (List ℕ) → Option Ending
 ending_in fields =
     let word = field_at fields 3 in
     if length fields == 4
-    then (if is_word word (codes "whole") then Some ending.Whole
-    else (if is_word word (codes "failed") then Some ending.Failed else None))
-    else (if length fields == 5 && is_word word (codes "short") then option_map ending.Short (number_at fields 4) else None)
+    then (if field_is word (codes "whole") then Some ending.Whole
+    else (if field_is word (codes "failed") then Some ending.Failed else None))
+    else (if length fields == 5 && field_is word (codes "short") then option_map ending.Short (number_at fields 4) else None)
 
 abbrev pub end_of : Option ℕ → Option ℕ → Option Ending → Option Entry
 end_of (Some worker) (Some io) (Some ending) = Some (entry.End worker io ending)
@@ -94,17 +63,17 @@ end_in fields = end_of (number_at fields 1) (number_at fields 2) (ending_in fiel
 -- what is said of a check or checked read: one word, or a word and a number
 abbrev pub word_finding : List ℕ → Option Finding
 word_finding word =
-    if is_word word (codes "good") then Some finding.Good
-    else (if is_word word (codes "header") then Some finding.Header
-    else (if is_word word (codes "digest") then Some finding.Digest
-    else (if is_word word (codes "data") then Some finding.DataArea
-    else (if is_word word (codes "void") then Some finding.Void else None))))
+    if field_is word (codes "good") then Some finding.Good
+    else (if field_is word (codes "header") then Some finding.Header
+    else (if field_is word (codes "digest") then Some finding.Digest
+    else (if field_is word (codes "data") then Some finding.DataArea
+    else (if field_is word (codes "void") then Some finding.Void else None))))
 
 abbrev pub part_of : List ℕ → Option Part
 part_of word =
-    if is_word word (codes "header") then Some part.Header
-    else (if is_word word (codes "digest") then Some part.Digest
-    else (if is_word word (codes "data") then Some part.DataArea else None))
+    if field_is word (codes "header") then Some part.Header
+    else (if field_is word (codes "digest") then Some part.Digest
+    else (if field_is word (codes "data") then Some part.DataArea else None))
 
 -- a part of the chunk of this number
 abbrev pub chunk_finding : Option Part → Option ℕ → Option Finding
@@ -114,7 +83,7 @@ chunk_finding None number = None
 
 abbrev pub counted_finding : List ℕ → Option ℕ → Option Finding
 counted_finding word number =
-    if is_word word (codes "byte") then option_map finding.Byte number else chunk_finding (part_of word) number
+    if field_is word (codes "byte") then option_map finding.Byte number else chunk_finding (part_of word) number
 
 abbrev pub finding_in : List (List ℕ) → Option Finding
 finding_in fields =
@@ -134,11 +103,11 @@ verdict_in fields = verdict_of (number_at fields 1) (number_at fields 2) (findin
 abbrev pub entry_in : List (List ℕ) → Option Entry
 entry_in fields =
     let tag = field_at fields 0 in
-    if is_word tag (codes "I") && (length fields == 6) then option_map entry.Issue (start_in fields)
-    else (if is_word tag (codes "P") && (length fields == 6) then option_map entry.Probe (start_in fields)
-    else (if is_word tag (codes "S") && (length fields == 5) then skip_in fields
-    else (if is_word tag (codes "E") then end_in fields
-    else (if is_word tag (codes "V") then verdict_in fields else None))))
+    if field_is tag (codes "I") && (length fields == 6) then option_map entry.Issue (start_in fields)
+    else (if field_is tag (codes "P") && (length fields == 6) then option_map entry.Probe (start_in fields)
+    else (if field_is tag (codes "S") && (length fields == 5) then skip_in fields
+    else (if field_is tag (codes "E") then end_in fields
+    else (if field_is tag (codes "V") then verdict_in fields else None))))
 
 -- what a line says
 abbrev pub read_line : List ℕ → Option Entry

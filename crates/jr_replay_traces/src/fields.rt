@@ -1,14 +1,11 @@
-ghost use Rattle.std.specs.Prelude.{◌≡◌, ◌<◌, ◌≤◌, ◌^◌, All, length, true};
-ghost use Rattle.std.specs.Char.{is_ascii_digit};
-ghost use Rattle.std.specs.List.{before_first, list_all};
-ghost use Rattle.std.specs.Option.{SomeIff};
-ghost use Rattle.std.specs.Str.Parse.{digits_value};
-ghost use Rattle.jr_replay_traces.specs.TraceLines.{is_space, fields_of, field_at, is_word, is_numeral, number_in, number_at, named};
-ghost use Rattle.jr_replay_traces.specs.TraceLines.{name_at, start_of, start_in, skip_of, skip_in, ending_in, end_of, end_in};
+ghost use Rattle.std.specs.Prelude.{◌≡◌};
+ghost use Rattle.jr_fields.specs.Fields.{fields_of};
+ghost use Rattle.jr_replay_traces.specs.TraceLines.{named, name_at, start_of, start_in, skip_of, skip_in, ending_in, end_of, end_in};
 ghost use Rattle.jr_replay_traces.specs.TraceLines.{word_finding, counted_finding, part_of, finding_in, verdict_of, verdict_in, entry_in, read_line};
 
 use crate::entries::{Ending, Entry, Finding, Name, Start};
-use jr_model::{Part, all_digits, digits_number};
+use jr_fields::{field_at, field_count, field_is, number_at};
+use jr_model::Part;
 
 // What a line of a trace says, without its line feed; nothing where it is no line of a trace.
 pub(crate) fn read_line(line: &[u8]) -> Option<Entry>
@@ -16,19 +13,19 @@ pub(crate) fn read_line(line: &[u8]) -> Option<Entry>
 {
     let tag = field_at(line, 0);
     let count = field_count(line);
-    if is_word(tag, b"I") && count == 6 {
+    if field_is(tag, b"I") && count == 6 {
         return Some(Entry::Issue(start_in(line)?));
     }
-    if is_word(tag, b"P") && count == 6 {
+    if field_is(tag, b"P") && count == 6 {
         return Some(Entry::Probe(start_in(line)?));
     }
-    if is_word(tag, b"S") && count == 5 {
+    if field_is(tag, b"S") && count == 5 {
         return skip_in(line);
     }
-    if is_word(tag, b"E") {
+    if field_is(tag, b"E") {
         return end_in(line);
     }
-    if is_word(tag, b"V") {
+    if field_is(tag, b"V") {
         return verdict_in(line);
     }
     None
@@ -113,15 +110,15 @@ fn ending_in(line: &[u8]) -> Option<Ending>
     let word = field_at(line, 3);
     let count = field_count(line);
     if count == 4 {
-        return if is_word(word, b"whole") {
+        return if field_is(word, b"whole") {
             Some(Ending::Whole)
-        } else if is_word(word, b"failed") {
+        } else if field_is(word, b"failed") {
             Some(Ending::Failed)
         } else {
             None
         };
     }
-    if count == 5 && is_word(word, b"short") {
+    if count == 5 && field_is(word, b"short") {
         return Some(Ending::Short(number_at(line, 4)?));
     }
     None
@@ -162,7 +159,7 @@ fn finding_in(line: &[u8]) -> Option<Finding>
 fn counted_finding(word: &[u8], number: Option<u64>) -> Option<Finding>
     ensures { result ≡ counted_finding word.now number }
 {
-    if is_word(word, b"byte") {
+    if field_is(word, b"byte") {
         return Some(Finding::Byte(number?));
     }
     let part = part_of(word)?;
@@ -172,11 +169,11 @@ fn counted_finding(word: &[u8], number: Option<u64>) -> Option<Finding>
 fn part_of(word: &[u8]) -> Option<Part>
     ensures { result ≡ part_of word.now }
 {
-    if is_word(word, b"header") {
+    if field_is(word, b"header") {
         Some(Part::Header)
-    } else if is_word(word, b"digest") {
+    } else if field_is(word, b"digest") {
         Some(Part::Digest)
-    } else if is_word(word, b"data") {
+    } else if field_is(word, b"data") {
         Some(Part::DataArea)
     } else {
         None
@@ -186,78 +183,17 @@ fn part_of(word: &[u8]) -> Option<Part>
 fn word_finding(word: &[u8]) -> Option<Finding>
     ensures { result ≡ word_finding word.now }
 {
-    if is_word(word, b"good") {
+    if field_is(word, b"good") {
         Some(Finding::Good)
-    } else if is_word(word, b"header") {
+    } else if field_is(word, b"header") {
         Some(Finding::Header)
-    } else if is_word(word, b"digest") {
+    } else if field_is(word, b"digest") {
         Some(Finding::Digest)
-    } else if is_word(word, b"data") {
+    } else if field_is(word, b"data") {
         Some(Finding::DataArea)
-    } else if is_word(word, b"void") {
+    } else if field_is(word, b"void") {
         Some(Finding::Void)
     } else {
         None
     }
-}
-
-fn is_word(field: &[u8], word: &[u8]) -> bool
-    ensures { result ≡ is_word field.now word.now }
-{
-    field == word
-}
-
-fn number_at(line: &[u8], place: usize) -> Option<u64>
-    ensures { result ≡ number_at (fields_of line.now) place }
-{
-    number_in(field_at(line, place))
-}
-
-// The number that a field writes in decimal digits, without leading zeros.
-fn number_in(field: &[u8]) -> Option<u64>
-    ensures { result ≡ number_in field.now }
-{
-    if is_numeral(field) {
-        digits_number(field)
-    } else {
-        None
-    }
-}
-
-fn is_numeral(field: &[u8]) -> bool
-    ensures { result ≡ is_numeral field.now }
-{
-    !field.is_empty() && all_digits(field) && (field.len() == 1 || field[0] != b'0')
-}
-
-// How many fields a line has.
-fn field_count(line: &[u8]) -> usize
-    ensures { result ≡ length (fields_of line.now) }
-{
-    line.iter().filter(|byte| **byte == b' ').count() + 1
-}
-
-// A field of a line; an empty one where it has none at this place.
-fn field_at(line: &[u8], place: usize) -> &[u8]
-    ensures { result.now ≡ field_at (fields_of line.now) place }
-{
-    let mut rest = line;
-    for _ in 0..place {
-        let end = field_len(rest);
-        let count = rest.len();
-        if end >= count {
-            return &[];
-        }
-        let (_, after) = rest.split_at(end + 1);
-        rest = after;
-    }
-    &rest[..field_len(rest)]
-}
-
-// How many bytes stand before the first space.
-fn field_len(text: &[u8]) -> usize
-    ensures value { result ≡ length (before_first is_space text.now) }
-    ensures bound { result < 2 ^ 63 }
-{
-    text.iter().take_while(|byte| **byte != b' ').count()
 }

@@ -1,6 +1,6 @@
 -- The members of a report, one behind another.
 use Rattle.std.proofs.Common.{◌≡◌, ℕ, List, [], ◌∷◌, ◌++◌, map, codes, refl, ap, ◌∙◌, append_assoc}
-use Rattle.std.specs.Prelude.{Option, false, true}
+use Rattle.std.specs.Prelude.{false, true}
 use Rattle.jr_plan.proofs.ListLemmas.{added-four}
 use Rattle.json.specs.Print.{escape_byte, quoted}
 use Rattle.serde_json.specs.Data.{array, boolean, string}

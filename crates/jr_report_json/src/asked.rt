@@ -12,7 +12,6 @@ pub(crate) fn asked_row(alloc: Global, plan: &Plan, job: &SubJob) -> Result<Valu
     ensures { IfOk result (λ value. view value ≡ asked_json plan.now job.now) }
 {
     let size = u64::from(job.cells()) * u64::from(job.cell());
-    let options = options_row(alloc, job)?;
     json!(in alloc; {
         "cell": job.cell(),
         "clone": job.clone_number(),
@@ -20,7 +19,7 @@ pub(crate) fn asked_row(alloc: Global, plan: &Plan, job: &SubJob) -> Result<Valu
         "iodepth": job.depth(),
         "job": job.job(),
         "loops": job.passes(),
-        "options": options,
+        "options": options_row(alloc, job)?,
         "phase": job.phase(),
         "rw": io_type_word(job.io_type()),
         "size": size,

@@ -7,4 +7,4 @@ mod rows;
 mod texts;
 
 pub use endings::{KnownFile, RunNotes, RunSetting, RunStatus};
-pub use texts::{json_text, push_clones};
+pub use texts::{json_text, push_clones, push_item, push_string};

@@ -71,17 +71,15 @@ pub(crate) fn miscompare_row(
 ) -> Result<Value, AllocError>
     ensures { IfOk result (λ value. view value ≡ miscompare_json plan.now (map told found.now) (miscompare_of bad.now)) }
 {
-    let what = format!(in alloc; "{}", bad.what)?;
-    let stands = found_value(alloc, found_of(found, &bad.write))?;
     json!(in alloc; {
         "clone": bad.write.clone,
         "file": plan.file_name(bad.piece.file),
-        "found": stands,
+        "found": found_value(alloc, found_of(found, &bad.write))?,
         "length": bad.piece.len,
         "number": bad.write.number,
         "offset": bad.piece.offset,
         "pass": bad.write.pass,
-        "what": what
+        "what": format!(in alloc; "{}", bad.what)?
     })
 }
 
@@ -107,7 +105,6 @@ pub(crate) fn fault_row(
     ensures { IfOk result (λ value. view value ≡ fault_json (named note.now) (text_of reason.entry)) }
 {
     let fault = &note.fault;
-    let reason = text_value(alloc, reason)?;
     json!(in alloc; {
         "clone": fault.write.clone,
         "file": &note.name,
@@ -118,7 +115,7 @@ pub(crate) fn fault_row(
         "offset": fault.piece.offset,
         "outcome": outcome_word(fault.outcome),
         "pass": fault.write.pass,
-        "reason": reason
+        "reason": text_value(alloc, reason)?
     })
 }
 
@@ -154,13 +151,11 @@ fn count_value(count: Option<u64>) -> Value
 pub(crate) fn file_row(alloc: Global, file: &KnownFile) -> Result<Value, AllocError>
     ensures { IfOk result (λ value. view value ≡ file_json (facts_of file.now)) }
 {
-    let model = own_text_value(alloc, &file.model)?;
-    let serial = own_text_value(alloc, &file.serial)?;
     json!(in alloc; {
         "device_size": count_value(file.size),
-        "model": model,
+        "model": own_text_value(alloc, &file.model)?,
         "name": &file.name,
-        "serial": serial
+        "serial": own_text_value(alloc, &file.serial)?
     })
 }
 
@@ -168,15 +163,11 @@ pub(crate) fn file_row(alloc: Global, file: &KnownFile) -> Result<Value, AllocEr
 pub(crate) fn setting_row(alloc: Global, setting: &RunSetting) -> Result<Value, AllocError>
     ensures { IfOk result (λ value. view value ≡ setting_json (setting_of setting.now)) }
 {
-    let began = own_text_value(alloc, &setting.began)?;
-    let ended = own_text_value(alloc, &setting.ended)?;
-    let host = own_text_value(alloc, &setting.host)?;
-    let job = own_text_value(alloc, &setting.job)?;
     json!(in alloc; {
-        "began": began,
-        "ended": ended,
-        "host": host,
-        "job": job,
+        "began": own_text_value(alloc, &setting.began)?,
+        "ended": own_text_value(alloc, &setting.ended)?,
+        "host": own_text_value(alloc, &setting.host)?,
+        "job": own_text_value(alloc, &setting.job)?,
         "milliseconds": count_value(setting.milliseconds)
     })
 }

@@ -78,7 +78,7 @@ fn push_head(
     push_text(text, ",\"files\":")?;
     push_files(text, alloc, notes.files)?;
     push_text(text, ",\"fiorun\":")?;
-    push_version(text, alloc, ending.version)?;
+    push_string(text, alloc, ending.version)?;
     push_text(text, ",\"interrupted\":")?;
     push_flag(text, ending.is_interrupted)?;
     Ok(())
@@ -137,7 +137,7 @@ fn push_found(
     push_text(text, ",\"jobs\":")?;
     push_clones(text, alloc, plan, totals)?;
     push_text(text, ",\"logic\":")?;
-    push_version(text, alloc, ending.logic)?;
+    push_string(text, alloc, ending.logic)?;
     push_text(text, ",\"miscompares\":")?;
     push_bads(text, alloc, plan, found, bads, false)?;
     Ok(())
@@ -349,15 +349,21 @@ fn reason_at(reasons: &[Option<String>], place: usize) -> Option<&String>
     }
 }
 
-fn push_version(text: &mut Vec<u8>, alloc: Global, version: &str) -> Result<(), Memory>
-    ensures { OnOk result (text.new.items ≡ text.old.items ++ compact_text (string version.now)) }
+/// Appends a text as JSON has it: in quotes, with what needs it escaped.
+pub fn push_string(text: &mut Vec<u8>, alloc: Global, told: &str) -> Result<(), Memory>
+    ensures { OnOk result (text.new.items ≡ text.old.items ++ compact_text (string told.now)) }
 {
-    let value = Value::try_from_str(alloc, version)?;
+    let value = Value::try_from_str(alloc, told)?;
     push_item(text, alloc, 0, &value)
 }
 
-// The item of this place.
-fn push_item(text: &mut Vec<u8>, alloc: Global, place: usize, value: &Value) -> Result<(), Memory>
+/// Appends the item of this place in an array: a comma comes before each but the first.
+pub fn push_item(
+    text: &mut Vec<u8>,
+    alloc: Global,
+    place: usize,
+    value: &Value,
+) -> Result<(), Memory>
     ensures { OnOk result (has_float (view value.now) ≡ false → text.new.items ≡ text.old.items ++ item_text place (view value.now)) }
 {
     if place != 0 {

@@ -23,13 +23,13 @@ fn bads_among(alloc: Global, ios: &[Started], events: &[Event]) -> Result<Vec<Ba
 {
     let mut bads = Vec::new(alloc);
     for event in events {
-        add_if(&mut bads, bad_by(ios, event))?;
+        add_if(&mut bads, bad_verdict_in(ios, event))?;
     }
     Ok(bads)
 }
 
 // The bad verdict that the event is, if it is one.
-fn bad_by(ios: &[Started], event: &Event) -> Option<Bad>
+fn bad_verdict_in(ios: &[Started], event: &Event) -> Option<Bad>
     ensures { option_map miscompare_of result ≡ miscompare_by ios.now event.now }
 {
     match *event {

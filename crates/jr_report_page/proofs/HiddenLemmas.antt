@@ -7,10 +7,10 @@ use Rattle.std.proofs.lemmas.Bool.{and_parts, cond_both, ltb-true}
 use Rattle.std.proofs.lemmas.Str.{chars-IsAscii, IsUtf8-from_ascii, scalars-chars}
 use Rattle.std.proofs.lemmas.Str.Ascii.{IsAscii-cons, IsAscii-nil}
 use lib.Utf8.{scalar}
-use Rattle.jr_escape.specs.Escapes.{escaped_char as shown_char, is_hidden}
+use Rattle.jr_escape.specs.Escapes.{is_hidden}
 use Rattle.jr_escape.proofs.ShownLemmas.{all_shown, char_shown as shown_is_shown, IsShown}
 use Rattle.jr_report_page.specs.Escapes.{escaped_char}
-use Rattle.jr_report_page.specs.Raw.{NothingIsHidden}
+use Rattle.jr_report_page.specs.Raw.{PageHidesNothing}
 
 ascii : (bs : List ℕ) → list_all is_ascii bs ≡ true → (i : ℕ) → slice_index bs i < 128
 ascii [] all = IsAscii-nil
@@ -34,5 +34,5 @@ char_shown c s =
     (λ _. cond_both (c == 39) _ _ IsShown (λ _. written (codes "&#39;") refl refl)
     (λ _. shown_is_shown c s)))))
 
-pub nothing_hidden : NothingIsHidden
+pub nothing_hidden : PageHidesNothing
 nothing_hidden text is_text = all_shown escaped_char char_shown (chars text) (scalars-chars text is_text)

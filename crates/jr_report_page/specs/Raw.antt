@@ -13,5 +13,5 @@ abbrev pub NothingComesRaw : Type 0
 NothingComesRaw = (text : List ℕ) → list_any is_markup (escaped text) ≡ false
 
 -- none of its characters turns text around or isn't seen
-abbrev pub NothingIsHidden : Type 0
-NothingIsHidden = (text : List ℕ) → IsUtf8 text → list_any is_hidden (chars (escaped text)) ≡ false
+abbrev pub PageHidesNothing : Type 0
+PageHidesNothing = (text : List ℕ) → IsUtf8 text → list_any is_hidden (chars (escaped text)) ≡ false

@@ -16,7 +16,7 @@ mod tables;
 
 pub use escapes::push_escaped;
 pub use heads::{push_head, push_tail};
-pub use laws::{nothing_comes_raw, nothing_is_hidden};
+pub use laws::{nothing_comes_raw, page_hides_nothing};
 pub use pages::{PageFindings, page};
 pub use plans::push_plan_table;
 pub use rows::{push_file, push_number, push_piece, push_text};

@@ -1,12 +1,12 @@
 -- Entries of a split, read one after another and shared out.
-use Rattle.std.proofs.Common.{◌≡◌, ℕ, zero, suc, ◌+◌, ◌-◌, ◌*◌, ◌/◌, ◌%◌, ◌<◌, ◌≤◌, min, max, inl, inr, List, [], ◌∷◌, ◌++◌, length, drop, take, replicate, slice_index_or, slice_set, Option, Some, None, Result, Ok, Err, unwrap_or, is_none, cond, ap, ◌∙◌, sym, arith, refl, append_assoc, add-one, length-append}
+use Rattle.std.proofs.Common.{◌≡◌, ℕ, zero, suc, ◌+◌, ◌-◌, ◌*◌, ◌/◌, ◌%◌, ◌<◌, ◌≤◌, min, max, inl, inr, List, [], ◌∷◌, ◌++◌, length, drop, take, replicate, slice_index_or, slice_set, Option, Some, None, Result, Ok, Err, unwrap_or, is_none, cond, ap, ◌∙◌, sym, arith, refl, append_assoc, add-one}
 use Rattle.std.specs.List.{slice_split}
-use Rattle.std.proofs.lemmas.List.{at_drop_more, at_drop_all, append-nil, take_more_set, drop-set-lt, drop-replicate, take_at, length-replicate}
+use Rattle.std.proofs.lemmas.List.{at_drop_more, at_drop_all, append-nil, take_more_set, drop-set-lt, drop-replicate}
 use Rattle.std.proofs.lemmas.List.Sums.{sum_by-cons}
 use Rattle.std.proofs.lemmas.Bool.{lt-ltb, le-ltb, eq-eqb, ne_eqb, cases_eq}
 use Rattle.jr_sizes.specs.declared.faults.SplitFault.{SplitFault}
 use Rattle.jr_sizes.specs.declared.faults.SplitFault.TheVariants.{TooMany}
-use Rattle.jr_plan.specs.SplitEntries.{padded, percents_total}
+use Rattle.jr_plan.specs.SplitEntries.{percents_total}
 use Rattle.jr_sizes.specs.Splits.{and_entries, entries_of, entry_of, with_entries, given_total, blank_count, is_colon, share, share_step, shared, shared_of, split_of}
 
 -- an entry goes to the end of what stands in front

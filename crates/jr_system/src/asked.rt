@@ -122,7 +122,7 @@ impl Asked {
         }
     }
 
-    // What it is shared by.
+    /// The ledger as files and engines share it: each of them has a reference of its own. Nothing where the run has none.
     pub fn shared_ledger(&self) -> Option<&Arc<RunLedger, Global>> {
         self.ledger.get()
     }

@@ -20,11 +20,11 @@ fn shown(alloc: Global, sections: &[Section]) -> Result<String, AllocError> {
 }
 
 fn show(text: &mut String, section: &Section) -> Result<(), AllocError> {
-    write!(text, "{} [{}]\n", section.line(), section.name())?;
+    write!(text, "{} [{}]\n", section.line_number(), section.name())?;
     for option in section.lines() {
         match option.value() {
-            Some(value) => write!(text, "{} {}={value}\n", option.line(), option.key())?,
-            None => write!(text, "{} {}\n", option.line(), option.key())?,
+            Some(value) => write!(text, "{} {}={value}\n", option.number(), option.key())?,
+            None => write!(text, "{} {}\n", option.number(), option.key())?,
         }
     }
     Ok(())

@@ -76,7 +76,7 @@ impl Line {
     }
 
     /// Its number in the text, from 1.
-    pub fn line(&self) -> u32
+    pub fn number(&self) -> u32
         ensures { result ≡ self.now.line }
     {
         self.number
@@ -170,7 +170,7 @@ impl Section {
     }
 
     /// The number of the line that opens it, from 1.
-    pub fn line(&self) -> u32
+    pub fn line_number(&self) -> u32
         ensures { result ≡ self.now.line }
     {
         self.line

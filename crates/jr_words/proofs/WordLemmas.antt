@@ -3,7 +3,7 @@ use Rattle.std.proofs.Common.{◌≡◌, ℕ, zero, suc, ◌+◌, ◌*◌, ◌/�
 use Rattle.std.proofs.lemmas.List.{take_all, append-nil}
 use Rattle.std.proofs.lemmas.Grind.{flat_map-append}
 use Rattle.std.specs.Int.{w64, to_le_bytes}
-use Rattle.rand_core.specs.Steps.{first_bytes, fill_via_u64}
+use Rattle.rand_core.specs.Steps.{fill_via_u64}
 use Rattle.rand_core.specs.Steps as kit
 use Rattle.rand_xoshiro.specs.Xoshiro256.{plus_plus}
 use Rattle.jr_model.specs.Words.{words_from, state_after, word_bytes}

@@ -98,11 +98,11 @@ impl Known {
         match expected {
             Expected::Nothing => Ok(Place::Nothing),
             Expected::Pattern(_) => self.place_whole(piece, expected),
-            Expected::Seed(seed) => self.place_seed(piece, *seed),
+            Expected::Seed(seed) => self.keep_seed(piece, *seed),
             Expected::Header(header) => {
                 let head = Head::of(header);
                 if is_same_expected(&Expected::Header(head.header(piece)), expected) {
-                    self.place_head(piece, head)
+                    self.keep_head(piece, head)
                 } else {
                     self.place_whole(piece, expected)
                 }
@@ -119,7 +119,7 @@ impl Known {
         Ok(Place::Whole(place))
     }
 
-    fn place_head(&mut self, piece: &Piece, head: Head) -> Result<Place, Memory>
+    fn keep_head(&mut self, piece: &Piece, head: Head) -> Result<Place, Memory>
         ensures placed { IfOk result (IsPlaced self.new) }
         ensures found { IfOk result (λ place. made_at self.new place piece.now ≡ Header (head_bytes head piece.now)) }
         ensures more { IsMore self.old self.new }
@@ -128,7 +128,7 @@ impl Known {
         Ok(Place::Head(place))
     }
 
-    fn place_seed(&mut self, piece: &Piece, seed: u64) -> Result<Place, Memory>
+    fn keep_seed(&mut self, piece: &Piece, seed: u64) -> Result<Place, Memory>
         ensures placed { IfOk result (IsPlaced self.new) }
         ensures found { IfOk result (λ place. made_at self.new place piece.now ≡ Seed seed) }
         ensures more { IsMore self.old self.new }

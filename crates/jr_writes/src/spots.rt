@@ -63,7 +63,7 @@ pub(crate) fn take_out(names: &mut Names, places: &mut Places, piece: &Piece, ke
     ensures indexed { IsIndexed None (name_at names.new.sheets.entries) (spot_at places.new.sheets.entries) }
 {
     let mut end = piece.offset + u64::from(piece.len);
-    while let Some((offset, spot)) = overlapped(places, piece, end, kept) {
+    while let Some((offset, spot)) = last_overlapped(places, piece, end, kept) {
         places.remove(piece.file, offset);
         names.remove(&spot.write);
         end = offset;
@@ -72,7 +72,7 @@ pub(crate) fn take_out(names: &mut Names, places: &mut Places, piece: &Piece, ke
 
 // The last offset before the end at which a write other than the kept one stands whose piece shares a
 // byte with this one, and what stands there.
-fn overlapped(
+fn last_overlapped(
     places: &Places,
     piece: &Piece,
     end: u64,

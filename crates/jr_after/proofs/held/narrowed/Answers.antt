@@ -1,4 +1,4 @@
-use Rattle.std.proofs.Common.{◌≡◌, sym, subst}
+use Rattle.std.proofs.Common.{sym, subst}
 use Rattle.jr_after.specs.declared.writes.PlannedWrite.{PlannedWrite}
 use Rattle.jr_after.specs.Parts.{IsNarrowed}
 use Rattle.jr_after.proofs.Narrow.{chunk_narrowed}

@@ -1,5 +1,5 @@
 use Rattle.json.specs.Print.{quoted}
-use Rattle.std.proofs.Common.{ℕ, List, ◌++◌, codes, decimal, map, ap, ◌∙◌}
+use Rattle.std.proofs.Common.{List, ◌++◌, codes, map, ap, ◌∙◌}
 use Rattle.jr_after_report.specs.declared.lines.Judged.{Judged}
 use Rattle.jr_report_json.specs.Rows.{array_text}
 use Rattle.jr_report_json.proofs.Members.{cached_name, member_more, two_more}

@@ -1,162 +1,95 @@
-use Rattle.std.proofs.Common.{◌≡◌, ◌+◌, ◌<◌, ◌≤◌, true, false, ◌&&◌, sym, ◌∙◌, ap, subst, arith}
-use Rattle.std.proofs.lemmas.Option.{same_Some}
-use Rattle.jr_model.specs.Plan.{SubJob}
+use Rattle.std.proofs.Common.{◌≡◌, false, ◌&&◌, sym, ◌∙◌, arith}
 use Rattle.jr_model.specs.Rounds.{has_rounds}
 use Rattle.jr_backlog.specs.CurrentRound.{current_round}
 use Rattle.jr_laws_rounds.specs.Standing.{is_under_way}
-use Rattle.jr_desk_state.proofs.ChoiceCounts.{standing_at, counts_at, few, runs_on, none_halted, none_full, waits_now, none_barred}
-use Rattle.jr_desk_state.proofs.ChoiceCounts.{checks_first, none_waits, no_rounds, issues_next, none_unopened}
+use Rattle.jr_desk_state.proofs.ChoiceCounts.{busy_here, checks_first, counts_here, few, free_here, issues_next, no_rounds}
+use Rattle.jr_desk_state.proofs.ChoiceCounts.{none_barred, none_full, none_halted, none_unopened, none_waits, runs_on, waits_now}
+use Rattle.jr_desk_state.proofs.StandingHere.{of_job, prepared, stands_here}
 use Rattle.jr_desk_state.proofs.choosing.step_of_clone.Goals as goal
+use Rattle.jr_desk_state.proofs.choosing.step_of_clone.Goals.{Joined-else-has_rounds}
 use Rattle.jr_desk_state.proofs.choosing.step_of_clone.Goals.{then-counts-via-then-counts, then-counts-via-else-counts+then-counts-depth}
 use Rattle.jr_desk_state.proofs.choosing.step_of_clone.Goals.{else-has_rounds-via-then-has_rounds+else-is_under_way}
 use Rattle.jr_desk_state.proofs.choosing.step_of_clone.Goals.{else-has_rounds-via-else-has_rounds}
 
 pub overflow_add-counts : goal.overflow_add-counts
 overflow_add-counts c =
-    let plan = c.args.plan.now in
-    let board = c.args.board.now in
-    let stood = c.index-standing.result.now in
-    let counts = c.index-counts.result.now in
-    let own = c.clone_at-job.result.now in
-    let at = standing_at plan board c.args.clone stood c.requires.board c.requires.there c.index-standing.ensures in
-    let counted = counts_at plan board c.args.clone counts c.requires.board c.requires.there c.index-counts.ensures in
-    omega (arith, few plan board c.requires.board c.args.clone own c.clone_at-job.ensures.value stood at counts counted)
+    let it = counts_here (stands_here c.args.clone c.requires.board c.clone_at-job.ensures.value c.index-standing.ensures)
+    c.index-counts.ensures in
+    omega (arith, few it)
 
 pub returns-then-counts-clause-step : goal.returns-then-counts-clause-step
-returns-then-counts-clause-step c job there =
-    let plan = c.args.plan.now in
-    let board = c.args.board.now in
-    let stood = c.index-standing.result.now in
-    let counts = c.index-counts.result.now in
-    let own = c.clone_at-job.result.now in
-    let same : own ≡ job = same_Some own job (sym c.clone_at-job.ensures.value ∙ there) in
-    let at = standing_at plan board c.args.clone stood c.requires.board c.requires.there c.index-standing.ensures in
-    let counted = counts_at plan board c.args.clone counts c.requires.board c.requires.there c.index-counts.ensures in
-    elim c.then-counts.branch [
-      | then-counts-via-then-counts w ↦ none_halted plan board c.requires.board c.args.clone job there stood at counts counted
-          c.args.worker w.if-counts.true
+returns-then-counts-clause-step c =
+    let it = counts_here (stands_here c.args.clone c.requires.board c.clone_at-job.ensures.value c.index-standing.ensures)
+    c.index-counts.ensures in
+    of_job it.here _ (elim c.then-counts.branch [
+      | then-counts-via-then-counts w ↦ none_halted it c.args.worker w.if-counts.true
       | then-counts-via-else-counts+then-counts-depth w ↦
-          none_full plan board c.requires.board c.args.clone job there stood at counts counted c.args.worker
-          (subst (λ (j : SubJob). j.depth ≤ counts.issues + counts.checks) same (omega (arith, w.if-counts-depth.true, w.depth.ensures)))
-    ]
+          none_full it c.args.worker (omega (arith, w.if-counts-depth.true, w.depth.ensures))
+    ])
 
 pub is_under_way-requires : goal.is_under_way-requires
 is_under_way-requires c =
-    let plan = c.args.plan.now in
-    let board = c.args.board.now in
-    let stood = c.index-standing.result.now in
-    let own = c.clone_at-job.result.now in
-    let at = standing_at plan board c.args.clone stood c.requires.board c.requires.there c.index-standing.ensures in
-    (c.requires.ready.standings c.args.clone own stood c.clone_at-job.ensures.value at).settled
+    let here = stands_here c.args.clone c.requires.board c.clone_at-job.ensures.value c.index-standing.ensures in
+    (prepared here c.requires.ready).settled
 
 pub returns-then-counts-gt0-clause-step : goal.returns-then-counts-gt0-clause-step
-returns-then-counts-gt0-clause-step c job there =
-    let plan = c.args.plan.now in
-    let board = c.args.board.now in
-    let stood = c.index-standing.result.now in
-    let counts = c.index-counts.result.now in
-    let own = c.clone_at-job.result.now in
-    let same : own ≡ job = same_Some own job (sym c.clone_at-job.ensures.value ∙ there) in
-    let at = standing_at plan board c.args.clone stood c.requires.board c.requires.there c.index-standing.ensures in
-    let counted = counts_at plan board c.args.clone counts c.requires.board c.requires.there c.index-counts.ensures in
-    let room : counts.issues + counts.checks < job.depth = subst (λ (j : SubJob). counts.issues + counts.checks < j.depth) same
-    (omega (arith, c.if-counts-depth.false, c.depth.ensures)) in
-    let rounds : has_rounds job ≡ true = ap has_rounds (sym same) ∙ sym c.has_rounds.ensures ∙ c.if-has_rounds.true in
-    let settled = (c.requires.ready.standings c.args.clone job stood there at).settled in
-    let waits = sym c.is_under_way.ensures ∙ c.if-is_under_way.true in
-    none_barred plan board c.requires.board c.args.clone job there stood at counts counted c.args.worker c.if-counts.false room rounds
-    settled waits c.if-counts-gt0.true
+returns-then-counts-gt0-clause-step c =
+    let it = counts_here (stands_here c.args.clone c.requires.board c.clone_at-job.ensures.value c.index-standing.ensures)
+    c.index-counts.ensures in
+    let free = free_here it c.if-counts.false c.if-counts-depth.false c.depth.ensures in
+    let busy = busy_here it c.requires.ready (sym c.has_rounds.ensures ∙ c.if-has_rounds.true) (sym c.is_under_way.ensures ∙ c.if-is_under_way.true) in
+    of_job it.here _ (none_barred it c.args.worker free busy c.if-counts-gt0.true)
 
 pub round_step-requires-clause-settled : goal.round_step-requires-clause-settled
 round_step-requires-clause-settled c =
-    let plan = c.args.plan.now in
-    let board = c.args.board.now in
-    let stood = c.index-standing.result.now in
-    let own = c.clone_at-job.result.now in
-    let at = standing_at plan board c.args.clone stood c.requires.board c.requires.there c.index-standing.ensures in
-    (c.requires.ready.standings c.args.clone own stood c.clone_at-job.ensures.value at).settled
+    let here = stands_here c.args.clone c.requires.board c.clone_at-job.ensures.value c.index-standing.ensures in
+    (prepared here c.requires.ready).settled
 
 pub returns-then-is_under_way-clause-step : goal.returns-then-is_under_way-clause-step
-returns-then-is_under_way-clause-step c job there =
-    let plan = c.args.plan.now in
-    let board = c.args.board.now in
-    let stood = c.index-standing.result.now in
-    let counts = c.index-counts.result.now in
-    let own = c.clone_at-job.result.now in
-    let same : own ≡ job = same_Some own job (sym c.clone_at-job.ensures.value ∙ there) in
-    let at = standing_at plan board c.args.clone stood c.requires.board c.requires.there c.index-standing.ensures in
-    let counted = counts_at plan board c.args.clone counts c.requires.board c.requires.there c.index-counts.ensures in
-    let room : counts.issues + counts.checks < job.depth = subst (λ (j : SubJob). counts.issues + counts.checks < j.depth) same
-    (omega (arith, c.if-counts-depth.false, c.depth.ensures)) in
-    let rounds : has_rounds job ≡ true = ap has_rounds (sym same) ∙ sym c.has_rounds.ensures ∙ c.if-has_rounds.true in
-    let settled = (c.requires.ready.standings c.args.clone job stood there at).settled in
-    let waits = sym c.is_under_way.ensures ∙ c.if-is_under_way.true in
-    c.round_step.ensures.step c.args.clone job there at rounds (c.declines.ensures ∙ ap (λ (j : SubJob). j.declines) same)
-    (runs_on plan board c.requires.board c.args.clone job there stood at counts counted c.if-counts.false)
-    (waits_now plan board c.requires.board c.args.clone job there stood at counts counted c.args.worker c.if-counts.false room rounds
-    settled waits)
-    ∙ checks_first plan board c.requires.board c.args.clone job there stood at counts counted c.args.worker c.if-counts.false room rounds
-    settled waits c.if-counts-gt0.false
+returns-then-is_under_way-clause-step c =
+    let it = counts_here (stands_here c.args.clone c.requires.board c.clone_at-job.ensures.value c.index-standing.ensures)
+    c.index-counts.ensures in
+    let free = free_here it c.if-counts.false c.if-counts-depth.false c.depth.ensures in
+    let busy = busy_here it c.requires.ready (sym c.has_rounds.ensures ∙ c.if-has_rounds.true) (sym c.is_under_way.ensures ∙ c.if-is_under_way.true) in
+    of_job it.here _
+    (c.round_step.ensures.step c.args.clone c.clone_at-job.result.now it.here.planned it.here.at busy.rounds c.declines.ensures
+    (runs_on it free.runs) (waits_now it c.args.worker free busy)
+    ∙ checks_first it c.args.worker free busy c.if-counts-gt0.false)
+
+-- no round of the clone is under way
+is_idle : (c : Joined-else-has_rounds)
+    → (has_rounds c.clone_at-job.result.now && is_under_way (current_round c.clone_at-job.result.now c.args.board.now.history.items)) ≡ false
+is_idle c =
+    let it = counts_here (stands_here c.args.clone c.requires.board c.clone_at-job.ensures.value c.index-standing.ensures)
+    c.index-counts.ensures in
+    let free = free_here it c.if-counts.false c.if-counts-depth.false c.depth.ensures in
+    elim c.else-has_rounds.branch [
+      | else-has_rounds-via-then-has_rounds+else-is_under_way w ↦
+          none_waits it c.args.worker free (sym c.has_rounds.ensures ∙ w.if-has_rounds.true) (prepared it.here c.requires.ready).settled
+          (sym w.is_under_way.ensures ∙ w.if-is_under_way.false)
+      | else-has_rounds-via-else-has_rounds w ↦ no_rounds it c.args.worker free (sym c.has_rounds.ensures ∙ w.if-has_rounds.false)
+    ]
 
 pub returns-then-phase-clause-step : goal.returns-then-phase-clause-step
-returns-then-phase-clause-step c job there =
-    let plan = c.args.plan.now in
-    let board = c.args.board.now in
-    let stood = c.index-standing.result.now in
-    let counts = c.index-counts.result.now in
-    let own = c.clone_at-job.result.now in
-    let same : own ≡ job = same_Some own job (sym c.clone_at-job.ensures.value ∙ there) in
-    let at = standing_at plan board c.args.clone stood c.requires.board c.requires.there c.index-standing.ensures in
-    let counted = counts_at plan board c.args.clone counts c.requires.board c.requires.there c.index-counts.ensures in
-    let room : counts.issues + counts.checks < job.depth = subst (λ (j : SubJob). counts.issues + counts.checks < j.depth) same
-    (omega (arith, c.if-counts-depth.false, c.depth.ensures)) in
-    let settled = (c.requires.ready.standings c.args.clone job stood there at).settled in
-    let none : (has_rounds job && is_under_way (current_round job board.history.items)) ≡ false =
-    elim c.else-has_rounds.branch [
-      | else-has_rounds-via-then-has_rounds+else-is_under_way w ↦
-          none_waits plan board c.requires.board c.args.clone job there stood at counts counted c.args.worker c.if-counts.false room
-          (ap has_rounds (sym same) ∙ sym c.has_rounds.ensures ∙ w.if-has_rounds.true) settled
-          (sym w.is_under_way.ensures ∙ w.if-is_under_way.false)
-      | else-has_rounds-via-else-has_rounds w ↦ no_rounds plan board c.requires.board c.args.clone job there stood at counts counted
-          c.args.worker c.if-counts.false room (ap has_rounds (sym same) ∙ sym c.has_rounds.ensures ∙ w.if-has_rounds.false)
-    ] in
-    let before : c.args.phase < job.phase = subst (λ (j : SubJob). c.args.phase < j.phase) same
-    (omega (arith, c.if-phase.true, c.phase.ensures)) in
-    none_unopened plan board c.requires.board c.args.clone job there stood at counts counted c.args.worker c.if-counts.false room none
-    c.args.phase (c.requires.phase job there) before
+returns-then-phase-clause-step c =
+    let it = counts_here (stands_here c.args.clone c.requires.board c.clone_at-job.ensures.value c.index-standing.ensures)
+    c.index-counts.ensures in
+    let free = free_here it c.if-counts.false c.if-counts-depth.false c.depth.ensures in
+    of_job it.here _
+    (none_unopened it c.args.worker free (is_idle (goal.at.returns-then-phase-clause-step c).Joined-else-has_rounds) c.args.phase
+    (c.requires.phase c.clone_at-job.result.now it.here.planned) (omega (arith, c.if-phase.true, c.phase.ensures)))
 
 pub next_issue-requires-clause-runs : goal.next_issue-requires-clause-runs
-next_issue-requires-clause-runs c job there =
-    let plan = c.args.plan.now in
-    let board = c.args.board.now in
-    let stood = c.index-standing.result.now in
-    let counts = c.index-counts.result.now in
-    let own = c.clone_at-job.result.now in
-    let at = standing_at plan board c.args.clone stood c.requires.board c.requires.there c.index-standing.ensures in
-    let counted = counts_at plan board c.args.clone counts c.requires.board c.requires.there c.index-counts.ensures in
-    runs_on plan board c.requires.board c.args.clone job there stood at counts counted c.if-counts.false
+next_issue-requires-clause-runs c =
+    let it = counts_here (stands_here c.args.clone c.requires.board c.clone_at-job.ensures.value c.index-standing.ensures)
+    c.index-counts.ensures in
+    of_job it.here _ (runs_on it c.if-counts.false)
 
 pub returns-clause-step : goal.returns-clause-step
-returns-clause-step c job there =
-    let plan = c.args.plan.now in
-    let board = c.args.board.now in
-    let stood = c.index-standing.result.now in
-    let counts = c.index-counts.result.now in
-    let own = c.clone_at-job.result.now in
-    let same : own ≡ job = same_Some own job (sym c.clone_at-job.ensures.value ∙ there) in
-    let at = standing_at plan board c.args.clone stood c.requires.board c.requires.there c.index-standing.ensures in
-    let counted = counts_at plan board c.args.clone counts c.requires.board c.requires.there c.index-counts.ensures in
-    let room : counts.issues + counts.checks < job.depth = subst (λ (j : SubJob). counts.issues + counts.checks < j.depth) same
-    (omega (arith, c.if-counts-depth.false, c.depth.ensures)) in
-    let settled = (c.requires.ready.standings c.args.clone job stood there at).settled in
-    let none : (has_rounds job && is_under_way (current_round job board.history.items)) ≡ false =
-    elim c.else-has_rounds.branch [
-      | else-has_rounds-via-then-has_rounds+else-is_under_way w ↦
-          none_waits plan board c.requires.board c.args.clone job there stood at counts counted c.args.worker c.if-counts.false room
-          (ap has_rounds (sym same) ∙ sym c.has_rounds.ensures ∙ w.if-has_rounds.true) settled
-          (sym w.is_under_way.ensures ∙ w.if-is_under_way.false)
-      | else-has_rounds-via-else-has_rounds w ↦ no_rounds plan board c.requires.board c.args.clone job there stood at counts counted
-          c.args.worker c.if-counts.false room (ap has_rounds (sym same) ∙ sym c.has_rounds.ensures ∙ w.if-has_rounds.false)
-    ] in
-    c.next_issue.ensures.step job stood there at
-    ∙ issues_next plan board c.requires.board c.args.clone job there stood at counts counted c.args.worker c.if-counts.false room none
+returns-clause-step c =
+    let it = counts_here (stands_here c.args.clone c.requires.board c.clone_at-job.ensures.value c.index-standing.ensures)
+    c.index-counts.ensures in
+    let free = free_here it c.if-counts.false c.if-counts-depth.false c.depth.ensures in
+    of_job it.here _
+    (c.next_issue.ensures.step c.clone_at-job.result.now c.index-standing.result.now it.here.planned it.here.at
+    ∙ issues_next it c.args.worker free (is_idle (goal.at.returns-clause-step c).Joined-else-has_rounds))

@@ -26,10 +26,11 @@ use Rattle.jr_desk_state.specs.Standings.{IsPrepared, IsStanding}
 use Rattle.jr_desk_state.proofs.EndingBoards.{board_stays, own_below, parts_of}
 use Rattle.jr_desk_state.proofs.LogMoves.{file_there, log_fresh, own_fits}
 use Rattle.jr_desk_state.proofs.StandingMoves.{check_left}
+use Rattle.jr_desk_state.proofs.StandingHere.{clone_stands, stands_at, stands_now}
 use Rattle.jr_desk_state.proofs.StandingSets.{left_passed, prepared_same, prepared_settled_now, read_after_set}
 use Rattle.jr_desk_state.proofs.StandingSets.{standing_resettled, standings_set}
 use Rattle.jr_desk_state.proofs.StandingStays.{standings_ended}
-use Rattle.jr_desk_state.proofs.StartingBoards.{board_grows, clone_stands, next_of, stands_at, stands_now}
+use Rattle.jr_desk_state.proofs.StartingBoards.{board_grows, next_of}
 use Rattle.jr_desk_state.proofs.StartingStandings.{left_same, others_moved}
 use Rattle.jr_desk_state.proofs.WaitingMoves.{ends_free, waiting_grows}
 use Rattle.jr_desk_state.proofs.ending.end_released.Goals as goal

@@ -1,4 +1,4 @@
-use Rattle.std.proofs.Common.{◌≡◌, ◌%◌, ℕ, length, get_or, replicate, sym, ◌∙◌, ap, arith}
+use Rattle.std.proofs.Common.{◌%◌, ℕ, length, get_or, replicate, ◌∙◌, ap, arith}
 use Rattle.std.proofs.lemmas.List.{get_or-replicate, length-replicate}
 use Rattle.jr_header.proofs.Patterns.{repeats}
 use Rattle.jr_header.proofs.filler.repeat_byte.Goals as goal

@@ -1,4 +1,4 @@
-use Rattle.std.proofs.Common.{rules, ◌≡◌, IsTrue}
+use Rattle.std.proofs.Common.{rules, IsTrue}
 use Rattle.jr_io_devices.proofs.OverlapLemmas.{clear_of_more}
 use Rattle.jr_io_devices.proofs.extents.overlap_before.Goals as goal
 

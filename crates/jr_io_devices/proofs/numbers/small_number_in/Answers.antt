@@ -1,4 +1,4 @@
-use Rattle.std.proofs.Common.{rules, arith, ◌≡◌}
+use Rattle.std.proofs.Common.{rules, arith}
 use Rattle.std.proofs.lemmas.Fmt.{parse-decimal}
 use Rattle.jr_io_devices.proofs.numbers.small_number_in.Goals as goal
 

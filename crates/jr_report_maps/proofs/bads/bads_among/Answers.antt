@@ -19,7 +19,7 @@ loop-event-preserved c =
     let by = miscompare_by c.args.ios.now in
     let event = get_or c.args.events.now c.loop-event.event-index none in
     c.in_ok-add_if.ensures
-    ∙ ap (λ (found : Option Miscompare). map miscompare_of c.loop-event.bads.items ++ option_to_list found) c.bad_by.ensures
+    ∙ ap (λ (found : Option Miscompare). map miscompare_of c.loop-event.bads.items ++ option_to_list found) c.bad_verdict_in.ensures
     ∙ ap (λ (before : List Miscompare). before ++ option_to_list (by event)) c.loop-event.invariant
     ∙ sym (filter_map_more by c.args.events.now c.loop-event.event-index none c.loop-event-test.true)
 

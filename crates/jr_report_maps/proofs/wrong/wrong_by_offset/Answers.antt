@@ -1,4 +1,4 @@
-use Rattle.std.proofs.Common.{List, Bool, rules, ap, sym, ◌∙◌, ◌+◌, ◌++◌, map}
+use Rattle.std.proofs.Common.{List, Bool, rules, ap, sym, ◌∙◌, ◌+◌, map}
 use Rattle.std.specs.Prelude.{◌||◌}
 use Rattle.std.specs.List.{list_any}
 use Rattle.std.proofs.lemmas.List.Sorted.{IsNonDecreasingBy-from_sort_by_key, list_any-IsPermutation}

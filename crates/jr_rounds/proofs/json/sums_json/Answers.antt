@@ -1,8 +1,5 @@
 use Rattle.std.proofs.Common.{ℕ, List, ◌++◌, ap, ◌∙◌}
 use Rattle.std.specs.Prelude.{codes, decimal}
-use Rattle.serde_json.specs.Data.{array}
-use Rattle.serde_json.specs.View.{items_of}
-use Rattle.serde_json.specs.Written.{compact_text}
 use Rattle.jr_model.specs.declared.totals.Totals.{Totals}
 use Rattle.jr_report_json.specs.Json.{clones_json}
 use Rattle.jr_report_json.specs.Rows.{array_text}

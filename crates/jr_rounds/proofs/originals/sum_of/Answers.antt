@@ -1,4 +1,4 @@
-use Rattle.std.proofs.Common.{◌≡◌, ℕ, List, ap, ◌∙◌, take, length, ◌≤◌, arith}
+use Rattle.std.proofs.Common.{ℕ, List, ap, ◌∙◌, take, length, ◌≤◌, arith}
 use Rattle.std.proofs.lemmas.List.{take_all}
 use Rattle.jr_model.specs.declared.totals.Totals.{Totals}
 use Rattle.jr_rounds.specs.Originals.{of_original}

@@ -1,4 +1,4 @@
-use Rattle.std.proofs.Common.{◌≡◌, ℕ, ◌/◌, ◌%◌, ◌-◌, max, List, length, take, replicate, Ok, ap, ◌∙◌, sym, subst, arith}
+use Rattle.std.proofs.Common.{◌≡◌, ℕ, ◌/◌, ◌%◌, ◌-◌, max, length, take, replicate, Ok, ap, ◌∙◌, sym, subst, arith}
 use Rattle.std.proofs.lemmas.List.{take_at}
 use Rattle.jr_plan.specs.SplitEntries.{IsSplit, padded}
 use Rattle.jr_sizes.specs.Splits.{given_total, blank_count, share}

@@ -1,5 +1,5 @@
 use Rattle.std.proofs.Common.{arith}
-use Rattle.jr_desk_state.proofs.WaitingBits.{marked_before, past_free, released_here}
+use Rattle.jr_desk_state.proofs.WaitingBits.{marked_before, released_here}
 use Rattle.jr_desk_state.proofs.waiting.Waiting.release.Goals as goal
 
 pub returns-then-place-len-clause-free : goal.returns-then-place-len-clause-free

@@ -1,4 +1,4 @@
-use Rattle.std.proofs.Common.{◌≡◌, Bool, false, rules, sym, ◌∙◌, ap}
+use Rattle.std.proofs.Common.{◌≡◌, false, rules, sym, ◌∙◌, ap}
 use Rattle.jr_flight.specs.Flights.{is_clear, writes}
 use Rattle.jr_flight.proofs.PlaceLemmas.{none_waits}
 use Rattle.jr_flight.proofs.flights.Flight.clear.Goals as goal

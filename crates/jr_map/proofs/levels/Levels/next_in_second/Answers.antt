@@ -10,4 +10,4 @@ returns-in_err-word c =
 pub returns : goal.returns
 returns c =
     let here = rw c.deref.ensures.value at c.in_default.ensures in
-    least_above c.args.self.now.second.items c.args.self.now.third.items c.args.from c.in_ok-word.word c.first_in_word.result c.requires.summed.third here (c.in_ok-word.ensures) (rw c.deref-2.ensures.value at c.first_in_word.ensures.bit) c.first_in_word.ensures.within
+    least_above c.args.self.now.second.items c.args.self.now.third.items c.args.from c.in_ok-word.word c.least_clear_in.result c.requires.summed.third here (c.in_ok-word.ensures) (rw c.deref-2.ensures.value at c.least_clear_in.ensures.bit) c.least_clear_in.ensures.within

@@ -12,6 +12,6 @@ returns-in-Ok-Job-clause-value c =
     let s = c.args.self in
     let section = c.args.section.now in
     let says : Ok (reading.Job c.in-Ok-Job.options) ≡ reading_of only s.globals section = cc (c.in-Ok-Job.ensures.value) in
-    ap (λ t. Ok (record s { tally = t })) (c.with_job.ensures.value ∙ ap (and_job s.tally c.in-Ok-Job.options) c.line.ensures)
+    ap (λ t. Ok (record s { tally = t })) (c.with_job.ensures.value ∙ ap (and_job s.tally c.in-Ok-Job.options) c.line_number.ensures)
     ∙ ap (and_reading s section) says
     ∙ step_by only s section
