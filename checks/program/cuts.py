@@ -441,6 +441,15 @@ class After(Case):
         ran = ending(child)
         expect(ran.status == 3 and ran.err == CUT_OFF, "and its end", ran)
 
+    def test_lines_of_slow_writes(self):
+        """A worker that has taken several writes has the line of one that takes long there before it asks for the next."""
+        text = FEW.replace("16k", "64k").replace("loops=2", "loops=8") + "iodepth=16\n"
+        whole = self.whole(text, name="quick", workers=2, words=("--cached",))
+        ran = Run(self.fresh(), whole.run.job, whole.plan).go(self.library, "--cached", seed=1, slow=1000)
+        writes, late = len(ran.account.writes), [*ran.account.late_lines()]
+        expect(ran.ran.status == 0 and writes == 128, "a run of slow writes", ran.ran, writes)
+        expect(not late, "lines that came late", late)
+
     def test_words(self):
         """What has no ledger: rounds, a job without files, and a judgement with words that a run needs."""
         place = self.place

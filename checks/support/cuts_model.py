@@ -223,6 +223,17 @@ class Account:
                 if not returned.get(sync):
                     yield f"line s {rest[2:4]} of a sync that hadn't returned"
 
+    def late_lines(self):
+        """The writes whose threads asked for another before their lines were there."""
+        without = {}
+        for tag, *rest in self.events:
+            if tag == "wrote":
+                without[int(rest[1])] = int(rest[0])
+            elif tag == "note" and rest[1] == "w":
+                without.pop(int(rest[0]), None)
+            elif tag == "write" and int(rest[1]) in without:
+                yield without.pop(int(rest[1]))
+
     def syncs_of(self, file):
         """How many writes of the file had ended before each sync of it was asked for."""
         ended, files = 0, {seq: it.file for seq, it in enumerate(self.writes, 1)}

@@ -8,6 +8,7 @@
 //   SEED=N                what is drawn is drawn from it
 //   LEDGER=FILE           a file whose lines go into the account too, where they are written
 //   RECORD=FILE           where each write goes: the file's number, offset and length, numbers of 8 bytes, and its bytes
+//   SLOW=N                each write takes so many microseconds at least
 //   FAIL=N                sync N, from 1, fails, and what it had to store is lost, as the system's cache loses it; all others go well
 //   LIE=WORD              what the disk does wrong, below; without it it is honest
 //
@@ -90,7 +91,7 @@ static pthread_once_t once = PTHREAD_ONCE_INIT;
 static struct file files[FILES];
 static int file_count, account = -1, record = -1;
 static struct write *writes;
-static uint64_t write_count, write_room, sync_count, calls, cut_at, fails_at, state;
+static uint64_t write_count, write_room, sync_count, calls, cut_at, fails_at, slow, state;
 static const char *lie = "", *ledger_path;
 static struct stat ledger;
 static int is_dead, is_used;
@@ -186,6 +187,7 @@ static void begin(void) {
     record = made("RECORD");
     cut_at = number_of("CUT");
     fails_at = number_of("FAIL");
+    slow = number_of("SLOW");
     state = number_of("SEED") * 0x2545f4914f6cdd1d + 1;
     const char *word = getenv("LIE");
     lie = word ? word : "";
@@ -546,6 +548,7 @@ ssize_t pwrite(int fd, const void *bytes, size_t len, off_t offset) {
     count();
     pthread_mutex_unlock(&lock);
     if (seq % 3 == 0) sched_yield();
+    if (slow) usleep((useconds_t)slow);
     pthread_mutex_lock(&lock);
     tell("wrote %llu %d\n", (unsigned long long)seq, thread());
     pthread_mutex_unlock(&lock);

@@ -1,10 +1,10 @@
 // What is found of a plan's files after a cut, by the ledger of its run.
+use crate::judged_outputs::{JudgedFiles, write_judged};
 use jr_cli_after::{After, AfterFailure, judge_after};
 use jr_cli_grounds::{Taken, refuse_judgement, take_to_read};
 use jr_cli_notes::Beginning;
-use jr_cli_outputs::{JudgedFiles, Outputs};
-use jr_cli_runs::to_output;
-use jr_cli_words::{Choice, CliFault, memory_or, read_ledger};
+use jr_cli_outputs::Outputs;
+use jr_cli_words::{Choice, CliFault, memory_or, read_ledger, to_output};
 use jr_ledger::{LedgerLine, read_lines};
 use jr_plan::Plan;
 use jr_system::{Machine, Outlet, Stop};
@@ -75,7 +75,7 @@ fn judge_files<R: Outlet + Machine>(
         begun,
         job,
     };
-    outputs.write_after(rt, &found)?;
+    write_judged(rt, outputs, &found)?;
     Ok(after.status())
 }
 

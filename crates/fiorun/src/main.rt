@@ -4,30 +4,36 @@
 ghost use Rattle.std.specs.Prelude.{IfOk};
 ghost use Rattle.jr_replay_traces.specs.Runs.{IsRunIn};
 
-use adapting::{job_size, print_adapted};
+use finished::Finished;
 use jr_cli::{print_check, print_part};
-use jr_cli_grounds::{PlannedJob, job_plan};
-use jr_cli_outputs::{Finished, Wanted};
-use jr_cli_runs::{SharedRun, Turn, add, boxed, run_job, run_memory, shares, to_output};
+use jr_cli_grounds::{PlannedJob, add, boxed, job_plan, job_size, print_adapted, shares};
+use jr_cli_outputs::Wanted;
 use jr_cli_words::{
-    Choice, CliFault, answer_words, choose, memory_or, print_plan, read_text, read_trace,
-    workers_of,
+    Choice, CliFault, TraceReader, answer_words, choose, memory_or, print_plan, read_text,
+    read_trace, to_output, workers_of,
 };
 use jr_engines::Engine;
 use jr_plan::Plan;
 use jr_replay_traces::Checked;
 use jr_system::{Machine, Outlet, Screen, Stop, tell_all, tell_history};
 use judging::judge;
+use running::{SharedRun, Turn, run_memory};
+use runs::run_job;
 use std::alloc::Global;
 use std::env::Env;
 use std::fs::{File, Files};
 use std::process::ExitCode;
 use std::{env, fs, io};
-use traced::TraceReader;
 
-mod adapting;
+mod course;
+mod finished;
+mod going_on;
+mod judged_outputs;
 mod judging;
-mod traced;
+mod rounds;
+mod running;
+mod runs;
+mod series;
 
 fn main(rt: HostRuntime) -> ExitCode {
     let _held = held(&rt);

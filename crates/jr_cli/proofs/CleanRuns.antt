@@ -14,7 +14,7 @@ use Rattle.jr_model.specs.Report.{all_totals}
 use Rattle.jr_model.specs.Totals.{is_verdict_of, is_fault_of, totals_of}
 use Rattle.jr_laws_bytes.specs.Clean.{is_faulty_end, has_fault}
 use Rattle.jr_laws_bytes.specs.BadVerdicts.{is_bad_verdict, has_bad}
-use Rattle.jr_cli.specs.Status.{is_unclean, status_of}
+use Rattle.jr_cli_ends.specs.Status.{is_unclean, status_of}
 
 -- none is counted where a test that each counted one meets is met by none
 count_none : (counted test : Event → Bool) (history : List Event) → ((e : Event) → test e ≡ false → counted e ≡ false) → list_any test history ≡ false → count_by counted history ≡ 0

@@ -3,7 +3,7 @@ use Rattle.std.proofs.Common.{◌≡◌, sym, subst, inl, inr}
 use Rattle.std.specs.Prelude.{Result, Ok, Err, IfErr, IsErrAnd}
 use Rattle.jr_cli_words.specs.declared.faults.CliFault.{CliFault}
 use Rattle.jr_cli_words.specs.declared.faults.CliFault.TheVariants as fault
-use Rattle.jr_crew_threads.specs.declared.faults.RunFault.TheVariants as run
+use Rattle.jr_run_faults.specs.declared.runs.RunFault.TheVariants as run
 use Rattle.jr_cli.specs.Executed.{IsCutShort, IsRunFault}
 
 -- what holds of a fault holds of the one that is handed on

@@ -1,5 +1,4 @@
 pub mod CleanRuns
 pub mod CutShort
 pub mod EndedRuns
-pub mod JsonLines
 pub mod QuietRuns

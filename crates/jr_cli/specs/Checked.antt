@@ -1,7 +1,7 @@
 -- Believed: why the check of a trace prints no totals (of this project).
 use Rattle.std.specs.Prelude.{List, Result, IsOk}
 use Rattle.jr_model.specs.declared.totals.Totals.{Totals}
-use Rattle.jr_replay_traces.specs.declared.faults.TraceFault.{TraceFault}
+use Rattle.jr_run_faults.specs.declared.traces.TraceFault.{TraceFault}
 use Rattle.jr_replay_traces.specs.TraceChecks.{IsRefusal}
 use Rattle.jr_cli_words.specs.declared.faults.CliFault.{CliFault}
 use Rattle.jr_cli_words.specs.declared.faults.CliFault.TheVariants as fault

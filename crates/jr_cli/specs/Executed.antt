@@ -11,12 +11,12 @@ use Rattle.jr_model.specs.Quiet.{quiet_report}
 use Rattle.jr_model.specs.Report.{all_totals, report_of}
 use Rattle.jr_plan.specs.Files.{are_apart}
 use Rattle.jr_replay_traces.specs.Traces.{trace_of}
-use Rattle.jr_crew_threads.specs.declared.faults.RunFault.TheVariants as run
+use Rattle.jr_run_faults.specs.declared.runs.RunFault.TheVariants as run
 use Rattle.jr_crew_books.specs.declared.books.Done.{Done}
 use Rattle.jr_crew.specs.Whole.{IsRun, IsCrewRun, IsEndedRun, IsEndedCrewRun}
 use Rattle.jr_cli_words.specs.declared.faults.CliFault.{CliFault}
 use Rattle.jr_cli_words.specs.declared.faults.CliFault.TheVariants as fault
-use Rattle.jr_cli.specs.Status.{status_of}
+use Rattle.jr_cli_ends.specs.Status.{status_of}
 use Rattle.jr_desk.specs.DeskState.{DeskState}
 
 -- the desk that is handed on is that of the run

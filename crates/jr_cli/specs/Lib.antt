@@ -1,5 +1,2 @@
 pub mod Checked
 pub mod Executed
-pub mod Findings
-pub mod Places
-pub mod Status

@@ -1,5 +1,4 @@
 ghost use Rattle.std.specs.Prelude.{◌≡◌, ◌<◌, ◌≤◌, ◌^◌, [], true, false, map, None, Err, IfOk, IfErr, IsOkAnd, OnOk};
-ghost use Rattle.std.specs.List.{list_any};
 ghost use Rattle.std.specs.Io.KnownBytes.{Appends};
 ghost use Rattle.jr_model.specs.Legal.{is_complete};
 ghost use Rattle.jr_model.specs.Report.{totals_lines};
@@ -15,18 +14,17 @@ ghost use Rattle.jr_cli.specs.Executed.{IsQuietlyReported, IsReported, IsRunFaul
 ghost use Rattle.jr_replay_traces.specs.Runs.{IsRunIn};
 ghost use Rattle.jr_replay_traces.specs.TraceChecks.{check_of, check_of_part};
 ghost use Rattle.jr_replay_traces.specs.Traces.{trace_of};
-ghost use Rattle.jr_cli.specs.Status.{is_interrupted, is_unclean, status_of};
+ghost use Rattle.jr_cli_ends.specs.Status.{is_interrupted};
 
-use crate::ended::Executed;
-use crate::found::faults_found;
+use jr_cli_ends::{Executed, faults_found, status_of};
 use jr_cli_words::{CliFault, write_out};
 use jr_crew::{RunFault, StopRequest, Watch, run_booked, run_serial_asked};
 use jr_desk::Desk;
 use jr_engines::Engine;
-use jr_model::Totals;
 use jr_plan::Plan;
-use jr_replay_traces::{Checked, TraceFault, read_run};
+use jr_replay_traces::{Checked, read_run};
 use jr_report_faults::Faults;
+use jr_run_faults::TraceFault;
 use jr_stats::{report, totals_text, trace};
 use std::alloc::Global;
 use std::io::Write;
@@ -203,23 +201,4 @@ pub fn print_part<V: Write>(
     let lines = totals_text(alloc, plan, part.totals.as_slice())?;
     write_out(lines.as_slice(), out)?;
     Ok(part)
-}
-
-// 1 where a verdict was bad or an I/O was a fault, else 0.
-pub(crate) fn status_of(totals: &[Totals]) -> u8
-    ensures { result ≡ status_of totals.now }
-{
-    if any_unclean(totals) { 1 } else { 0 }
-}
-
-fn any_unclean(totals: &[Totals]) -> bool
-    ensures { result ≡ list_any is_unclean totals.now }
-{
-    totals.iter().any(|t| is_unclean(t))
-}
-
-fn is_unclean(totals: &Totals) -> bool
-    ensures { result ≡ is_unclean totals.now }
-{
-    totals.bad != 0 || totals.faults != 0
 }

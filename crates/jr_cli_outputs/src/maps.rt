@@ -1,5 +1,5 @@
 // Maps on the screen: what happened where in the files of a run.
-use jr_cli::Findings;
+use jr_cli_ends::Findings;
 use jr_cli_words::CliFault;
 use jr_escape::Escaped;
 use jr_model::LARGEST_END;

@@ -2,7 +2,7 @@
 // ready there.
 use crate::roads::{Road, Sink};
 use crate::unfailing::Unfailing;
-use jr_cli::{Findings, Storage, json_text, list_text, list_text_with_faults};
+use jr_cli_ends::{Findings, Storage, json_text, list_text, list_text_with_faults};
 use jr_cli_words::{BlockSize, Choice, CliFault, list_size};
 use jr_desk::Desk;
 use jr_io_devices::FileNumbers;
@@ -20,27 +20,27 @@ use std::fs;
 use std::fs::File;
 use std::io::{BufWriter, Write};
 
-// What an output says of a run.
+/// What an output says of a run.
 #[derive(Drop)]
-pub(crate) enum Content {
-    // Each of its events.
+pub enum Content {
+    /// Each of its events.
     Trace,
-    // Which writes ended and which syncs returned, as it happens.
+    /// Which writes ended and which syncs returned, as it happens.
     Ledger,
-    // The list of the bad blocks of the plan's only file, with blocks of this size.
+    /// The list of the bad blocks of the plan's only file, with blocks of this size.
     BadBlocks(BlockSize),
-    // The list of the bad blocks and of those of faults.
+    /// The list of the bad blocks and of those of faults.
     WrongBlocks(BlockSize),
-    // The report as JSON.
+    /// The report as JSON.
     Json,
-    // The page that shows the run.
+    /// The page that shows the run.
     Page,
 }
 
 // An output.
 #[derive(Drop)]
-pub(crate) struct Output {
-    pub(crate) content: Content,
+struct Output {
+    content: Content,
     // The path that the words give it.
     path: String,
     // Where that leads.
@@ -54,7 +54,7 @@ pub(crate) struct Output {
 /// writes to otherwise, and standard input.
 #[derive(Drop)]
 pub struct Outputs {
-    pub(crate) all: Vec<Output>,
+    all: Vec<Output>,
     files: Vec<String>,
     streams: Vec<Spot>,
     input: Vec<Spot>,
@@ -386,8 +386,25 @@ impl Outputs {
         result
     }
 
+    /// Writes to each the text that this function makes of what it says. What can't be written keeps no other from it, and the first that
+    /// can't is answered.
+    pub fn write_texts<R: Outlet, F: Fn(&Content) -> Result<Vec<u8>, Memory>>(
+        &self,
+        rt: &R,
+        text_of: F,
+    ) -> Result<(), Stop>
+        requires { F.IsAlwaysCallable text_of }
+    {
+        let mut result = Ok(());
+        for output in self.all.iter() {
+            let text = text_of(&output.content);
+            result = result.and(self.write_made(rt, output, text));
+        }
+        result
+    }
+
     // Writes a text that was made for it, and has it take its name.
-    pub(crate) fn write_made<R: Outlet>(
+    fn write_made<R: Outlet>(
         &self,
         rt: &R,
         output: &Output,

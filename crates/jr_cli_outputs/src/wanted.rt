@@ -1,12 +1,12 @@
 // Where a run found what, told behind its report: a map of each file, and the outputs that are asked for.
 ghost use Rattle.jr_replay_traces.specs.Runs.{IsLegalRun};
 
-use crate::finished::Finished;
 use crate::maps::show_maps;
 use crate::outputs::Outputs;
-use jr_cli::{Findings, RunEnd, Storage};
+use jr_cli_ends::{Findings, Storage};
 use jr_cli_notes::{Beginning, Surroundings, tell_found};
 use jr_cli_words::{Choice, CliFault};
+use jr_desk::Desk;
 use jr_plan::Plan;
 use jr_replay_traces::Checked;
 use jr_system::{Closed, Outlet, Stop};
@@ -48,16 +48,23 @@ impl Wanted {
         })
     }
 
-    /// Tells it, of a run that has its report, with which what can't be told is kept.
-    pub fn tell<R: Outlet + Clock>(&self, rt: &R, ran: Finished) -> Finished {
-        let traced = if ran.is_trace_cut {
+    /// Tells it, of the desk's run, which has its report, and of whose files the system said this. A trace that couldn't be written to its end
+    /// doesn't take its name. The first thing that can't be told is answered.
+    pub fn tell<R: Outlet + Clock>(
+        &self,
+        rt: &R,
+        desk: &Desk,
+        closed: &Closed,
+        is_trace_cut: bool,
+    ) -> Result<(), Stop> {
+        let traced = if is_trace_cut {
             Ok(())
         } else {
             self.outputs.finish_trace(rt)
         };
-        let told = self.tell_run(rt, &ran);
+        let told = self.tell_run(rt, desk, closed);
         self.outputs.clear(rt);
-        ran.and(traced).and(told)
+        traced.and(told)
     }
 
     /// Says what stands in the first bad blocks of a run of the plan, where notes are wanted.
@@ -67,15 +74,20 @@ impl Wanted {
         }
     }
 
-    fn tell_run<R: Outlet + Clock>(&self, rt: &R, ran: &Finished) -> Result<(), Stop> {
-        self.tell_found(rt, ran.ended.desk.plan(), &ran.closed);
+    fn tell_run<R: Outlet + Clock>(
+        &self,
+        rt: &R,
+        desk: &Desk,
+        closed: &Closed,
+    ) -> Result<(), Stop> {
+        self.tell_found(rt, desk.plan(), closed);
         if self.outputs.is_empty() && !self.has_maps {
             return Ok(());
         }
-        let Ok(findings) = Findings::of_desk(rt.alloc(), &ran.ended.desk) else {
+        let Ok(findings) = Findings::of_desk(rt.alloc(), desk) else {
             return Err(Stop::from(CliFault::Memory));
         };
-        self.tell_findings(rt, &findings, &ran.closed)
+        self.tell_findings(rt, &findings, closed)
     }
 
     /// Tells it, of the run that a trace of the plan is of.
@@ -96,23 +108,21 @@ impl Wanted {
         self.tell_findings(rt, &findings, &Closed::of_no_files(rt.alloc()))
     }
 
-    /// Tells it at the end of several rounds, of the last of them, with the blocks that were bad in any.
+    /// Tells it at the end of several rounds, of the desk of the last of them, with the blocks that were bad in any.
     pub fn tell_last<R: Outlet + Clock>(
         &self,
         rt: &R,
-        last: &RunEnd,
+        last: &Desk,
         closed: &Closed,
         blocks: &[u64],
     ) -> Result<(), Stop> {
-        let Ok(findings) = Findings::of_desk(rt.alloc(), &last.desk) else {
+        let Ok(findings) = Findings::of_desk(rt.alloc(), last) else {
             return Err(Stop::from(CliFault::Memory));
         };
         let shown = self.show(rt, &findings);
         let about = self.surroundings(rt, findings.plan())?;
         let notes = about.notes(closed.reasons.as_slice(), closed.found.as_slice());
-        let written = self
-            .outputs
-            .write_last(rt, &last.desk, &findings, blocks, &notes);
+        let written = self.outputs.write_last(rt, last, &findings, blocks, &notes);
         shown?;
         written
     }

@@ -2,9 +2,9 @@
 use Rattle.std.specs.Prelude.{ℕ, List, codes}
 use Rattle.jr_text.specs.FaultTexts.{text_fault_text}
 use Rattle.jr_options.specs.FaultTexts.{job_fault_text}
-use Rattle.jr_crew_threads.specs.FaultTexts.{run_fault_text}
+use Rattle.jr_run_faults.specs.FaultTexts.{run_fault_text}
 use Rattle.jr_ledger.specs.FaultTexts.{ledger_fault_text}
-use Rattle.jr_replay_traces.specs.FaultTexts.{trace_fault_text}
+use Rattle.jr_run_faults.specs.FaultTexts.{trace_fault_text}
 use Rattle.jr_cli_words.specs.declared.faults.CliFault.{CliFault}
 use Rattle.jr_cli_words.specs.declared.faults.CliFault.TheVariants as fault
 

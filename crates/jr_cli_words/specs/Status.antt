@@ -7,8 +7,8 @@ use Rattle.jr_text.specs.declared.faults.TextFault.{TextFault}
 use Rattle.jr_text.specs.declared.faults.TextFault.TheVariants as text
 use Rattle.jr_job_options.specs.declared.faults.JobFault.{JobFault}
 use Rattle.jr_job_options.specs.declared.faults.JobFault.TheVariants as job
-use Rattle.jr_replay_traces.specs.declared.faults.TraceFault.{TraceFault}
-use Rattle.jr_replay_traces.specs.declared.faults.TraceFault.TheVariants as trace
+use Rattle.jr_run_faults.specs.declared.traces.TraceFault.{TraceFault}
+use Rattle.jr_run_faults.specs.declared.traces.TraceFault.TheVariants as trace
 use Rattle.jr_ledger.specs.declared.faults.LedgerFault.{LedgerFault}
 use Rattle.jr_ledger.specs.declared.faults.LedgerFault.TheVariants as ledger
 use Rattle.jr_cli_words.specs.declared.faults.CliFault.{CliFault}

@@ -1,10 +1,9 @@
 ghost use Rattle.std.specs.Prelude.{◌≡◌};
 
-use jr_crew_threads::RunFault;
 use jr_ledger::LedgerFault;
 use jr_model::Memory;
 use jr_options::JobFault;
-use jr_replay_traces::TraceFault;
+use jr_run_faults::{RunFault, TraceFault};
 use jr_text::TextFault;
 use std::alloc::AllocError;
 use std::error::Error;

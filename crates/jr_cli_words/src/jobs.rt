@@ -5,7 +5,8 @@ ghost use Rattle.jr_plan.specs.PlanText.{plan_text};
 use crate::faults::CliFault;
 use jr_options::{Plan, plan_text};
 use std::alloc::Global;
-use std::io::Write;
+use std::io;
+use std::io::{BufWriter, Printer, Write};
 
 /// Prints what a run of the plan would do, a line for each clone.
 pub fn print_plan<V: Write>(alloc: Global, plan: &Plan, out: &mut V) -> Result<(), CliFault>
@@ -25,4 +26,12 @@ pub fn write_out<V: Write>(text: &[u8], out: &mut V) -> Result<(), CliFault>
         return Err(CliFault::Write);
     }
     Ok(())
+}
+
+/// Where reports and what else standard output gets goes.
+pub fn to_output<P: Print + AllocGlobal>(rt: &P) -> Result<BufWriter<Printer<'_, P>>, CliFault> {
+    match BufWriter::new(rt.alloc(), io::writer(rt)) {
+        Ok(out) => Ok(out),
+        Err(_) => Err(CliFault::Memory),
+    }
 }

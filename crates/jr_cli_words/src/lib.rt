@@ -5,14 +5,16 @@ mod faults;
 mod inputs;
 mod jobs;
 mod sizes;
+mod traces;
 mod wiping;
 mod words;
 mod workers;
 
 pub use faults::CliFault;
 pub use inputs::{memory_or, read_ledger, read_text, read_trace};
-pub use jobs::{print_plan, write_out};
+pub use jobs::{print_plan, to_output, write_out};
 pub use sizes::{BlockSize, list_size};
+pub use traces::TraceReader;
 pub use wiping::{Wipe, Wiping};
 pub use words::{Choice, LOGIC, RELEASE, VERSION, answer_words, choose};
 pub use workers::workers_of;

@@ -6,7 +6,7 @@ ghost use Rattle.jr_desk_tickets.specs.Kept.{tickets_of};
 ghost use Rattle.jr_model.specs.declared.events.Verdict.{Verdict as GivenVerdict};
 ghost use Rattle.jr_crew_books.specs.Books.{IsVerdictIn, dones_of};
 ghost use Rattle.jr_crew_books.specs.Numbers.{judges_inline, is_own_verdict, is_numbered};
-ghost use Rattle.jr_crew_threads.specs.Faults.{IsRefusal, IsUnmanned};
+ghost use Rattle.jr_run_faults.specs.Faults.{IsRefusal, IsUnmanned};
 ghost use Rattle.jr_crew_threads.specs.Stops.{IsCompleteOrAsked};
 ghost use Rattle.jr_crew_books.specs.Finished.{AllFinished};
 ghost use Rattle.jr_crew.specs.Whole.{IsBooked};
@@ -25,14 +25,15 @@ use jr_crew_books::{
 };
 use jr_crew_channel::{Handoff, Pass};
 use jr_crew_threads::{
-    Books, ChannelEnd, Crowd, Halt, Judged, Judgements, Judges, Naming, RunFault, Seat, Shares,
-    StopFlag, StopRequest, Verifiers, Watch, Worked, Worker, WorkerEnd, asked_at, books_of,
-    room_for, staff_for,
+    Books, ChannelEnd, Crowd, Halt, Judged, Judgements, Judges, Naming, Seat, Shares, StopFlag,
+    StopRequest, Verifiers, Watch, Worked, Worker, WorkerEnd, asked_at, books_of, room_for,
+    staff_for,
 };
 use jr_desk::Desk;
 use jr_engines::Engine;
 use jr_model::Event;
 use jr_plan::Plan;
+use jr_run_faults::RunFault;
 use std::alloc::Global;
 use std::marker::Brand;
 use std::sync::Wait;

@@ -9,8 +9,8 @@ ghost use Rattle.jr_crew.specs.Working.{CanBeServed, CanStart};
 
 use crate::outcomes::{CarriedOut, TakenIn};
 use jr_crew_threads::{
-    Crowd, Halt, MOST_BYTES, MOST_IOS, Naming, Shares, Turns, Watch, asked_at, note_bad,
-    note_start, note_verdict, push, record_due, record_from,
+    Crowd, Halt, MOST_BYTES, MOST_IOS, Naming, Recorded, Shares, Turns, Watch, asked_at,
+    none_recorded, note_bad, note_start, note_verdict, push, record_due, record_rest,
 };
 use jr_desk::{Desk, DeskFault, Take};
 use jr_header::{Ruling, Served};
@@ -291,15 +291,25 @@ impl<'p, P: Naming> Shared<'p, P> {
         }
     }
 
-    // Has the ledger take in the last of these, with those before it from that place on, if its file is to be synced now. Answers how many
-    // it has then.
-    pub fn record_due<R: Wait>(&self, rt: &R, served: &[Served], recorded: usize) -> usize {
+    // Nothing of a share that begins now is in the ledger.
+    pub fn none_recorded<R: Clock>(&self, rt: &R) -> Recorded {
+        none_recorded(rt, &self.watch)
+    }
+
+    // Has the ledger take in the last of these, with those before it that it doesn't have, if that one took long or its file is to be synced
+    // now. Answers what it has then.
+    pub fn record_due<R: Wait + Clock>(
+        &self,
+        rt: &R,
+        served: &[Served],
+        recorded: Recorded,
+    ) -> Recorded {
         record_due(rt, &self.watch, served, recorded)
     }
 
-    // Has the ledger take in all of these from that place on.
-    pub fn record_from<R: Wait>(&self, rt: &R, served: &[Served], from: usize) {
-        record_from(rt, &self.watch, served, from);
+    // Has the ledger take in all of these that it doesn't have.
+    pub fn record_rest<R: Wait>(&self, rt: &R, served: &[Served], recorded: Recorded) {
+        record_rest(rt, &self.watch, served, recorded);
     }
 
     // Takes the lock. Who doesn't get it at once comes until it has it: nobody is counted who has the lock.

@@ -11,6 +11,7 @@ mod work;
 
 pub use crew::{Booked, run_booked};
 pub use jr_crew_books::{Book, Done};
-pub use jr_crew_threads::{Progress, RunFault, StopFlag, StopRequest, Watch};
+pub use jr_crew_threads::{Progress, StopFlag, StopRequest, Watch};
+pub use jr_run_faults::RunFault;
 pub use ran::{Ran, run};
 pub use serial::{SerialRun, run_serial, run_serial_asked};

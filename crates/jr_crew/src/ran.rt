@@ -4,11 +4,12 @@ ghost use Rattle.jr_crew.specs.Whole.{IsCrewRun, IsEndedCrewRun};
 
 use crate::crew::{Booked, run_booked};
 use jr_crew_books::{Book, Done};
-use jr_crew_threads::{RunFault, Watch};
+use jr_crew_threads::Watch;
 use jr_desk::Desk;
 use jr_engines::Engine;
 use jr_model::Memory;
 use jr_plan::Plan;
+use jr_run_faults::RunFault;
 use std::alloc::Global;
 use std::sync::Wait;
 use std::thread::Threads;

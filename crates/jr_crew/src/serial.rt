@@ -9,14 +9,15 @@ ghost use Rattle.jr_crew.specs.Turns.{IsBetweenTurns, IsOpen, IsCarriedOut, IsTu
 ghost use Rattle.jr_crew.specs.Whole.{IsRun, IsEndedRun};
 
 use jr_crew_threads::{
-    RunFault, StopFlag, StopRequest, Watch, asked_at, make_room, note_alone, note_start,
-    note_verdict, record_alone,
+    StopFlag, StopRequest, Watch, asked_at, make_room, note_alone, note_start, note_verdict,
+    record_alone,
 };
 use jr_desk::{Desk, Take};
 use jr_engines::Engine;
 use jr_header::{Served, rule, serve_own};
 use jr_model::{Event, Ticket};
 use jr_plan::Plan;
+use jr_run_faults::RunFault;
 use std::alloc::Global;
 use std::mem;
 

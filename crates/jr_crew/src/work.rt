@@ -126,7 +126,7 @@ fn serve_all<P: Naming, R: Wait + Clock>(
     ensures { IfOk result (λ served. AreAnswered (state engine.old) served.items (state engine.new)) }
 {
     let mut all = Vec::with_capacity(post.alloc, tickets.len())?;
-    let mut recorded = 0;
+    let mut recorded = post.shared.none_recorded(rt);
     for ticket in tickets {
         let buffer = match buffers.pop() {
             Some(buffer) => buffer,
@@ -140,7 +140,7 @@ fn serve_all<P: Naming, R: Wait + Clock>(
         )?;
         recorded = post.shared.record_due(rt, &all, recorded);
     }
-    post.shared.record_from(rt, &all, recorded);
+    post.shared.record_rest(rt, &all, recorded);
     Ok(all)
 }
 

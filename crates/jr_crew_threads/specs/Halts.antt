@@ -2,8 +2,8 @@
 use Rattle.std.specs.Prelude.{Option, Some, None}
 use Rattle.jr_model.specs.declared.steps.DeskFault.{DeskFault}
 use Rattle.jr_model.specs.declared.steps.DeskFault.TheVariants as desk
-use Rattle.jr_crew_threads.specs.declared.faults.RunFault.{RunFault}
-use Rattle.jr_crew_threads.specs.declared.faults.RunFault.TheVariants as run
+use Rattle.jr_run_faults.specs.declared.runs.RunFault.{RunFault}
+use Rattle.jr_run_faults.specs.declared.runs.RunFault.TheVariants as run
 use Rattle.jr_crew_threads.specs.declared.halts.Halt.{Halt}
 use Rattle.jr_crew_threads.specs.declared.halts.Halt.TheVariants as halt
 

@@ -1,5 +1,3 @@
-pub mod FaultTexts
-pub mod Faults
 pub mod Halts
 pub mod Judging
 pub mod Parts

@@ -1,8 +1,8 @@
 ghost use Rattle.std.specs.Prelude.{◌≡◌};
 ghost use Rattle.jr_crew_threads.specs.Halts.{fault_of};
 
-use crate::faults::RunFault;
 use jr_model::{DeskFault, Memory};
+use jr_run_faults::RunFault;
 use std::alloc::AllocError;
 
 /// Why a run that had begun was ended before its time.

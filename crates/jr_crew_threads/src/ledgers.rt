@@ -4,29 +4,72 @@ use jr_header::Served;
 use jr_ledger_run::{Lines, RunLedger};
 use jr_model::TicketKind;
 use std::sync::Wait;
+use std::time::{Clock, Instant};
 
-/// Counts the last of these if it is a write. If its file is to be synced now, all from that place on are recorded, and it is synced. Answers
-/// how many are recorded then.
-pub fn record_due<R: Wait>(rt: &R, watch: &Watch<'_>, served: &[Served], recorded: usize) -> usize {
-    if let Some(ledger) = watch.ledger
-        && let Some(last) = served.last()
-        && is_due(ledger, last)
-    {
-        record_from(rt, watch, served, recorded);
-        ledger.sync(last.ticket().piece.file);
-        return served.len();
-    }
-    recorded
+// An I/O is long that takes so many nanoseconds. What a call for its line takes is little beside it.
+const LONG_NANOS: u128 = 50_000;
+
+/// How many I/Os of a worker's share are recorded, and when this was last looked at.
+#[derive(Clone, Copy)]
+pub struct Recorded {
+    count: usize,
+    looked: Option<Instant>,
 }
 
-/// Records the writes among these from that place on, if a ledger is kept.
-pub fn record_from<R: Wait>(rt: &R, watch: &Watch<'_>, served: &[Served], from: usize) {
+/// Nothing of a share that begins now is recorded. If no ledger is kept nobody looks at the clock.
+pub fn none_recorded<R: Clock>(rt: &R, watch: &Watch<'_>) -> Recorded {
+    let looked = match watch.ledger {
+        Some(_) => Instant::now(rt).ok(),
+        None => None,
+    };
+    Recorded { count: 0, looked }
+}
+
+/// Counts the last of these if it is a write. If it took long, or its file is to be synced now, all that aren't recorded yet are, and the file
+/// is synced if that is due. Answers what is recorded then.
+pub fn record_due<R: Wait + Clock>(
+    rt: &R,
+    watch: &Watch<'_>,
+    served: &[Served],
+    recorded: Recorded,
+) -> Recorded {
+    let Some(ledger) = watch.ledger else {
+        return recorded;
+    };
+    let Some(last) = served.last() else {
+        return recorded;
+    };
+    let now = Instant::now(rt).ok();
+    let is_due = is_due(ledger, last);
+    let mut count = recorded.count;
+    if is_due || is_long(recorded.looked, now) {
+        record_rest(rt, watch, served, recorded);
+        count = served.len();
+    }
+    if is_due {
+        ledger.sync(last.ticket().piece.file);
+    }
+    Recorded { count, looked: now }
+}
+
+// Whether it is so long from the one to the other.
+fn is_long(begun: Option<Instant>, now: Option<Instant>) -> bool {
+    match (begun, now) {
+        (Some(begun), Some(now)) => {
+            now.saturating_duration_since(begun).as_nanos() >= LONG_NANOS
+        }
+        _ => false,
+    }
+}
+
+/// Records the writes among these that aren't recorded yet, if a ledger is kept.
+pub fn record_rest<R: Wait>(rt: &R, watch: &Watch<'_>, served: &[Served], recorded: Recorded) {
     if let Some(ledger) = watch.ledger
-        && from < served.len()
+        && recorded.count < served.len()
         && let Some(mut lines) = ledger.lines(rt)
     {
         for (place, one) in served.iter().enumerate() {
-            if place >= from {
+            if place >= recorded.count {
                 add(&mut lines, one);
             }
         }

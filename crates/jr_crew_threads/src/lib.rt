@@ -6,7 +6,6 @@ mod brought;
 mod channels;
 mod crowd;
 mod diagnoses;
-mod faults;
 mod halts;
 mod ledgers;
 mod naming;
@@ -21,9 +20,8 @@ pub use brought::{Books, Judged, Judgements, Judges, Worked, WorkerEnd, books_of
 pub use channels::{ChannelEnd, ChannelPart};
 pub use crowd::Crowd;
 pub use diagnoses::{Diagnoses, MOST_DIAGNOSED, note_alone, note_bad};
-pub use faults::RunFault;
 pub use halts::Halt;
-pub use ledgers::{record_alone, record_due, record_from};
+pub use ledgers::{Recorded, none_recorded, record_alone, record_due, record_rest};
 pub use naming::Naming;
 pub use progress::{Progress, note_start, note_verdict};
 pub use rooms::make_room;

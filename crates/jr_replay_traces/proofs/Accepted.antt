@@ -27,8 +27,8 @@ use Rattle.jr_replay_traces.specs.declared.entries.Entry.TheVariants as entry
 use Rattle.jr_replay_traces.specs.declared.entries.Finding.{Finding}
 use Rattle.jr_replay_traces.specs.declared.entries.Finding.TheVariants as finding
 use Rattle.jr_replay_traces.specs.declared.entries.Start.{Start}
-use Rattle.jr_replay_traces.specs.declared.faults.TraceFault.{TraceFault}
-use Rattle.jr_replay_traces.specs.declared.faults.TraceFault.TheVariants.{Illegal, Line, Unfinished}
+use Rattle.jr_run_faults.specs.declared.traces.TraceFault.{TraceFault}
+use Rattle.jr_run_faults.specs.declared.traces.TraceFault.TheVariants.{Illegal, Line, Unfinished}
 use Rattle.jr_replay_traces.specs.TraceChecks.{after, draw_of, entry_event, entry_fits, event_of, history_in, if_legal, is_newline, is_numbered, issue_of, legal_event, line_event, lines_read, outcome_of, verdict_of, write_of}
 use Rattle.jr_replay_traces.specs.TraceLaws.{AcceptedIsATrace, ending_of, entry_of, finding_of, lines_fit, start_by}
 use Rattle.jr_replay_traces.specs.TraceLines.{read_line}

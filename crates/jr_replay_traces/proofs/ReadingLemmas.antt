@@ -13,8 +13,8 @@ use Rattle.jr_model.proofs.ListLemmas.{first_part}
 use Rattle.jr_model.proofs.HistoryLemmas.{started_count-more}
 use Rattle.jr_replay_traces.specs.declared.entries.Entry.{Entry}
 use Rattle.jr_replay_traces.specs.declared.entries.Entry.TheVariants as entry
-use Rattle.jr_replay_traces.specs.declared.faults.TraceFault.{TraceFault}
-use Rattle.jr_replay_traces.specs.declared.faults.TraceFault.TheVariants.{Line, Illegal, Unfinished, Memory}
+use Rattle.jr_run_faults.specs.declared.traces.TraceFault.{TraceFault}
+use Rattle.jr_run_faults.specs.declared.traces.TraceFault.TheVariants.{Line, Illegal, Unfinished, Memory}
 use Rattle.jr_replay_traces.specs.TraceChecks.{IsRefusal, after, entry_event, entry_fits, event_of, if_legal, is_newline, is_numbered, is_small, legal_event, line_event, lines_read, name_fits}
 use Rattle.jr_replay_traces.specs.TraceLines.{read_line}
 

@@ -25,8 +25,8 @@ use Rattle.jr_model.specs.Rounds.{Pass, pass_of}
 use Rattle.jr_model.proofs.Equality.{eq_issue, eq_piece}
 use Rattle.jr_model.proofs.LegalLaws.{cases_step_of}
 use Rattle.jr_model.specs.PlanFacts.{IsPlanned}
-use Rattle.jr_replay_traces.specs.declared.faults.TraceFault.{TraceFault}
-use Rattle.jr_replay_traces.specs.declared.faults.TraceFault.TheVariants.{Illegal, Unfinished}
+use Rattle.jr_run_faults.specs.declared.traces.TraceFault.{TraceFault}
+use Rattle.jr_run_faults.specs.declared.traces.TraceFault.TheVariants.{Illegal, Unfinished}
 use Rattle.jr_replay_traces.specs.TraceChecks.{after, check_of, entry_event, entry_fits, event_of, if_legal, is_newline, is_numbered, issue_of, legal_event, line_event, lines_read, outcome_of, verdict_of, workers_fit}
 use Rattle.jr_replay_traces.specs.TraceLaws.{TraceIsAccepted, ending_of, entry_of, finding_of, lines_fit}
 use Rattle.jr_replay_traces.specs.Traces.{event_text, lines_after, trace_of}

@@ -1,4 +1,3 @@
-pub mod FaultTexts
 pub mod Runs
 pub mod TraceChecks
 pub mod TraceLaws

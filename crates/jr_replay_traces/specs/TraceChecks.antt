@@ -24,8 +24,8 @@ use Rattle.jr_replay_traces.specs.declared.entries.Entry.TheVariants as entry
 use Rattle.jr_replay_traces.specs.declared.entries.Finding.{Finding}
 use Rattle.jr_replay_traces.specs.declared.entries.Finding.TheVariants as finding
 use Rattle.jr_replay_traces.specs.declared.entries.Name.{Name}
-use Rattle.jr_replay_traces.specs.declared.faults.TraceFault.{TraceFault}
-use Rattle.jr_replay_traces.specs.declared.faults.TraceFault.TheVariants.{Line, Illegal, Unfinished, Memory}
+use Rattle.jr_run_faults.specs.declared.traces.TraceFault.{TraceFault}
+use Rattle.jr_run_faults.specs.declared.traces.TraceFault.TheVariants.{Line, Illegal, Unfinished, Memory}
 use Rattle.jr_replay_traces.specs.TraceLines.{read_line}
 
 abbrev pub is_newline : ℕ → Bool

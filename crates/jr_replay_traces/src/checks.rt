@@ -7,13 +7,13 @@ ghost use Rattle.jr_replay.specs.Courses.{IsCourse};
 ghost use Rattle.jr_replay_traces.specs.Runs.{IsRunIn};
 ghost use Rattle.jr_replay_traces.specs.TraceChecks.{IsRefusal, check_of, check_of_part, history_in, is_newline, line_event};
 
-use crate::faults::TraceFault;
 use crate::fields::read_line;
 use crate::legal::legal_event;
 use jr_model::{Event, Totals};
 use jr_plan::Plan;
 use jr_replay::{Course, is_whole_run};
 use jr_replay_history::Ledger;
+use jr_run_faults::TraceFault;
 use std::alloc::Global;
 
 /// Checks a trace: what each clone did, if the text is the trace of a whole legal run of the plan; else its

@@ -3,13 +3,11 @@
 
 mod checks;
 mod entries;
-mod faults;
 mod fields;
 mod laws;
 mod legal;
 mod traces;
 
 pub use checks::{Checked, check_part, check_trace, read_run};
-pub use faults::TraceFault;
 pub use laws::{accepted_is_a_trace, numbers_fit, trace_is_accepted};
 pub use traces::trace_text;

@@ -16,8 +16,8 @@ use Rattle.jr_model.specs.Plan.{Plan}
 use Rattle.jr_model.specs.Report.{all_totals}
 use Rattle.jr_model.proofs.ListLemmas.{range_more}
 use Rattle.jr_model.proofs.NumberLemmas.{some_by_test}
-use Rattle.jr_cli.specs.declared.ended.RunEnd.{RunEnd}
-use Rattle.jr_cli.specs.Status.{was_interrupted}
+use Rattle.jr_cli_ends.specs.declared.ended.RunEnd.{RunEnd}
+use Rattle.jr_cli_ends.specs.Status.{was_interrupted}
 use Rattle.jr_rounds.specs.declared.faults.RoundsFault.{RoundsFault}
 use Rattle.jr_rounds.specs.declared.faults.RoundsFault.TheVariants.{Round as NoRound, Untold, Cli}
 use Rattle.jr_rounds.specs.Repeats.{AreEarlier, HasBroken, HasRounds, IsBreak, IsEndOf, IsLast, ends_run, found_in}

@@ -1,7 +1,7 @@
 -- The sums over rounds, as one more round is added.
 use Rattle.std.proofs.Common.{◌≡◌, ℕ, zero, suc, ◌+◌, ◌<◌, List, [], ◌∷◌, ◌++◌, get_or, take, replicate, length, map, sum_by, slice_get}
 use Rattle.std.proofs.Common.{slice_set, Some, arith, ap, subst, sym, ◌∙◌, refl, add-one, add-zero, zero-add, length-append}
-use Rattle.std.proofs.lemmas.List.{length-replicate}
+use Rattle.std.proofs.lemmas.List.{length-replicate, take_more}
 use Rattle.std.specs.Prelude.{filter_map}
 use Rattle.std.specs.List.{range_with_len}
 use Rattle.std.proofs.lemmas.List.Sums.{sum_by-append}
@@ -28,6 +28,10 @@ sum_of_more all t =
     let void = capped_more (λ (t : Totals). t.void) all t in
     let faults = capped_more (λ (t : Totals). t.faults) all t in
     cc
+
+-- one more of several
+pub totals_more : (all : List Totals) (i : ℕ) (d : Totals) → i < length all → added (sum_of (take i all)) (get_or all i d) ≡ sum_of (take (i + 1) all)
+totals_more all i d within = sym (ap sum_of (take_more all i d within) ∙ sum_of_more (take i all) (get_or all i d))
 
 of_clone_more : (rounds : List (List Totals)) (totals : List Totals) (c : ℕ) (t : Totals) → slice_get totals c ≡ Some t
     → of_clone (rounds ++ totals ∷ []) c ≡ of_clone rounds c ++ t ∷ []

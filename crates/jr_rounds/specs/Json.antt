@@ -5,8 +5,8 @@ use Rattle.serde_json.specs.View.{items_of}
 use Rattle.serde_json.specs.Written.{compact_text}
 use Rattle.jr_model.specs.Plan.{Plan}
 use Rattle.jr_report_json.specs.Json.{Notes, clones_json, json_of}
-use Rattle.jr_cli.specs.declared.storage.Storage.{Storage}
-use Rattle.jr_cli.specs.Findings.{RunOf, end_of}
+use Rattle.jr_cli_ends.specs.declared.storage.Storage.{Storage}
+use Rattle.jr_cli_ends.specs.Findings.{RunOf, end_of}
 use Rattle.jr_rounds.specs.Seeds.{seed_offset}
 use Rattle.jr_rounds.specs.Sums.{RoundSums}
 

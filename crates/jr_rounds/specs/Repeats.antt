@@ -5,8 +5,8 @@ use Rattle.std.specs.List.{list_any, range_with_len}
 use Rattle.std.specs.Io.KnownBytes.{Appends}
 use Rattle.jr_model.specs.Legal.{is_complete, is_legal}
 use Rattle.jr_model.specs.Plan.{Plan}
-use Rattle.jr_cli.specs.declared.ended.RunEnd.{RunEnd}
-use Rattle.jr_cli.specs.Status.{status_of_run_end, was_interrupted}
+use Rattle.jr_cli_ends.specs.declared.ended.RunEnd.{RunEnd}
+use Rattle.jr_cli_ends.specs.Status.{status_of_run_end, was_interrupted}
 use Rattle.jr_rounds.specs.declared.faults.RoundsFault.{RoundsFault}
 use Rattle.jr_rounds.specs.declared.faults.RoundsFault.TheVariants.{Round as NoRound, Untold, Cli}
 use Rattle.jr_rounds.specs.declared.ends.RoundsEnd.{RoundsEnd}

@@ -6,7 +6,7 @@ use Rattle.jr_model.specs.declared.totals.Totals.{Totals}
 use Rattle.jr_model.specs.Legal.{is_complete}
 use Rattle.jr_model.specs.Plan.{Plan, SubJob}
 use Rattle.jr_model.specs.Report.{all_totals, field, report_of, totals_line}
-use Rattle.jr_cli.specs.Status.{is_unclean}
+use Rattle.jr_cli_ends.specs.Status.{is_unclean}
 use Rattle.jr_rounds.specs.Seeds.{plan_of_round, seed_offset}
 use Rattle.jr_rounds.specs.Sums.{RoundSums, capped, sums_of}
 

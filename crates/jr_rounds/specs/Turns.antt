@@ -2,8 +2,8 @@
 use Rattle.std.specs.Prelude.{ℕ, ◌+◌, ◌==◌, Bool, not, ◌&&◌, ◌||◌, List, [], Option, if◌then◌else◌}
 use Rattle.std.specs.Io.KnownBytes.{Appends}
 use Rattle.jr_model.specs.Plan.{Plan}
-use Rattle.jr_cli.specs.declared.ended.RunEnd.{RunEnd}
-use Rattle.jr_cli.specs.Status.{was_interrupted}
+use Rattle.jr_cli_ends.specs.declared.ended.RunEnd.{RunEnd}
+use Rattle.jr_cli_ends.specs.Status.{was_interrupted}
 use Rattle.jr_rounds.specs.declared.repeats.Until.{Until}
 use Rattle.jr_rounds.specs.Rounds.{is_bad, sums_text}
 use Rattle.jr_rounds.specs.Sums.{RoundSums}

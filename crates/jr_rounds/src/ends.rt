@@ -1,5 +1,5 @@
 use crate::sums::Sums;
-use jr_cli::RunEnd;
+use jr_cli_ends::RunEnd;
 
 /// How rounds ended.
 #[derive(Debug, Drop)]

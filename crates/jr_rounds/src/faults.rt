@@ -1,6 +1,6 @@
 ghost use Rattle.std.specs.Prelude.{◌≡◌};
 
-use jr_cli::CliFault;
+use jr_cli_words::CliFault;
 use jr_model::Memory;
 
 /// Why rounds end without a last one.

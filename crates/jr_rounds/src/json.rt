@@ -4,7 +4,8 @@ ghost use Rattle.jr_rounds.specs.Json.{round_line, sums_line};
 
 use crate::seeds::seed_offset;
 use crate::sums::Sums;
-use jr_cli::{Findings, Storage, json_text};
+use jr_cli_ends::{Findings, Storage, json_text};
+use jr_desk::Desk;
 use jr_model::{Memory, push_number, push_text};
 use jr_plan::Plan;
 use jr_report_json::{RunNotes, push_clones};
@@ -32,6 +33,20 @@ pub fn round_json(
     text.extend_from_slice(report.as_slice())?;
     push_text(&mut text, "}\n")?;
     Ok(text)
+}
+
+/// The line of `round_json` of a round that has this desk.
+pub fn round_line(
+    alloc: Global,
+    round: u32,
+    desk: &Desk,
+    notes: &RunNotes<'_>,
+    storage: &Storage,
+) -> Result<Vec<u8>, Memory>
+    ensures { IfOk result (λ text. text.items ≡ round_line round (record { plan = desk.now.plan; history = desk.now.history }) (notes_of notes.now) storage.now) }
+{
+    let findings = Findings::of_desk(alloc, desk)?;
+    round_json(alloc, round, &findings, notes, storage)
 }
 
 /// The sums as a line of JSON: how many rounds there were, and what each clone did in them, as a report has it.

@@ -2,7 +2,7 @@ ghost use Rattle.std.specs.Prelude.{IfOk};
 ghost use Rattle.jr_rounds.specs.Repeats.{IsEndOf};
 
 use crate::sums::Sums;
-use jr_cli::RunEnd;
+use jr_cli_ends::RunEnd;
 use jr_plan::Plan;
 
 /// What runs rounds, and is told how each ended.

@@ -1,7 +1,7 @@
 ghost use Rattle.std.specs.Prelude.{◌≡◌, ◌++◌, ◌∷◌, [], IfOk, length, List, replicate};
 ghost use Rattle.jr_model.specs.declared.totals.Totals.{Totals as TotalsRecord};
 ghost use Rattle.jr_rounds.specs.Adding.{added, all_added, nothing_done};
-ghost use Rattle.jr_rounds.specs.Sums.{AreSums};
+ghost use Rattle.jr_rounds.specs.Sums.{AreSums, sum_of};
 
 use jr_model::{Memory, Totals};
 use jr_plan::Plan;
@@ -58,6 +58,17 @@ impl Sums {
     {
         self.totals.as_slice()
     }
+}
+
+/// What clones did together. A count of 64 bits stays at the last one.
+pub fn total_of(totals: &[Totals]) -> Totals
+    ensures { result ≡ sum_of totals.now }
+{
+    let mut sum = nothing();
+    for i in 0..totals.len() {
+        sum = added(sum, totals[i]);
+    }
+    sum
 }
 
 // The totals of clones that did nothing, one for each.

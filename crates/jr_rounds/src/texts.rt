@@ -1,12 +1,11 @@
 ghost use Rattle.std.specs.Prelude.{◌≡◌, ◌++◌, true, IfErr, IfOk, OnOk};
 ghost use Rattle.std.specs.Io.KnownBytes.{Appends};
-ghost use Rattle.jr_cli.specs.Status.{is_unclean};
+ghost use Rattle.jr_cli_ends.specs.Status.{is_unclean};
 ghost use Rattle.jr_rounds.specs.Rounds.{is_bad, is_told, round_header, run_text, sums_line, sums_text};
 
 use crate::seeds::seed_offset;
 use crate::sums::Sums;
-use jr_cli::CliFault;
-use jr_cli_words::write_out;
+use jr_cli_words::{CliFault, write_out};
 use jr_desk::Desk;
 use jr_model::{Memory, Totals, push_field, push_text};
 use jr_plan::{Plan, SubJob};

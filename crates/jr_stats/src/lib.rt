@@ -1,16 +1,14 @@
-// What a run prints: the totals of its clones and its miscompares, and its trace. And laws: which lines the bad verdicts of a run have in
-// its report, and in which order. Nothing of those is run; each function's contract is a law, so that the check proves it.
+// What a run prints: its report, of the totals of its clones and its miscompares, and its trace.
 #![tactic(auto)]
 
-mod lines;
 mod reports;
-mod totals;
 mod traces;
 
-pub use jr_replay_traces::{
-    TraceFault, accepted_is_a_trace, check_trace, numbers_fit, trace_is_accepted,
+pub use jr_replay_traces::{accepted_is_a_trace, check_trace, numbers_fit, trace_is_accepted};
+pub use jr_report_lines::{
+    bads_in_order, each_has_one_line, lines_are_in_order, lines_are_sorted, push_totals_line,
+    totals_text,
 };
-pub use lines::{each_has_one_line, lines_are_in_order, lines_are_sorted};
-pub use reports::{bads_in_order, report};
-pub use totals::{push_totals_line, totals_text};
+pub use jr_run_faults::TraceFault;
+pub use reports::report;
 pub use traces::trace;

@@ -6,7 +6,8 @@ ghost use Rattle.jr_replay_traces.specs.Traces.{trace_of};
 
 use jr_desk::Desk;
 use jr_model::Memory;
-use jr_replay_traces::{TraceFault, trace_text};
+use jr_replay_traces::trace_text;
+use jr_run_faults::TraceFault;
 use std::alloc::Global;
 
 /// The trace of a run: a line for each event of its history. Checked, it is accepted if the run is complete, with its

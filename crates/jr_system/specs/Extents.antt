@@ -7,17 +7,17 @@ use Rattle.jr_model.specs.Rounds.{has_rounds}
 
 -- how many hundredths of what a verified job of this type moves are judged, where so many hundredths of a mixed one are reads: what it
 -- writes is read back, and a job that only reads has its reads judged
-abbrev pub judged_percent : IoType → ℕ → ℕ
-judged_percent io.Read reads = 100
-judged_percent io.RandRead reads = 100
-judged_percent io.Write reads = 100
-judged_percent io.RandWrite reads = 100
-judged_percent io.ReadWrite reads = 100 - reads
-judged_percent io.RandRw reads = 100 - reads
+abbrev pub checked_percent_by_type : IoType → ℕ → ℕ
+checked_percent_by_type io.Read reads = 100
+checked_percent_by_type io.RandRead reads = 100
+checked_percent_by_type io.Write reads = 100
+checked_percent_by_type io.RandWrite reads = 100
+checked_percent_by_type io.ReadWrite reads = 100 - reads
+checked_percent_by_type io.RandRw reads = 100 - reads
 
 -- how many hundredths of what a clone moves are judged
 abbrev pub checked_percent : SubJob → ℕ
-checked_percent job = if has_rounds job then judged_percent job.io_type job.read_percent else 0
+checked_percent job = if has_rounds job then checked_percent_by_type job.io_type job.read_percent else 0
 
 -- what the passes of a clone read and write
 abbrev pub own_bytes : SubJob → ℕ

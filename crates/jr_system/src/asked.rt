@@ -2,7 +2,7 @@
 // it is.
 ghost use Rattle.std.specs.Prelude.{◌≡◌, ◌⊎◌, ◌↔◌, ◌||◌, None, IfOk, IfErr, IsSome, IsTrue, is_some};
 ghost use Rattle.std.specs.Arc.{arc_value};
-ghost use Rattle.jr_crew_threads.specs.declared.faults.RunFault.TheVariants.{Thread as NoThread};
+ghost use Rattle.jr_run_faults.specs.declared.runs.RunFault.TheVariants.{Thread as NoThread};
 ghost use Rattle.jr_system.specs.Askable.{can_be_asked, can_be_stopped, pace_of};
 
 use crate::machine::Machine;
@@ -10,8 +10,9 @@ use crate::meminfo::MemoryFiles;
 use crate::show::Pace;
 use crate::stops::Stop;
 use jr_cli_words::CliFault;
-use jr_crew_threads::{Diagnoses, RunFault, StopFlag};
+use jr_crew_threads::{Diagnoses, StopFlag};
 use jr_ledger_run::RunLedger;
+use jr_run_faults::RunFault;
 use std::alloc::{AllocError, Global};
 use std::fs::{File, Files};
 use std::io::{ErrorKind, Read};

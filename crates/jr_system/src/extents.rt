@@ -1,6 +1,6 @@
 // How many bytes a run reads, writes and has judged.
 ghost use Rattle.std.specs.Prelude.{◌≡◌, ◌*◌, ◌-◌, ◌^◌, ◌≤◌};
-ghost use Rattle.jr_system.specs.Extents.{bytes_of, checked_percent, judged_percent};
+ghost use Rattle.jr_system.specs.Extents.{bytes_of, checked_percent, checked_percent_by_type};
 
 use jr_model::{IoType, MOST_WORK};
 use jr_plan::{Plan, SubJob};
@@ -70,16 +70,16 @@ pub(crate) fn checked_percent(clone: &SubJob) -> u8
 {
     clone.facts();
     if clone.verifies() {
-        judged_percent(clone.io_type(), clone.read_percent())
+        checked_percent_by_type(clone.io_type(), clone.read_percent())
     } else {
         0
     }
 }
 
 // How many hundredths of what a verified job of this type moves are judged: what it writes, or all that it reads if it only reads.
-fn judged_percent(io_type: IoType, reads: u8) -> u8
+fn checked_percent_by_type(io_type: IoType, reads: u8) -> u8
     requires { reads ≤ 100 }
-    ensures value { result ≡ judged_percent io_type reads }
+    ensures value { result ≡ checked_percent_by_type io_type reads }
     ensures most { result ≤ 100 }
 {
     match io_type {

@@ -6,7 +6,7 @@ use Rattle.jr_desk.specs.DeskState.{DeskState}
 use Rattle.jr_crew_threads.specs.Stops.{IsCompleteOrAsked}
 use Rattle.jr_cli_words.specs.declared.faults.CliFault.{CliFault}
 use Rattle.jr_cli_words.specs.declared.faults.CliFault.TheVariants as fault
-use Rattle.jr_crew_threads.specs.declared.faults.RunFault.TheVariants as run
+use Rattle.jr_run_faults.specs.declared.runs.RunFault.TheVariants as run
 use Rattle.jr_cli.specs.Executed.{IsRunFault}
 use Rattle.jr_cli.proofs.CutShort.{ends_a_run, of_handed, wants_no_engine, wants_no_thread}
 use Rattle.jr_cli.proofs.EndedRuns.{asked_on, interrupted_on, complete_on, desk_on, uninterrupted_on, faults_on}

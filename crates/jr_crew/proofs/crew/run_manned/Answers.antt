@@ -1,8 +1,8 @@
 use Rattle.std.proofs.Common.{ℕ, length, sym, subst}
-use Rattle.jr_crew_threads.specs.declared.faults.RunFault.{RunFault}
+use Rattle.jr_run_faults.specs.declared.runs.RunFault.{RunFault}
 use Rattle.jr_crew_threads.specs.declared.halts.Halt.{Halt}
 use Rattle.jr_crew_threads.specs.declared.halts.Halt.TheVariants as halt
-use Rattle.jr_crew_threads.specs.Faults.{IsRefusal}
+use Rattle.jr_run_faults.specs.Faults.{IsRefusal}
 use Rattle.jr_crew_threads.specs.Halts.{fault_of}
 use Rattle.jr_crew.proofs.crew.run_manned.Goals as goal
 

@@ -3,7 +3,7 @@ use Rattle.std.specs.Prelude.{codes, decimal}
 use Rattle.serde_json.specs.Written.{compact_text}
 use Rattle.jr_report_json.specs.Json.{json_of}
 use Rattle.jr_report_json.specs.Rows.{notes_of}
-use Rattle.jr_cli.specs.Findings.{end_of}
+use Rattle.jr_cli_ends.specs.Findings.{end_of}
 use Rattle.jr_rounds.specs.Seeds.{seed_offset}
 use Rattle.jr_rounds.proofs.JsonLemmas.{five_pieces, two_more, without_last}
 use Rattle.jr_rounds.proofs.json.round_json.Goals as goal

@@ -1,7 +1,7 @@
 use Rattle.std.proofs.Common.{List, ◌++◌, ap, ◌∙◌}
 use Rattle.std.specs.Prelude.{flat_map}
-use Rattle.jr_stats.specs.Miscompares.{bad_line}
-use Rattle.jr_stats.proofs.ReportLemmas.{report_lines}
+use Rattle.jr_report_lines.specs.Miscompares.{bad_line}
+use Rattle.jr_report_lines.proofs.ReportLemmas.{report_lines}
 use Rattle.jr_stats.proofs.reports.report.Goals as goal
 use Rattle.jr_desk_totals.specs.declared.tallies.Bad.{Bad}
 

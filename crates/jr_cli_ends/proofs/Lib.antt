@@ -1,0 +1,2 @@
+pub mod FaultlessRuns
+pub mod JsonLines
