@@ -27,6 +27,8 @@ SEED = os.environ.get("SEED", "1")
 LIES = ("nosync", "region", "early", "sectors", "drop", "older", "swap", "flip", "dead")
 # How many cuts are made over one job.
 CUTS_OF_JOB = 6
+# How many microseconds each write takes at least in some of the runs: so long that its line doesn't wait for others.
+SLOW = 100
 HEAD = re.compile(rb"fiorun ledger 1 [0-9a-f]{64}\n")
 LAUNCH = os.path.join(TOP, "launcher", "launch")
 # What is said of a run whose ledger couldn't be written any more.
@@ -134,6 +136,7 @@ class Whole:
         expect(plan.status == 0, "no plan of", job.text, plan)
         self.plan = Plan(plan.out.decode(), job.intervals)
         self.words = words
+        self.slow = 0
         self.run = Run(place, job, self.plan).go(case.library, *words, seed=1)
         expect(self.run.ran.status == 0, "a whole run of", job.text, self.run.ran)
         self.judge = Judge(self.plan, self.run.account.writes)
@@ -144,7 +147,7 @@ class Whole:
         place = self.case.fresh()
         for it in self.plan.files:
             place.put(it, draw.choice((b"", draw.randbytes(os.path.getsize(self.run.place.at(it))))))
-        words = {"cut": draw.randint(1, self.calls), "seed": draw.getrandbits(60)} | ({"lie": lie} if lie else {})
+        words = {"cut": draw.randint(1, self.calls), "seed": draw.getrandbits(60), "slow": self.slow} | ({"lie": lie} if lie else {})
         return Run(place, self.job, self.plan).go(self.case.library, *self.words, **words)
 
     def check(self, run, ledger=None):
@@ -184,6 +187,7 @@ class After(Case):
     def cuts_of(self, number, count, one, lies):
         draw = random.Random(f"{SEED} {self._testMethodName} {number}")
         whole = Whole(self, drawn_job(draw), f"{number}", f"--sync-every={draw.choice((1, 2, 5, 16, 50))}")
+        whole.slow = draw.choice((0, SLOW))
         found = []
         for it in range(count):
             lie = lies[(number * CUTS_OF_JOB + it) % len(lies)]
@@ -205,7 +209,7 @@ class After(Case):
             lines, report = whole.check(run)
             expect(not places_told(report, whole.plan, "lost", "broken"), "an honest disk is blamed:", report, run.job.text)
             expect(not run.account.gone(whole.plan, lines), "the library isn't honest", run.account.how)
-            wrong = [*run.account.broken_order()]
+            wrong = [*run.account.broken_order(whole.slow > 0)]
             expect(not wrong, "the order of lines:", wrong[:3], run.job.text)
             expect(run.account.noted() == lines_of(run.ledger), "lines that were written elsewhere", run.ledger[-100:])
             expect(HEAD.match(run.ledger), "the first line", run.ledger[:100])
@@ -429,7 +433,7 @@ class After(Case):
         expect(told.out == b"file=data kept=4 lost=0 broken=0 torn=0 open=0\n", "from a pipe", told)
 
     def test_lines_as_they_happen(self):
-        """A line is there once its write has ended, and isn't kept back until the run's end."""
+        """Lines are there while the run goes on, and aren't kept back until its end."""
         place = self.place
         os.mkfifo(place.at("pipe"))
         child = place.start("--ledger=pipe", "--workers=1", "--cached", text=FEW.replace("loops=2", "loops=1000").replace("16k", "1m"))
@@ -442,13 +446,24 @@ class After(Case):
         expect(ran.status == 3 and ran.err == CUT_OFF, "and its end", ran)
 
     def test_lines_of_slow_writes(self):
-        """A worker that has taken several writes has the line of one that takes long there before it asks for the next."""
+        """A worker has the line of a write that takes long there before it asks for the next, also if it has taken several."""
         text = FEW.replace("16k", "64k").replace("loops=2", "loops=8") + "iodepth=16\n"
-        whole = self.whole(text, name="quick", workers=2, words=("--cached",))
-        ran = Run(self.fresh(), whole.run.job, whole.plan).go(self.library, "--cached", seed=1, slow=1000)
-        writes, late = len(ran.account.writes), [*ran.account.late_lines()]
-        expect(ran.ran.status == 0 and writes == 128, "a run of slow writes", ran.ran, writes)
-        expect(not late, "lines that came late", late)
+        for workers in (1, 2):
+            whole = self.whole(text, name=f"quick{workers}", workers=workers, words=("--cached",))
+            ran = Run(self.fresh(), whole.run.job, whole.plan).go(self.library, "--cached", seed=1, slow=1000)
+            writes, late = len(ran.account.writes), [*ran.account.late_lines()]
+            expect(ran.ran.status == 0 and writes == 128, "a run of slow writes", workers, ran.ran, writes)
+            expect(not late, "lines that came late", workers, late)
+
+    def test_lines_of_quick_writes(self):
+        """No more than sixteen writes are without a line, and with one worker none is where a sync begins; once the run is over none is."""
+        text = FEW.replace("16k", "64k").replace("loops=2", "loops=8") + "iodepth=16\n"
+        for workers, most in ((1, 16), (4, 16 + 4 * 16)):
+            whole = self.whole(text, name=f"quick{workers}", workers=workers, words=("--cached", "--sync-every=50"))
+            waiting = [*whole.run.account.waiting_lines()]
+            expect(max(it for _, it in waiting) <= most and waiting[-1][1] == 0, "lines that wait", workers, waiting)
+            expect(workers > 1 or not any(it for tag, it in waiting if tag == "sync"), "lines that wait for a sync", waiting)
+            expect(len(whole.run.account.seqs()) == 128, "writes", len(whole.run.account.seqs()))
 
     def test_words(self):
         """What has no ledger: rounds, a job without files, and a judgement with words that a run needs."""

@@ -189,15 +189,16 @@ class Account:
                 found.add((file, offset))
         return found
 
-    def broken_order(self):
-        """What of the order of lines isn't as it must be: a line of a write that hadn't ended, or over whose bytes another write was asked
-        for; a sync's line that isn't right before the sync was asked for, or one of its return before it returned well."""
-        seqs, ended, asked, returned, begun = self.seqs(), set(), Spans(), {}, {}
+    def broken_order(self, are_slow):
+        """Lines that are out of order: that of a write that hadn't ended, or after that of a later write over its bytes; where all writes are
+        slow, one over whose bytes another was asked for; a sync's line that isn't right before the sync was asked for, or one of its return
+        before it returned well."""
+        seqs, ended, asked, noted, returned, begun = self.seqs(), set(), Spans(self.writes), Spans(self.writes), {}, {}
         last = {}
         for tag, *rest in self.events:
             if tag == "write":
-                seq, thread, *where = map(int, rest)
-                asked.add(seq, *where)
+                seq, thread = map(int, rest[:2])
+                asked.add(seq)
                 last[thread] = "write"
             elif tag == "wrote":
                 ended.add(int(rest[0]))
@@ -214,8 +215,12 @@ class Account:
                 seq = seqs.get(tuple(map(int, rest[2:5])))
                 if seq not in ended:
                     yield f"line w {rest[2:5]} of a write that hadn't ended"
-                elif asked.is_over(seq):
+                elif noted.is_over(seq):
+                    yield f"line w {rest[2:5]}, after that of a later write over it"
+                elif are_slow and asked.is_over(seq):
                     yield f"line w {rest[2:5]}, and another write was asked for over it"
+                else:
+                    noted.add(seq)
             elif tag == "note" and rest[1] == "b":
                 last[int(rest[0])] = (int(rest[2]), int(rest[3]))
             elif tag == "note" and rest[1] == "s":
@@ -233,6 +238,16 @@ class Account:
                 without.pop(int(rest[0]), None)
             elif tag == "write" and int(rest[1]) in without:
                 yield without.pop(int(rest[1]))
+
+    def waiting_lines(self):
+        """After each thing that happened, what that was and how many writes have ended whose lines aren't there."""
+        seqs, waiting = self.seqs(), set()
+        for tag, *rest in self.events:
+            if tag == "wrote":
+                waiting.add(int(rest[0]))
+            elif tag == "note" and rest[1] == "w":
+                waiting.discard(seqs.get(tuple(map(int, rest[2:5]))))
+            yield tag, len(waiting)
 
     def syncs_of(self, file):
         """How many writes of the file had ended before each sync of it was asked for."""
@@ -260,19 +275,18 @@ class Account:
 
 
 class Spans:
-    """Which write was asked for last over each sector, and where each lies."""
+    """Which of these writes was the last over each sector."""
 
-    def __init__(self):
-        self.last, self.where = {}, {}
+    def __init__(self, writes):
+        self.writes, self.last = writes, {}
 
     def sectors(self, seq):
-        file, offset, length = self.where[seq]
-        return ((file, it) for it in range(offset // SECTOR, (offset + length) // SECTOR))
+        it = self.writes[seq - 1]
+        return ((it.file, sector) for sector in range(it.offset // SECTOR, it.end() // SECTOR))
 
-    def add(self, seq, file, offset, length):
-        self.where[seq] = file, offset, length
+    def add(self, seq):
         for it in self.sectors(seq):
             self.last[it] = seq
 
     def is_over(self, seq):
-        return any(self.last[it] > seq for it in self.sectors(seq))
+        return any(self.last.get(it, 0) > seq for it in self.sectors(seq))

@@ -15,7 +15,7 @@ use jr_cli_words::{
 use jr_engines::Engine;
 use jr_plan::Plan;
 use jr_replay_traces::Checked;
-use jr_system::{Machine, Outlet, Screen, Stop, tell_all, tell_history};
+use jr_system::{Machine, Outlet, Screen, Stop, tell_history, tell_notes};
 use judging::judge;
 use running::{SharedRun, Turn, run_memory};
 use runs::run_job;
@@ -131,7 +131,7 @@ fn perform<R: Input + Outlet + Machine>(
     }
     let PlannedJob { plan, notes } = job_plan(rt.alloc(), text.as_slice(), choice, has_notes)?;
     if has_notes {
-        tell_all(rt, notes.as_slice());
+        tell_notes(rt, notes.as_slice());
         if choice.check_trace.is_none() && choice.after.is_none() {
             let workers = workers_of(&plan, choice.workers);
             tell_history(rt, &plan, workers, !choice.parse_only);

@@ -303,7 +303,7 @@ fn run_over<R: Outlet + Machine, V: Write>(
             let line = &Wiper { rt, meter };
             let mut out = Unfailing::new(Wiping { line, out });
             let mut events = events;
-            let ended = execute_serial(alloc, plan, engine, watch, events.as_mut(), &mut out)?;
+            let ended = execute_serial(rt, alloc, plan, engine, watch, events.as_mut(), &mut out)?;
             Ok(Finished::new(alloc, ended.into_end(), out.has_failed, events))
         },
     )

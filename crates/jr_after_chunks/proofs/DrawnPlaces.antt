@@ -22,7 +22,7 @@ use Rattle.jr_laws_draws.proofs.PassLaws.{sound_start}
 use Rattle.jr_laws_draws.proofs.TheLaw.{drawable_of}
 use Rattle.jr_after.specs.declared.writes.PlannedWrite.{PlannedWrite}
 use Rattle.jr_after.specs.Writes.{write_in, write_of_draw, writes_of, writes_of_clone, writes_of_pass}
-use Rattle.jr_after_plans.specs.Taken.{is_single}
+use Rattle.jr_after_plans.specs.Taken.{has_one_size}
 use Rattle.jr_after_plans.proofs.Fitting.{all_given, all_kept}
 
 -- a draw is some cells of its clone's region; a write of one where there is only one size
@@ -33,7 +33,7 @@ record IsDrawn (job : SubJob) (d : Draw) : Type 0 where
   within : first + count ≤ job.cells
   piece : d.piece ≡ cell_piece job first count
   writes : d.dir ≡ direction.Write → has_writes job.io_type ≡ true
-  one : d.dir ≡ direction.Write → is_single job.cell job.write_split ≡ true → count ≡ 1
+  one : d.dir ≡ direction.Write → has_one_size job.cell job.write_split ≡ true → count ≡ 1
 
 -- and so is a planned write
 pub record IsWriteOf (job : SubJob) (planned : PlannedWrite) : Type 0 where
@@ -44,7 +44,7 @@ pub record IsWriteOf (job : SubJob) (planned : PlannedWrite) : Type 0 where
   pub some : 1 ≤ count
   pub within : first + count ≤ job.cells
   pub piece : planned.piece ≡ cell_piece job first count
-  pub one : is_single job.cell job.write_split ≡ true → count ≡ 1
+  pub one : has_one_size job.cell job.write_split ≡ true → count ≡ 1
 
 -- of one of these clones
 pub record IsPlannedIn (clones : List SubJob) (planned : PlannedWrite) : Type 0 where
@@ -54,10 +54,10 @@ pub record IsPlannedIn (clones : List SubJob) (planned : PlannedWrite) : Type 0 
   pub write : IsWriteOf job planned
 
 -- the size of a split with one size, or none
-single_size : (size : ℕ) (split : List (ℕ × ℕ)) (t : ℕ) → is_single size split ≡ true → (size_at split t ≡ size) ⊎ (size_at split t ≡ 0)
+single_size : (size : ℕ) (split : List (ℕ × ℕ)) (t : ℕ) → has_one_size size split ≡ true → (size_at split t ≡ size) ⊎ (size_at split t ≡ 0)
 single_size size [] t single = inr refl
 single_size size (entry ∷ split) t single =
-    let parts = and_parts ((entry.1 == 0) || (entry.0 == size)) (is_single size split) single in
+    let parts = and_parts ((entry.1 == 0) || (entry.0 == size)) (has_one_size size split) single in
     elim (cases_lt t entry.1) [
       | inl below ↦
           elim (or_cases (entry.1 == 0) (entry.0 == size) parts.0) [

@@ -13,7 +13,7 @@ use Rattle.jr_model.specs.Plan.{SubJob}
 use Rattle.jr_model.specs.PlanFacts.{KeepsLimits}
 use Rattle.jr_model.specs.Tickets.{has_whole_chunks, interval_fits}
 use Rattle.jr_after.specs.Writes.{is_chunk}
-use Rattle.jr_after_plans.specs.Taken.{chunk_len, has_digest, is_single}
+use Rattle.jr_after_plans.specs.Taken.{chunk_len, has_digest, has_one_size}
 
 -- a multiple further on
 pub multiple_on : (s d len : ℕ) → d % len ≡ 0 → (s + d) % len ≡ s % len
@@ -68,7 +68,7 @@ meets len chunk offset size some same whole before behind =
 -- how the chunks of a clone are long
 pub record IsCut (job : SubJob) : Type 0 where
   pub divides : job.cell % chunk_len job ≡ 0
-  pub whole : (job.method.interval == 0) ≡ true → (is_single job.cell job.write_split ≡ true) × (chunk_len job ≡ job.cell)
+  pub whole : (job.method.interval == 0) ≡ true → (has_one_size job.cell job.write_split ≡ true) × (chunk_len job ≡ job.cell)
   pub parts : (job.method.interval == 0) ≡ false → chunk_len job ≡ job.method.interval
 
 single_cut : (b : Bool) (cell : ℕ) → 0 < cond b cell 0 → (b ≡ true) × (cond b cell 0 ≡ cell)
@@ -91,19 +91,19 @@ pub is_cut : (job : SubJob) → KeepsLimits job → has_digest job.method.kind �
 is_cut job limits digest some = by (job.method.interval == 0) refl some
   where
     single : Bool
-    single = is_single job.cell job.write_split
+    single = has_one_size job.cell job.write_split
 
     by : (z : Bool) → (job.method.interval == 0) ≡ z → 0 < cond z (cond single job.cell 0) job.method.interval → IsCut job
     by true zero some =
-        let one = single_cut (is_single job.cell job.write_split) job.cell some in
-        let len : chunk_len job ≡ job.cell = cond-true (job.method.interval == 0) (cond (is_single job.cell job.write_split) job.cell 0) job.method.interval zero ∙ one.1 in
+        let one = single_cut (has_one_size job.cell job.write_split) job.cell some in
+        let len : chunk_len job ≡ job.cell = cond-true (job.method.interval == 0) (cond (has_one_size job.cell job.write_split) job.cell 0) job.method.interval zero ∙ one.1 in
         record {
           divides = ap (λ (n : ℕ). job.cell % n) len ∙ mod_self job.cell;
           whole = λ e. (one.0, len);
           parts = λ e. absurd (false≢true (sym e ∙ zero));
         }
     by false given some =
-        let len : chunk_len job ≡ job.method.interval = cond-false (job.method.interval == 0) (cond (is_single job.cell job.write_split) job.cell 0) job.method.interval given in
+        let len : chunk_len job ≡ job.method.interval = cond-false (job.method.interval == 0) (cond (has_one_size job.cell job.write_split) job.cell 0) job.method.interval given in
         record {
           divides = ap (λ (n : ℕ). job.cell % n) len ∙ interval_divides (job.method.interval == 0) job.method.interval job.cell given (digest_cut job.method.kind job.method.interval job.cell digest limits.interval);
           whole = λ e. absurd (false≢true (sym given ∙ e));

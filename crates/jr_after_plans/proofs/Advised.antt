@@ -12,7 +12,7 @@ use Rattle.jr_after.specs.Findings.{first_such}
 use Rattle.jr_after_plans.specs.Advice.{AdviceHelps, IsAdvised}
 use Rattle.jr_after_plans.specs.declared.faults.Refusal.{Refusal}
 use Rattle.jr_after_plans.specs.declared.faults.Refusal.TheVariants as refusal
-use Rattle.jr_after_plans.specs.Taken.{chunk_len, fault_among, fault_at, first_writer, has_digest, is_on_grid, is_single, refusal_of, writes_to}
+use Rattle.jr_after_plans.specs.Taken.{chunk_len, fault_among, fault_at, first_writer, has_digest, is_on_grid, has_one_size, refusal_of, writes_to}
 
 -- each of these clones is written so
 abbrev AreAdvised : List SubJob → Type 0
@@ -33,7 +33,7 @@ first_at {X = X} test (x ∷ xs) first is =
     ]
 
 short_chunks : (job : SubJob) → job.method.interval ≡ 512 → chunk_len job ≡ 512
-short_chunks job is = ap (λ (n : ℕ). cond (n == 0) (cond (is_single job.cell job.write_split) job.cell 0) n) is
+short_chunks job is = ap (λ (n : ℕ). cond (n == 0) (cond (has_one_size job.cell job.write_split) job.cell 0) n) is
 
 on_grid : (clones : List SubJob) (job : SubJob) → AreAdvised clones → chunk_len job ≡ 512 → KeepsLimits job → (found : Option SubJob) → first_writer clones job.file ≡ found → is_on_grid found job ≡ true
 on_grid clones job advised len limits None is = refl

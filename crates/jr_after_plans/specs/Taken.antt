@@ -20,14 +20,14 @@ has_digest verify.Sha1 = true
 has_digest verify.Sha256 = true
 
 -- the split gives no other size than this one
-abbrev pub is_single : ℕ → List (ℕ × ℕ) → Bool
-is_single size split = list_all (λ (entry : ℕ × ℕ). (entry.1 == 0) || (entry.0 == size)) split
+abbrev pub has_one_size : ℕ → List (ℕ × ℕ) → Bool
+has_one_size size split = list_all (λ (entry : ℕ × ℕ). (entry.1 == 0) || (entry.0 == size)) split
 
 -- how long each chunk of the clone's writes is: its interval, or without one its only block size; 0 where there is none
 abbrev pub chunk_len : SubJob → ℕ
 chunk_len job =
     if job.method.interval == 0
-    then (if is_single job.cell job.write_split then job.cell else 0)
+    then (if has_one_size job.cell job.write_split then job.cell else 0)
     else job.method.interval
 
 -- the chunks of two clones have the same places

@@ -1,5 +1,5 @@
 ghost use Rattle.std.specs.Prelude.{◌≡◌, ◌<◌, ◌==◌, ◌||◌};
-ghost use Rattle.jr_after_plans.specs.Taken.{after_fault, chunk_len, first_writer, has_digest, has_same_grid, is_on_grid, is_single};
+ghost use Rattle.jr_after_plans.specs.Taken.{after_fault, chunk_len, first_writer, has_digest, has_same_grid, is_on_grid, has_one_size};
 ghost use Rattle.jr_after_plans.specs.Taken.{refusal_of, writes_to};
 
 use crate::faults::{AfterFault, Refusal};
@@ -60,7 +60,7 @@ pub fn chunk_len(job: &SubJob) -> u32
     if interval != 0 {
         return interval;
     }
-    if is_single(job.cell(), job.write_split().entries()) {
+    if has_one_size(job.cell(), job.write_split().entries()) {
         job.cell()
     } else {
         0
@@ -68,8 +68,8 @@ pub fn chunk_len(job: &SubJob) -> u32
 }
 
 // Whether a split of these entries gives no other size.
-fn is_single(size: u32, entries: &[(u32, u8)]) -> bool
-    ensures { result ≡ is_single size entries.now }
+fn has_one_size(size: u32, entries: &[(u32, u8)]) -> bool
+    ensures { result ≡ has_one_size size entries.now }
 {
     entries.iter().all(|entry| entry.1 == 0 || entry.0 == size)
 }

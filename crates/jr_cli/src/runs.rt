@@ -34,7 +34,8 @@ use std::time::Clock;
 
 /// Runs a plan with one worker, writes the report and then the trace if one is asked for, and says what was found, the run's
 /// faults among it. If the run is asked to stop, report and trace are of what it did until then.
-pub fn execute_serial<'w, W: Write, V: Write>(
+pub fn execute_serial<'w, R: Clock, W: Write, V: Write>(
+    rt: &R,
     alloc: Global,
     plan: Plan,
     engine: &mut dyn Engine,
@@ -72,7 +73,7 @@ pub fn execute_serial<'w, W: Write, V: Write>(
 {
     // Its contract says what holds of every plan.
     plan.facts();
-    let ran = run_serial_asked(alloc, plan, engine, watch)?;
+    let ran = run_serial_asked(rt, alloc, plan, engine, watch)?;
     let faults = faults_found(alloc, &ran.desk)?;
     let ended = print_report(alloc, ran.desk, ran.asked, faults, out)?;
     if let Some(events) = events {

@@ -86,7 +86,7 @@ pub fn begin_ledger(
     let Ok(ledger) = Arc::new(alloc, ledger) else {
         return Err(Stop::from(CliFault::Memory));
     };
-    ledger.begin();
+    ledger.write_out();
     asked.record(ledger);
     Ok(())
 }

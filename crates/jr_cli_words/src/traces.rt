@@ -41,13 +41,13 @@ impl<R: Read> Read for TraceReader<R> {
         }
         let count = self.reader.read(buf)?;
         self.left = self.left.saturating_sub(count as u64);
-        self.line = line_behind(self.line, &buf[..count]);
+        self.line = last_line_length(self.line, &buf[..count]);
         Ok(count)
     }
 }
 
 // How many bytes the last line has behind these, or the first that is too long, where so many came before.
-fn line_behind(before: u64, bytes: &[u8]) -> u64 {
+fn last_line_length(before: u64, bytes: &[u8]) -> u64 {
     let mut line = before;
     for byte in bytes {
         if line > LONGEST_LINE {

@@ -19,7 +19,9 @@ use jr_model::{Event, Ticket};
 use jr_plan::Plan;
 use jr_run_faults::RunFault;
 use std::alloc::Global;
-use std::mem;
+use std::io::ErrorKind;
+use std::time::{Clock, Duration};
+use std::{io, mem};
 
 /// What `run_serial_asked` gives: the desk, and what asked the run to stop, if it did so before it was complete.
 #[derive(Drop)]
@@ -28,8 +30,21 @@ pub struct SerialRun<'w> {
     pub asked: Option<StopRequest<'w>>,
 }
 
+// Tells no time.
+struct NoClock;
+
+impl Clock for NoClock {
+    fn monotonic(&self) -> io::Result<Duration> {
+        Err(io::Error::from(ErrorKind::Unsupported))
+    }
+
+    fn since_1970(&self) -> io::Result<Duration> {
+        Err(io::Error::from(ErrorKind::Unsupported))
+    }
+}
+
 /// Runs a plan with one worker, 0, which waits for nobody and judges its own checks. If it is asked to stop it does so between
-/// two I/Os: the desk says whether the run is complete.
+/// two I/Os: the desk says whether the run is complete. It has no clock, so each line of a ledger goes out at once.
 pub fn run_serial(
     alloc: Global,
     plan: Plan,
@@ -51,12 +66,14 @@ pub fn run_serial(
         → desk.history ≡ serial_history plan) }
     ensures memory { IfErr result (λ fault. fault ≡ RunFault.Memory) }
 {
-    let SerialRun { desk, asked: _ } = run_serial_asked(alloc, plan, engine, watch)?;
+    let SerialRun { desk, asked: _ } = run_serial_asked(&NoClock, alloc, plan, engine, watch)?;
     Ok(desk)
 }
 
-/// Runs a plan as `run_serial` does. Where the run isn't complete, it shows that it was asked to stop.
-pub fn run_serial_asked<'w>(
+/// Runs a plan as `run_serial` does. Where the run isn't complete, it shows that it was asked to stop. The clock is looked at if a ledger is
+/// kept: lines of quick writes wait for one another.
+pub fn run_serial_asked<'w, R: Clock>(
+    rt: &R,
     alloc: Global,
     plan: Plan,
     engine: &mut dyn Engine,
@@ -87,7 +104,7 @@ pub fn run_serial_asked<'w>(
                 asked: Some(request),
             });
         }
-        if !turn(alloc, &mut desk, engine, &mut buffer, &watch)? {
+        if !turn(rt, alloc, &mut desk, engine, &mut buffer, &watch)? {
             return Ok(SerialRun { desk, asked: None });
         }
     }
@@ -106,7 +123,8 @@ fn asked_before_end<'w>(desk: &Desk, stop: Option<&'w StopFlag>) -> Option<StopR
 }
 
 // Starts what is next, if anything is, and carries it out.
-fn turn(
+fn turn<R: Clock>(
+    rt: &R,
     alloc: Global,
     desk: &mut Desk,
     engine: &mut dyn Engine,
@@ -125,11 +143,11 @@ fn turn(
     match desk.take(0) {
         Ok(Take::Io(ticket)) => {
             note_start(watch.progress, &ticket);
-            carry_out(alloc, desk, engine, &ticket, buffer, watch)?;
+            carry_out(rt, alloc, desk, engine, &ticket, buffer, watch)?;
             Ok(true)
         }
         Ok(Take::Probe(ticket)) => {
-            carry_out(alloc, desk, engine, &ticket, buffer, watch)?;
+            carry_out(rt, alloc, desk, engine, &ticket, buffer, watch)?;
             Ok(true)
         }
         Ok(Take::Finished) => Ok(false),
@@ -139,7 +157,8 @@ fn turn(
 }
 
 // Carries out a ticket, and judges it if it is a check that ended whole. The buffer was used before, and is used again.
-fn carry_out(
+fn carry_out<R: Clock>(
+    rt: &R,
     alloc: Global,
     desk: &mut Desk,
     engine: &mut dyn Engine,
@@ -156,7 +175,7 @@ fn carry_out(
 {
     make_room(buffer, ticket)?;
     let served = serve_own(engine, *ticket, mem::replace(buffer, Vec::new(alloc)));
-    record_alone(watch, &served);
+    record_alone(rt, watch, &served);
     settle(desk, &served, watch)?;
     *buffer = served.into_buf();
     Ok(())

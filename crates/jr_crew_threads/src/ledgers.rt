@@ -4,29 +4,39 @@ use jr_header::Served;
 use jr_ledger_run::{Lines, RunLedger};
 use jr_model::TicketKind;
 use std::sync::Wait;
-use std::time::{Clock, Instant};
+use std::time::{Clock, Duration};
 
-// An I/O is long that takes so many nanoseconds. What a call for its line takes is little beside it.
-const LONG_NANOS: u128 = 50_000;
+// An I/O is long if so many nanoseconds have passed since its worker recorded the one before it: so much that a call for its line is little
+// beside it.
+const LONG_NANOS: u128 = 20_000;
 
 /// How many I/Os of a worker's share are recorded, and when this was last looked at.
 #[derive(Clone, Copy)]
 pub struct Recorded {
     count: usize,
-    looked: Option<Instant>,
+    looked: Option<Duration>,
 }
 
-/// Nothing of a share that begins now is recorded. If no ledger is kept nobody looks at the clock.
+/// Nothing of a share that begins now is recorded.
 pub fn none_recorded<R: Clock>(rt: &R, watch: &Watch<'_>) -> Recorded {
     let looked = match watch.ledger {
-        Some(_) => Instant::now(rt).ok(),
+        Some(ledger) => time(rt, ledger),
         None => None,
     };
     Recorded { count: 0, looked }
 }
 
-/// Counts the last of these if it is a write. If it took long, or its file is to be synced now, all that aren't recorded yet are, and the file
-/// is synced if that is due. Answers what is recorded then.
+// The time, if lines are wanted: else nobody looks at the clock.
+fn time<R: Clock>(rt: &R, ledger: &RunLedger) -> Option<Duration> {
+    if ledger.has_lines() {
+        rt.monotonic().ok()
+    } else {
+        None
+    }
+}
+
+/// Counts the last of these if it is a write. If it was long, or its file is to be synced now, the lines of all that aren't recorded yet go
+/// out, and the file is synced if that is due. Answers what is recorded then.
 pub fn record_due<R: Wait + Clock>(
     rt: &R,
     watch: &Watch<'_>,
@@ -39,55 +49,83 @@ pub fn record_due<R: Wait + Clock>(
     let Some(last) = served.last() else {
         return recorded;
     };
-    let now = Instant::now(rt).ok();
     let is_due = is_due(ledger, last);
-    let mut count = recorded.count;
-    if is_due || is_long(recorded.looked, now) {
-        record_rest(rt, watch, served, recorded);
-        count = served.len();
+    let now = time(rt, ledger);
+    if !is_due && !is_long(recorded.looked, now) {
+        return Recorded {
+            count: recorded.count,
+            looked: now,
+        };
+    }
+    if let Some(lines) = lines_of(rt, ledger, not_recorded(served, recorded)) {
+        put(ledger, watch.stop, lines, is_due);
     }
     if is_due {
         ledger.sync(last.ticket().piece.file);
     }
-    Recorded { count, looked: now }
+    // (what that took isn't the next one's)
+    Recorded {
+        count: served.len(),
+        looked: time(rt, ledger),
+    }
 }
 
-// Whether it is so long from the one to the other.
-fn is_long(begun: Option<Instant>, now: Option<Instant>) -> bool {
+// Whether it is so long from the one time to the other. What isn't known is taken for long.
+fn is_long(begun: Option<Duration>, now: Option<Duration>) -> bool {
     match (begun, now) {
-        (Some(begun), Some(now)) => {
-            now.saturating_duration_since(begun).as_nanos() >= LONG_NANOS
-        }
-        _ => false,
+        (Some(begun), Some(now)) => now.saturating_sub(begun).as_nanos() >= LONG_NANOS,
+        _ => true,
     }
 }
 
-/// Records the writes among these that aren't recorded yet, if a ledger is kept.
+/// Records those of these that aren't recorded yet, if a ledger is kept: none was long, so the lines may wait for the next that go out. If
+/// there is one that is no write, they don't.
 pub fn record_rest<R: Wait>(rt: &R, watch: &Watch<'_>, served: &[Served], recorded: Recorded) {
+    let rest = not_recorded(served, recorded);
     if let Some(ledger) = watch.ledger
-        && recorded.count < served.len()
-        && let Some(mut lines) = ledger.lines(rt)
+        && let Some(lines) = lines_of(rt, ledger, rest)
     {
-        for (place, one) in served.iter().enumerate() {
-            if place >= recorded.count {
-                add(&mut lines, one);
-            }
-        }
-        send(ledger, watch.stop, lines);
+        put(ledger, watch.stop, lines, rest.iter().all(is_write));
     }
 }
 
-/// Records this one where one thread alone has the run, and syncs its file if that is due.
-pub fn record_alone(watch: &Watch<'_>, served: &Served) {
+fn not_recorded<'a>(served: &'a [Served], recorded: Recorded) -> &'a [Served] {
+    match served.get(recorded.count..) {
+        Some(rest) => rest,
+        None => &[],
+    }
+}
+
+// The lines of these, if there are any.
+fn lines_of<'a, R: Wait>(rt: &R, ledger: &'a RunLedger, served: &[Served]) -> Option<Lines<'a>> {
+    if served.is_empty() {
+        return None;
+    }
+    let mut lines = ledger.lines(rt)?;
+    for one in served {
+        add(&mut lines, one);
+    }
+    Some(lines)
+}
+
+/// Records this one where one thread alone has the run, and syncs its file if that is due. The line of a write that wasn't long may wait for
+/// the next that go out.
+pub fn record_alone<R: Clock>(rt: &R, watch: &Watch<'_>, served: &Served) {
     let Some(ledger) = watch.ledger else {
         return;
     };
+    let is_due = is_due(ledger, served);
     if let Some(mut lines) = ledger.lines_alone() {
+        let now = time(rt, ledger);
+        let may_wait = is_write(served) && !is_long(ledger.recorded_at(), now);
         add(&mut lines, served);
-        send(ledger, watch.stop, lines);
+        let has_gone = put(ledger, watch.stop, lines, is_due || may_wait);
+        // (what that took isn't the next one's)
+        ledger.note_time(if has_gone { time(rt, ledger) } else { now });
     }
-    if is_due(ledger, served) {
+    if is_due {
         ledger.sync(served.ticket().piece.file);
+        ledger.note_time(time(rt, ledger));
     }
 }
 
@@ -103,14 +141,21 @@ fn add(lines: &mut Lines<'_>, served: &Served) {
     }
 }
 
-// Writes the lines out. Where that fails the run is asked to stop.
-fn send(ledger: &RunLedger, stop: Option<&StopFlag>, lines: Lines<'_>) {
-    ledger.send(lines);
+// Writes the lines out, or lets them wait if they may: whether they have gone out. Where the ledger can't be written any more the run is
+// asked to stop.
+fn put(ledger: &RunLedger, stop: Option<&StopFlag>, lines: Lines<'_>, may_wait: bool) -> bool {
+    let has_gone = if may_wait {
+        ledger.keep_for_later(lines)
+    } else {
+        ledger.send(lines);
+        true
+    };
     if ledger.is_cut()
         && let Some(stop) = stop
     {
         stop.set();
     }
+    has_gone
 }
 
 fn is_write(served: &Served) -> bool {

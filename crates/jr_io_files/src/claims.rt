@@ -5,7 +5,6 @@ ghost use Rattle.jr_io_files.specs.Opened.{shared_view};
 
 use crate::devices::held;
 use crate::directs::Directs;
-use crate::faults::FileFault;
 use crate::file_engine::FileEngine;
 use crate::kept::{Reserved, is_reserved};
 use crate::lengths::extended;
@@ -135,7 +134,7 @@ fn apart(alloc: Global, plan: &Plan, files: &[SharedFile]) -> Result<(), Refusal
     };
     let first = name_of(alloc, plan, first)?;
     let second_name = name_of(alloc, plan, second)?;
-    Err(refused(second, Why::OneFile(first, second_name)))
+    Err(Refusal::of_file(second, Why::OneFile(first, second_name)))
 }
 
 // Whether the run keeps none of the files for something else.
@@ -152,7 +151,7 @@ fn unkept<R: Files>(
     for (index, file) in files.iter().enumerate() {
         if is_reserved(rt, file, kept) {
             let name = name_of(alloc, plan, index)?;
-            return Err(refused(index, Why::Reserved(name)));
+            return Err(Refusal::of_file(index, Why::Reserved(name)));
         }
     }
     Ok(())
@@ -175,7 +174,7 @@ fn without_overlap<R: Files>(
             Err(error) if error.kind() == ErrorKind::OutOfMemory => return Err(Refusal::memory()),
             Err(error) => {
                 let name = name_of(alloc, plan, index)?;
-                return Err(refused(index, Why::Unseen(name, error)));
+                return Err(Refusal::of_file(index, Why::Unseen(name, error)));
             }
         }
     }
@@ -184,7 +183,7 @@ fn without_overlap<R: Files>(
     };
     let first = name_of(alloc, plan, first)?;
     let second_name = name_of(alloc, plan, second)?;
-    Err(refused(second, Why::Overlap(first, second_name)))
+    Err(Refusal::of_file(second, Why::Overlap(first, second_name)))
 }
 
 // Has the devices held that have to be, unless those that are in use may be written too. Answers which files are held.
@@ -223,11 +222,11 @@ fn locked<R: Files>(
         let is_held = held.get(index).is_some_and(|held| *held);
         if !file.lock(is_written(plan, index)) && !is_held {
             let name = name_of(alloc, plan, index)?;
-            return Err(refused(index, Why::Locked(name)));
+            return Err(Refusal::of_file(index, Why::Locked(name)));
         }
         if !file.is_there(rt) {
             let name = name_of(alloc, plan, index)?;
-            return Err(refused(index, Why::Replaced(name)));
+            return Err(Refusal::of_file(index, Why::Replaced(name)));
         }
     }
     Ok(())
@@ -238,13 +237,4 @@ pub(crate) fn name_of(alloc: Global, plan: &Plan, index: usize) -> Result<String
     requires { index < length plan.now.files }
 {
     String::from_str(alloc, plan.files()[index].name())
-}
-
-pub(crate) fn refused(index: usize, why: Why) -> Refusal
-    ensures { result.fault ≡ FileFault.File index }
-{
-    Refusal {
-        fault: FileFault::File(index),
-        why,
-    }
 }

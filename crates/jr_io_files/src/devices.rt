@@ -6,7 +6,6 @@ ghost use Rattle.jr_io_files.specs.Engines.{IsOpenFault};
 ghost use Rattle.jr_io_files.specs.Opened.{is_device};
 ghost use Rattle.jr_io_files.specs.Uses.{writes_file};
 
-use crate::faults::FileFault;
 use crate::refusals::{Refusal, Why};
 use crate::shares::SharedFile;
 use crate::uses::is_written;
@@ -99,7 +98,7 @@ fn device_alone<R: Files>(
     let is_locked = hold == Hold::Busy && !file.lock(false);
     match ruled(name, hold, is_locked, found) {
         Ok(hold) => Ok(hold),
-        Err(why) => Err(refused(index, why)),
+        Err(why) => Err(Refusal::of_file(index, why)),
     }
 }
 
@@ -155,7 +154,7 @@ fn file_alone<R: Files>(
     match user_of(found) {
         Some(by) => {
             let name = String::from_str(alloc, plan.files()[index].name())?;
-            Err(refused(index, Why::InUse(name, by)))
+            Err(Refusal::of_file(index, Why::InUse(name, by)))
         }
         None => Ok(()),
     }
@@ -175,14 +174,5 @@ fn is_memory(found: &io::Result<Option<Use>>) -> bool {
     match found {
         Err(error) => error.kind() == ErrorKind::OutOfMemory,
         Ok(_) => false,
-    }
-}
-
-fn refused(index: usize, why: Why) -> Refusal
-    ensures { result.fault ≡ FileFault.File index }
-{
-    Refusal {
-        fault: FileFault::File(index),
-        why,
     }
 }

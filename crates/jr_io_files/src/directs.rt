@@ -3,7 +3,6 @@ ghost use Rattle.std.specs.Prelude.{◌≡◌, ◌<◌, length, IfOk, IfErr};
 ghost use Rattle.jr_io_files.specs.Engines.{IsOpenFault};
 ghost use Rattle.jr_io_files.specs.Opened.{name_of};
 
-use crate::faults::FileFault;
 use crate::opened::{OpenedFile, Sectors};
 use crate::refusals::{Refusal, Why};
 use jr_io_blocks::{DirectAnswer, Dropper, first_ragged, sector_of};
@@ -60,7 +59,7 @@ pub(crate) fn as_wanted<R: Files>(
         DirectAnswer::Direct => in_sectors(rt, alloc, plan, index, file),
         DirectAnswer::Refused => {
             let name = String::from_str(alloc, plan.files()[index].name())?;
-            Err(refused(index, Why::NotDirect(name)))
+            Err(Refusal::of_file(index, Why::NotDirect(name)))
         }
     }
 }
@@ -83,7 +82,7 @@ fn in_sectors<R: Files>(
     if let Some(ragged) = first_ragged(plan, index, sector) {
         let name = String::from_str(alloc, plan.files()[index].name())?;
         let job = String::from_str(alloc, plan.clone_at(ragged).job())?;
-        return Err(refused(index, Why::Sectors(name, sector, job)));
+        return Err(Refusal::of_file(index, Why::Sectors(name, sector, job)));
     }
     let most = largest_block(plan, index);
     Ok(file.past_cache(Sectors { sector, most }))
@@ -110,13 +109,4 @@ fn largest_of(job: &SubJob) -> usize {
         most = most.max(*size);
     }
     most as usize
-}
-
-fn refused(index: usize, why: Why) -> Refusal
-    ensures { result.fault ≡ FileFault.File index }
-{
-    Refusal {
-        fault: FileFault::File(index),
-        why,
-    }
 }

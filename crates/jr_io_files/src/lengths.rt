@@ -2,7 +2,7 @@
 ghost use Rattle.std.specs.Prelude.{◌≡◌, ◌<◌, length, IfErr, IfOk};
 ghost use Rattle.jr_io_files.specs.Engines.{IsOpenFault};
 
-use crate::claims::{name_of, refused};
+use crate::claims::name_of;
 use crate::refusals::{Act, Refusal, Why};
 use crate::shares::SharedFile;
 use crate::uses::{is_checked, is_written};
@@ -59,7 +59,7 @@ fn extend_all<R: Files>(
             && has < spec.high()
         {
             let name = name_of(alloc, plan, index)?;
-            return Err(refused(index, Why::TooSmall(name, has, spec.high())));
+            return Err(Refusal::of_file(index, Why::TooSmall(name, has, spec.high())));
         }
         if !file.is_plain() {
             continue;
@@ -71,7 +71,7 @@ fn extend_all<R: Files>(
         }
         if let Err(error) = extend(rt, plan, index, file) {
             let name = name_of(alloc, plan, index)?;
-            return Err(refused(index, Why::System(Act::Extend, name, error)));
+            return Err(Refusal::of_file(index, Why::System(Act::Extend, name, error)));
         }
     }
     Ok(())

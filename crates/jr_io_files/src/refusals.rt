@@ -16,6 +16,18 @@ pub struct Refusal {
     pub why: Why,
 }
 
+impl Refusal {
+    // The file at this place of the plan's list is refused.
+    pub(crate) fn of_file(index: usize, why: Why) -> Refusal
+        ensures { result.fault ≡ FileFault.File index }
+    {
+        Refusal {
+            fault: FileFault::File(index),
+            why,
+        }
+    }
+}
+
 /// Why a file of a plan isn't taken.
 #[derive(Debug, Drop)]
 pub enum Why {
@@ -25,10 +37,9 @@ pub enum Why {
     OneFile(String, String),
     /// These two names are of devices or files that have bytes in common: a disk and its partition, a loop device and its image.
     Overlap(String, String),
-    /// The block device of this name is in use, or a plain file under a loop device.
     /// The run has the file of this name for an output of its own, or one of its streams goes there.
     Reserved(String),
-    /// The block device of this name is in use.
+    /// The block device of this name is in use, or the plain file of this name is under a loop device.
     InUse(String, Use),
     /// Something has claimed the block device of this name, and can't be seen.
     Claimed(String),

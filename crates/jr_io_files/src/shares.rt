@@ -4,7 +4,6 @@ ghost use Rattle.jr_io_files.specs.Engines.{IsFresh, IsOpenFault, NamesFile};
 ghost use Rattle.jr_io_files.specs.Opened.{files_to_begin};
 ghost use Rattle.jr_io_blocks.specs.Failures.{IsCallFor};
 
-use crate::claims::refused;
 use crate::faults::FileFault;
 use crate::file_engine::FileEngine;
 use crate::opened::OpenedFile;
@@ -235,7 +234,7 @@ impl FileEngine<SharedFile> {
                 Ok(file) => opened.push(file)?,
                 Err(error) => {
                     let name = String::from_str(alloc, shared.file.name())?;
-                    return Err(refused(index, Why::System(Act::Open, name, error)));
+                    return Err(Refusal::of_file(index, Why::System(Act::Open, name, error)));
                 }
             }
         }

@@ -4,7 +4,7 @@ ghost use Rattle.jr_io_files.specs.Engines.{IsFresh, IsOpenFault};
 ghost use Rattle.jr_io_files.specs.Opened.{shared_view};
 ghost use Rattle.jr_io_files.specs.ToRead.{name_to_read, view_to_read, views_to_read};
 
-use crate::claims::{name_of, refused};
+use crate::claims::name_of;
 use crate::faults::FileFault;
 use crate::file_engine::FileEngine;
 use crate::kept::{Reserved, is_reserved};
@@ -82,7 +82,7 @@ fn file_to_read<R: Files<File = File>>(
     match opened.and_then(|file| OpenedFile::new(file, marks, failures, to_judge(reads))) {
         Ok(file) => Ok(SharedFile::new(alloc, file)?),
         Err(error) if error.kind() == ErrorKind::OutOfMemory => Err(Refusal::memory()),
-        Err(error) => Err(refused(
+        Err(error) => Err(Refusal::of_file(
             index,
             Why::System(Act::Open, String::from_str(alloc, spec.name())?, error),
         )),
@@ -151,7 +151,7 @@ fn locked_to_read<R: Files>(
         }
         let name = name_of(alloc, plan, index)?;
         if let Some(why) = why_not(rt, file, name, kept) {
-            return Err(refused(index, why));
+            return Err(Refusal::of_file(index, why));
         }
     }
     Ok(())

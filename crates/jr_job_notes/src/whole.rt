@@ -101,6 +101,11 @@ fn block_text(alloc: Global, options: &JobOptions) -> Result<String, AllocError>
         return format!(in alloc; "offset_increment {step}; instead: a multiple of 512");
     }
     let sizes = sizes(alloc, options)?;
+    size_text(alloc, options, sizes.as_slice())
+}
+
+// Which of these block sizes of a job doesn't fit; else its size.
+fn size_text(alloc: Global, options: &JobOptions, sizes: &[u32]) -> Result<String, AllocError> {
     if let Some(size) = sizes.iter().find(|size| !is_block(**size)) {
         return format!(in alloc;
             "a block size of {size} bytes; instead: a multiple of 512 up to 16777216"

@@ -1,4 +1,4 @@
-//! The ledger of a run that goes on: its threads add to it under one lock, and what they add goes out at once.
+//! The ledger of a run that goes on: its threads add to it under one lock, and say what goes out at once.
 #![tactic(auto)]
 
 mod lines;

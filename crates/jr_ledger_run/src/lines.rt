@@ -10,14 +10,19 @@ use std::io;
 use std::io::{ErrorKind, Write};
 use std::sync::MutexGuard;
 
-// What lies under the ledger's lock: what is recorded and hasn't gone out yet, which syncs may be recorded, where the text goes, and the first
-// error, if there was one. After that nothing goes out any more: what arrives of a ledger is its front.
+// So many lines of writes wait at most for the next that go out.
+const MOST_WAITING: u32 = 16;
+
+// What lies under the ledger's lock: what is recorded and hasn't gone out yet, which syncs may be recorded, where the text goes, how many
+// writes were noted since text went out last, and the first error, if there was one. After that nothing goes out any more: what arrives of a
+// ledger is its front.
 #[derive(Drop)]
 pub(crate) struct Held {
     alloc: Global,
     recorder: Recorder,
     syncs: Syncs,
     out: File,
+    waiting: u32,
     failed: Option<io::Error>,
 }
 
@@ -28,6 +33,7 @@ impl Held {
             recorder,
             syncs: Syncs::new(alloc),
             out,
+            waiting: 0,
             failed: None,
         }
     }
@@ -43,6 +49,7 @@ impl Held {
     {
         let added = self.recorder.write_ended(write, outcome);
         self.heed(added);
+        self.waiting = self.waiting.saturating_add(1);
     }
 
     // Adds the begin of a sync, if it can be recorded. None of a file is once one has failed.
@@ -95,6 +102,7 @@ impl Held {
             self.fail(error);
         }
         self.recorder.clear();
+        self.waiting = 0;
     }
 
     fn heed(&mut self, added: Result<(), Memory>)
@@ -130,6 +138,11 @@ impl<'a> Lines<'a> {
     /// A write has ended so: one line if it is whole, and else none.
     pub fn write_ended(&mut self, write: &WriteId, outcome: &Outcome) {
         self.held.write_ended(write, outcome);
+    }
+
+    // Whether they can't wait: as many do as may, or something went wrong.
+    pub(crate) fn must_go(&self) -> bool {
+        self.held.waiting >= MOST_WAITING || self.held.failed.is_some()
     }
 
     // A sync is about to be asked for.

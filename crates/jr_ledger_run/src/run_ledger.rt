@@ -9,6 +9,7 @@ use std::alloc::Global;
 use std::fs::File;
 use std::sync::atomic::{AtomicBool, AtomicU64, Ordering};
 use std::sync::{Mutex, OnceLock, Wait};
+use std::time::Duration;
 use std::{io, thread};
 
 /// What is written down of a run while it goes on, and what of its files is synced on the way. Any thread may add to it.
@@ -17,6 +18,7 @@ pub struct RunLedger {
     lines: Option<Mutex<Held>>,
     every: Option<u32>,
     files: OnceLock<Vec<LedgerFile>>,
+    recorded_nanos: AtomicU64,
     is_cut: AtomicBool,
     cut_by: OnceLock<io::Error>,
     unsynced: OnceLock<(u32, io::Error)>,
@@ -47,6 +49,7 @@ impl RunLedger {
             lines,
             every,
             files: OnceLock::new(),
+            recorded_nanos: AtomicU64::new(0),
             is_cut: AtomicBool::new(false),
             cut_by: OnceLock::new(),
             unsynced: OnceLock::new(),
@@ -66,8 +69,8 @@ impl RunLedger {
         Ok(())
     }
 
-    /// Writes out the first line, before anything is done to the plan's files.
-    pub fn begin(&self) {
+    /// Writes out what hasn't gone out yet: the first line, before anything is done to the plan's files, and what waits at the run's end.
+    pub fn write_out(&self) {
         if let Some(lines) = self.lines_alone() {
             self.send(lines);
         }
@@ -99,6 +102,38 @@ impl RunLedger {
             let _ = self.cut_by.try_set(error);
             self.is_cut.store(true, Ordering::SeqCst);
         }
+    }
+
+    /// Lets these lines wait for the next that go out, unless as many wait by now as may: whether they have gone out. They aren't needed
+    /// before a sync of their file begins, whose line goes out at once, and they with it.
+    pub fn keep_for_later(&self, lines: Lines<'_>) -> bool {
+        let must_go = lines.must_go();
+        if must_go {
+            self.send(lines);
+        }
+        must_go
+    }
+
+    /// Whether lines are wanted.
+    pub fn has_lines(&self) -> bool {
+        self.lines.is_some()
+    }
+
+    /// When an I/O was last recorded, by a run of one thread, which keeps no time of its own.
+    pub fn recorded_at(&self) -> Option<Duration> {
+        match self.recorded_nanos.load(Ordering::Relaxed) {
+            0 => None,
+            nanos => Some(Duration::from_nanos(nanos)),
+        }
+    }
+
+    /// One has been recorded now.
+    pub fn note_time(&self, now: Option<Duration>) {
+        let nanos = match now {
+            Some(now) => u64::try_from(now.as_nanos()).unwrap_or(0),
+            None => 0,
+        };
+        self.recorded_nanos.store(nanos, Ordering::Relaxed);
     }
 
     /// Whether the ledger couldn't be written any more.

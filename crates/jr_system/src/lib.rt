@@ -20,4 +20,4 @@ pub use meminfo::{MemoryFiles, tell_history};
 pub use memory::{MemoryState, history_bytes, is_watched};
 pub use show::{Meter, Pace, Screen, Wiper, shown};
 pub use signs::signs_of;
-pub use stops::{Stop, tell_all};
+pub use stops::{Stop, tell_notes};

@@ -85,8 +85,24 @@ impl Pace {
 }
 
 /// Calls `f`, which may be asked to stop. Meanwhile standard error shows how far a run of this extent is, at its pace and where it is asked
-/// for. `f` is handed the meter, to end that before the report; else it ends with `f`.
+/// for. `f` is handed the meter, to end that before the report; else it ends with `f`. If a ledger is kept, all its lines have gone out then.
 pub fn shown<R: Machine, T, F: for<'p> FnOnce(Watch<'p>, &'p Meter) -> T>(
+    rt: &R,
+    extent: PlanBytes,
+    asked: &Arc<Asked, Global>,
+    f: F,
+) -> T
+    requires { F.IsAlwaysCallable f }
+{
+    let ended = watched(rt, extent, asked, f);
+    if let Some(ledger) = asked.ledger() {
+        ledger.write_out();
+    }
+    ended
+}
+
+// Calls `f`, and shows meanwhile how far the run is.
+fn watched<R: Machine, T, F: for<'p> FnOnce(Watch<'p>, &'p Meter) -> T>(
     rt: &R,
     extent: PlanBytes,
     asked: &Arc<Asked, Global>,

@@ -218,7 +218,7 @@ impl Notes {
     fn tell<R: Eprint>(&self, rt: &R) {
         match self {
             Notes::None | Notes::Text(_) => {}
-            Notes::Job(notes) => tell_all(rt, notes.as_slice()),
+            Notes::Job(notes) => tell_notes(rt, notes.as_slice()),
             Notes::Files(refusal) => {
                 let _ = eprintln!(rt; "fiorun: note: {}", Escaped(refusal));
             }
@@ -237,7 +237,7 @@ impl Notes {
 }
 
 /// Says each of these notes on a line of its own.
-pub fn tell_all<R: Eprint>(rt: &R, notes: &[Note]) {
+pub fn tell_notes<R: Eprint>(rt: &R, notes: &[Note]) {
     for note in notes {
         let _ = eprintln!(rt; "fiorun: note: {}", Escaped(note));
     }

@@ -25,7 +25,7 @@ fn made<R: Files<File = File>>(rt: &R, path: &str) -> Result<File, Fail> {
 
 // Three writes, of which the second failed: after each two the file is synced.
 fn record<R: Wait>(rt: &R, ledger: &RunLedger) {
-    ledger.begin();
+    ledger.write_out();
     for (number, outcome) in [
         (0, Outcome::Whole),
         (1, Outcome::Failed),
@@ -139,7 +139,7 @@ fn add_write<R: Wait>(rt: &R, ledger: &RunLedger, number: u32, outcome: Outcome)
 // A step of a run: the first line of the ledger, a write, one that failed, one more that is whole, a sync that begins, and its return.
 fn take_step<R: Wait>(rt: &R, ledger: &RunLedger, step: usize) {
     match step {
-        0 => ledger.begin(),
+        0 => ledger.write_out(),
         1 => add_write(rt, ledger, 0, Outcome::Whole),
         2 => add_write(rt, ledger, 1, Outcome::Failed),
         3 => add_write(rt, ledger, 2, Outcome::Whole),
@@ -175,13 +175,63 @@ fn each_line_has_gone_out_before_the_next_is_made(rt: HostRuntime) -> Result<(),
     Ok(())
 }
 
+// Notes so many quick writes, which may wait.
+fn keep_writes<R: Wait>(rt: &R, ledger: &RunLedger, count: u32) {
+    for number in 0..count {
+        if let Some(mut lines) = ledger.lines(rt) {
+            lines.write_ended(&write(number), &Outcome::Whole);
+            ledger.keep_for_later(lines);
+        }
+    }
+}
+
+// A step of a run of quick writes: fifteen of them, one more, one that waits and a sync that begins, and one that waits until the end.
+fn take_quick_step<R: Wait>(rt: &R, ledger: &RunLedger, step: usize) {
+    match step {
+        0 => keep_writes(rt, ledger, 15),
+        1 => keep_writes(rt, ledger, 1),
+        2 => {
+            keep_writes(rt, ledger, 1);
+            let _sync = ledger.sync_begins(0);
+        }
+        3 => keep_writes(rt, ledger, 1),
+        _ => ledger.write_out(),
+    }
+}
+
+// How many lines have gone out after each of these steps.
+fn quickly_sent_in<R: Files<File = File> + AllocGlobal + Wait>(
+    rt: &R,
+    alloc: Global,
+    folder: &str,
+) -> Result<[usize; 5], Fail> {
+    let plan = plan_of(alloc, "f", 8)?;
+    let ledger = ledger_in(rt, alloc, &plan, folder, None)?;
+    ledger.write_out();
+    let mut sent = [0; 5];
+    for step in 0..5 {
+        take_quick_step(rt, &ledger, step);
+        sent[step] = lines_in(rt, alloc, &plan, folder)?.len();
+    }
+    Ok(sent)
+}
+
+#[test]
+fn quick_writes_wait_for_the_sixteenth_and_for_a_sync(rt: HostRuntime) -> Result<(), Fail> {
+    let folder = fresh_folder(&rt, process::id(rt.process()), "quick")?;
+    let sent = quickly_sent_in(&rt, rt.alloc(), folder.as_str())?;
+    fs::remove_dir_all(&rt, folder.as_str())?;
+    same(&rt, sent, [0, 16, 18, 18, 19]);
+    Ok(())
+}
+
 #[test]
 fn a_ledger_that_cant_be_written_is_cut(rt: HostRuntime) -> Result<(), Fail> {
     let alloc = rt.alloc();
     let plan = plan_of(alloc, "f", 8)?;
     let full = OpenOptions::new().write(true).open(&rt, "/dev/full")?;
     let ledger = RunLedger::new(alloc, &plan, Some(full), None)?;
-    ledger.begin();
+    ledger.write_out();
     same(&rt, ledger.is_cut(), true);
     let Some(error) = ledger.cut_by() else {
         return Err(Fail::from("no reason"));
@@ -196,7 +246,7 @@ fn nothing_is_recorded_where_only_syncs_are_wanted(rt: HostRuntime) -> Result<()
     let alloc = rt.alloc();
     let plan = plan_of(alloc, "f", 8)?;
     let ledger = RunLedger::new(alloc, &plan, None, Some(1))?;
-    ledger.begin();
+    ledger.write_out();
     same(&rt, ledger.lines(&rt).is_some(), false);
     same(&rt, ledger.lines_alone().is_some(), false);
     same(&rt, ledger.sync_begins(0).is_some(), false);

@@ -94,10 +94,10 @@ fn workers_and_verifiers_are_asked_before_they_begin(rt: HostRuntime) -> Result<
 }
 
 // Whether one worker says that it was asked to stop.
-fn was_one_asked(alloc: Global, is_set: bool) -> Result<bool, Fail> {
+fn was_one_asked<R: Clock>(rt: &R, alloc: Global, is_set: bool) -> Result<bool, Fail> {
     let stop = flag_of(is_set);
     let plan = four_checked(alloc, 0)?;
-    let ran = run_serial_asked(alloc, plan, &mut NullEngine::new(), stopped_by(&stop))?;
+    let ran = run_serial_asked(rt, alloc, plan, &mut NullEngine::new(), stopped_by(&stop))?;
     Ok(ran.asked.is_some())
 }
 
@@ -117,7 +117,7 @@ fn were_two_asked<R: Threads + Wait + Clock + Sync>(
 #[test]
 fn workers_show_whether_they_were_asked(rt: HostRuntime) -> Result<(), Fail> {
     for is_set in [false, true] {
-        same(&rt, was_one_asked(rt.alloc(), is_set)?, is_set);
+        same(&rt, was_one_asked(&rt, rt.alloc(), is_set)?, is_set);
         same(&rt, were_two_asked(&rt, rt.alloc(), is_set)?, is_set);
     }
     Ok(())

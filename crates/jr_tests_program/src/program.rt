@@ -12,6 +12,7 @@ use std::io;
 use std::io::{ErrorKind, Read, Write};
 use std::process::Abort;
 use std::test::Fail;
+use std::time::Clock;
 
 // Gives some bytes, and then fails.
 #[derive(Drop)]
@@ -145,14 +146,15 @@ const TOTALS: &str =
     "w: clone=0 reads=0 rbytes=0 writes=2 wbytes=8192 checks=2 good=2 bad=0 skipped=0 void=0 faults=0\n";
 
 // What a run of the plan writes to these, with its status.
-fn written<W: Write, V: Write>(
+fn written<R: Clock, W: Write, V: Write>(
+    rt: &R,
     alloc: Global,
     events: Option<&mut W>,
     out: &mut V,
 ) -> Result<u8, CliFault> {
     let plan = read_job(alloc, CHECKED.as_bytes(), None)?;
     let mut engine = MemoryEngine::new(alloc, &plan)?;
-    let ended = execute_serial(alloc, plan, &mut engine, Watch::none(), events, out)?;
+    let ended = execute_serial(rt, alloc, plan, &mut engine, Watch::none(), events, out)?;
     Ok(ended.status(true))
 }
 
@@ -160,7 +162,7 @@ fn written<W: Write, V: Write>(
 fn a_report_and_a_trace_are_written(rt: HostRuntime) -> Result<(), Fail> {
     let mut events = Vec::new(rt.alloc());
     let mut out = Vec::new(rt.alloc());
-    let status = written(rt.alloc(), Some(&mut events), &mut out)?;
+    let status = written(&rt, rt.alloc(), Some(&mut events), &mut out)?;
     same(&rt, (status, out.as_slice()), (0, TOTALS.as_bytes()));
     same(&rt, events.as_slice(), EVENTS.as_bytes());
     Ok(())
@@ -290,30 +292,30 @@ fn a_trace_of_a_stopped_run_is_checked(rt: HostRuntime) -> Result<(), Fail> {
 }
 
 // How a run ends whose report goes to such a writer.
-fn ended_over(alloc: Global, room: usize, flushes: bool) -> Result<u8, CliFault> {
+fn ended_over<R: Clock>(rt: &R, alloc: Global, room: usize, flushes: bool) -> Result<u8, CliFault> {
     let mut out = FaultyWriter { room, flushes };
-    written(alloc, None::<&mut Vec<u8>>, &mut out)
+    written(rt, alloc, None::<&mut Vec<u8>>, &mut out)
 }
 
 #[test]
 fn what_is_cut_is_no_report(rt: HostRuntime) {
     let (alloc, whole) = (rt.alloc(), TOTALS.len());
     let cut = Err(CliFault::Write);
-    same(&rt, ended_over(alloc, 0, true), cut);
-    same(&rt, ended_over(alloc, whole - 1, true), cut);
-    same(&rt, ended_over(alloc, whole, false), cut);
-    same(&rt, ended_over(alloc, whole, true), Ok(0));
+    same(&rt, ended_over(&rt, alloc, 0, true), cut);
+    same(&rt, ended_over(&rt, alloc, whole - 1, true), cut);
+    same(&rt, ended_over(&rt, alloc, whole, false), cut);
+    same(&rt, ended_over(&rt, alloc, whole, true), Ok(0));
 }
 
 #[test]
 fn what_is_cut_is_no_trace(rt: HostRuntime) {
     let mut out = Vec::new(rt.alloc());
-    let cut = written(rt.alloc(), Some(&mut full()), &mut out);
+    let cut = written(&rt, rt.alloc(), Some(&mut full()), &mut out);
     same(&rt, cut, Err(CliFault::Write));
 }
 
 // How a run that was asked to stop before it began ends, with its status.
-fn stopped(alloc: Global) -> Result<(RunEnd, u8), Fail> {
+fn stopped<R: Clock>(rt: &R, alloc: Global) -> Result<(RunEnd, u8), Fail> {
     let stop = StopFlag::new();
     stop.set();
     let watch = Watch {
@@ -326,14 +328,14 @@ fn stopped(alloc: Global) -> Result<(RunEnd, u8), Fail> {
     let mut engine = MemoryEngine::new(alloc, &plan)?;
     let mut out = Vec::new(alloc);
     let none = None::<&mut Vec<u8>>;
-    let ended = execute_serial(alloc, plan, &mut engine, watch, none, &mut out)?;
+    let ended = execute_serial(rt, alloc, plan, &mut engine, watch, none, &mut out)?;
     let status = ended.status(true);
     Ok((ended.into_end(), status))
 }
 
 #[test]
 fn a_run_that_was_asked_to_stop_ends_with_130(rt: HostRuntime) -> Result<(), Fail> {
-    let (ended, status) = stopped(rt.alloc())?;
+    let (ended, status) = stopped(&rt, rt.alloc())?;
     same(&rt, status, 130);
     same(&rt, ended.is_interrupted(), true);
     same(&rt, (ended.status(true), ended.status(false)), (130, 3));

@@ -30,7 +30,7 @@ fn assert_read<R: AllocGlobal + Abort + Threads + Wait + Clock + Sync>(
     want: &str,
     status: u8,
 ) -> Result<(), Fail> {
-    let (report, ended) = answered(rt.alloc(), text, 9, reply_of(flipped))?;
+    let (report, ended) = answered(rt, rt.alloc(), text, 9, reply_of(flipped))?;
     same(rt, (report.as_slice(), ended), (want.as_bytes(), status));
     let (ended, report) = answered_to_a_crew(rt, text, 9, reply_of(flipped))?;
     same(rt, (report.as_slice(), ended), (want.as_bytes(), status));

@@ -5,9 +5,11 @@ use jr_engines::{MemoryEngine, Reply, ReplyBytes, ScriptedEngine};
 use std::alloc::Global;
 use std::process::Abort;
 use std::test::Fail;
+use std::time::Clock;
 
 // What a run of one worker writes whose call of this number has a reply of its own, and its status.
-pub(crate) fn answered(
+pub(crate) fn answered<R: Clock>(
+    rt: &R,
     alloc: Global,
     text: &str,
     call: u64,
@@ -19,6 +21,7 @@ pub(crate) fn answered(
     let mut engine = ScriptedEngine::new(memory, script);
     let mut out = Vec::new(alloc);
     let ended = execute_serial(
+        rt,
         alloc,
         plan,
         &mut engine,
@@ -31,14 +34,14 @@ pub(crate) fn answered(
 
 // Is this what it writes, and does it end so?
 fn assert_answered(
-    rt: &(impl AllocGlobal + Abort),
+    rt: &(impl AllocGlobal + Abort + Clock),
     text: &str,
     call: u64,
     reply: Reply,
     want: &str,
     status: u8,
 ) -> Result<(), Fail> {
-    let (report, ended) = answered(rt.alloc(), text, call, reply)?;
+    let (report, ended) = answered(rt, rt.alloc(), text, call, reply)?;
     let want = want.as_bytes();
     same(rt, (call, report.as_slice(), ended), (call, want, status));
     Ok(())
