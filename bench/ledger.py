@@ -2,10 +2,11 @@
 """bench/ledger.py PROGRAM [FOLDER..] prints what a ledger costs: 131,072 random writes of 4 KiB to a file in each folder (the one that it
 is started in), by one worker and by four, and by four to files of four jobs, synced after each 1,000 of them, without a ledger and with one
 in the folder LEDGERS (/tmp; a tmpfs that isn't below /dev), in turn: the medians of the seconds, what the ledger adds by these and by pairs
-of runs, and by pairs in processor seconds. RUNS says how many runs of each there are (11). And how long a judgement takes beside a checked
-read of the same file by one worker and by four, with chunks of 4 KiB and of 512 bytes: in seconds, and in processor seconds; medians of
-five."""
+of runs, and by pairs in processor seconds; and how many more calls of the system write something with one. RUNS says how many runs of each
+there are (11). And how long a judgement takes beside a checked read of the same file by one worker and by four, with chunks of 4 KiB and of
+512 bytes: in seconds, and in processor seconds; medians of five."""
 
+import contextlib
 import itertools
 import os
 import statistics
@@ -34,6 +35,19 @@ def times(program, folder, job, *words):
     return time.monotonic() - begun, used.ru_utime + used.ru_stime
 
 
+def calls(program, folder, job, *words):
+    """How many calls of the system wrote something in a run, as the system last said before its end."""
+    found = 0
+    with subprocess.Popen([program, *words], stdin=subprocess.PIPE, stdout=subprocess.DEVNULL, cwd=folder) as it:
+        it.stdin.write(job.encode())
+        it.stdin.close()
+        while it.poll() is None:
+            with contextlib.suppress(OSError), open(f"/proc/{it.pid}/io", encoding="ascii") as numbers:
+                found = max([found, *(int(line.split()[1]) for line in numbers if line.startswith("syscw"))])
+            time.sleep(0.001)
+    return found
+
+
 def medians(kinds):
     """The median of five runs of each kind, in turn; of pairs the median of each half."""
     took = {name: [] for name in kinds}
@@ -58,10 +72,12 @@ def more(without, with_it):
 def ledgers(program, folder, ledger):
     for (workers, jobs), digest in itertools.product(((1, 1), (4, 1), (4, 4)), ("md5", "sha256")):
         words = [f"--workers={workers}", "--sync-every=1000"]
-        took = list(pairs(program, folder, JOB.format(jobs, MEBIBYTES // jobs, digest), words, ledger))
+        job = JOB.format(jobs, MEBIBYTES // jobs, digest)
+        took = list(pairs(program, folder, job, words, ledger))
         without, with_it = (statistics.median(it[side][0] for it in took) for side in (0, 1))
         by_pairs = [more(1, statistics.median(it[1][half] / it[0][half] for it in took)) for half in (0, 1)]
-        row = [folder, workers, jobs, digest, f"{without:.3f}", f"{with_it:.3f}", more(without, with_it), *by_pairs]
+        added = calls(program, folder, job, *words, f"--ledger={ledger}") - calls(program, folder, job, *words)
+        row = [folder, workers, jobs, digest, f"{without:.3f}", f"{with_it:.3f}", more(without, with_it), *by_pairs, added]
         print("| " + " | ".join(map(str, row)) + " |", flush=True)
 
 
@@ -84,7 +100,8 @@ def main(words):
     program, folders = os.path.realpath(words[0]), words[1:] or ["."]
     with tempfile.TemporaryDirectory(prefix="ledger-", dir=os.environ.get("LEDGERS")) as room:
         ledger = os.path.join(room, "ledger")
-        print("| Files in | workers | jobs | digest | without | with | more, by medians | by pairs | processor seconds, by pairs |\n|-|-|-|-|-|-|-|-|-|")
+        print("| Files in | workers | jobs | digest | without | with | more, by medians | by pairs | processor seconds, by pairs | calls |")
+        print("|-|-|-|-|-|-|-|-|-|-|")
         for folder in folders:
             ledgers(program, folder, ledger)
         print("\n| File in | chunks | judged | read by one worker | by four |\n|-|-|-|-|-|")

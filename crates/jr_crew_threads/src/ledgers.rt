@@ -6,9 +6,9 @@ use jr_model::TicketKind;
 use std::sync::Wait;
 use std::time::{Clock, Duration};
 
-// An I/O is long if so many nanoseconds have passed since its worker recorded the one before it: so much that a call for its line is little
-// beside it.
-const LONG_NANOS: u128 = 20_000;
+// An I/O is long if so many nanoseconds have passed since its worker's I/O before it ended, or since the worker took its share: so many that a
+// call for its line is little beside them.
+const LONG_NANOS: u128 = 50_000;
 
 /// How many I/Os of a worker's share are recorded, and when this was last looked at.
 #[derive(Clone, Copy)]
@@ -35,8 +35,8 @@ fn time<R: Clock>(rt: &R, ledger: &RunLedger) -> Option<Duration> {
     }
 }
 
-/// Counts the last of these if it is a write. If it was long, or its file is to be synced now, the lines of all that aren't recorded yet go
-/// out, and the file is synced if that is due. Answers what is recorded then.
+/// Counts the last of these if it is a write. If it was long, the lines of all that aren't recorded yet go out. If its file is to be synced now
+/// it is, and these lines go out with that of the sync's begin. Answers what is recorded then.
 pub fn record_due<R: Wait + Clock>(
     rt: &R,
     watch: &Watch<'_>,
@@ -61,7 +61,7 @@ pub fn record_due<R: Wait + Clock>(
         put(ledger, watch.stop, lines, is_due);
     }
     if is_due {
-        ledger.sync(last.ticket().piece.file);
+        sync(ledger, watch.stop, last);
     }
     // (what that took isn't the next one's)
     Recorded {
@@ -78,8 +78,8 @@ fn is_long(begun: Option<Duration>, now: Option<Duration>) -> bool {
     }
 }
 
-/// Records those of these that aren't recorded yet, if a ledger is kept: none was long, so the lines may wait for the next that go out. If
-/// there is one that is no write, they don't.
+/// Records those of these that aren't recorded yet, if a ledger is kept. None was long, so the lines may wait for the next lines that go out.
+/// If there is one that is no write, they don't.
 pub fn record_rest<R: Wait>(rt: &R, watch: &Watch<'_>, served: &[Served], recorded: Recorded) {
     let rest = not_recorded(served, recorded);
     if let Some(ledger) = watch.ledger
@@ -109,7 +109,7 @@ fn lines_of<'a, R: Wait>(rt: &R, ledger: &'a RunLedger, served: &[Served]) -> Op
 }
 
 /// Records this one where one thread alone has the run, and syncs its file if that is due. The line of a write that wasn't long may wait for
-/// the next that go out.
+/// the next lines that go out.
 pub fn record_alone<R: Clock>(rt: &R, watch: &Watch<'_>, served: &Served) {
     let Some(ledger) = watch.ledger else {
         return;
@@ -124,7 +124,7 @@ pub fn record_alone<R: Clock>(rt: &R, watch: &Watch<'_>, served: &Served) {
         ledger.note_time(if has_gone { time(rt, ledger) } else { now });
     }
     if is_due {
-        ledger.sync(served.ticket().piece.file);
+        sync(ledger, watch.stop, served);
         ledger.note_time(time(rt, ledger));
     }
 }
@@ -141,8 +141,7 @@ fn add(lines: &mut Lines<'_>, served: &Served) {
     }
 }
 
-// Writes the lines out, or lets them wait if they may: whether they have gone out. Where the ledger can't be written any more the run is
-// asked to stop.
+// Writes the lines out, or lets them wait if they may: whether they have gone out.
 fn put(ledger: &RunLedger, stop: Option<&StopFlag>, lines: Lines<'_>, may_wait: bool) -> bool {
     let has_gone = if may_wait {
         ledger.keep_for_later(lines)
@@ -150,12 +149,23 @@ fn put(ledger: &RunLedger, stop: Option<&StopFlag>, lines: Lines<'_>, may_wait: 
         ledger.send(lines);
         true
     };
+    stop_if_cut(ledger, stop);
+    has_gone
+}
+
+// Syncs the file of this one.
+fn sync(ledger: &RunLedger, stop: Option<&StopFlag>, served: &Served) {
+    ledger.sync(served.ticket().piece.file);
+    stop_if_cut(ledger, stop);
+}
+
+// Where the ledger can't be written any more the run is asked to stop.
+fn stop_if_cut(ledger: &RunLedger, stop: Option<&StopFlag>) {
     if ledger.is_cut()
         && let Some(stop) = stop
     {
         stop.set();
     }
-    has_gone
 }
 
 fn is_write(served: &Served) -> bool {
