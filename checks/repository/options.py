@@ -2,7 +2,7 @@
 
 The keys that a job may have stand in crates/jr_job_options/src/words.rt. The tables of docs/FORMATS.md and docs/USING.md and the man page's
 list have each of them and no others; where two of these say from which number to which a value goes, or what its default is, they say the
-same. The words of the command line stand in crates/jr_cli_words/src/words.rt: docs/help.txt and the man page's list have each of them, with
+same. The words of the command line stand in crates/jr_cli_words/src/arguments.rt: docs/help.txt and the man page's list have each of them, with
 what it takes, the man page's synopsis has those of its list, and docs/USING.md speaks of each."""
 
 import os
@@ -99,13 +99,10 @@ def compare_keys():
 
 
 def words_of_program():
-    source = text_of("crates/jr_cli_words/src/words.rt")
+    source = text_of("crates/jr_cli_words/src/arguments.rt")
     found = {}
-    for part in re.split(r"Arg::new\(", source)[1:]:
-        long = re.search(r'\.long\("([\w-]+)"\)', part)
-        takes = re.search(r'\.value_name\("(\w+)"\)', part)
-        if long:
-            found[long[1]] = takes[1] if takes else None
+    for kind, long, takes in re.findall(r'with_(\w+)\(\s*alloc,\s*(?:Ok\()?command\)?,\s*"([\w-]+)",\s*"([^"]*)"', source):
+        found[long] = None if kind == "flag" else takes
     return {**found, "help": None, "version": None}
 
 

@@ -7,7 +7,7 @@ use jr_desk::Desk;
 use jr_escape::Escaped;
 use jr_model::EngineKind;
 use jr_plan::Plan;
-use jr_rounds::{gathered, is_bad, plan_of_round, seed_offset, tell_round, tell_sums};
+use jr_rounds::{is_bad, plan_of_round, seed_offset, tell_round, tell_sums, totals_by_original};
 use jr_rounds_rest::{
     Task, clone_goes_on, first_tasks, next_round, parts_text, tasks_left, untried_text,
 };
@@ -15,7 +15,7 @@ use jr_system::{Machine, Outlet, Stop};
 use std::alloc::Global;
 use std::io::Write;
 
-// Whether the words ask to go on after faults, where they may.
+// Whether the words ask to go on after faults. They may not together with rounds or a page, nor over several files.
 pub fn is_going_on(choice: &Choice<'_>, plan: &Plan, has_rounds: bool) -> Result<bool, CliFault> {
     if !choice.go_on {
         return Ok(false);
@@ -59,7 +59,8 @@ pub fn run_parts<R: Outlet + Machine>(
     run_tasks(rt, over, first, &mut todo, course, &mut out)
 }
 
-// Runs this part, and then what is still to be done, round by round.
+// Runs this part, and then what is still to be done, round by round, and gives how the last round ended. (There are never so many that none
+// is the last.)
 fn run_tasks<R: Outlet + Machine, V: Write>(
     rt: &R,
     over: &Rounds<'_>,
@@ -90,10 +91,20 @@ fn next_part<R: Outlet + Machine, V: Write>(
     course: &mut Course,
     out: &mut Unfailing<V>,
 ) -> Result<Option<Plan>, Stop> {
-    let done = todo.take_in(rt.alloc(), &ended.desk)?;
+    let round_tasks = todo.take_in(rt.alloc(), &ended.desk)?;
     let next = todo.next(rt.alloc(), round, ended, course)?;
     let is_last = next.is_none();
-    match tell_part(rt, over, round, ended, &done, is_last, todo, course, out) {
+    match tell_part(
+        rt,
+        over,
+        round,
+        ended,
+        &round_tasks,
+        is_last,
+        todo,
+        course,
+        out,
+    ) {
         Ok(()) => Ok(next),
         Err(stop) => Err(stop),
     }
@@ -105,7 +116,7 @@ fn tell_part<R: Outlet + Machine, V: Write>(
     over: &Rounds<'_>,
     round: u32,
     ended: &RunEnd,
-    done: &[Task],
+    round_tasks: &[Task],
     is_last: bool,
     todo: &ToDo<'_>,
     course: &mut Course,
@@ -113,10 +124,10 @@ fn tell_part<R: Outlet + Machine, V: Write>(
 ) -> Result<(), Stop> {
     let alloc = rt.alloc();
     if round > 0 && (is_last || is_bad(&ended.desk) || ended.is_interrupted()) {
-        tell_parts(alloc, round, done, out)?;
+        print_origins(alloc, round, round_tasks, out)?;
     }
     tell_round(alloc, round, &ended.desk, is_last, out)?;
-    add_part(alloc, over.plan, done, &ended.desk, course)?;
+    add_part(alloc, over.plan, round_tasks, &ended.desk, course)?;
     tell_line(rt, course, round, &ended.desk, is_last);
     let told = tell_outputs(rt, over.wanted, course, round, ended);
     course.heed(told);
@@ -130,13 +141,13 @@ fn tell_part<R: Outlet + Machine, V: Write>(
 }
 
 // Prints of which clones of the job the clones of a round are parts.
-fn tell_parts<V: Write>(
+fn print_origins<V: Write>(
     alloc: Global,
     round: u32,
-    done: &[Task],
+    round_tasks: &[Task],
     out: &mut V,
 ) -> Result<(), CliFault> {
-    let text = parts_text(alloc, round, done)?;
+    let text = parts_text(alloc, round, round_tasks)?;
     write_out(text.as_slice(), out)
 }
 
@@ -144,16 +155,17 @@ fn tell_parts<V: Write>(
 fn add_part(
     alloc: Global,
     plan: &Plan,
-    done: &[Task],
+    round_tasks: &[Task],
     desk: &Desk,
     course: &mut Course,
 ) -> Result<(), CliFault> {
-    let originals: Vec<u32> = done.iter().map(|task| task.original).collect(alloc)?;
+    let originals: Vec<u32> = round_tasks.iter().map(|task| task.original).collect(alloc)?;
     let totals = desk.totals();
+    // (there are as many: a round has a clone for each of its tasks)
     if originals.len() != totals.len() {
         return Ok(());
     }
-    let sums = gathered(alloc, plan.clones(), originals.as_slice(), totals)?;
+    let sums = totals_by_original(alloc, plan.clones(), originals.as_slice(), totals)?;
     course.add(desk, sums.as_slice());
     Ok(())
 }
@@ -183,16 +195,16 @@ impl<'a> ToDo<'a> {
     fn take_in(&mut self, alloc: Global, desk: &Desk) -> Result<Vec<Task>, CliFault> {
         let count = desk.plan().clones().min(self.tasks.len());
         let (now, later) = self.tasks.as_slice().split_at(count);
-        let done = Vec::from_slice(alloc, now)?;
+        let round_tasks = Vec::from_slice(alloc, now)?;
         let mut tasks = Vec::from_slice(alloc, later)?;
         let left = tasks_left(alloc, self.plan, desk.plan(), now, desk.history())?;
         tasks.extend_from_slice(left.as_slice())?;
         self.tasks = tasks;
-        Ok(done)
+        Ok(round_tasks)
     }
 
     // The plan of the round after this one. There is none if nothing is left, this one was interrupted, a bad verdict is to end the run, or
-    // something couldn't be stored or written. What is in a memory is gone after a round.
+    // something couldn't be stored or written. Only real files have a next round: nothing else keeps its bytes.
     fn next(
         &self,
         alloc: Global,

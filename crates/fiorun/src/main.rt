@@ -5,7 +5,7 @@ ghost use Rattle.std.specs.Prelude.{IfOk};
 ghost use Rattle.jr_replay_traces.specs.Runs.{IsRunIn};
 
 use finished::Finished;
-use jr_cli::{print_check, print_part};
+use jr_cli::{print_check, print_stopped_totals};
 use jr_cli_grounds::{PlannedJob, add, boxed, job_plan, job_size, print_adapted, shares};
 use jr_cli_outputs::Wanted;
 use jr_cli_words::{
@@ -195,7 +195,7 @@ fn print_totals<R: Print + AllocGlobal>(
 {
     let mut out = to_output(rt)?;
     if is_part {
-        print_part(rt.alloc(), plan, events, &mut out)
+        print_stopped_totals(rt.alloc(), plan, events, &mut out)
     } else {
         print_check(rt.alloc(), plan, events, &mut out)
     }

@@ -9,7 +9,7 @@ use crate::writes::Named;
 use jr_model::{Piece, SECTOR, WriteId};
 
 /// What is found of the bytes of a chunk.
-#[derive(Clone, Copy, Debug, PartialEq, Eq)]
+#[derive(Clone, Copy, PartialEq, Eq)]
 pub enum Finding {
     /// No kept write is over it: nothing is promised.
     Open,

@@ -8,7 +8,7 @@ use jr_ledger::LedgerLine;
 use jr_model::{Method, Piece, WriteId};
 
 /// A write of a plan, with all that its bytes follow from.
-#[derive(Clone, Copy, Debug, PartialEq, Eq)]
+#[derive(Clone, Copy, PartialEq, Eq)]
 pub struct PlannedWrite {
     pub write: WriteId,
     pub piece: Piece,
@@ -18,7 +18,7 @@ pub struct PlannedWrite {
 }
 
 /// A write of a plan and the place of its line in a ledger, from 0, if the ledger names it.
-#[derive(Clone, Copy, Debug, PartialEq, Eq)]
+#[derive(Clone, Copy, PartialEq, Eq)]
 pub struct Named {
     pub planned: PlannedWrite,
     pub line: Option<usize>,

@@ -55,7 +55,7 @@ pub fn longest_block(named: &[Named]) -> u32
 
 /// The finding on the bytes of a chunk, by all writes of a plan with their lines, of which those in the first `kept` lines are kept
 /// (`kept_lines` of the file). The room is for a block of these writes. What it holds afterwards says nothing.
-pub fn judged(
+pub fn chunk_finding(
     alloc: Global,
     kept: usize,
     named: &[Named],

@@ -8,6 +8,6 @@ mod next;
 mod places;
 
 pub use index::{Index, index_of};
-pub use judging::{judged, longest_block, named_writes};
+pub use judging::{chunk_finding, longest_block, named_writes};
 pub use laws::{each_chunk_comes, no_chunk_is_parts};
 pub use next::next_chunk;

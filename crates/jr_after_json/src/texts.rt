@@ -13,7 +13,7 @@ use jr_report_json::{push_item, push_string};
 use std::alloc::Global;
 
 /// What the program says of itself, and of the files that it judged.
-#[derive(Clone, Copy, Debug)]
+#[derive(Clone, Copy)]
 pub struct Judgement<'a> {
     /// Its version.
     pub version: &'a str,

@@ -6,7 +6,7 @@ use jr_after_json::{count_of, word_of};
 use jr_after_report::{Counts, FileReport, Judged};
 use jr_model::{Piece, WriteId};
 use jr_plan::Plan;
-use jr_report_page::{push_file, push_number, push_piece, push_text};
+use jr_report_page::{push_file, push_number_cell, push_piece, push_text_cell};
 use std::alloc::AllocError;
 
 // The row of a chunk of which something is told.
@@ -14,7 +14,7 @@ pub(crate) fn push_told(page: &mut String, plan: &Plan, one: &Judged) -> Result<
     ensures { OnOk result (string_bytes page.new ≡ string_bytes page.old ++ told_row plan.now one.now) }
 {
     page.push_str("<tr>")?;
-    push_text(page, word_of(&one.finding))?;
+    push_text_cell(page, word_of(&one.finding))?;
     push_file(page, plan, one.chunk.file)?;
     push_piece(page, &one.chunk)?;
     push_write(page, kept_of(&one.finding))?;
@@ -47,7 +47,7 @@ fn push_write(page: &mut String, write: Option<WriteId>) -> Result<(), AllocErro
     ensures { OnOk result (string_bytes page.new ≡ string_bytes page.old ++ write_cell write) }
 {
     let Some(write) = write else {
-        return push_text(page, "");
+        return push_text_cell(page, "");
     };
     let (clone, pass, number) = (write.clone, write.pass, write.number);
     write!(page, "<td>{clone}/{pass}/{number}</td>")
@@ -75,16 +75,16 @@ pub(crate) fn push_totals(
     page.push_str("<tr>")?;
     push_file(page, plan, found.file())?;
     push_counts(page, &found.counts())?;
-    push_number(page, count_of(unread, found.file()))?;
+    push_number_cell(page, count_of(unread, found.file()))?;
     page.push_str("</tr>\n")
 }
 
 fn push_counts(page: &mut String, counts: &Counts) -> Result<(), AllocError>
     ensures { OnOk result (string_bytes page.new ≡ string_bytes page.old ++ count_cells counts.now) }
 {
-    push_number(page, counts.kept)?;
-    push_number(page, counts.lost)?;
-    push_number(page, counts.broken)?;
-    push_number(page, counts.torn)?;
-    push_number(page, counts.unpromised)
+    push_number_cell(page, counts.kept)?;
+    push_number_cell(page, counts.lost)?;
+    push_number_cell(page, counts.broken)?;
+    push_number_cell(page, counts.torn)?;
+    push_number_cell(page, counts.unpromised)
 }

@@ -6,7 +6,7 @@ use jr_model::Piece;
 use std::alloc::AllocError;
 
 // What is found of all files, in numbers of chunks.
-#[derive(Clone, Copy, Debug)]
+#[derive(Clone, Copy)]
 pub(crate) struct Status {
     pub kept: u64,
     pub lost: u64,

@@ -22,7 +22,7 @@ pub enum Refusal {
 }
 
 /// Why a plan can't be judged after a cut: its first clone that isn't taken.
-#[derive(Clone, Copy, Debug, PartialEq, Eq)]
+#[derive(Clone, Copy, PartialEq, Eq)]
 pub struct AfterFault {
     pub clone: u32,
     pub why: Refusal,

@@ -7,7 +7,7 @@ use jr_model::{Memory, Piece, WriteId, push_field, push_number, push_text};
 use jr_plan::Plan;
 
 /// A chunk with what is found in it.
-#[derive(Clone, Copy, Debug, PartialEq, Eq)]
+#[derive(Clone, Copy, PartialEq, Eq)]
 pub struct Judged {
     pub chunk: Piece,
     pub finding: Finding,

@@ -5,7 +5,7 @@ use std::marker::Model;
 
 /// The rounds of a clone's writes. A draw is taken in at once and without memory; it is put into its round by the next
 /// `commit`, which alone can want memory.
-#[derive(Debug, Drop)]
+#[derive(Drop)]
 pub struct DeferredRounds {
     rounds: Rounds,
     waiting: Option<WriteId>,

@@ -12,7 +12,7 @@ use std::marker::Model;
 
 /// The rounds of a clone's writes, one after another: a round is filled with writes until it is
 /// due, and is closed once each of them was passed, that is, checked or skipped.
-#[derive(Debug, Drop)]
+#[derive(Drop)]
 pub struct Rounds {
     limit: u32,
     // The round's writes, counted no further than the limit.

@@ -11,4 +11,4 @@ pub use jr_cli_words::{
     print_plan, read_text, read_trace, workers_of,
 };
 pub use jr_crew::{Progress, StopFlag, StopRequest, Watch};
-pub use runs::{execute, execute_serial, print_check, print_part};
+pub use runs::{execute, execute_serial, print_check, print_stopped_totals};

@@ -186,7 +186,7 @@ pub fn print_check<V: Write>(
 }
 
 /// Checks a trace of the plan that may be of a run that was stopped, and prints what each clone did in it.
-pub fn print_part<V: Write>(
+pub fn print_stopped_totals<V: Write>(
     alloc: Global,
     plan: &Plan,
     text: &[u8],

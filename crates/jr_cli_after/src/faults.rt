@@ -20,8 +20,8 @@ impl fmt::Display for AfterFailure {
 
     fn fmt<W: fmt::Write>(&self, f: &mut fmt::Formatter<W>) -> fmt::Result {
         match self {
-            AfterFailure::Memory => write!(f, "out of memory"),
-            AfterFailure::Calls => write!(f, "too many calls of the engine"),
+            AfterFailure::Memory => f.write_str("out of memory"),
+            AfterFailure::Calls => f.write_str("too many calls of the engine"),
         }
     }
 }

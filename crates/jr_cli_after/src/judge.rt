@@ -5,7 +5,7 @@ ghost use Rattle.jr_after.specs.Writes.{writes_of};
 ghost use Rattle.jr_cli_after.specs.Judges.{longest};
 
 use jr_after::{Finding, Named};
-use jr_after_chunks::{Index, index_of, judged, longest_block, named_writes};
+use jr_after_chunks::{Index, chunk_finding, index_of, longest_block, named_writes};
 use jr_after_plans::planned_writes;
 use jr_ledger::LedgerLine;
 use jr_model::{Memory, Piece};
@@ -95,7 +95,7 @@ impl<'a> Judge<'a> {
         requires end { chunk.now.offset + chunk.now.len < 2 ^ 64 }
         ensures { IfOk result (λ finding. finding ≡ finding_on (writes_of self.now.plan) self.now.lines chunk.now bytes.now) }
     {
-        judged(
+        chunk_finding(
             alloc,
             kept,
             self.named.as_slice(),

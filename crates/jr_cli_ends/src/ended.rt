@@ -5,7 +5,7 @@ use jr_desk::Desk;
 use jr_report_faults::Faults;
 
 /// How a run ended that has its report.
-#[derive(Debug, Drop)]
+#[derive(Drop)]
 pub struct Executed<'w> {
     /// 1 if a block came back wrong or an I/O failed, else 0.
     pub found: u8,
@@ -18,7 +18,7 @@ pub struct Executed<'w> {
 }
 
 /// How a run ended that has its report, for who keeps that longer than the flag.
-#[derive(Debug, Drop)]
+#[derive(Drop)]
 pub struct RunEnd {
     /// 1 if a block came back wrong or an I/O failed, else 0.
     pub found: u8,

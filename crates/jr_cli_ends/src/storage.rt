@@ -1,5 +1,5 @@
 /// What the system said of the files of a run.
-#[derive(Clone, Copy, Debug)]
+#[derive(Clone, Copy)]
 pub struct Storage {
     /// How many reads of files that are checked its cache may have answered, where the run was over files.
     pub cached: Option<u64>,

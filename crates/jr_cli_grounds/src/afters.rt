@@ -103,7 +103,7 @@ impl<'a> Taken<'a> {
                 let _ = eprintln!(rt; "fiorun: note: and {more} chunks more that can't be read");
             }
         }
-        self.remarks.undropped(rt, self.files().cached_reads());
+        self.remarks.tell_undropped(rt, self.files().cached_reads());
     }
 
     fn tell_unread<R: Eprint>(&self, rt: &R, plan: &Plan, chunk: &Piece) {

@@ -291,8 +291,8 @@ impl<'a> Taken<'a> {
         ensures unstored { IfOk result (λ closed. IfSome closed.unstored (λ stop. stop ≡ CliFault.Write)) }
         ensures failed { IfErr result (λ fault. fault ≡ CliFault.Memory) }
     {
-        self.remarks.faults(rt, &self.files, faults);
-        self.remarks.undropped(rt, self.files.cached_reads());
+        self.remarks.tell_faults(rt, &self.files, faults);
+        self.remarks.tell_undropped(rt, self.files.cached_reads());
         let Ok(reasons) = reasons_of(rt.alloc(), &self.files, faults) else {
             return Err(Stop::from(CliFault::Memory));
         };

@@ -91,7 +91,7 @@ impl Remarks {
 
     /// Says that the system's cache may have answered checks, where it may: so many reads of files that are checked, or any, where there
     /// is no launcher.
-    pub fn undropped<R: Eprint>(&self, rt: &R, reads: u64) {
+    pub fn tell_undropped<R: Eprint>(&self, rt: &R, reads: u64) {
         if !self.has_notes {
             return;
         }
@@ -107,7 +107,7 @@ impl Remarks {
     }
 
     /// Says which faults there were, with the system's reason where the files have it.
-    pub fn faults<R: Eprint>(&self, rt: &R, files: &FileEngine<SharedFile>, faults: &Faults) {
+    pub fn tell_faults<R: Eprint>(&self, rt: &R, files: &FileEngine<SharedFile>, faults: &Faults) {
         if !self.has_notes {
             return;
         }

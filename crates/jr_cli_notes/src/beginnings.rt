@@ -7,7 +7,7 @@ use std::fs::{File, Files};
 use std::time::{Clock, Instant};
 
 /// When a run began, by the clock that says the time of day, and by the one that measures.
-#[derive(Clone, Copy, Debug)]
+#[derive(Clone, Copy)]
 pub struct Beginning {
     time: Option<Timestamp>,
     since: Option<Instant>,

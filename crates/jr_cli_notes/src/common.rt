@@ -8,14 +8,14 @@ use jr_diagnosis::{Diagnosed, Diagnosis};
 const LEAST: usize = 3;
 
 /// What several bad blocks have in common, and how many have it.
-#[derive(Clone, Copy, Debug, PartialEq, Eq)]
+#[derive(Clone, Copy, PartialEq, Eq)]
 pub(crate) struct Common {
     pub what: Trait,
     pub count: usize,
 }
 
 /// What bad blocks may have in common.
-#[derive(Clone, Copy, Debug, PartialEq, Eq)]
+#[derive(Clone, Copy, PartialEq, Eq)]
 pub(crate) enum Trait {
     /// They hold what belongs so many bytes further on.
     Ahead(u64),

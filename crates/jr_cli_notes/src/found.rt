@@ -1,5 +1,6 @@
 // What stands in bad blocks, in words.
-ghost use Rattle.std.specs.Prelude.{◌≡◌, ◌/◌, IfOk, string_bytes};
+ghost use Rattle.std.specs.Prelude.{◌≡◌, ◌/◌, ◌++◌, IfOk, OnOk, flat_map, string_bytes};
+ghost use Rattle.jr_diagnosis.specs.Texts.{sector_text};
 ghost use Rattle.jr_cli_notes.specs.Words.{flips_words, kind_words, place_words, torn_words, words_of};
 
 use crate::common::{Common, Trait, most_common};
@@ -99,10 +100,18 @@ fn words_of_sectors(alloc: Global, right: u32, found: &Diagnosed) -> Result<Stri
 {
     let all = found.place.len / SECTOR;
     let mut text = format!(in alloc; "torn: {right} of its {all} sectors are right, ")?;
-    for is_right in found.sectors.as_slice() {
+    push_sectors(&mut text, found.sectors.as_slice())?;
+    Ok(text)
+}
+
+// Which sectors are right.
+fn push_sectors(text: &mut String, sectors: &[bool]) -> Result<(), AllocError>
+    ensures { OnOk result (string_bytes text.new ≡ string_bytes text.old ++ flat_map sector_text sectors.now) }
+{
+    for is_right in sectors {
         text.push_str(if *is_right { "1" } else { "0" })?;
     }
-    Ok(text)
+    Ok(())
 }
 
 fn tell_common<R: Eprint>(rt: &R, common: Common, all: usize) {

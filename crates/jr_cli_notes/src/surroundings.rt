@@ -9,7 +9,7 @@ use std::fs::{File, Files};
 use std::time::Clock;
 
 /// When, where, over which devices and by what text a run was.
-#[derive(Debug, Drop)]
+#[derive(Drop)]
 pub struct Surroundings {
     pub setting: RunSetting,
     pub files: Vec<KnownFile>,

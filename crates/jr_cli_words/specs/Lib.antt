@@ -3,3 +3,4 @@ pub mod CommandLine
 pub mod FaultTexts
 pub mod Status
 pub mod Workers
+pub mod OwnTexts

@@ -62,6 +62,7 @@ pub enum CliFault {
 }
 
 impl CliFault {
+    ghost use Rattle.jr_cli_words.specs.OwnTexts.{IsOwnText};
     ghost use Rattle.jr_cli_words.specs.Status.{status_of_fault};
 
     /// The exit status of a program that ends with it: 2 if the words or the job file were
@@ -85,6 +86,37 @@ impl CliFault {
             CliFault::ReadLedger | CliFault::Write | CliFault::Memory => 3,
         }
     }
+
+    // The text of one that has no fault of another crate in it.
+    fn own_text(&self) -> &'static str
+        ensures { IsOwnText self.now result.now }
+    {
+        match self {
+            CliFault::Words => "command line: not UTF-8",
+            CliFault::SeveralFiles => "bad blocks of several files",
+            CliFault::BlockSize => "command line: bad block size",
+            CliFault::Duration => "command line: bad duration",
+            CliFault::SeveralRounds => "page of several rounds",
+            CliFault::KeptTraces => "command line: --keep-traces without --trace or rounds",
+            CliFault::BlockKind => "command line: bad kind of blocks",
+            CliFault::RepeatedGoOn => "command line: --go-on with --for or --repeat",
+            CliFault::GoOnFiles => "--go-on over several files",
+            CliFault::JobSize => "command line: bad size of jobs",
+            CliFault::LedgerRounds => "command line: --ledger with --for, --repeat or --go-on",
+            CliFault::LedgerEngine => "ledger: the job has no files",
+            CliFault::LedgerJob => "ledger: the job cannot be judged",
+            CliFault::AfterRun => "command line: --after with words of a run",
+            CliFault::Read => "cannot read the job file",
+            CliFault::Open => "cannot open the files",
+            CliFault::Unadapted => "cannot adapt the job file",
+            CliFault::ReadTrace => "cannot read the trace",
+            CliFault::ReadLedger => "cannot read the ledger",
+            CliFault::Write => "cannot write",
+            CliFault::Memory => "out of memory",
+            CliFault::Text(_) | CliFault::Job(_) | CliFault::Ledger(_) => "",
+            CliFault::Run(_) | CliFault::Trace(_) => "",
+        }
+    }
 }
 
 impl fmt::Display for CliFault {
@@ -95,36 +127,12 @@ impl fmt::Display for CliFault {
 
     fn fmt<W: fmt::Write>(&self, f: &mut fmt::Formatter<W>) -> fmt::Result {
         match self {
-            CliFault::Words => write!(f, "command line: not UTF-8"),
             CliFault::Text(fault) => write!(f, "{fault}"),
             CliFault::Job(fault) => write!(f, "{fault}"),
-            CliFault::SeveralFiles => write!(f, "bad blocks of several files"),
-            CliFault::BlockSize => write!(f, "command line: bad block size"),
-            CliFault::Duration => write!(f, "command line: bad duration"),
-            CliFault::SeveralRounds => write!(f, "page of several rounds"),
-            CliFault::KeptTraces => {
-                write!(f, "command line: --keep-traces without --trace or rounds")
-            }
-            CliFault::BlockKind => write!(f, "command line: bad kind of blocks"),
-            CliFault::RepeatedGoOn => { write!(f, "command line: --go-on with --for or --repeat") }
-            CliFault::GoOnFiles => write!(f, "--go-on over several files"),
-            CliFault::JobSize => write!(f, "command line: bad size of jobs"),
-            CliFault::LedgerRounds => {
-                write!(f, "command line: --ledger with --for, --repeat or --go-on")
-            }
-            CliFault::LedgerEngine => write!(f, "ledger: the job has no files"),
-            CliFault::LedgerJob => write!(f, "ledger: the job cannot be judged"),
-            CliFault::AfterRun => write!(f, "command line: --after with words of a run"),
             CliFault::Ledger(fault) => write!(f, "{fault}"),
-            CliFault::Read => write!(f, "cannot read the job file"),
-            CliFault::Open => write!(f, "cannot open the files"),
-            CliFault::Unadapted => write!(f, "cannot adapt the job file"),
             CliFault::Run(fault) => write!(f, "{fault}"),
             CliFault::Trace(fault) => write!(f, "{fault}"),
-            CliFault::ReadTrace => write!(f, "cannot read the trace"),
-            CliFault::ReadLedger => write!(f, "cannot read the ledger"),
-            CliFault::Write => write!(f, "cannot write"),
-            CliFault::Memory => write!(f, "out of memory"),
+            _ => f.write_str(self.own_text()),
         }
     }
 }

@@ -1,6 +1,7 @@
 // What the program is asked for: the words of the command line, the lines of a plan, and the faults that end the program.
 #![tactic(auto)]
 
+mod arguments;
 mod faults;
 mod inputs;
 mod jobs;

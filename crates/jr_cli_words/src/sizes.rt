@@ -11,7 +11,7 @@ use std::marker::Model;
 const SIZES: [u64; 8] = [512, 1024, 2048, 4096, 8192, 16384, 32768, 65536];
 
 /// How many bytes a block has in a list of bad blocks: a power of two from 512 to 65536.
-#[derive(Debug, Drop)]
+#[derive(Drop)]
 pub struct BlockSize {
     bytes: u64,
 }

@@ -19,3 +19,4 @@ pub mod Turning
 pub mod Tying
 pub mod Worked
 mod Unraced
+pub mod Telling

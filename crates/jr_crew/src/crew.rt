@@ -26,7 +26,7 @@ use jr_crew_books::{
 use jr_crew_channel::{Handoff, Pass};
 use jr_crew_threads::{
     Books, ChannelEnd, Crowd, Halt, Judged, Judgements, Judges, Naming, Seat, Shares, StopFlag,
-    StopRequest, Verifiers, Watch, Worked, Worker, WorkerEnd, asked_at, books_of, room_for,
+    StopRequest, Verifiers, Watch, Worked, Worker, WorkerEnd, asked_at, books_of, parcel_room,
     staff_for,
 };
 use jr_desk::Desk;
@@ -75,7 +75,7 @@ pub fn run_booked<'w, R: Threads + Wait + Clock + Sync>(
     if engines.is_empty() {
         return Err(RunFault::NoEngine);
     }
-    let (handoff, pass) = Handoff::new(rt, alloc, room_for(plan.verifiers()))?;
+    let (handoff, pass) = Handoff::new(rt, alloc, parcel_room(plan.verifiers()))?;
     run_as::<Brand, R>(rt, alloc, plan, engines, watch, &handoff, pass)
 }
 
@@ -133,17 +133,40 @@ fn run_manned<'a, P: Naming + Send + Sync, R: Threads + Wait + Clock + Sync>(
     ensures failed { IfErr result (IsRefusal (length verifiers.entry.all.items)) }
 {
     let inline = judges_inline(&plan);
-    let shares = Shares::new(alloc, &plan, workers.len())?;
-    let count = workers.len();
-    let crowd = Crowd::new(rt, count);
-    let shared = Shared::<P>::new(Desk::new(alloc, plan)?, count, shares, crowd, watch);
+    let shared = shared_for::<P, R>(rt, alloc, plan, workers.len(), watch)?;
     let brought = man(rt, &shared, alloc, inline, workers, verifiers);
-    let (desk, halt) = shared.into_parts();
-    if let Some(halt) = halt {
-        return Err(RunFault::from(halt));
-    }
+    let desk = desk_of(shared)?;
     let (ended, judgements) = brought?;
     Ok((desk, ended, judgements))
+}
+
+// What this many workers share, before any begins.
+fn shared_for<'w, P: Naming, R: Threads + Clock>(
+    rt: &R,
+    alloc: Global,
+    plan: Plan,
+    workers: usize,
+    watch: Watch<'w>,
+) -> Result<Shared<'w, P>, RunFault>
+    requires { plan ≡ P.plan }
+    ensures { IfErr result (λ fault. fault ≡ RunFault.Memory) }
+{
+    let shares = Shares::new(alloc, &plan, workers)?;
+    let desk = Desk::new(alloc, plan)?;
+    let crowd = Crowd::new(rt, workers);
+    Ok(Shared::new(desk, workers, shares, crowd, watch))
+}
+
+// The desk, once all have ended, if nothing halted them.
+fn desk_of<P: Naming>(shared: Shared<'_, P>) -> Result<Desk, RunFault>
+    ensures plan { IfOk result (λ desk. desk.plan ≡ P.plan) }
+    ensures halted { (verifiers : ℕ) → IfErr result (IsRefusal verifiers) }
+{
+    let (desk, halt) = shared.into_parts();
+    match halt {
+        None => Ok(desk),
+        Some(halt) => Err(RunFault::from(halt)),
+    }
 }
 
 // What a run has beside its desk: its engines, its books, and what asked it to stop.

@@ -517,7 +517,9 @@ impl<'p, P: Naming> Shared<'p, P> {
                 NextTicket::Ticket(ticket) => {
                     push(tickets, ticket)?;
                     bytes = bytes.saturating_add(u64::from(ticket.piece.len));
-                    let share = self.shares.of(&ticket, held.waiting > 0, held.resting);
+                    let share = self
+                        .shares
+                        .share_for(&ticket, held.waiting > 0, held.resting);
                     if taken + 1 >= share || bytes >= MOST_BYTES {
                         self.call_next(held, calls);
                         return Ok(GoOn::Go);

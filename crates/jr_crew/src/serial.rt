@@ -9,7 +9,7 @@ ghost use Rattle.jr_crew.specs.Turns.{IsBetweenTurns, IsOpen, IsCarriedOut, IsTu
 ghost use Rattle.jr_crew.specs.Whole.{IsRun, IsEndedRun};
 
 use jr_crew_threads::{
-    StopFlag, StopRequest, Watch, asked_at, make_room, note_alone, note_start, note_verdict,
+    StopFlag, StopRequest, Watch, asked_at, fit_buffer, note_alone, note_start, note_verdict,
     record_alone,
 };
 use jr_desk::{Desk, Take};
@@ -173,7 +173,7 @@ fn carry_out<R: Clock>(
     ensures stop { desk.new.is_stopped ≡ desk.old.is_stopped }
     ensures memory { IfErr result (λ fault. fault ≡ RunFault.Memory) }
 {
-    make_room(buffer, ticket)?;
+    fit_buffer(buffer, ticket)?;
     let served = serve_own(engine, *ticket, mem::replace(buffer, Vec::new(alloc)));
     record_alone(rt, watch, &served);
     settle(desk, &served, watch)?;

@@ -9,7 +9,7 @@ ghost use Rattle.jr_crew.specs.Working.{AreAnswered, AreDone, CanBeServed, IsAns
 use crate::held::{GoOn, Shared};
 use crate::outcomes::{note_all, rule_all};
 use jr_crew_books::Book;
-use jr_crew_threads::{ChannelEnd, Crowd, Halt, Naming, Turns, make_room, push};
+use jr_crew_threads::{ChannelEnd, Crowd, Halt, Naming, Turns, fit_buffer, push};
 use jr_engines::Engine;
 use jr_header::{Served, ready_own, serve_own};
 use jr_model::Ticket;
@@ -160,7 +160,7 @@ fn serve<R: Clock>(
         return Err(Halt::Books);
     }
     let mut buffer = buffer;
-    make_room(&mut buffer, ticket)?;
+    fit_buffer(&mut buffer, ticket)?;
     if is_timed {
         return Ok(serve_timed(rt, crowd, engine, ticket, buffer));
     }
@@ -185,7 +185,7 @@ fn serve_timed<R: Clock>(
     let ready = ready_own(*ticket, buffer);
     let begun = crowd.now(rt);
     let served = ready.ask(engine);
-    crowd.note(rt, begun, ticket.piece.len);
+    crowd.note_call(rt, begun, ticket.piece.len);
     served
 }
 

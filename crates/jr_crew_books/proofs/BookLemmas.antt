@@ -1,10 +1,10 @@
 -- The entries of a book, where more becomes known and where there is one more.
-use Rattle.std.proofs.Common.{◌≡◌, ℕ, zero, suc, ◌<◌, ◌≤◌, ◌+◌, List, [], ◌∷◌, ◌++◌, length, take, refl, sym, ap, subst, ◌∙◌, arith}
-use Rattle.std.specs.Prelude.{All, Option, slice_get}
-use Rattle.std.specs.Option.{IsSome, unwrap_or}
+use Rattle.std.proofs.Common.{◌≡◌, ℕ, zero, suc, ◌<◌, ◌≤◌, ◌+◌, List, [], ◌∷◌, ◌++◌, length, get_or, take, refl, sym, ap, subst, ◌∙◌, arith}
+use Rattle.std.specs.Prelude.{All, Option, Some, None, slice_get}
+use Rattle.std.specs.Option.{IsSome, option_map, unwrap_or}
 use Rattle.std.specs.List.{cons_option}
 use Rattle.std.proofs.lemmas.List.{length-append, map-append, take_more}
-use Rattle.std.proofs.lemmas.Option.{slice_get-get_or}
+use Rattle.std.proofs.lemmas.Option.{slice_get-get_or, slice_get-map, slice_get_past}
 use Rattle.std.proofs.lemmas.List.Elements.{All-head, All-push, All-same, All-tail, All-weaker}
 use Rattle.jr_model.specs.declared.contents.Method.{Method}
 use Rattle.jr_model.proofs.PlaceLemmas.{got_longer}
@@ -89,3 +89,22 @@ taken_next [] i within = absurd (omega (arith, within))
 taken_next (x ∷ xs) i within =
     take_more (x ∷ xs) i x within
     ∙ ap (λ (o : Option _). take i (x ∷ xs) ++ cons_option o []) (sym (slice_get-get_or (x ∷ xs) i x within))
+
+-- the entry that stands at a place, what it stands for, and where there is none
+module _ (shown entries : List BookEntry) (place : ℕ) (same : shown ≡ entries) where
+  pub stands_at : (entry : BookEntry) → place < length shown → entry ≡ get_or shown place entry → slice_get entries place ≡ Some entry
+  stands_at entry within is =
+      ap (λ (es : List BookEntry). slice_get es place) (sym same) ∙ slice_get-get_or shown place entry within ∙ ap Some (sym is)
+
+  pub none_there : (known : BookValues) (dones : List Done) → dones_as known entries ≡ dones → length shown ≤ place → slice_get dones place ≡ None
+  none_there known dones view past =
+      ap (λ (ds : List Done). slice_get ds place) (sym view)
+      ∙ slice_get-map (done_as known) entries place
+      ∙ ap (λ (es : List BookEntry). option_map (done_as known) (slice_get es place)) (sym same)
+      ∙ ap (option_map (done_as known)) (slice_get_past shown place past)
+
+pub done_there : (known : BookValues) (entries : List BookEntry) (dones : List Done) (place : ℕ) (entry : BookEntry) → dones_as known entries ≡ dones → slice_get entries place ≡ Some entry → slice_get dones place ≡ Some (done_as known entry)
+done_there known entries dones place entry view stands =
+    ap (λ (ds : List Done). slice_get ds place) (sym view)
+    ∙ slice_get-map (done_as known) entries place
+    ∙ ap (option_map (done_as known)) stands

@@ -59,7 +59,6 @@ fn note_verdict(table: &mut [Option<Verdict>], event: &Event)
 }
 
 /// Whether each book is what its worker completed, as the history has it.
-#[tactic(auto, using(crate::proofs::Following::follow_first))]
 pub fn are_books(
     alloc: Global,
     account: &Account<'_>,

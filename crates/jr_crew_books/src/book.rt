@@ -8,7 +8,6 @@ use crate::entries::{BookEntry, BookValues};
 use jr_model::{Memory, Method, Outcome, Ticket, Verdict};
 use jr_writes::Known;
 use std::alloc::Global;
-use std::fmt;
 use std::marker::Model;
 
 /// What a worker completed, in the order of its ends. It takes some 72 bytes for each: what is the same as before is kept once.
@@ -17,12 +16,6 @@ use std::marker::Model;
 pub struct Book {
     entries: Vec<BookEntry>,
     known: BookValues,
-}
-
-impl fmt::Debug for Book {
-    fn fmt<F: fmt::Write>(&self, f: &mut fmt::Formatter<F>) -> fmt::Result {
-        f.write_str("Book { .. }")
-    }
 }
 
 impl Model for Book {

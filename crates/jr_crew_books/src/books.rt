@@ -1,7 +1,7 @@
 use jr_model::{IoId, Outcome, Ticket, Verdict};
 
 /// What a worker completed: how it ended, and what the worker said of it if it judges its own checks.
-#[derive(Clone, Copy, Debug, PartialEq, Eq)]
+#[derive(Clone, Copy, PartialEq, Eq)]
 pub struct Done {
     pub ticket: Ticket,
     pub outcome: Outcome,
@@ -9,7 +9,7 @@ pub struct Done {
 }
 
 /// What a verifier said of a check.
-#[derive(Clone, Copy, Debug, PartialEq, Eq)]
+#[derive(Clone, Copy, PartialEq, Eq)]
 pub struct Said {
     pub io: IoId,
     pub verdict: Verdict,

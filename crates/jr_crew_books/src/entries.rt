@@ -105,10 +105,7 @@ fn piece_of(entry: &BookEntry) -> Piece
 fn last_of<T: Copy>(known: &[T], count: u32) -> Option<T>
     ensures { result ≡ last_of known.now count }
 {
-    if count == 0 {
-        return None;
-    }
-    known.get(count as usize - 1).copied()
+    last_in(known, count).copied()
 }
 
 // The last one known before this count, where it stands.

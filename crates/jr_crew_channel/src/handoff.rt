@@ -140,7 +140,7 @@ impl Handoff {
     }
 
     /// What holds once every pass was joined into this one.
-    pub fn account(&self, pass: &mut Pass)
+    pub fn facts(&self, pass: &mut Pass)
         requires pass { IsPassOf self.now pass.old }
         requires whole { IsWhole (pass_state pass.old) }
         ensures pass { IsPassOf self.now pass.new }

@@ -2,7 +2,7 @@ use jr_header::Served;
 use std::collections::LinkedList;
 
 /// What a worker hands to a verifier.
-#[derive(Debug, Drop)]
+#[derive(Drop)]
 pub enum Parcel {
     /// A check that ended whole, to be judged.
     Check(Served),

@@ -86,7 +86,7 @@ pub fn books_of<P: Naming>(
     let mut channel = channel;
     let (engines, dones) = worked_books(alloc, &mut channel, ended)?;
     let said = judged_books(alloc, &mut channel, all)?;
-    channel.account();
+    channel.facts();
     Ok(Books {
         engines,
         dones,

@@ -85,12 +85,12 @@ impl<'a, P: Naming> ChannelEnd<'a, P> {
     }
 
     /// What holds once all other ends were joined into this one: what was taken was put.
-    pub fn account(&mut self)
+    pub fn facts(&mut self)
         requires { IsWhole (pass_state self.old.pass) }
         ensures same { pass_state self.new.pass ≡ pass_state self.old.pass }
         ensures left { (left : List Parcel) × IsPermutation (pass_state self.new.pass).put ((pass_state self.new.pass).taken ++ left) }
     {
-        self.handoff.account(&mut self.pass);
+        self.handoff.facts(&mut self.pass);
     }
 
     /// Hands over a check that ended whole, and waits while there is no room.

@@ -74,7 +74,7 @@ impl Crowd {
     }
 
     /// Takes in that a call over so many bytes began then, and has just ended.
-    pub fn note<R: Clock>(&self, rt: &R, begun: Option<Instant>, bytes: u32) {
+    pub fn note_call<R: Clock>(&self, rt: &R, begun: Option<Instant>, bytes: u32) {
         if let Some(begun) = begun
             && let Ok(passed) = begun.elapsed(rt)
         {

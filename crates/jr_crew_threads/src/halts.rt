@@ -6,7 +6,7 @@ use jr_run_faults::RunFault;
 use std::alloc::AllocError;
 
 /// Why a run that had begun was ended before its time.
-#[derive(Clone, Copy, Debug, PartialEq, Eq)]
+#[derive(Clone, Copy, PartialEq, Eq)]
 pub enum Halt {
     /// A request for memory was refused.
     Memory,

@@ -131,7 +131,7 @@ pub fn record_alone<R: Clock>(rt: &R, watch: &Watch<'_>, served: &Served) {
 
 // Counts this one if it is a write. Whether its file is to be synced now.
 fn is_due(ledger: &RunLedger, served: &Served) -> bool {
-    is_write(served) && ledger.is_due(served.ticket().piece.file)
+    is_write(served) && ledger.count_write(served.ticket().piece.file)
 }
 
 // Adds the line of this one, if it is a write that ended whole.

@@ -4,7 +4,7 @@ ghost use Rattle.jr_header.specs.Served.{asked_with};
 use jr_model::{Memory, Ticket, TicketKind};
 
 /// Makes a buffer that was used before as long as the ticket's piece. It is zeros, but for a write, which fills it.
-pub fn make_room(buffer: &mut Vec<u8>, ticket: &Ticket) -> Result<(), Memory>
+pub fn fit_buffer(buffer: &mut Vec<u8>, ticket: &Ticket) -> Result<(), Memory>
     ensures len { OnOk result (vec_len buffer.new ≡ ticket.now.piece.len) }
     ensures asked { OnOk result (asked_with ticket.now.kind ticket.now buffer.new.items
         ≡ asked_with ticket.now.kind ticket.now (replicate ticket.now.piece.len 0)) }

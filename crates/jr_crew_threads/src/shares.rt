@@ -62,7 +62,7 @@ impl Shares {
 
     /// The share of a worker that took this ticket, if so many workers rest: what all clones of its phase have for each of the others.
     /// If others wait for something to do it is what its clone alone has, so that they get the rest.
-    pub fn of(&self, ticket: &Ticket, others_wait: bool, resting: u64) -> u64 {
+    pub fn share_for(&self, ticket: &Ticket, others_wait: bool, resting: u64) -> u64 {
         let Some(clone) = self.by_clone.get(ticket.write.clone as usize) else {
             return 1;
         };

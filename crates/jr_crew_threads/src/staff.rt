@@ -9,7 +9,7 @@ use crate::naming::Naming;
 use jr_engines::Engine;
 use std::alloc::Global;
 
-/// What a worker begins with beside its engine: its number, and its part of the hand-over.
+/// What a thread of the crew begins with, a worker beside its engine: its number, and its part of the hand-over.
 #[derive(Drop)]
 pub struct Seat<'a, P: Naming> {
     pub number: u32,
@@ -20,13 +20,8 @@ pub struct Seat<'a, P: Naming> {
 /// A worker: its engine, and the rest.
 pub type Worker<'a, P> = (Box<dyn Engine + Send>, Seat<'a, P>);
 
-/// What a verifier begins with: its number, and its part of the hand-over.
-#[derive(Drop)]
-pub struct Verifier<'a, P: Naming> {
-    pub number: u32,
-    pub channel: ChannelEnd<'a, P>,
-    pub ghost part: { pass_state channel.pass ≡ one_part },
-}
+/// A verifier: its number, and its part of the hand-over.
+pub type Verifier<'a, P> = Seat<'a, P>;
 
 /// The verifiers, and the part of the hand-over that was given to nobody: with those of the verifiers and of so many workers it is the
 /// whole.
@@ -108,7 +103,7 @@ fn verifiers_for<'a, P: Naming>(
 }
 
 /// How many parcels the hand-over holds: four for each verifier.
-pub fn room_for(verifiers: u32) -> usize
+pub fn parcel_room(verifiers: u32) -> usize
     ensures least { 1 ≤ result }
     ensures room { 1 ≤ verifiers → result ≡ 4 * verifiers }
 {

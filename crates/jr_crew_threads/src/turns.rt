@@ -5,7 +5,7 @@ use std::time::{Clock, Instant};
 const TURNS: u32 = 32;
 
 /// The turns of a worker: in each it carries out what it took, comes for the desk's lock, and has it. Some of them are measured.
-#[derive(Clone, Copy, Debug)]
+#[derive(Clone, Copy)]
 pub struct Turns {
     count: u32,
     // When the part that is measured began, if one is.

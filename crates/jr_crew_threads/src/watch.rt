@@ -4,7 +4,6 @@ ghost use Rattle.jr_crew_threads.specs.Stops.{WasAsked};
 use crate::diagnoses::Diagnoses;
 use crate::progress::Progress;
 use jr_ledger_run::RunLedger;
-use std::fmt;
 use std::sync::{OnceLock, OnceToken};
 
 /// Asks a run to stop. Any thread may set it, once or more often; it stays set.
@@ -17,12 +16,6 @@ pub struct StopFlag {
 #[derive(Drop)]
 pub struct StopRequest<'a> {
     token: OnceToken<'a, ()>,
-}
-
-impl fmt::Debug for StopRequest<'_> {
-    fn fmt<W: fmt::Write>(&self, f: &mut fmt::Formatter<W>) -> fmt::Result {
-        f.write_str("StopRequest")
-    }
 }
 
 impl StopFlag {

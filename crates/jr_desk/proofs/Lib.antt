@@ -1,3 +1,4 @@
+mod Boxed
 pub mod Ending
 pub mod Playing
 pub mod Reading

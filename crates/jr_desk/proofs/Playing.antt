@@ -11,6 +11,7 @@ use Rattle.jr_model.specs.declared.events.Outcome.{Outcome}
 use Rattle.jr_model.specs.declared.events.Started.{Started}
 use Rattle.jr_model.specs.declared.events.Verdict.{Verdict as GivenVerdict}
 use Rattle.jr_model.specs.declared.memory.Memory.{Memory as OutOfMemory}
+use Rattle.jr_model.specs.declared.replies.Reply.{Reply}
 use Rattle.jr_model.specs.declared.steps.DeskFault.{DeskFault}
 use Rattle.jr_model.specs.declared.steps.DeskFault.TheVariants.{Memory, Stranger, Twice, WrongKind, Stopped}
 use Rattle.jr_model.specs.declared.steps.StepReply.{StepReply}
@@ -18,7 +19,7 @@ use Rattle.jr_model.specs.declared.steps.StepReply.TheVariants as answer
 use Rattle.jr_model.specs.declared.tickets.Ticket.{Ticket}
 use Rattle.jr_model.specs.History.{started, kind_for, outcome_of, is_judged, is_judged_kind, is_verdict_on, ended_whole}
 use Rattle.jr_model.specs.Legal.{is_legal, is_complete}
-use Rattle.jr_model.specs.Machine.{State, Stepped, said_of, taken as taken_by, take_answer, machine_take, end_refusal, judge_refusal, is_judgeable, machine_judge, machine_judge_by, bytes_read, verdict_on}
+use Rattle.jr_model.specs.Machine.{State, Stepped, said_of, taken as taken_by, take_answer, machine_take, machine_end, machine_end_by, machine_stop, end_refusal, judge_refusal, is_judgeable, machine_judge, machine_judge_by, bytes_read, verdict_on}
 use Rattle.jr_model.specs.Plan.{Plan}
 use Rattle.jr_model.specs.Tickets.{ticket_fits}
 use Rattle.jr_engines.specs.Answers.{AnswerParts}
@@ -342,3 +343,16 @@ known_fits player io t ready at =
 pub judge_goes_on_if : (player : Player) (by io : ℕ) (check : AnswerParts) (said : Result StepReply OutOfMemory) (desk : DeskState) → IsReady player → last_read player.reads.items io ≡ Some check → is_to_judge check ≡ true → IfOk said (λ reply. reply ≡ judge_reply (judge_fault player.desk check.ticket.id true)) → OnOk said (desk ≡ judged_desk player.desk by check (judge_fault player.desk check.ticket.id true)) → IfOk said (λ reply. GoesOn player (machine_judge player.desk.plan (state_of player) by io) reply (record player { desk = desk }))
 judge_goes_on_if player by io check (Ok reply) desk ready found judges says left = judge_goes_on player by io check reply desk ready found judges says left
 judge_goes_on_if player by io check (Err error) desk ready found judges says left = tt
+
+-- a refused end changes nothing
+pub refused_end_goes_on : (player : Player) (io : ℕ) (reply : Reply) (fault : DeskFault) → IsReady player → end_refusal (state_of player) io ≡ Some fault → GoesOn player (machine_end player.desk.plan (state_of player) io reply) (answer.Refused fault) player
+refused_end_goes_on player io reply fault ready refused =
+    let s = state_of player in
+    subst (λ (o : Option DeskFault). GoesOn player (machine_end_by player.desk.plan s io reply o (slice_get (started s.history) io)) (answer.Refused fault) player)
+    (sym refused) (record { answer = refl; state = refl; plan = refl; calls = omega arith; covers = ready.covers; reads = ready.reads })
+
+-- a stop changes nothing else
+pub stop_goes_on : (player : Player) (stopped : DeskState) → IsReady player → stopped ≡ record player.desk { is_stopped = true } → GoesOn player (machine_stop (state_of player)) answer.Stopped (record player { desk = stopped })
+stop_goes_on player stopped ready is =
+    subst (λ (d : DeskState). GoesOn player (machine_stop (state_of player)) answer.Stopped (record player { desk = d })) (sym is)
+    (record { answer = refl; state = refl; plan = refl; calls = omega arith; covers = ready.covers; reads = ready.reads })

@@ -1,4 +1,4 @@
-ghost use Rattle.std.specs.Prelude.{◌≡◌, ◌⊎◌, ◌++◌, ◌∷◌, [], ◌||◌, Bool, true, false, IfOk, IfErr, IfSome, OnOk, OnErr, IsTrue};
+ghost use Rattle.std.specs.Prelude.{◌≡◌, ◌≢◌, ◌⊎◌, ◌++◌, ◌∷◌, [], ◌||◌, Bool, true, false, IfOk, IfErr, IfSome, OnOk, OnErr, IsTrue};
 ghost use Rattle.std.specs.Prelude.{IsFalse, Ok, Err, None, map, slice_get, is_some};
 ghost use Rattle.jr_model.specs.History.{started, outcome_of, ended_whole, is_judged};
 ghost use Rattle.jr_model.specs.Legal.{is_legal, is_complete, is_void};
@@ -9,6 +9,7 @@ ghost use Rattle.jr_header.specs.Served.{answer_verdict};
 ghost use Rattle.jr_desk_tickets.specs.Handing.{IsHanded};
 ghost use Rattle.jr_desk_tickets.specs.Kept.{tickets_of, IsOwn};
 ghost use Rattle.jr_desk.specs.Refusals.{Owns, end_fault, judge_fault};
+ghost use Rattle.jr_desk_state.specs.Boards.{IsBoard};
 ghost use Rattle.jr_desk_state.specs.Takes.{HandsOutOwn, IsTaken, is_finished, is_fitting, WaitsRightly};
 ghost use Rattle.jr_desk_totals.specs.Bads.{miscompare_of};
 
@@ -18,10 +19,9 @@ use jr_desk_state::{
 use jr_desk_tickets::TicketTable;
 use jr_desk_totals::Bad;
 use jr_header::{Ruling, Served};
-use jr_model::{DeskFault, Event, Ticket, Totals, Verdict};
+use jr_model::{DeskFault, Event, Memory, Ticket, Totals, Verdict};
 use jr_plan::Plan;
 use std::alloc::Global;
-use std::fmt;
 use std::marker::Model;
 
 /// The shared state of a run. Every I/O is handed out by it and ends in it.
@@ -34,14 +34,9 @@ use std::marker::Model;
 pub struct Desk {
     alloc: Global,
     plan: Plan,
-    board: Board,
+    // (in a box, so that who owns a desk has one thing to give back of it)
+    board: Box<Board>,
     is_stopped: bool,
-}
-
-impl fmt::Debug for Desk {
-    fn fmt<F: fmt::Write>(&self, f: &mut fmt::Formatter<F>) -> fmt::Result {
-        f.write_str("Desk { .. }")
-    }
 }
 
 impl Model for Desk {
@@ -50,9 +45,9 @@ impl Model for Desk {
 
     ghost Value = { DeskState };
 
-    ghost view = { λ d. record { plan = d.plan; history = d.board.history.items; is_stopped = d.is_stopped } };
+    ghost view = { λ d. record { plan = d.plan; history = d.board.value.history.items; is_stopped = d.is_stopped } };
 
-    ghost invariant = { λ d. IsBoard d.plan d.board };
+    ghost invariant = { λ d. IsBoard d.plan d.board.value };
 }
 
 impl Desk {
@@ -61,7 +56,7 @@ impl Desk {
         ensures ok { IfOk result (λ desk. desk ≡ record { plan = plan; history = []; is_stopped = false }) }
         ensures err { IfErr result (λ fault. fault ≡ DeskFault.Memory) }
     {
-        let board = new_board(alloc, &plan)?;
+        let board = boxed_board(alloc, &plan)?;
         Ok(Desk {
             alloc,
             plan,
@@ -90,9 +85,10 @@ impl Desk {
         if self.is_stopped {
             return Ok(Take::Finished);
         }
-        prepare(self.alloc, &self.plan, &mut self.board)?;
-        let ticket = start_next(&self.plan, &mut self.board, worker);
-        Ok(answer_to(&self.plan, &self.board, &ticket))
+        let board = &mut *self.board;
+        prepare(self.alloc, &self.plan, board)?;
+        let ticket = start_next(&self.plan, board, worker);
+        Ok(answer_to(&self.plan, board, &ticket))
     }
 
     /// Takes in how an I/O or check ended. The ticket must be one of this desk's.
@@ -122,10 +118,7 @@ impl Desk {
         ensures err { OnErr result (self.new ≡ self.old) }
     {
         let ticket = served.ticket();
-        self.check_own(ticket)?;
-        if self.has_ended(ticket.id) {
-            return Err(DeskFault::Twice);
-        }
+        self.check_flying(ticket)?;
         end(
             &self.plan,
             &mut self.board,
@@ -195,16 +188,8 @@ impl Desk {
             }) }
         ensures err { OnErr result (self.new ≡ self.old) }
     {
-        let ticket = ruling.served().ticket();
-        self.check_own(ticket)?;
-        if self.is_judged(ticket.id) {
-            return Err(DeskFault::Twice);
-        }
-        if !self.has_ended_whole(ticket.id) {
-            return Err(DeskFault::WrongKind);
-        }
-        let verdict = self.said_of(ruling);
-        judge(&self.plan, &mut self.board, by, ticket, verdict)?;
+        self.check_judgeable(ruling.served().ticket())?;
+        self.judge_own(by, ruling)?;
         Ok(())
     }
 
@@ -308,6 +293,40 @@ impl Desk {
         self.board.tickets.is_judged(id)
     }
 
+    // Refuses a ticket whose end would be refused.
+    fn check_flying(&self, ticket: &Ticket) -> Result<(), DeskFault>
+        ensures refused { (own : Bool) → Owns self.now ticket.now own
+            → IfSome (end_fault self.now ticket.now.id own) (λ fault. result ≡ Err fault) }
+        ensures taken_in { OnErr result (Owns self.now ticket.now true → end_fault self.now ticket.now.id true ≢ None) }
+        ensures own { OnOk result (IsOwn self.now.plan self.now.history ticket.now) }
+        ensures flying { OnOk result (is_some (outcome_of self.now.history ticket.now.id) ≡ false) }
+    {
+        self.check_own(ticket)?;
+        if self.has_ended(ticket.id) {
+            return Err(DeskFault::Twice);
+        }
+        Ok(())
+    }
+
+    // Refuses a ticket whose verdict would be refused.
+    fn check_judgeable(&self, ticket: &Ticket) -> Result<(), DeskFault>
+        ensures refused { (own : Bool) → Owns self.now ticket.now own
+            → IfSome (judge_fault self.now ticket.now.id own) (λ fault. result ≡ Err fault) }
+        ensures taken_in { OnErr result (Owns self.now ticket.now true → judge_fault self.now ticket.now.id true ≢ None) }
+        ensures own { OnOk result (IsOwn self.now.plan self.now.history ticket.now) }
+        ensures whole { OnOk result (ended_whole (outcome_of self.now.history ticket.now.id) ≡ true) }
+        ensures unjudged { OnOk result (is_judged self.now.history ticket.now.id ≡ false) }
+    {
+        self.check_own(ticket)?;
+        if self.is_judged(ticket.id) {
+            return Err(DeskFault::Twice);
+        }
+        if !self.has_ended_whole(ticket.id) {
+            return Err(DeskFault::WrongKind);
+        }
+        Ok(())
+    }
+
     // Refuses a ticket that isn't this desk's own, and every ticket once the desk was stopped.
     fn check_own(&self, ticket: &Ticket) -> Result<(), DeskFault>
         ensures stopped { IsTrue self.now.is_stopped → result ≡ Err DeskFault.Stopped }
@@ -324,4 +343,12 @@ impl Desk {
             Err(DeskFault::Stranger)
         }
     }
+}
+
+// Before anything happened.
+fn boxed_board(alloc: Global, plan: &Plan) -> Result<Box<Board>, Memory>
+    ensures board { IfOk result (λ board. IsBoard plan.now board.value) }
+    ensures history { IfOk result (λ board. board.value.history.items ≡ []) }
+{
+    Ok(Box::new(alloc, new_board(alloc, plan)?)?)
 }

@@ -10,5 +10,5 @@ mod scripted;
 pub use desk::Desk;
 pub use jr_desk_state::Take;
 pub use jr_desk_totals::Bad;
-pub use jr_model::{DeskFault, Step, StepReply, Totals, is_same};
+pub use jr_model::{DeskFault, Step, StepReply, Totals, is_same_ticket};
 pub use plays::{Played, play};

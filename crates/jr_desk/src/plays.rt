@@ -3,6 +3,7 @@ ghost use Rattle.std.specs.Option.{option_copied};
 ghost use Rattle.jr_model.specs.declared.events.Started.{Started};
 ghost use Rattle.jr_model.specs.Machine.{end_refusal, first_state, judge_refusal, machine_end, machine_judge, machine_run};
 ghost use Rattle.jr_model.specs.Machine.{machine_step, machine_take};
+ghost use Rattle.jr_model.specs.PlanFacts.{IsPlanned};
 ghost use Rattle.jr_header.specs.Served.{is_to_judge};
 ghost use Rattle.jr_desk_tickets.specs.Kept.{IsOwn, tickets_of};
 ghost use Rattle.jr_desk.specs.DeskOf.{desk_in};
@@ -17,7 +18,6 @@ use jr_header::{Served, room_for, rule};
 use jr_model::{DeskFault, IoId, Memory, Reply, Step, StepReply, Ticket, TicketKind};
 use jr_plan::Plan;
 use std::alloc::Global;
-use std::fmt;
 
 /// What a list of steps came to.
 #[derive(Drop)]
@@ -26,12 +26,6 @@ pub struct Played {
     pub desk: Desk,
     /// The reply to each step.
     pub replies: Vec<StepReply>,
-}
-
-impl fmt::Debug for Played {
-    fn fmt<F: fmt::Write>(&self, f: &mut fmt::Formatter<F>) -> fmt::Result {
-        f.write_str("Played { .. }")
-    }
 }
 
 /// Runs a list of steps over a memory of its own, each End with its scripted reply.
@@ -47,15 +41,8 @@ pub fn play(alloc: Global, plan: Plan, steps: &[Step]) -> Result<Played, Memory>
     // Its contract says what holds of every plan.
     plan.facts();
     let mut player = Player::new(alloc, plan)?;
-    let mut replies = Vec::new(alloc);
-    for step in steps {
-        let reply = player.answer(step)?;
-        replies.push(reply)?;
-    }
-    Ok(Played {
-        desk: player.desk,
-        replies,
-    })
+    let replies = player.answer_all(steps)?;
+    Ok(player.into_played(replies))
 }
 
 // Plays steps one by one: a desk, an engine over a memory of its own, and all that was read so far.
@@ -85,6 +72,36 @@ impl Player {
             }),
             Err(_) => Err(Memory),
         }
+    }
+
+    // What it came to, with these replies.
+    fn into_played(self, replies: Vec<StepReply>) -> Played
+        ensures desk { result.desk ≡ self.desk }
+        ensures replies { result.replies ≡ replies }
+    {
+        Played {
+            desk: self.desk,
+            replies,
+        }
+    }
+
+    // Makes all steps, where none was made before. These are the replies.
+    fn answer_all(&mut self, steps: &[Step]) -> Result<Vec<StepReply>, Memory>
+        requires planned { IsPlanned self.old.desk.plan }
+        requires first { state_of self.old ≡ first_state self.old.desk.plan }
+        requires calls { self.old.engine.calls ≡ 0 }
+        requires reads { self.old.reads.items ≡ [] }
+        ensures replies { let plan = self.old.desk.plan in
+            IfOk result (λ replies. replies.items ≡ (machine_run plan (first_state plan) steps.now).replies) }
+        ensures desk { let plan = self.old.desk.plan in
+            OnOk result (self.new.desk ≡ desk_in plan (machine_run plan (first_state plan) steps.now).state) }
+    {
+        let mut replies = Vec::new(self.alloc);
+        for step in steps {
+            let reply = self.answer(step)?;
+            replies.push(reply)?;
+        }
+        Ok(replies)
     }
 
     // Makes a step.

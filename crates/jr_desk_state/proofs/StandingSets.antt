@@ -1,16 +1,20 @@
 -- The standings of all clones where that of one clone is changed.
-use Rattle.std.proofs.Common.{◌≡◌, ℕ, ◌+◌, ◌<◌, ◌≤◌, List, length, get_or, true, ◌∙◌, ap, arith}
+use Rattle.std.proofs.Common.{◌≡◌, ℕ, suc, ◌+◌, ◌<◌, ◌≤◌, List, length, drop, get_or, true, sym, ◌∙◌, ap, subst, arith}
 use Rattle.std.proofs.Math.ListN.{set}
-use Rattle.std.specs.Prelude.{Some, slice_get}
+use Rattle.std.specs.Prelude.{Some, slice_get, IfSome}
 use Rattle.std.proofs.lemmas.List.{get_or-set_same}
 use Rattle.std.proofs.lemmas.Option.{slice_get_within}
 use Rattle.jr_model.specs.declared.events.Event.{Event}
+use Rattle.jr_model.specs.Draws.{draws_of_job}
 use Rattle.jr_model.specs.Plan.{Plan, SubJob, clone_of}
+use Rattle.jr_model.specs.Rounds.{pass_of, issued_count}
+use Rattle.jr_laws_rounds.specs.Standing.{IsInPass}
 use Rattle.jr_model.proofs.PlaceLemmas.{got_set}
-use Rattle.jr_backlog.specs.Deferred.{Deferred, is_committed, round_now}
+use Rattle.jr_backlog.specs.Deferred.{Deferred, committed_round, is_committed, round_now}
+use Rattle.jr_desk_state.specs.declared.standings.Issued.{Issued}
 use Rattle.jr_desk_state.specs.declared.standings.Standing.{Standing}
 use Rattle.jr_desk_state.specs.Boards.{left_of}
-use Rattle.jr_desk_state.specs.Standings.{IsPrepared, IsStanding, AreStanding, left_in}
+use Rattle.jr_desk_state.specs.Standings.{IsPrepared, IsStanding, AreStanding, WasIssued, left_in, name_of}
 use Rattle.jr_desk_state.proofs.StartingStandings.{left_same, left_set, standing_moves}
 
 -- what is read where an item was changed is that item
@@ -41,6 +45,30 @@ standing_resettled history job standing rounds same is = record {
   count = is.count;
   issued = is.issued;
   round = λ has going. same ∙ is.round has going;
+}
+
+-- what was waiting is put in, and the round comes to the same
+pub round_put_in : (was now : Deferred) → now ≡ committed_round (round_now was) → round_now now ≡ round_now was
+round_put_in was now put = ap round_now put
+
+-- so does one of which the next pass is known, or not, and whose round comes to the same
+pub standing_kept : (history : List Event) (job : SubJob) (was now : Standing)
+    → now.pass ≡ was.pass
+    → now.draws ≡ was.draws
+    → IfSome now.later (λ draws. draws ≡ draws_of_job job (suc was.pass))
+    → now.issued.items ≡ was.issued.items
+    → round_now now.rounds ≡ round_now was.rounds
+    → IsStanding history job was
+    → IsStanding history job now
+standing_kept history job was now pass draws later issued rounds is = record {
+  in_pass = subst (λ (p : ℕ). IsInPass history job p) (sym pass) is.in_pass;
+  draws = draws ∙ is.draws ∙ ap (λ (p : ℕ). drop (issued_count history (pass_of job p)) (draws_of_job job p)) (sym pass);
+  later = subst (λ (p : ℕ). IfSome now.later (λ draws. draws ≡ draws_of_job job (suc p))) (sym pass) later;
+  count = ap length issued ∙ is.count ∙ ap (λ (p : ℕ). issued_count history (pass_of job p)) (sym pass);
+  issued = λ k one at.
+      subst (λ (p : ℕ). WasIssued history (name_of job p k) one) (sym pass)
+      (is.issued k one (ap (λ (xs : List Issued). slice_get xs k) (sym issued) ∙ at));
+  round = λ has going. rounds ∙ is.round has going;
 }
 
 -- and what it is prepared for stays, where nothing is to be put in

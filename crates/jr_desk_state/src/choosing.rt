@@ -49,13 +49,13 @@ pub(crate) fn choose<'a>(plan: &Plan, board: &'a Board, worker: u32) -> Option<C
 {
     let phase = open_phase(plan, board);
     // Those before are at rest, and do nothing more. Those that are known to wait are gone past.
-    let mut clone = board.waiting.next(board.rested.leading);
+    let mut clone = board.waiting.next_unmarked(board.rested.leading);
     while clone < plan.clones() {
         let step = step_of_clone(plan, board, phase, clone, worker);
         if step.is_some() {
             return step;
         }
-        clone = board.waiting.next(clone + 1);
+        clone = board.waiting.next_unmarked(clone + 1);
     }
     None
 }

@@ -71,7 +71,7 @@ pub struct Rested {
 
 // Looks at all clones again, where the one of the earliest phase has come to rest, once another has gone on. That is once a clone at
 // most.
-pub(crate) fn pass_rested(plan: &Plan, board: &mut Board)
+pub(crate) fn go_past_rested(plan: &Plan, board: &mut Board)
     requires { IsBoard plan.now board.old }
     ensures board { IsBoard plan.now board.new }
     ensures history { board.new.history.items ≡ board.old.history.items }

@@ -117,7 +117,7 @@ impl Standing {
             self.begin_next_pass();
         }
         let seed = self.next_seed();
-        self.draws.pass();
+        self.draws.skip_next();
         self.issued.push_reserved(Issued {
             id,
             is_taken_up: false,

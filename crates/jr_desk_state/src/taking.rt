@@ -12,7 +12,7 @@ ghost use Rattle.jr_desk_state.specs.Takes.{IsChosen, answer_with, ticket_for};
 use crate::board::Board;
 use crate::choosing::{choose, expected_of};
 use crate::flying::Flying;
-use crate::resting::{Rested, is_complete, last_phase, pass_rested};
+use crate::resting::{Rested, go_past_rested, is_complete, last_phase};
 use crate::standings::Standing;
 use crate::starting::{issue, probe, skip};
 use crate::takes::{Take, answer_with};
@@ -29,29 +29,42 @@ pub fn new_board(alloc: Global, plan: &Plan) -> Result<Board, Memory>
     ensures board { IfOk result (IsBoard plan.now) }
     ensures history { IfOk result (λ board. board.history.items ≡ []) }
 {
-    let mut standings = Vec::new(alloc);
-    for clone in 0..plan.clones() {
-        let job = plan.clone_at(clone);
-        let mut standing = Standing::new(alloc, job)?;
-        standing.prepare(alloc, job)?;
-        standings.push(standing)?;
-    }
+    let waiting = Waiting::new(alloc, plan.clones())?;
+    let standings = first_standings(alloc, plan)?;
+    let flying = Flying::new(alloc)?;
+    let tallies = Tallies::new(alloc, plan)?;
+    let log = CheckedLog::new(alloc, plan)?;
     Ok(Board {
         history: Vec::new(alloc),
         tickets: TicketTable::new(alloc),
-        flying: Flying::new(alloc)?,
-        log: CheckedLog::new(alloc, plan)?,
-        tallies: Tallies::new(alloc, plan)?,
+        flying,
+        log,
+        tallies,
         standings,
         rested: Rested {
             leading: 0,
             earliest: plan.clones(),
             last_phase: last_phase(plan),
         },
-        waiting: Waiting::new(alloc, plan.clones())?,
+        waiting,
         last_issued: 0,
         left: 0,
     })
+}
+
+// Where each clone stands before its first draw, for which it is prepared.
+fn first_standings(alloc: Global, plan: &Plan) -> Result<Vec<Standing>, Memory>
+    ensures stand { IfOk result (λ standings. AreStanding plan.now [] standings.items) }
+    ensures prepared { IfOk result (λ standings. ArePrepared plan.now standings.items) }
+    ensures left { IfOk result (λ standings. left_of standings.items ≡ 0) }
+{
+    let mut standings = Vec::new(alloc);
+    for clone in 0..plan.clones() {
+        let job = plan.clone_at(clone);
+        standings.push(Standing::new(alloc, job)?)?;
+        standings[clone].prepare(alloc, job)?;
+    }
+    Ok(standings)
 }
 
 /// Asks for all memory that a take can want. What happened is the same, whether it is refused or not.
@@ -61,7 +74,7 @@ pub fn prepare(alloc: Global, plan: &Plan, board: &mut Board) -> Result<(), Memo
     ensures history { board.new.history.items ≡ board.old.history.items }
     ensures ready { OnOk result (IsReady plan.now board.new) }
 {
-    pass_rested(plan, board);
+    go_past_rested(plan, board);
     board.flying.commit()?;
     board.tickets.reserve()?;
     prepare_last(alloc, plan, board.last_issued, &mut board.standings)?;

@@ -34,7 +34,7 @@ impl Waiting {
     }
 
     // The first clone from this one on that isn't known to wait.
-    pub fn next(&self, from: usize) -> usize
+    pub fn next_unmarked(&self, from: usize) -> usize
         requires { 64 * length self.now.words.items < 2 ^ 64 }
         ensures start { from ≤ result }
         ensures passed { (clone : ℕ) → from ≤ clone → clone < result → is_marked self.now.words.items clone ≡ true }

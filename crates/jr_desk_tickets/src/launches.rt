@@ -13,7 +13,7 @@ use jr_plan::Plan;
 use jr_writes::{header_front, header_of_halves};
 
 /// What is kept of the ticket of an I/O or check: all that the plan doesn't say.
-#[derive(Clone, Copy, Debug, PartialEq, Eq)]
+#[derive(Clone, Copy, PartialEq, Eq)]
 pub struct Launch {
     pub worker: u32,
     pub kind: TicketKind,

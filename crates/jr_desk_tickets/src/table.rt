@@ -36,7 +36,7 @@ pub enum IoState {
 /// What is kept of the tickets that were handed out, by number, and how far each has come.
 ///
 /// Only `reserve` can want memory. A ticket is handed out when its event is told, and gets the next number.
-#[derive(Debug, Drop)]
+#[derive(Drop)]
 pub struct TicketTable {
     pub launches: Vec<Launch>,
     /// Of the headers that checks are judged by, the second halves, in the order of the checks that are.

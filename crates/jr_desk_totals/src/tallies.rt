@@ -40,7 +40,7 @@ pub struct Counts {
 ///
 /// Only `new` and `reserve` can want memory. Which clone an event is about, the caller says; the caller also says that each
 /// event may happen if it is told.
-#[derive(Debug, Drop)]
+#[derive(Drop)]
 pub struct Tallies {
     pub counts: Vec<Counts>,
     pub totals: Vec<Totals>,

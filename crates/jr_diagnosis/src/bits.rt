@@ -4,7 +4,7 @@ ghost use Rattle.jr_model.specs.Judgement.{first_difference};
 ghost use Rattle.jr_diagnosis.specs.Bits.{cleared_between, cleared_in, first_wrong, raised_between, raised_in};
 
 /// How many bits came back as 1 that were written as 0, and the other way round; and in which byte the first of them is, from 0.
-#[derive(Clone, Copy, Debug, PartialEq, Eq)]
+#[derive(Clone, Copy, PartialEq, Eq)]
 pub struct Flips {
     pub raised: u32,
     pub cleared: u32,

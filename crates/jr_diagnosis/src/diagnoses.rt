@@ -11,7 +11,7 @@ use crate::sectors::right_sectors;
 use jr_model::{Method, Piece, VerifyKind, WriteId};
 
 /// What stands in a block, or a chunk of one, in place of what its write put there.
-#[derive(Clone, Copy, Debug, PartialEq, Eq)]
+#[derive(Clone, Copy, PartialEq, Eq)]
 pub enum Diagnosis {
     /// Nothing but zeros: the write never arrived, or was discarded.
     Zeros,

@@ -1,9 +1,10 @@
 // What a header says, as it was read.
 ghost use Rattle.std.specs.Prelude.{◌≡◌, ◌≤◌, length};
+ghost use Rattle.std.specs.Int.{w64, from_le_bytes};
 ghost use Rattle.jr_diagnosis.specs.Headers.{begins_as, header_in, header_read};
 
 /// What the header at the beginning of a block or chunk says, in the terms of its format: who wrote it, and where.
-#[derive(Clone, Copy, Debug, PartialEq, Eq)]
+#[derive(Clone, Copy, PartialEq, Eq)]
 pub struct BlockHeader {
     /// The number of its kind of digest: 1 is MD5, 2 SHA-1, 3 SHA-256.
     pub kind: u8,
@@ -47,11 +48,17 @@ fn header_read(bytes: &[u8]) -> BlockHeader
         pass: u16::from_le_bytes([bytes[6], bytes[7]]),
         len: u32::from_le_bytes([bytes[8], bytes[9], bytes[10], bytes[11]]),
         clone: u32::from_le_bytes([bytes[12], bytes[13], bytes[14], bytes[15]]),
-        offset: u64::from_le_bytes([
-            bytes[16], bytes[17], bytes[18], bytes[19], bytes[20], bytes[21], bytes[22], bytes[23],
-        ]),
-        number: u64::from_le_bytes([
-            bytes[24], bytes[25], bytes[26], bytes[27], bytes[28], bytes[29], bytes[30], bytes[31],
-        ]),
+        offset: number_of(&bytes[16..24]),
+        number: number_of(&bytes[24..32]),
     }
+}
+
+// The number that 8 bytes are.
+fn number_of(bytes: &[u8]) -> u64
+    requires { length bytes.now ≡ 8 }
+    ensures { result ≡ from_le_bytes w64 bytes.now }
+{
+    u64::from_le_bytes([
+        bytes[0], bytes[1], bytes[2], bytes[3], bytes[4], bytes[5], bytes[6], bytes[7],
+    ])
 }

@@ -13,7 +13,7 @@ use jr_model::{Memory, Piece, Ticket, TicketKind, Verdict, VerifyKind, What, Wri
 use std::alloc::Global;
 
 /// What stands in a block, or in a chunk of one, that came back wrong.
-#[derive(Debug, Drop)]
+#[derive(Drop)]
 pub struct Diagnosed {
     /// The write that was checked, or the read.
     pub write: WriteId,
@@ -68,11 +68,12 @@ fn diagnose_known(alloc: Global, served: &Served, span: &Span) -> Result<Diagnos
     let end = from + span.len as usize;
     let read = &served.bytes()[from..end];
     let written = &block.as_slice()[from..end];
+    let sectors = first_sectors(alloc, written, read)?;
     Ok(Diagnosed {
         write: ticket.write,
         place,
         diagnosis: diagnosis_of(&ticket.method, &ticket.write, &place, written, read),
-        sectors: first_sectors(alloc, written, read)?,
+        sectors,
     })
 }
 

@@ -9,7 +9,6 @@ use jr_model::{Draw, Memory};
 use jr_plan::SubJob;
 use jr_words::{WordSource, Words};
 use std::alloc::Global;
-use std::fmt;
 
 /// Gives the draws of a pass, one after another.
 #[derive(Drop)]
@@ -17,12 +16,6 @@ pub struct Drawer<W> {
     course: Course,
     pass: u32,
     source: W,
-}
-
-impl<W> fmt::Debug for Drawer<W> {
-    fn fmt<F: fmt::Write>(&self, f: &mut fmt::Formatter<F>) -> fmt::Result {
-        f.write_str("Drawer { .. }")
-    }
 }
 
 impl Drawer<Words> {

@@ -6,7 +6,7 @@ use std::alloc::Global;
 use std::marker::Model;
 
 /// The draws of a pass that are still to come, of which the next one can be looked at.
-#[derive(Debug, Drop)]
+#[derive(Drop)]
 pub struct DrawsLeft {
     next: Option<Draw>,
     rest: Drawer<Words>,
@@ -55,7 +55,7 @@ impl DrawsLeft {
     }
 
     /// Goes past the next draw, if there is one.
-    pub fn pass(&mut self)
+    pub fn skip_next(&mut self)
         ensures { self.new ≡ drop 1 self.old }
     {
         self.next = self.rest.next();

@@ -10,7 +10,7 @@ use jr_model::{Outcome, Ticket, TicketKind};
 use std::marker::Model;
 
 /// What one call of an engine gave for a ticket. Only `ask` makes it.
-#[derive(Debug, Drop)]
+#[derive(Drop)]
 pub struct Answer {
     ticket: Ticket,
     bytes: Vec<u8>,

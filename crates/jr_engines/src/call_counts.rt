@@ -5,7 +5,7 @@ use crate::faults::EngineFault;
 use std::marker::Model;
 
 /// The calls that an engine has had, and how many of them failed, for engines to keep.
-#[derive(Debug, Drop)]
+#[derive(Drop)]
 pub struct CallCounts {
     calls: u64,
     failures: u64,

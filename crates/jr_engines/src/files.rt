@@ -12,7 +12,7 @@ use std::alloc::Global;
 use std::marker::Model;
 
 /// The bytes of one file from the least start of a clone's region up to the greatest end.
-#[derive(Debug, Drop)]
+#[derive(Drop)]
 pub struct MemoryFile {
     low: u64,
     high: u64,

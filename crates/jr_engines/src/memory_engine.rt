@@ -14,7 +14,7 @@ use std::alloc::Global;
 use std::marker::Model;
 
 /// An engine over bytes in memory: each file from the least start of a clone's region up to the greatest end.
-#[derive(Debug, Drop)]
+#[derive(Drop)]
 pub struct MemoryEngine {
     files: Vec<MemoryFile>,
     counts: CallCounts,

@@ -7,7 +7,7 @@ use crate::faults::EngineFault;
 use std::marker::Model;
 
 /// An engine that moves nothing: each write is said to be done, each read gives zeros, and none fails.
-#[derive(Debug, Drop)]
+#[derive(Drop)]
 pub struct NullEngine {
     calls: u64,
 }

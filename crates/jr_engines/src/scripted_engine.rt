@@ -17,7 +17,7 @@ use std::marker::Model;
 /// An engine over bytes in memory whose calls are carried out by replies, to see what a fault does.
 ///
 /// A call that the memory doesn't cover is carried out as a memory engine does it, whatever its reply.
-#[derive(Debug, Drop)]
+#[derive(Drop)]
 pub struct ScriptedEngine {
     files: Vec<MemoryFile>,
     counts: CallCounts,

@@ -9,7 +9,7 @@ use Rattle.std.specs.declared.cmp.Ordering.{Ordering}
 use Rattle.std.specs.declared.cmp.Ordering.TheVariants.{Less, Equal, Greater}
 use Rattle.std.specs.BTreeMap.{BTreeMap, get, insert_entry, is_at}
 use Rattle.std.specs.Cmp.{eq_by_cmp_equiv}
-use Rattle.std.proofs.lemmas.Bool.{and_parts, eqb-true, eq-eqb}
+use Rattle.std.proofs.lemmas.Bool.{and_parts, eqb-true, eq-eqb, ne_eqb}
 use Rattle.std.proofs.lemmas.Bool.Decides.{nat_tests}
 use Rattle.std.proofs.lemmas.Cmp.{nat_cmp_total}
 use Rattle.std.proofs.lemmas.List.Elements.{All-head, All-tail, All-weaker}
@@ -33,7 +33,7 @@ stays : (ended : Ended) → raced_if false ended ≡ ended
 stays ended = ap (λ (b : Bool). record { io = ended.io; raced = b }) (or-false ended.raced)
 
 -- a look-up asks for the number
-at_number : (id k : ℕ) → is_at (nat_cmp id) k ≡ (k == id)
+pub at_number : (id k : ℕ) → is_at (nat_cmp id) k ≡ (k == id)
 at_number id k = grind (arith, nat_tests)
 
 -- two functions that agree on what a list has
@@ -216,6 +216,40 @@ raced_nowhere (e ∷ es) =
 abbrev pub raced_in_turn : Io → List (Place × Io) → List (ℕ × Ended) → List (ℕ × Ended)
 raced_in_turn io [] es = es
 raced_in_turn io (other ∷ others) es = raced_in_turn io others (cond (hits io other) (raced_under other.0.2 es) es)
+
+-- one turn, where the I/O hits the first place or doesn't
+one_turn : (io : Io) (other : Place × Io) (others all : List (Place × Io)) (es : List (ℕ × Ended)) (hit : Bool)
+    → hits io other ≡ hit
+    → all ≡ other ∷ others
+    → raced_in_turn io others (cond hit (raced_under other.0.2 es) es) ≡ raced_in_turn io all es
+one_turn io other others all es hit is first =
+    ap (λ (b : Bool). raced_in_turn io others (cond b (raced_under other.0.2 es) es)) (sym is)
+    ∙ ap (λ (xs : List (Place × Io)). raced_in_turn io xs es) (sym first)
+
+pub turn_hit : (io : Io) (other : Place × Io) (others all : List (Place × Io)) (es : List (ℕ × Ended))
+    → (other.0.2 ≡ io.id → ⊥)
+    → writes_over other.1.piece io ≡ true
+    → all ≡ other ∷ others
+    → raced_in_turn io others (raced_under other.0.2 es) ≡ raced_in_turn io all es
+turn_hit io other others all es apart over =
+    one_turn io other others all es true
+    (ap (λ (own : Bool). not own && writes_over other.1.piece io) (ne_eqb other.0.2 io.id apart) ∙ over)
+
+pub turn_of_own : (io : Io) (other : Place × Io) (others all : List (Place × Io)) (es : List (ℕ × Ended))
+    → other.0.2 ≡ io.id
+    → all ≡ other ∷ others
+    → raced_in_turn io others es ≡ raced_in_turn io all es
+turn_of_own io other others all es own =
+    one_turn io other others all es false
+    (ap (λ (b : Bool). not b && writes_over other.1.piece io) (eq-eqb other.0.2 io.id own))
+
+pub turn_missed : (io : Io) (other : Place × Io) (others all : List (Place × Io)) (es : List (ℕ × Ended))
+    → writes_over other.1.piece io ≡ false
+    → all ≡ other ∷ others
+    → raced_in_turn io others es ≡ raced_in_turn io all es
+turn_missed io other others all es misses =
+    one_turn io other others all es false
+    (ap (λ (b : Bool). not (other.0.2 == io.id) && b) misses ∙ and-false (not (other.0.2 == io.id)))
 
 pub raced_at_in_turn : (io : Io) (others : List (Place × Io)) (es : List (ℕ × Ended))
     → raced_in_turn io others es ≡ raced_at io others es

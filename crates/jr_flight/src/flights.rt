@@ -19,7 +19,7 @@ use std::marker::Model;
 type Place = (u32, u64, IoId);
 
 /// The I/Os in flight, and which of them raced. Contracts see the entries of the map from their numbers, in order.
-#[derive(Debug, Drop)]
+#[derive(Drop)]
 pub struct Flight {
     ids: BTreeMap<IoId, Ended>,
     places: BTreeMap<Place, Io>,

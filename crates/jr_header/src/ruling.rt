@@ -10,7 +10,7 @@ use jr_model::Verdict;
 use std::marker::Model;
 
 /// The verdict on a check, or a checked read, that ended whole. Only `rule` makes it. Contracts see the answer that was judged.
-#[derive(Debug, Drop)]
+#[derive(Drop)]
 pub struct Ruling<'a> {
     served: &'a Served,
     verdict: Verdict,

@@ -10,7 +10,7 @@ use jr_model::{Expected, Outcome, Ticket, TicketKind};
 use std::marker::Model;
 
 /// A ticket that was carried out. Only `Ready::ask`, `serve` and `serve_own` make it. Contracts see the engine's answer.
-#[derive(Debug, Drop)]
+#[derive(Drop)]
 pub struct Served {
     answer: Answer,
     expected: Expected,
@@ -95,7 +95,7 @@ fn is_whole_check(kind: TicketKind, outcome: Outcome) -> bool
 }
 
 /// A ticket that is ready to be carried out: its buffer is filled if it is a write's. Who times an engine's calls asks by it.
-#[derive(Debug, Drop)]
+#[derive(Drop)]
 pub struct Ready {
     ticket: Ticket,
     buffer: Vec<u8>,

@@ -20,7 +20,7 @@ const REFUSED: u8 = b'-';
 const STEP: usize = 16;
 
 /// What the launcher did about a file that is to be direct.
-#[derive(Clone, Copy, Debug, PartialEq, Eq)]
+#[derive(Clone, Copy, PartialEq, Eq)]
 pub enum DirectAnswer {
     /// Its calls go past the system's cache from now on.
     Direct,
@@ -31,7 +31,7 @@ pub enum DirectAnswer {
 }
 
 /// What the launcher did about a block device that this run is to have alone.
-#[derive(Clone, Copy, Debug, PartialEq, Eq)]
+#[derive(Clone, Copy, PartialEq, Eq)]
 pub enum Hold {
     /// It holds the device to the run's end: nothing else had claimed it, and nothing can mount it or claim it meanwhile.
     Held,
@@ -64,7 +64,7 @@ fn hold_by_byte(byte: u8) -> Hold
 }
 
 /// What the system's cache has of a file, or of some bytes of it, once it was asked to drop the file.
-#[derive(Clone, Copy, Debug, PartialEq, Eq)]
+#[derive(Clone, Copy, PartialEq, Eq)]
 pub enum Cached {
     /// Nothing of the file.
     Nothing,

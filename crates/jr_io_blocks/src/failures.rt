@@ -12,7 +12,7 @@ use std::sync::atomic::{AtomicU64, Ordering};
 pub const MOST_KEPT: usize = 128;
 
 /// A read or write of a file that the system refused, and its reason.
-#[derive(Clone, Copy, Debug)]
+#[derive(Clone, Copy)]
 pub struct FailedCall {
     pub dir: Dir,
     pub offset: u64,

@@ -27,7 +27,7 @@ pub struct SyncMarks {
 }
 
 /// How far a sync of a file has come.
-#[derive(Clone, Copy, Debug, PartialEq, Eq)]
+#[derive(Clone, Copy, PartialEq, Eq)]
 pub enum SyncStage {
     /// It is to begin.
     Begun,
@@ -38,7 +38,7 @@ pub enum SyncStage {
 }
 
 /// A sync of a file, by its number, with the drop behind it.
-#[derive(Debug, Drop)]
+#[derive(Drop)]
 pub struct FileSync {
     number: u64,
     stage: SyncStage,

@@ -8,7 +8,7 @@ pub const MOST_REGIONS: u64 = 16_384;
 const PAGE: u64 = 4096;
 
 /// How a file is cut into regions: so many, of so many bytes each. The last one has all that is behind it too.
-#[derive(Clone, Copy, Debug, PartialEq, Eq)]
+#[derive(Clone, Copy, PartialEq, Eq)]
 pub struct Regions {
     pub size: u64,
     pub count: usize,

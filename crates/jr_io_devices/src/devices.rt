@@ -7,7 +7,7 @@ use std::io;
 use std::rt::Files;
 
 /// The numbers of a device's driver and, under it, of the device.
-#[derive(Clone, Copy, Debug, PartialEq, Eq)]
+#[derive(Clone, Copy, PartialEq, Eq)]
 pub struct DeviceNumbers {
     /// The driver's.
     pub major: u32,

@@ -7,7 +7,7 @@ use crate::identities::Identity;
 const SECTOR: u64 = 512;
 
 /// Some bytes of a disk, or of a plain file.
-#[derive(Clone, Copy, Debug, PartialEq, Eq)]
+#[derive(Clone, Copy, PartialEq, Eq)]
 pub struct Extent {
     /// What they are bytes of.
     pub what: Identity,

@@ -5,7 +5,7 @@ use std::fs::Metadata;
 use std::os::unix::fs::{FileTypeExt, MetadataExt};
 
 /// What makes a file one and the same, whatever its names.
-#[derive(Clone, Copy, Debug, PartialEq, Eq)]
+#[derive(Clone, Copy, PartialEq, Eq)]
 pub enum Identity {
     /// A block device, by its number.
     Device(u64),
@@ -14,7 +14,7 @@ pub enum Identity {
 }
 
 /// What the system says of an open file by numbers.
-#[derive(Clone, Copy, Debug)]
+#[derive(Clone, Copy)]
 pub struct FileNumbers {
     /// Whether it is a block device.
     pub is_block_device: bool,

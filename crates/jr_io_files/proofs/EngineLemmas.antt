@@ -2,7 +2,7 @@
 use Rattle.std.proofs.Common.{◌≡◌, ℕ, ◌+◌, ◌<◌, List, [], ◌∷◌, ◌++◌, length, map, take, slice_get, slice_set, slice_index_or, Some, Result, IsTrue, sym, subst, ap, ◌∙◌, arith}
 use Rattle.std.specs.Option.{option_map}
 use Rattle.std.proofs.lemmas.Bool.Decides.{nat_tests}
-use Rattle.std.proofs.lemmas.List.{map-append, map-set, map_more, take-map}
+use Rattle.std.proofs.lemmas.List.{length-map, map-append, map-set, map_more}
 use Rattle.std.proofs.lemmas.Option.{slice_get-map, slice_get-get_or}
 use Rattle.jr_engines.specs.declared.faults.EngineFault.{EngineFault}
 use Rattle.jr_io_files.specs.Engines.{ReadsFile, ReadsKnown, WritesFile, WritesKnown, has_place}
@@ -34,14 +34,15 @@ writes_known view files place offset buffer answer other after places writes =
     }
 
 -- one more file, of which as much is known as of the next one of these
-pub one_more : {F : Type 0} (view : F → FileView) (shared made : List F) (all : List FileView) (i : ℕ) (next one : F) → map view shared ≡ all → i < length shared → next ≡ slice_index_or shared i next → view one ≡ view next → map view made ≡ take i all → map view (made ++ one ∷ []) ≡ take (i + 1) all
-one_more view shared made all i next one seen inside is same so_far =
-    let more = map_more view shared i next inside in
-    let cut : take (i + 1) all ≡ map view (take (i + 1) shared) = ap (λ z. take (i + 1) z) (sym seen) ∙ take-map view (i + 1) shared in
-    let front : take i all ≡ map view (take i shared) = ap (λ z. take i z) (sym seen) ∙ take-map view i shared in
-    let last : view one ≡ view (slice_index_or shared i next) = same ∙ ap view is in
-    map-append view made (one ∷ [])
-    ∙ ap (λ z. z ++ view one ∷ []) (so_far ∙ front)
-    ∙ ap (λ v. map view (take i shared) ++ v ∷ []) last
-    ∙ sym more
-    ∙ sym cut
+pub one_more : {F G : Type 0} (view : F → FileView) (seen : G → FileView) (all listed : List G) (made more : List F) (i : ℕ) (next : G) (one : F) → listed ≡ all → i < length listed → next ≡ slice_index_or listed i next → view one ≡ seen next → map view made ≡ map seen (take i all) → more ≡ made ++ one ∷ [] → map view more ≡ map seen (take (i + 1) all)
+one_more view seen all listed made more i next one listing inside is same so_far pushed =
+    ap (map view) pushed
+    ∙ map-append view made (one ∷ [])
+    ∙ ap (λ z. z ++ view one ∷ []) (so_far ∙ ap (λ z. map seen (take i z)) (sym listing))
+    ∙ ap (λ v. map seen (take i listed) ++ v ∷ []) (same ∙ ap seen is)
+    ∙ sym (map_more seen listed i next inside)
+    ∙ ap (λ z. map seen (take (i + 1) z)) listing
+
+-- where as much is known of each, they are as many
+pub as_many : {F G : Type 0} (view : F → FileView) (seen : G → FileView) (files : List F) (all : List G) → map view files ≡ map seen all → length files ≡ length all
+as_many view seen files all same = sym (length-map files view) ∙ ap length same ∙ length-map all seen

@@ -14,7 +14,7 @@ use crate::refusals::{Refusal, Why};
 use crate::shares::{Reads, SharedFile};
 use crate::uses::is_written;
 use jr_io_blocks::Dropper;
-use jr_io_devices::{Layers, first_overlap, first_twins};
+use jr_io_devices::{Extent, Layers, first_overlap, first_twins};
 use jr_plan::Plan;
 use std::alloc::{AllocError, Global};
 use std::fs::File;
@@ -22,7 +22,7 @@ use std::io::ErrorKind;
 use std::rt::Files;
 
 /// How a plan's files are taken.
-#[derive(Clone, Copy, Debug, PartialEq, Eq)]
+#[derive(Clone, Copy, PartialEq, Eq)]
 pub struct Claims {
     /// What a check reads.
     pub reads: Reads,
@@ -92,13 +92,37 @@ fn claimed<R: Files<File = File>>(
     ensures err { IfErr result (λ refusal. IsOpenFault refusal.fault (length plan.now.files)) }
 {
     let files = opened_files(rt, alloc, plan, claims.reads, directs, made)?;
-    apart(alloc, plan, files.as_slice())?;
-    without_overlap(rt, alloc, plan, files.as_slice())?;
-    unkept(rt, alloc, plan, files.as_slice(), kept)?;
-    let held = held_by(rt, alloc, plan, files.as_slice(), claims, directs.asked)?;
-    locked(rt, alloc, plan, files.as_slice(), held.as_slice())?;
-    extended(rt, alloc, plan, files.as_slice())?;
+    taken(
+        rt,
+        alloc,
+        plan,
+        files.as_slice(),
+        claims,
+        directs.asked,
+        kept,
+    )?;
     Ok(FileEngine::over(files))
+}
+
+// Takes the files that were opened for this run: each is compared with the others, held, locked and extended.
+fn taken<R: Files<File = File>>(
+    rt: &R,
+    alloc: Global,
+    plan: &Plan,
+    files: &[SharedFile],
+    claims: Claims,
+    asked: Option<&Dropper>,
+    kept: &[Reserved<'_>],
+) -> Result<(), Refusal>
+    requires { length files.now ≡ length plan.now.files }
+    ensures { IfErr result (λ refusal. IsOpenFault refusal.fault (length plan.now.files)) }
+{
+    apart(alloc, plan, files)?;
+    without_overlap(rt, alloc, plan, files)?;
+    unkept(rt, alloc, plan, files, kept)?;
+    let held = held_by(rt, alloc, plan, files, claims, asked)?;
+    locked(rt, alloc, plan, files, held.as_slice())?;
+    extended(rt, alloc, plan, files)
 }
 
 // Opens the plan's files in their order, each by its name.
@@ -169,21 +193,46 @@ fn without_overlap<R: Files>(
 {
     let mut extents = Vec::new(alloc);
     for (index, file) in files.iter().enumerate() {
-        match Layers::of(rt, alloc, file.numbers()) {
-            Ok(layers) => extents.push(layers.extent)?,
-            Err(error) if error.kind() == ErrorKind::OutOfMemory => return Err(Refusal::memory()),
-            Err(error) => {
-                let name = name_of(alloc, plan, index)?;
-                return Err(Refusal::of_file(index, Why::Unseen(name, error)));
-            }
+        extents.push(extent_of(rt, alloc, plan, index, file)?)?;
+    }
+    match first_overlap(extents.as_slice()) {
+        Some((first, second)) => {
+            let why = overlap_of(alloc, plan, first, second)?;
+            Err(Refusal::of_file(second, why))
+        }
+        None => Ok(()),
+    }
+}
+
+// Which bytes of a disk or file this file of the plan has.
+fn extent_of<R: Files>(
+    rt: &R,
+    alloc: Global,
+    plan: &Plan,
+    index: usize,
+    file: &SharedFile,
+) -> Result<Extent, Refusal>
+    requires { index < length plan.now.files }
+    ensures { IfErr result (λ refusal. IsOpenFault refusal.fault (length plan.now.files)) }
+{
+    match Layers::of(rt, alloc, file.numbers()) {
+        Ok(layers) => Ok(layers.extent),
+        Err(error) if error.kind() == ErrorKind::OutOfMemory => Err(Refusal::memory()),
+        Err(error) => {
+            let name = name_of(alloc, plan, index)?;
+            Err(Refusal::of_file(index, Why::Unseen(name, error)))
         }
     }
-    let Some((first, second)) = first_overlap(extents.as_slice()) else {
-        return Ok(());
-    };
+}
+
+// These two files of the plan have bytes in common.
+fn overlap_of(alloc: Global, plan: &Plan, first: usize, second: usize) -> Result<Why, AllocError>
+    requires first { first < length plan.now.files }
+    requires second { second < length plan.now.files }
+{
     let first = name_of(alloc, plan, first)?;
-    let second_name = name_of(alloc, plan, second)?;
-    Err(Refusal::of_file(second, Why::Overlap(first, second_name)))
+    let second = name_of(alloc, plan, second)?;
+    Ok(Why::Overlap(first, second))
 }
 
 // Has the devices held that have to be, unless those that are in use may be written too. Answers which files are held.

@@ -6,6 +6,7 @@ ghost use Rattle.jr_io_files.specs.Engines.{IsOpenFault};
 ghost use Rattle.jr_io_files.specs.Opened.{is_device};
 ghost use Rattle.jr_io_files.specs.Uses.{writes_file};
 
+use crate::claims::name_of;
 use crate::refusals::{Refusal, Why};
 use crate::shares::SharedFile;
 use crate::uses::is_written;
@@ -81,24 +82,35 @@ fn device_alone<R: Files>(
     ensures ok { IfOk result (λ hold. hold ≡ Hold.Held) }
     ensures err { IfErr result (λ refusal. IsOpenFault refusal.fault (length plan.now.files)) }
 {
+    let name = name_of(alloc, plan, index)?;
     let hold = match asked {
         Some(asked) => asked.hold(file.file()),
         None => Hold::Nothing,
     };
-    let found = if hold == Hold::Held {
-        seen_beside(rt, alloc, file, loops)
-    } else {
-        use_of(rt, alloc, DeviceNumbers::of(file.numbers().device))
-    };
+    let found = seen_of(rt, alloc, file, hold, loops);
     if is_memory(&found) {
         return Err(Refusal::memory());
     }
-    let name = String::from_str(alloc, plan.files()[index].name())?;
     // (a run that writes it has its lock for itself)
     let is_locked = hold == Hold::Busy && !file.lock(false);
     match ruled(name, hold, is_locked, found) {
         Ok(hold) => Ok(hold),
         Err(why) => Err(Refusal::of_file(index, why)),
+    }
+}
+
+// What else uses this device, which is held so.
+fn seen_of<R: Files>(
+    rt: &R,
+    alloc: Global,
+    file: &SharedFile,
+    hold: Hold,
+    loops: &io::Result<Loops>,
+) -> io::Result<Option<Use>> {
+    if hold == Hold::Held {
+        seen_beside(rt, alloc, file, loops)
+    } else {
+        use_of(rt, alloc, DeviceNumbers::of(file.numbers().device))
     }
 }
 
@@ -153,7 +165,7 @@ fn file_alone<R: Files>(
     }
     match user_of(found) {
         Some(by) => {
-            let name = String::from_str(alloc, plan.files()[index].name())?;
+            let name = name_of(alloc, plan, index)?;
             Err(Refusal::of_file(index, Why::InUse(name, by)))
         }
         None => Ok(()),

@@ -3,11 +3,12 @@ ghost use Rattle.std.specs.Prelude.{◌≡◌, ◌<◌, length, IfOk, IfErr};
 ghost use Rattle.jr_io_files.specs.Engines.{IsOpenFault};
 ghost use Rattle.jr_io_files.specs.Opened.{name_of};
 
+use crate::claims::name_of;
 use crate::opened::{OpenedFile, Sectors};
 use crate::refusals::{Refusal, Why};
 use jr_io_blocks::{DirectAnswer, Dropper, first_ragged, sector_of};
 use jr_plan::{Plan, SubJob};
-use std::alloc::Global;
+use std::alloc::{AllocError, Global};
 use std::rt::Files;
 
 /// Which files of a plan are to be direct, and what makes them so.
@@ -48,44 +49,80 @@ pub(crate) fn as_wanted<R: Files>(
     ensures ok { IfOk result (λ opened. name_of opened ≡ name_of file) }
     ensures err { IfErr result (λ refusal. IsOpenFault refusal.fault (length plan.now.files)) }
 {
+    match made_direct(rt, alloc, plan, index, &file, directs)? {
+        Some(sectors) => Ok(file.past_cache(sectors)),
+        None => Ok(file),
+    }
+}
+
+// Has the launcher make the file direct if that is wanted. Answers in what its calls are counted, if it is direct then.
+fn made_direct<R: Files>(
+    rt: &R,
+    alloc: Global,
+    plan: &Plan,
+    index: usize,
+    file: &OpenedFile,
+    directs: Directs<'_>,
+) -> Result<Option<Sectors>, Refusal>
+    requires { index < length plan.now.files }
+    ensures { IfErr result (λ refusal. IsOpenFault refusal.fault (length plan.now.files)) }
+{
     let Some(asked) = directs.asked else {
-        return Ok(file);
+        return Ok(None);
     };
     if !directs.wants(index) {
-        return Ok(file);
+        return Ok(None);
     }
     match asked.make_direct(file.file()) {
-        DirectAnswer::Nothing => Ok(file),
-        DirectAnswer::Direct => in_sectors(rt, alloc, plan, index, file),
+        DirectAnswer::Nothing => Ok(None),
+        DirectAnswer::Direct => Ok(Some(whole_sectors(rt, alloc, plan, index, file)?)),
         DirectAnswer::Refused => {
-            let name = String::from_str(alloc, plan.files()[index].name())?;
+            let name = name_of(alloc, plan, index)?;
             Err(Refusal::of_file(index, Why::NotDirect(name)))
         }
     }
 }
 
-// A file that is direct, unless a clone would use parts of its sectors.
-fn in_sectors<R: Files>(
+// The sectors of a file that is direct, unless a clone would use parts of them.
+fn whole_sectors<R: Files>(
     rt: &R,
     alloc: Global,
     plan: &Plan,
     index: usize,
-    file: OpenedFile,
-) -> Result<OpenedFile, Refusal>
+    file: &OpenedFile,
+) -> Result<Sectors, Refusal>
     requires { index < length plan.now.files }
-    ensures ok { IfOk result (λ opened. name_of opened ≡ name_of file) }
-    ensures err { IfErr result (λ refusal. IsOpenFault refusal.fault (length plan.now.files)) }
+    ensures { IfErr result (λ refusal. IsOpenFault refusal.fault (length plan.now.files)) }
 {
     let Ok(sector) = sector_of(rt, alloc, file.numbers()) else {
         return Err(Refusal::memory());
     };
-    if let Some(ragged) = first_ragged(plan, index, sector) {
-        let name = String::from_str(alloc, plan.files()[index].name())?;
-        let job = String::from_str(alloc, plan.clone_at(ragged).job())?;
-        return Err(Refusal::of_file(index, Why::Sectors(name, sector, job)));
+    match first_ragged(plan, index, sector) {
+        Some(ragged) => {
+            let job = plan.clone_at(ragged);
+            let why = parts_used(alloc, plan, index, sector, job)?;
+            Err(Refusal::of_file(index, why))
+        }
+        None => Ok(Sectors {
+            sector,
+            most: largest_block(plan, index),
+        }),
     }
-    let most = largest_block(plan, index);
-    Ok(file.past_cache(Sectors { sector, most }))
+}
+
+// A clone of this job would use parts of the file's sectors.
+fn parts_used(
+    alloc: Global,
+    plan: &Plan,
+    index: usize,
+    sector: u64,
+    job: &SubJob,
+) -> Result<Why, AllocError>
+    requires { index < length plan.now.files }
+{
+    let name = name_of(alloc, plan, index)?;
+    let job = String::from_str(alloc, job.job())?;
+    Ok(Why::Sectors(name, sector, job))
 }
 
 // The largest block that a clone of the plan uses in this file.

@@ -1,13 +1,14 @@
 ghost use Rattle.std.specs.Prelude.{◌≡◌, ◌-◌, ◌^◌, ◌<◌, ◌≤◌, ◌↔◌, false, length, map, IsTrue, IfOk, IfErr};
 ghost use Rattle.jr_engines.specs.Calls.{Counts, ReadsInside, WritesInside};
-ghost use Rattle.jr_io_files.specs.Engines.{IsFresh, IsOpenFault, ReadsKnown, WritesKnown, files_state, has_place, opened_views};
+ghost use Rattle.jr_io_files.specs.Engines.{IsFresh, IsOpenFault, ReadsKnown, WritesKnown, files_state, has_place, opened_view, opened_views};
+ghost use Rattle.jr_io_blocks.specs.Parts.{named_view};
 
 use crate::faults::FileFault;
 use crate::names::NamedFile;
 use crate::uses::is_written;
 use jr_engines::{CallCounts, Engine, EngineFault};
 use jr_io_blocks::{LARGEST_OFFSET, Positioned, Room, read_whole, write_whole};
-use jr_plan::Plan;
+use jr_plan::{FileSpec, Plan};
 use std::alloc::Global;
 use std::fs::File;
 use std::marker::Model;
@@ -77,13 +78,28 @@ impl FileEngine<NamedFile> {
     {
         let mut files = Vec::new(alloc);
         for (index, spec) in plan.files().iter().enumerate() {
-            let name = String::from_str(alloc, spec.name())?;
-            let Ok(file) = NamedFile::open(rt, name, is_written(plan, index)) else {
-                return Err(FileFault::File(index));
-            };
-            files.push(file)?;
+            files.push(opened_file(rt, alloc, plan, index, spec)?)?;
         }
         Ok(FileEngine::over(files))
+    }
+}
+
+// Opens this file of the plan, which has this number.
+fn opened_file<R: Files<File = File>>(
+    rt: &R,
+    alloc: Global,
+    plan: &Plan,
+    index: usize,
+    spec: &FileSpec,
+) -> Result<NamedFile, FileFault>
+    requires { index < length plan.now.files }
+    ensures ok { IfOk result (λ file. named_view file ≡ opened_view spec.now) }
+    ensures err { IfErr result (λ fault. IsOpenFault fault (length plan.now.files)) }
+{
+    let name = String::from_str(alloc, spec.name())?;
+    match NamedFile::open(rt, name, is_written(plan, index)) {
+        Ok(file) => Ok(file),
+        Err(_) => Err(FileFault::File(index)),
     }
 }
 

@@ -4,7 +4,7 @@ use jr_io_devices::Identity;
 use std::rt::Files;
 
 /// A file that a run has for something else, and that none of its plan's may be.
-#[derive(Clone, Copy, Debug)]
+#[derive(Clone, Copy)]
 pub enum Reserved<'a> {
     /// One that is there.
     File(Identity),

@@ -51,30 +51,45 @@ fn extend_all<R: Files>(
     ensures { IfErr result (λ refusal. IsOpenFault refusal.fault (length plan.now.files)) }
 {
     for (index, file) in files.iter().enumerate() {
-        let spec = &plan.files()[index];
-        if !is_written(plan, index) && is_checked(plan, index) {
-            continue;
-        }
-        if let Some(has) = file.device_length()
-            && has < spec.high()
-        {
-            let name = name_of(alloc, plan, index)?;
-            return Err(Refusal::of_file(index, Why::TooSmall(name, has, spec.high())));
-        }
-        if !file.is_plain() {
-            continue;
-        }
-        longer.reserve(1)?;
-        let old = file.length().unwrap_or(u64::MAX);
-        if old < spec.high() {
-            longer.push(Longer { index, old })?;
-        }
-        if let Err(error) = extend(rt, plan, index, file) {
-            let name = name_of(alloc, plan, index)?;
-            return Err(Refusal::of_file(index, Why::System(Act::Extend, name, error)));
-        }
+        extend_one(rt, alloc, plan, index, file, longer)?;
     }
     Ok(())
+}
+
+// Extends one of the plan's files if that is too short.
+fn extend_one<R: Files>(
+    rt: &R,
+    alloc: Global,
+    plan: &Plan,
+    index: usize,
+    file: &SharedFile,
+    longer: &mut Vec<Longer>,
+) -> Result<(), Refusal>
+    requires { index < length plan.now.files }
+    ensures { IfErr result (λ refusal. IsOpenFault refusal.fault (length plan.now.files)) }
+{
+    let spec = &plan.files()[index];
+    if !is_written(plan, index) && is_checked(plan, index) {
+        return Ok(());
+    }
+    if let Some(has) = file.device_length()
+        && has < spec.high()
+    {
+        let name = name_of(alloc, plan, index)?;
+        return Err(Refusal::of_file(index, Why::TooSmall(name, has, spec.high())));
+    }
+    if !file.is_plain() {
+        return Ok(());
+    }
+    longer.reserve(1)?;
+    let old = file.length().unwrap_or(u64::MAX);
+    if old < spec.high() {
+        longer.push(Longer { index, old })?;
+    }
+    match extend(rt, plan, index, file) {
+        Ok(()) => Ok(()),
+        Err(error) => Err(Refusal::of_system(alloc, index, Act::Extend, spec.name(), error)),
+    }
 }
 
 // Lets the file have all bytes that its jobs want. (a byte is no sector: a direct file is opened anew for it)

@@ -1,17 +1,15 @@
 // Opens a plan's files, and makes those that are missing. Nothing is written to any of them.
 ghost use Rattle.std.specs.Prelude.{◌≡◌, ◌<◌, length, IfOk, IfErr};
 ghost use Rattle.jr_io_files.specs.Engines.{IsOpenFault, opened_view};
-ghost use Rattle.jr_io_files.specs.Opened.{shared_view};
+ghost use Rattle.jr_io_files.specs.Opened.{name_of, shared_view};
 
 use crate::directs::{Directs, as_wanted};
-use crate::faults::FileFault;
 use crate::made::Made;
 use crate::names::NamedFile;
 use crate::opened::{FileUses, OpenedFile};
-use crate::refusals::{Act, Refusal, Why};
+use crate::refusals::{Act, Refusal};
 use crate::shares::{Reads, SharedFile};
 use crate::uses::{is_checked, is_written};
-use jr_io_blocks::{Failures, SyncMarks};
 use jr_io_devices::{FileNumbers, end_of_links};
 use jr_plan::{FileSpec, Plan};
 use std::alloc::Global;
@@ -38,35 +36,38 @@ pub(crate) fn opened_file<R: Files<File = File>>(
     ensures ok { IfOk result (λ file. shared_view file ≡ opened_view spec.now) }
     ensures err { IfErr result (λ refusal. IsOpenFault refusal.fault (length plan.now.files)) }
 {
-    let uses = uses_of(plan, index, reads);
-    let has_marks = uses.checked == Some(Reads::Synced);
-    let marks = SyncMarks::new(alloc, if has_marks { spec.high() } else { 0 })?;
-    let failures = Failures::new(alloc)?;
-    let name = String::from_str(alloc, spec.name())?;
     let mut act = Act::Open;
-    let opened = if is_written(plan, index) || !is_checked(plan, index) {
-        open_or_make(
-            rt,
-            alloc,
-            spec.name(),
-            is_written(plan, index),
-            &mut act,
-            made,
-        )
-    } else {
-        open_there(rt, alloc, spec.name(), false)
-    };
-    match opened.and_then(|file| OpenedFile::new(file, marks, failures, uses)) {
+    match opened_for(rt, alloc, plan, index, spec, reads, &mut act, made) {
         Ok(file) => {
             let file = as_wanted(rt, alloc, plan, index, file, directs)?;
             Ok(SharedFile::new(alloc, file)?)
         }
         Err(error) if error.kind() == ErrorKind::OutOfMemory => Err(Refusal::memory()),
-        Err(error) => Err(Refusal {
-            fault: FileFault::File(index),
-            why: Why::System(act, name, error),
-        }),
+        Err(error) => Err(Refusal::of_system(alloc, index, act, spec.name(), error)),
     }
+}
+
+// Opens it for what the plan's clones do with it, and makes it first where it may be missing and is.
+fn opened_for<R: Files<File = File>>(
+    rt: &R,
+    alloc: Global,
+    plan: &Plan,
+    index: usize,
+    spec: &FileSpec,
+    reads: Reads,
+    act: &mut Act,
+    made: &mut Vec<Made>,
+) -> io::Result<OpenedFile>
+    ensures { IfOk result (λ opened. name_of opened ≡ spec.now.name) }
+{
+    let uses = uses_of(plan, index, reads);
+    let file = if uses.is_written || uses.checked.is_none() {
+        open_or_make(rt, alloc, spec.name(), uses.is_written, act, made)?
+    } else {
+        open_there(rt, alloc, spec.name(), false)?
+    };
+    let has_marks = uses.checked == Some(Reads::Synced);
+    OpenedFile::new(alloc, file, if has_marks { spec.high() } else { 0 }, uses)
 }
 
 // What the plan's clones do with this file, where so much is read of one that they check.

@@ -7,6 +7,7 @@ use crate::shares::Reads;
 use jr_io_blocks::{Cached, Dropper, Failures, FileSync, SyncMarks, SyncStage, is_whole};
 use jr_io_devices::FileNumbers;
 use jr_ledger_run::RunLedger;
+use std::alloc::Global;
 use std::fs::{File, OpenFile, OpenOptions, TryLockError};
 use std::io;
 use std::io::{ErrorKind, Seek, SeekFrom};
@@ -42,7 +43,7 @@ pub struct OpenedFile {
 }
 
 /// What the clones of a plan do with a file.
-#[derive(Clone, Copy, Debug)]
+#[derive(Clone, Copy)]
 pub struct FileUses {
     /// A clone writes it.
     pub is_written: bool,
@@ -51,7 +52,7 @@ pub struct FileUses {
 }
 
 /// How a file is direct: in what its calls are counted, and how long they are.
-#[derive(Clone, Copy, Debug)]
+#[derive(Clone, Copy)]
 pub struct Sectors {
     /// The bytes of a sector of its device: all calls are of whole ones.
     pub sector: u64,
@@ -60,17 +61,19 @@ pub struct Sectors {
 }
 
 impl OpenedFile {
-    /// The file with these marks, no call of which has failed.
+    /// The file with marks up to this offset, no call of which has failed.
     pub fn new(
+        alloc: Global,
         file: NamedFile,
-        marks: SyncMarks,
-        failures: Failures,
+        marked: u64,
         uses: FileUses,
     ) -> io::Result<OpenedFile>
         ensures { IfOk result (λ opened. name_of opened ≡ file) }
     {
         let metadata = file.file().metadata()?;
         let numbers = FileNumbers::of(&metadata);
+        let failures = Failures::new(alloc)?;
+        let marks = SyncMarks::new(alloc, marked)?;
         Ok(OpenedFile {
             file,
             numbers,
@@ -278,7 +281,7 @@ impl OpenedFile {
         let Some(reads) = self.uses.checked else {
             return Ok(());
         };
-        let is_left = reads == Reads::Synced && self.is_left(offset, len, dropper)?;
+        let is_left = reads == Reads::Synced && self.has_left_cache(offset, len, dropper)?;
         if !is_left || self.is_unseen.load(Ordering::SeqCst) {
             self.cached_reads.fetch_add(1, Ordering::Relaxed);
         }
@@ -286,7 +289,12 @@ impl OpenedFile {
     }
 
     // Whether these bytes were synced and dropped since they were written. It is an error that a sync has failed.
-    fn is_left(&self, offset: u64, len: usize, dropper: Option<&Dropper>) -> io::Result<bool> {
+    fn has_left_cache(
+        &self,
+        offset: u64,
+        len: usize,
+        dropper: Option<&Dropper>,
+    ) -> io::Result<bool> {
         self.keeps()?;
         let is_left = !self.marks.is_stale(offset, len)
             || self.direct.is_some() && self.is_spared(offset, len, dropper)

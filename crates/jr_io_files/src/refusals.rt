@@ -1,14 +1,14 @@
-ghost use Rattle.std.specs.Prelude.{◌≡◌, ◌<◌, length};
+ghost use Rattle.std.specs.Prelude.{◌≡◌, ◌<◌, ℕ, length};
 ghost use Rattle.jr_io_files.specs.Engines.{IsOpenFault};
 
 use crate::faults::FileFault;
 use jr_io_devices::Use;
-use std::alloc::{AllocError, AllocFailed};
+use std::alloc::{AllocError, AllocFailed, Global};
 use std::error::Error;
 use std::{fmt, io};
 
 /// Why the files of a plan weren't taken. Printed it is a note for whoever runs the program.
-#[derive(Debug, Drop)]
+#[derive(Drop)]
 pub struct Refusal {
     /// Which file is refused, or that memory was.
     pub fault: FileFault,
@@ -26,10 +26,26 @@ impl Refusal {
             why,
         }
     }
+
+    // The system refused to do this to the file of this name, at this place of the plan's list.
+    pub(crate) fn of_system(
+        alloc: Global,
+        index: usize,
+        act: Act,
+        name: &str,
+        error: io::Error,
+    ) -> Refusal
+        ensures { (files : ℕ) → index < files → IsOpenFault result.fault files }
+    {
+        match String::from_str(alloc, name) {
+            Ok(name) => Refusal::of_file(index, Why::System(act, name, error)),
+            Err(_) => Refusal::memory(),
+        }
+    }
 }
 
 /// Why a file of a plan isn't taken.
-#[derive(Debug, Drop)]
+#[derive(Drop)]
 pub enum Why {
     /// The system refused to do this to the file of this name.
     System(Act, String, io::Error),
@@ -63,7 +79,7 @@ pub enum Why {
 }
 
 /// What was to be done to a file.
-#[derive(Clone, Copy, Debug, PartialEq, Eq)]
+#[derive(Clone, Copy, PartialEq, Eq)]
 pub enum Act {
     /// It was to be opened.
     Open,
@@ -108,8 +124,15 @@ impl fmt::Display for Refusal {
                 f,
                 "direct=1 needs whole sectors, of {sector} bytes in {name}: not in [{job}]"
             ),
-            Why::Memory => write!(f, "out of memory"),
+            Why::Memory => f.write_str("out of memory"),
         }
+    }
+}
+
+// It is printed the same way for programmers.
+impl fmt::Debug for Refusal {
+    fn fmt<W: fmt::Write>(&self, f: &mut fmt::Formatter<W>) -> fmt::Result {
+        fmt::Display::fmt(self, f)
     }
 }
 
@@ -117,11 +140,11 @@ impl Error for Refusal {}
 
 impl fmt::Display for Act {
     fn fmt<W: fmt::Write>(&self, f: &mut fmt::Formatter<W>) -> fmt::Result {
-        match self {
-            Act::Open => write!(f, "open"),
-            Act::Make => write!(f, "make"),
-            Act::Extend => write!(f, "extend"),
-        }
+        f.write_str(match self {
+            Act::Open => "open",
+            Act::Make => "make",
+            Act::Extend => "extend",
+        })
     }
 }
 

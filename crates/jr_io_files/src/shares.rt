@@ -1,13 +1,13 @@
-ghost use Rattle.std.specs.Prelude.{◌≡◌, ◌<◌, ◌≤◌, length, IfOk, IfErr, IfSome};
+ghost use Rattle.std.specs.Prelude.{◌≡◌, ◌<◌, ◌≤◌, length, map, IfOk, IfErr, IfSome};
 ghost use Rattle.std.specs.Arc.{arc_value};
 ghost use Rattle.jr_io_files.specs.Engines.{IsFresh, IsOpenFault, NamesFile};
-ghost use Rattle.jr_io_files.specs.Opened.{files_to_begin};
+ghost use Rattle.jr_io_files.specs.Opened.{files_to_begin, shared_view};
 ghost use Rattle.jr_io_blocks.specs.Failures.{IsCallFor};
 
 use crate::faults::FileFault;
 use crate::file_engine::FileEngine;
 use crate::opened::OpenedFile;
-use crate::refusals::{Act, Refusal, Why};
+use crate::refusals::{Act, Refusal};
 use jr_io_blocks::{Dropper, FailedCall, Positioned, Room};
 use jr_io_devices::{FileNumbers, Identity};
 use jr_ledger_run::RunLedger;
@@ -48,7 +48,7 @@ impl Positioned for SharedFile {
 }
 
 /// A file that the system couldn't sync.
-#[derive(Debug, Drop)]
+#[derive(Drop)]
 pub struct Unsynced {
     /// Which it is.
     pub fault: FileFault,
@@ -57,7 +57,7 @@ pub struct Unsynced {
 }
 
 /// What is read of a file that a clone checks.
-#[derive(Clone, Copy, Debug, PartialEq, Eq)]
+#[derive(Clone, Copy, PartialEq, Eq)]
 pub enum Reads {
     /// What was synced since it was written.
     Synced,
@@ -78,6 +78,15 @@ impl SharedFile {
             file,
             dropper: None,
         })
+    }
+
+    // The same open file for one more engine, with this dropper.
+    fn share_with(&self, dropper: Option<&Arc<Dropper>>) -> Result<SharedFile, AllocError>
+        ensures { IfOk result (λ shared. shared_view shared ≡ shared_view self.now) }
+    {
+        let file = Arc::try_clone(&self.file)?;
+        let dropper = shared_dropper(dropper)?;
+        Ok(SharedFile { file, dropper })
     }
 
     /// The numbers by which the system knows it.
@@ -172,14 +181,7 @@ impl FileEngine<SharedFile> {
         ensures ok { IfOk result (λ engine. IsFresh engine self.now.files) }
         ensures err { IfErr result (λ fault. fault ≡ FileFault.Memory) }
     {
-        let mut files = Vec::new(alloc);
-        for shared in self.files() {
-            let Ok(file) = Arc::try_clone(&shared.file) else {
-                return Err(FileFault::Memory);
-            };
-            let dropper = shared_dropper(dropper.as_ref())?;
-            files.push(SharedFile { file, dropper })?;
-        }
+        let files = shared_files(alloc, self.files(), dropper.as_ref())?;
         let room = room_for(alloc, self.files(), dropper.as_deref())?;
         Ok(FileEngine::by_room(files, room))
     }
@@ -233,8 +235,8 @@ impl FileEngine<SharedFile> {
             match shared.file.opened_to_sync(rt) {
                 Ok(file) => opened.push(file)?,
                 Err(error) => {
-                    let name = String::from_str(alloc, shared.file.name())?;
-                    return Err(Refusal::of_file(index, Why::System(Act::Open, name, error)));
+                    let name = shared.file.name();
+                    return Err(Refusal::of_system(alloc, index, Act::Open, name, error));
                 }
             }
         }
@@ -299,6 +301,21 @@ fn failed_sync(index: usize, error: io::Error) -> Unsynced
         fault: FileFault::File(index),
         error,
     }
+}
+
+// The same open files for one more engine.
+fn shared_files(
+    alloc: Global,
+    files: &[SharedFile],
+    dropper: Option<&Arc<Dropper>>,
+) -> Result<Vec<SharedFile>, AllocError>
+    ensures { IfOk result (λ shared. map shared_view shared.items ≡ map shared_view files.now) }
+{
+    let mut shared = Vec::new(alloc);
+    for file in files {
+        shared.push(file.share_with(dropper)?)?;
+    }
+    Ok(shared)
 }
 
 // One more handle of the dropper.

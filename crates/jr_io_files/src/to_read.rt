@@ -1,7 +1,7 @@
 // Opens a plan's files to be judged. None is made or written.
 ghost use Rattle.std.specs.Prelude.{◌≡◌, ◌<◌, length, map, IfOk, IfErr};
 ghost use Rattle.jr_io_files.specs.Engines.{IsFresh, IsOpenFault};
-ghost use Rattle.jr_io_files.specs.Opened.{shared_view};
+ghost use Rattle.jr_io_files.specs.Opened.{name_of, shared_view};
 ghost use Rattle.jr_io_files.specs.ToRead.{name_to_read, view_to_read, views_to_read};
 
 use crate::claims::name_of;
@@ -14,7 +14,6 @@ use crate::opened::{FileUses, OpenedFile};
 use crate::refusals::{Act, Refusal, Why};
 use crate::shares::{Reads, SharedFile};
 use crate::uses::is_written;
-use jr_io_blocks::{Failures, SyncMarks};
 use jr_plan::{FileSpec, Plan};
 use std::alloc::Global;
 use std::fs::File;
@@ -75,18 +74,32 @@ fn file_to_read<R: Files<File = File>>(
     ensures ok { IfOk result (λ file. shared_view file ≡ view_to_read plan.now.clones index spec.now) }
     ensures err { IfErr result (λ refusal. IsOpenFault refusal.fault (length plan.now.files)) }
 {
-    let name = name_to_read(plan, index, spec);
-    let marks = SyncMarks::new(alloc, marked_to(plan, index, spec, reads))?;
-    let failures = Failures::new(alloc)?;
-    let opened = open_by(rt, alloc, name, is_written(plan, index));
-    match opened.and_then(|file| OpenedFile::new(file, marks, failures, to_judge(reads))) {
+    match opened_to_judge(rt, alloc, plan, index, spec, reads) {
         Ok(file) => Ok(SharedFile::new(alloc, file)?),
         Err(error) if error.kind() == ErrorKind::OutOfMemory => Err(Refusal::memory()),
-        Err(error) => Err(Refusal::of_file(
-            index,
-            Why::System(Act::Open, String::from_str(alloc, spec.name())?, error),
-        )),
+        Err(error) => Err(Refusal::of_system(alloc, index, Act::Open, spec.name(), error)),
     }
+}
+
+// Opens what stands in its place.
+fn opened_to_judge<R: Files<File = File>>(
+    rt: &R,
+    alloc: Global,
+    plan: &Plan,
+    index: usize,
+    spec: &FileSpec,
+    reads: Reads,
+) -> io::Result<OpenedFile>
+    ensures { IfOk result (λ opened. name_of opened ≡ name_to_read plan.now.clones index spec.now) }
+{
+    let name = name_to_read(plan, index, spec);
+    let file = open_by(rt, alloc, name, is_written(plan, index))?;
+    OpenedFile::new(
+        alloc,
+        file,
+        marked_to(plan, index, spec, reads),
+        to_judge(reads),
+    )
 }
 
 // The name by which it is opened.

@@ -27,7 +27,7 @@ use std::alloc::{AllocError, Global};
 use std::str;
 
 /// A job file that was adapted.
-#[derive(Debug, Drop)]
+#[derive(Drop)]
 pub struct Adapted {
     pub(crate) text: String,
     // Which sections of the job file are left out.

@@ -32,12 +32,12 @@ impl fmt::Display for AdaptFault {
     fn fmt<W: fmt::Write>(&self, f: &mut fmt::Formatter<W>) -> fmt::Result {
         match self {
             AdaptFault::Text(fault) => write!(f, "{fault}"),
-            AdaptFault::Unread => write!(f, "cannot adapt: no job file came out"),
-            AdaptFault::Lost => write!(f, "cannot adapt: a line was lost"),
-            AdaptFault::Unfollowed => write!(f, "cannot adapt: a section was changed"),
-            AdaptFault::Uncaused => write!(f, "cannot adapt: a job was left out"),
-            AdaptFault::Refused => write!(f, "cannot adapt: a line is still refused"),
-            AdaptFault::Memory => write!(f, "out of memory"),
+            AdaptFault::Unread => f.write_str("cannot adapt: no job file came out"),
+            AdaptFault::Lost => f.write_str("cannot adapt: a line was lost"),
+            AdaptFault::Unfollowed => f.write_str("cannot adapt: a section was changed"),
+            AdaptFault::Uncaused => f.write_str("cannot adapt: a job was left out"),
+            AdaptFault::Refused => f.write_str("cannot adapt: a line is still refused"),
+            AdaptFault::Memory => f.write_str("out of memory"),
         }
     }
 }

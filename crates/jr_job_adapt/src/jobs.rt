@@ -129,12 +129,12 @@ fn draft_of<L: Lengths>(
     if is_global(section) {
         return Ok(kept(alloc));
     }
-    let mut state = above.copied(alloc)?;
-    state.add(alloc, sections, number)?;
+    let options = with_section(alloc, globals, section)?;
+    let state = above.with(alloc, sections, number)?;
     let mut job = Job {
         number,
         line: section.line_number(),
-        options: with_section(alloc, globals, section)?,
+        options,
         extras: Vec::new(alloc),
     };
     let out = job.completed(alloc, sections, &state, size, lengths)?;
@@ -200,27 +200,49 @@ impl Job {
             if let (Some(way), Some(line)) = (way_of(*concern), line_of(sections, *concern))
                 && rank_of(way) == rank
             {
-                match settle(
-                    alloc,
-                    way,
-                    line,
-                    &self.options,
-                    job_above(sections, self.number),
-                )? {
-                    Settled::Yours(lost) => return Ok(Some(reason(alloc, line, lost)?)),
-                    Settled::Lines(lines) => {
-                        if concern.section != self.number && !lines.is_empty() {
-                            let shown = shown(alloc, line)?;
-                            self.extras.push(format!(in alloc; "; by {shown} above:")?)?;
-                        }
-                        for text in lines {
-                            self.add(alloc, text)?;
-                        }
-                    }
+                let why = self.settle_line(alloc, sections, concern.section, way, line)?;
+                if why.is_some() {
+                    return Ok(why);
                 }
             }
         }
         Ok(None)
+    }
+
+    // Settles a line of this section: why the job can't be adapted, if it can't.
+    fn settle_line(
+        &mut self,
+        alloc: Global,
+        sections: &[Section],
+        section: usize,
+        way: Way,
+        line: &Line,
+    ) -> Result<Option<String>, AllocError> {
+        let above = job_above(sections, self.number);
+        match settle(alloc, way, line, &self.options, above)? {
+            Settled::Yours(lost) => Ok(Some(reason(alloc, line, lost)?)),
+            Settled::Lines(lines) => {
+                if section != self.number && !lines.is_empty() {
+                    self.name_above(alloc, line)?;
+                }
+                self.add_all(alloc, lines)?;
+                Ok(None)
+            }
+        }
+    }
+
+    // Says behind its own lines which line above the next ones come from.
+    fn name_above(&mut self, alloc: Global, line: &Line) -> Result<(), AllocError> {
+        let shown = shown(alloc, line)?;
+        self.extras.push(format!(in alloc; "; by {shown} above:")?)?;
+        Ok(())
+    }
+
+    fn add_all(&mut self, alloc: Global, texts: Vec<String>) -> Result<(), AllocError> {
+        for text in texts {
+            self.add(alloc, text)?;
+        }
+        Ok(())
     }
 
     // Gives it a size where it has none, or says why it is left out.
@@ -251,16 +273,30 @@ impl Job {
             && let Some(length) = lengths.length(path.as_str())
             && length > self.options.offset
         {
-            let rest = length.saturating_sub(self.options.offset);
-            self.extras.push(format!(in alloc; "; no size was given: {path} has {length} bytes")?)?;
-            return self.add(alloc, format!(in alloc; "size={rest}")?);
+            return self.add_size_of_file(alloc, path.as_str(), length);
         }
-        if let Some(size) = size {
-            self.extras
-                .push(String::from_str(alloc, "; no size was given: by --size")?)?;
-            return self.add(alloc, format!(in alloc; "size={size}")?);
+        match size {
+            Some(size) => self.add_given_size(alloc, size),
+            None => Ok(()),
         }
-        Ok(())
+    }
+
+    // Gives it what its file of this path and length has behind its offset.
+    fn add_size_of_file(
+        &mut self,
+        alloc: Global,
+        path: &str,
+        length: u64,
+    ) -> Result<(), AllocError> {
+        let rest = length.saturating_sub(self.options.offset);
+        self.extras.push(format!(in alloc; "; no size was given: {path} has {length} bytes")?)?;
+        self.add(alloc, format!(in alloc; "size={rest}")?)
+    }
+
+    fn add_given_size(&mut self, alloc: Global, size: u64) -> Result<(), AllocError> {
+        self.extras
+            .push(String::from_str(alloc, "; no size was given: by --size")?)?;
+        self.add(alloc, format!(in alloc; "size={size}")?)
     }
 }
 

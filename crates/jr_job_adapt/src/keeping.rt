@@ -7,7 +7,7 @@ use std::alloc::{AllocError, Global};
 use std::marker::Model;
 
 /// A line of a text, without its line feed.
-#[derive(Debug, Drop)]
+#[derive(Drop)]
 pub struct RawLine {
     bytes: Vec<u8>,
 }

@@ -7,7 +7,7 @@ use jr_text::{Line, Section};
 use std::alloc::{AllocError, Global};
 
 /// A line that doesn't stand as it is, by its number from 1.
-#[derive(Clone, Copy, Debug)]
+#[derive(Clone, Copy)]
 pub struct Mark {
     pub(crate) line: u32,
     // Whether it is refused by itself. Others are lines of a section that is left out.

@@ -31,8 +31,19 @@ impl State {
         }
     }
 
-    // A copy, for a job below.
-    pub(crate) fn copied(&self, alloc: Global) -> Result<State, AllocError> {
+    // A copy for a job below, with the lines of its section, by its number.
+    pub(crate) fn with(
+        &self,
+        alloc: Global,
+        sections: &[Section],
+        number: usize,
+    ) -> Result<State, AllocError> {
+        let mut state = self.copied(alloc)?;
+        state.add(alloc, sections, number)?;
+        Ok(state)
+    }
+
+    fn copied(&self, alloc: Global) -> Result<State, AllocError> {
         Ok(State {
             concerns: Vec::from_slice(alloc, self.concerns.as_slice())?,
             file_name: copied(alloc, &self.file_name)?,

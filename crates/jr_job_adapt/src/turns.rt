@@ -6,7 +6,7 @@ use jr_text::Line;
 use std::alloc::{AllocError, Global};
 
 // What a line means for its jobs.
-#[derive(Clone, Copy, Debug)]
+#[derive(Clone, Copy)]
 pub enum Turn {
     // Nothing is left to do.
     Done,

@@ -108,13 +108,19 @@ impl Writer {
         self.push("; was: ", raw.split('\r').next().unwrap_or(""))?;
         self.text.push_str(" -- ")?;
         self.text.push_str(word(alloc, line, &turned)?.as_str())?;
-        if !is_out {
-            for made in turned.lines.iter() {
-                self.push("", made.key())?;
-                if let Some(value) = made.value() {
-                    self.text.push('=')?;
-                    self.text.push_str(value)?;
-                }
+        if is_out {
+            return Ok(());
+        }
+        self.write_lines(turned.lines.as_slice())
+    }
+
+    // Writes lines that were made of one.
+    fn write_lines(&mut self, lines: &[Line]) -> Result<(), AllocError> {
+        for line in lines {
+            self.push("", line.key())?;
+            if let Some(value) = line.value() {
+                self.text.push('=')?;
+                self.text.push_str(value)?;
             }
         }
         Ok(())

@@ -5,7 +5,7 @@ use std::alloc::{AllocError, Global};
 pub(crate) type Row = (&'static str, &'static str, &'static str, Fate);
 
 /// How else a refused line is said where a job file is adapted.
-#[derive(Clone, Copy, Debug)]
+#[derive(Clone, Copy)]
 pub enum Way {
     /// It goes.
     Out,
@@ -40,7 +40,7 @@ pub enum Way {
 }
 
 /// What becomes of a refused line where a job file is adapted.
-#[derive(Clone, Copy, Debug)]
+#[derive(Clone, Copy)]
 pub enum Fate {
     /// It only measures, or what it says holds anyway.
     Dropped(Way),
@@ -65,7 +65,7 @@ impl Fate {
 }
 
 /// What is said of a refused line.
-#[derive(Clone, Copy, Debug)]
+#[derive(Clone, Copy)]
 pub struct Told {
     /// Why it is refused.
     pub why: &'static str,

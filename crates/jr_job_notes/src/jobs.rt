@@ -10,7 +10,7 @@ use std::alloc::{AllocError, Global};
 use std::slice;
 
 // A planned job: its name as it is shown, the line that opens its section, and what its lines say, but for those that are refused.
-#[derive(Debug, Drop)]
+#[derive(Drop)]
 pub struct Job {
     pub(crate) name: String,
     pub(crate) line: u32,

@@ -10,7 +10,7 @@ use std::alloc::{AllocError, Global};
 use std::fmt;
 
 /// What a job file's writer is told: of a line, from 1, or of the file.
-#[derive(Debug, Drop)]
+#[derive(Drop)]
 pub struct Note {
     pub(crate) line: Option<u32>,
     pub(crate) text: String,

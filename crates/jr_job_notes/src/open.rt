@@ -12,7 +12,7 @@ const BLOCKS: &str =
 
 const CHECKS: &str = "verify verify_pattern verify_interval buffer_pattern zero_buffers";
 
-#[derive(Clone, Copy, Debug)]
+#[derive(Clone, Copy)]
 pub struct Open {
     size: bool,
     blocks: bool,

@@ -2,7 +2,7 @@
 
 use jr_text::Line;
 
-#[derive(Clone, Copy, Debug)]
+#[derive(Clone, Copy)]
 pub struct Said {
     // Whether a line says what it verifies by, or that it verifies nothing.
     pub(crate) verify: bool,

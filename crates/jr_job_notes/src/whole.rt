@@ -104,7 +104,7 @@ fn block_text(alloc: Global, options: &JobOptions) -> Result<String, AllocError>
     size_text(alloc, options, sizes.as_slice())
 }
 
-// Which of these block sizes of a job doesn't fit; else its size.
+// Which of these block sizes of a job is none, or isn't a multiple of the least; else its interval that doesn't fit, else its size.
 fn size_text(alloc: Global, options: &JobOptions, sizes: &[u32]) -> Result<String, AllocError> {
     if let Some(size) = sizes.iter().find(|size| !is_block(**size)) {
         return format!(in alloc;

@@ -10,7 +10,7 @@ use jr_plan::Split;
 use jr_text::Line;
 
 /// What the option lines of a job say, but for the names of its files.
-#[derive(Clone, Copy, Debug)]
+#[derive(Clone, Copy)]
 pub struct JobOptions {
     /// What it reads and writes, and in which order (`rw`).
     pub io_type: IoType,

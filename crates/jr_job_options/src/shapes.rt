@@ -8,7 +8,7 @@ use jr_model::{SECTOR, VerifyKind};
 use jr_plan::Split;
 
 /// How a job's region is cut: its cell, the number of cells, and the sizes of its I/Os.
-#[derive(Clone, Copy, Debug)]
+#[derive(Clone, Copy)]
 pub struct Shape {
     /// How many bytes each clone has; those behind the last cell aren't used.
     pub size: u64,

@@ -25,8 +25,8 @@ impl fmt::Display for LedgerFault {
     fn fmt<W: fmt::Write>(&self, f: &mut fmt::Formatter<W>) -> fmt::Result {
         match self {
             LedgerFault::Line(line) => write!(f, "ledger: line {line}: not a ledger line"),
-            LedgerFault::OtherJob => write!(f, "ledger: of another job"),
-            LedgerFault::Memory => write!(f, "out of memory"),
+            LedgerFault::OtherJob => f.write_str("ledger: of another job"),
+            LedgerFault::Memory => f.write_str("out of memory"),
         }
     }
 }

@@ -8,7 +8,7 @@ use std::alloc::Global;
 use std::marker::Model;
 
 // A sync that returned well waits for another one of its file, which was under way then.
-#[derive(Clone, Copy, Debug)]
+#[derive(Clone, Copy)]
 pub(crate) struct Hold {
     waiting: SyncId,
     other: SyncId,

@@ -124,7 +124,7 @@ impl Held {
     }
 }
 
-/// Some lines of a ledger, which go out together. Nobody else adds any meanwhile.
+/// Some lines of a ledger, which go out together, and with them those that wait from before. Nobody else adds any meanwhile.
 #[derive(Drop)]
 pub struct Lines<'a> {
     held: MutexGuard<'a, Held>,

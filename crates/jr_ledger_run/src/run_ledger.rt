@@ -104,8 +104,8 @@ impl RunLedger {
         }
     }
 
-    /// Lets these lines wait for the next that go out, unless as many wait by now as may: whether they have gone out. They aren't needed
-    /// before a sync of their file begins, whose line goes out at once, and they with it.
+    /// Lets these lines wait for the next that go out, unless as many wait by now as may, or the ledger couldn't be written before: whether
+    /// they have gone out. They aren't needed before a sync of their file begins, whose line goes out at once, and they with it.
     pub fn keep_for_later(&self, lines: Lines<'_>) -> bool {
         let must_go = lines.must_go();
         if must_go {
@@ -152,7 +152,7 @@ impl RunLedger {
     }
 
     /// Counts a write of this file that has ended. Whether the file is to be synced now.
-    pub fn is_due(&self, file: u32) -> bool {
+    pub fn count_write(&self, file: u32) -> bool {
         match (self.every, self.file(file)) {
             (Some(every), Some(one)) => is_nth(one.count(), every),
             _ => false,

@@ -4,7 +4,6 @@ ghost use Rattle.jr_model.specs.CellSet.{free_cell_from, free_run, with_cells, n
 use crate::levels::Levels;
 use jr_model::Memory;
 use std::alloc::Global;
-use std::fmt;
 use std::marker::Model;
 
 /// The most cells that a map can have.
@@ -16,12 +15,6 @@ pub struct CellMap {
     levels: Levels,
     cells: u32,
     left: u32,
-}
-
-impl fmt::Debug for CellMap {
-    fn fmt<F: fmt::Write>(&self, f: &mut fmt::Formatter<F>) -> fmt::Result {
-        f.write_str("CellMap { .. }")
-    }
 }
 
 // Clauses see a flag for each cell: true where it is taken.

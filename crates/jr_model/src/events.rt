@@ -17,7 +17,7 @@ pub struct WriteId {
 }
 
 /// An I/O of a job, or a check, as it was started. Its number is its place among all that were.
-#[derive(Clone, Copy, Debug, PartialEq, Eq)]
+#[derive(Clone, Copy, PartialEq, Eq)]
 pub struct Started {
     pub worker: u32,
     pub kind: TicketKind,

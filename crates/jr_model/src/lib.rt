@@ -32,7 +32,7 @@ pub use limits::{
 pub use memory::Memory;
 pub use replies::{Reply, ReplyBytes};
 pub use sameness::{
-    is_same, is_same_expected, is_same_kind, is_same_method, same_piece, same_write,
+    is_same_expected, is_same_kind, is_same_method, is_same_ticket, same_piece, same_write,
 };
 pub use steps::{DeskFault, Step, StepReply};
 pub use texts::{push_field, push_number, push_text};

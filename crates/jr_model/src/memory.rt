@@ -13,7 +13,7 @@ impl fmt::Display for Memory {
     ghost output = { λ e. Some (memory_text e) };
 
     fn fmt<W: fmt::Write>(&self, f: &mut fmt::Formatter<W>) -> fmt::Result {
-        write!(f, "out of memory")
+        f.write_str("out of memory")
     }
 }
 

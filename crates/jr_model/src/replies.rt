@@ -3,7 +3,7 @@ ghost use Rattle.std.specs.Prelude.{◌≡◌};
 use std::marker::Model;
 
 /// Bytes that a reply gives in place of what is stored.
-#[derive(Debug, Drop)]
+#[derive(Drop)]
 pub struct ReplyBytes {
     bytes: Vec<u8>,
 }
@@ -41,7 +41,7 @@ impl ReplyBytes {
 }
 
 /// What a scripted engine makes of one call. Counts are cut to the call's length.
-#[derive(Debug, Drop)]
+#[derive(Drop)]
 pub enum Reply {
     /// The call is carried out.
     Pass,

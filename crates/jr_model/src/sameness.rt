@@ -7,7 +7,7 @@ use crate::events::WriteId;
 use crate::tickets::{Ticket, TicketKind};
 
 /// Whether a ticket differs from another in nothing.
-pub fn is_same(a: &Ticket, b: &Ticket) -> bool
+pub fn is_same_ticket(a: &Ticket, b: &Ticket) -> bool
     ensures yes { IsTrue result → a.now ≡ b.now }
     ensures no { IsFalse result → ¬ a.now ≡ b.now }
 {

@@ -30,11 +30,11 @@ impl fmt::Display for DeskFault {
 
     fn fmt<W: fmt::Write>(&self, f: &mut fmt::Formatter<W>) -> fmt::Result {
         match self {
-            DeskFault::Memory => write!(f, "out of memory"),
-            DeskFault::Stranger => write!(f, "not started here"),
-            DeskFault::Twice => write!(f, "a second time"),
-            DeskFault::WrongKind => write!(f, "not a check to judge"),
-            DeskFault::Stopped => write!(f, "stopped"),
+            DeskFault::Memory => f.write_str("out of memory"),
+            DeskFault::Stranger => f.write_str("not started here"),
+            DeskFault::Twice => f.write_str("a second time"),
+            DeskFault::WrongKind => f.write_str("not a check to judge"),
+            DeskFault::Stopped => f.write_str("stopped"),
         }
     }
 }
@@ -50,7 +50,7 @@ impl From<Memory> for DeskFault {
 }
 
 /// One call on the desk, in a list of them.
-#[derive(Debug, Drop)]
+#[derive(Drop)]
 pub enum Step {
     /// This worker asks for work.
     Take(u32),

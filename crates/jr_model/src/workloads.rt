@@ -4,7 +4,7 @@ ghost use Rattle.jr_model.specs.Directions.{has_reads, has_writes};
 use crate::blocks::{Dir, Piece};
 
 /// The I/O type of a job (fio's `rw`).
-#[derive(Clone, Copy, Debug, PartialEq, Eq)]
+#[derive(Clone, Copy, PartialEq, Eq)]
 pub enum IoType {
     Read,
     Write,

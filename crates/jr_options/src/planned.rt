@@ -6,7 +6,7 @@ use jr_model::{MOST_CELLS, Method};
 use jr_plan::Workload;
 
 /// A job that has been found sound, with its place in the order of phases.
-#[derive(Clone, Copy, Debug)]
+#[derive(Clone, Copy)]
 pub struct PlannedJob {
     pub(crate) phase: u32,
     pub(crate) options: JobOptions,

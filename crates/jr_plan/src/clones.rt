@@ -11,7 +11,7 @@ use std::alloc::{AllocError, Global};
 use std::marker::Model;
 
 /// One planned clone: one of the `numjobs` threads of a job.
-#[derive(Debug, Drop)]
+#[derive(Drop)]
 pub struct SubJob {
     pub(crate) job: String,
     pub(crate) clone: u32,

@@ -12,7 +12,7 @@ use std::alloc::Global;
 use std::marker::Model;
 
 /// The builder of a plan: its clones so far, and their files.
-#[derive(Debug, Drop)]
+#[derive(Drop)]
 pub struct Draft {
     pub(crate) clones: Vec<SubJob>,
     pub(crate) files: Vec<FileSpec>,

@@ -40,10 +40,10 @@ impl fmt::Display for Bound {
 
     fn fmt<W: fmt::Write>(&self, f: &mut fmt::Formatter<W>) -> fmt::Result {
         match self {
-            Bound::Clones => write!(f, "clones"),
-            Bound::Region => write!(f, "region"),
-            Bound::Cells => write!(f, "cells"),
-            Bound::Work => write!(f, "work"),
+            Bound::Clones => f.write_str("clones"),
+            Bound::Region => f.write_str("region"),
+            Bound::Cells => f.write_str("cells"),
+            Bound::Work => f.write_str("work"),
         }
     }
 }
@@ -56,11 +56,11 @@ impl fmt::Display for PlanFault {
 
     fn fmt<W: fmt::Write>(&self, f: &mut fmt::Formatter<W>) -> fmt::Result {
         match self {
-            PlanFault::Block => write!(f, "bad block size or place"),
-            PlanFault::Number => write!(f, "number out of range"),
-            PlanFault::NoPattern => write!(f, "no pattern"),
+            PlanFault::Block => f.write_str("bad block size or place"),
+            PlanFault::Number => f.write_str("number out of range"),
+            PlanFault::NoPattern => f.write_str("no pattern"),
             PlanFault::Limit(bound) => write!(f, "limit of {bound}"),
-            PlanFault::Memory => write!(f, "out of memory"),
+            PlanFault::Memory => f.write_str("out of memory"),
         }
     }
 }

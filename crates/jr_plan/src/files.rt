@@ -5,7 +5,7 @@ use std::alloc::{AllocError, Global};
 use std::marker::Model;
 
 /// A file of a run.
-#[derive(Debug, Drop)]
+#[derive(Drop)]
 pub struct FileSpec {
     name: String,
     low: u64,

@@ -14,7 +14,7 @@ use std::alloc::{AllocError, Global};
 use std::marker::Model;
 
 /// What a run does: its clones, their files, and how it is carried out.
-#[derive(Debug, Drop)]
+#[derive(Drop)]
 pub struct Plan {
     clones: Vec<SubJob>,
     files: Vec<FileSpec>,

@@ -10,7 +10,7 @@ use std::marker::Model;
 const MOST_ENTRIES: usize = 64;
 
 /// Block sizes with their percentages, which add up to 100.
-#[derive(Clone, Copy, Debug, PartialEq, Eq)]
+#[derive(Clone, Copy, PartialEq, Eq)]
 pub struct Split {
     entries: [(u32, u8); 64],
     count: usize,

@@ -6,7 +6,7 @@ ghost use Rattle.jr_plan.specs.Wishes.{says, wish_by, wish_of};
 use crate::clones::SubJob;
 
 /// What the jobs that work on a file say of its I/O.
-#[derive(Clone, Copy, Debug, PartialEq, Eq)]
+#[derive(Clone, Copy, PartialEq, Eq)]
 pub enum Wish {
     /// No job says direct=1: it goes through the system's cache.
     Cached,

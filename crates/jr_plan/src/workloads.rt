@@ -7,7 +7,7 @@ use crate::splits::Split;
 use jr_model::{IoType, LARGEST_BLOCK, MOST_DEPTH, MOST_PASSES, Method, SECTOR, VerifyKind};
 
 /// What a clone does, and when; where it does so is its start and its file.
-#[derive(Clone, Copy, Debug, PartialEq, Eq)]
+#[derive(Clone, Copy, PartialEq, Eq)]
 pub struct Workload {
     /// It waits for all clones of earlier phases.
     pub phase: u32,

@@ -32,7 +32,11 @@ pub fn check_trace(alloc: Global, plan: &Plan, text: &[u8]) -> Result<Vec<Totals
 
 /// The totals of a run that may have been stopped: what each clone did, if each line may follow those before it, whether there
 /// was more to come or not.
-pub fn check_part(alloc: Global, plan: &Plan, text: &[u8]) -> Result<Vec<Totals>, TraceFault>
+pub fn check_stopped_trace(
+    alloc: Global,
+    plan: &Plan,
+    text: &[u8],
+) -> Result<Vec<Totals>, TraceFault>
     ensures ok { IfOk result (λ totals. check_of_part plan.now text.now ≡ Ok totals.items) }
     ensures err { IfErr result (λ fault. IsRefusal fault (check_of_part plan.now text.now)) }
 {

@@ -8,6 +8,6 @@ mod laws;
 mod legal;
 mod traces;
 
-pub use checks::{Checked, check_part, check_trace, read_run};
+pub use checks::{Checked, check_stopped_trace, check_trace, read_run};
 pub use laws::{accepted_is_a_trace, numbers_fit, trace_is_accepted};
 pub use traces::trace_text;

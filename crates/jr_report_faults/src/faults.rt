@@ -19,7 +19,7 @@ use std::alloc::Global;
 pub const MOST_NAMED: usize = 100;
 
 /// An I/O or check of a run that failed or ended short.
-#[derive(Clone, Copy, Debug, PartialEq, Eq)]
+#[derive(Clone, Copy, PartialEq, Eq)]
 pub struct Fault {
     pub kind: TicketKind,
     /// The draw, and for a check the write that it reads back.
@@ -29,7 +29,7 @@ pub struct Fault {
 }
 
 /// The faults of a run: notes of the first of them, in the order in which they ended, and how many more there are.
-#[derive(Debug, Drop)]
+#[derive(Drop)]
 pub struct Faults {
     pub first: Vec<FaultNote>,
     pub more: u64,

@@ -6,7 +6,7 @@ use jr_model::{Outcome, Piece, TicketKind, WriteId};
 use std::fmt;
 
 /// A fault of a run, with the name of its file. Printed it is a note for whoever runs the program.
-#[derive(Debug, Drop)]
+#[derive(Drop)]
 pub struct FaultNote {
     /// Which it is.
     pub fault: Fault,
@@ -55,8 +55,8 @@ impl fmt::Display for EndWords {
 
     fn fmt<W: fmt::Write>(&self, f: &mut fmt::Formatter<W>) -> fmt::Result {
         match self.0 {
-            Outcome::Whole => write!(f, " ended"),
-            Outcome::Failed => write!(f, " failed"),
+            Outcome::Whole => f.write_str(" ended"),
+            Outcome::Failed => f.write_str(" failed"),
             Outcome::Short(moved) => write!(f, " ended after {moved} bytes"),
         }
     }

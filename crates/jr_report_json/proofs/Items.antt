@@ -47,6 +47,17 @@ rows_more {X} row xs i x at = rw add-one (ap (λ (ds : List Data). rest_text i d
         same a b h = cc
     rows_suc (first ∷ rest) (suc i) at = rows_suc rest i at
 
+-- all that are left, each by the row of its name
+pub named_more : {X Y : Type 0} (row : Y → Data) (name : X → Y) (xs : List X) (i : ℕ) (d : X) → i < length xs
+    → rest_text i (map row (map name (drop i xs))) ≡ item_text i (row (name (get_or xs i d))) ++ rest_text (i + 1) (map row (map name (drop (i + 1) xs)))
+named_more {X} {Y} row name xs i d within =
+    rw add-one (ap (λ (ds : List Data). rest_text i ds) (named_suc xs i within) ∙ next_item i (row (name (get_or xs i d))) (map row (map name (drop (suc i) xs))))
+  where
+    named_suc : (xs : List X) (i : ℕ) → i < length xs → map row (map name (drop i xs)) ≡ row (name (get_or xs i d)) ∷ map row (map name (drop (suc i) xs))
+    named_suc [] i within = absurd (omega arith)
+    named_suc (x ∷ rest) zero within = refl
+    named_suc (x ∷ rest) (suc i) within = named_suc rest i (omega arith)
+
 -- of any list some are items: those that are left
 kept : {X Y : Type 0} (test : Y → Bool) (name : X → Y) (xs : List X) (i : ℕ) (d : X) (b : Bool) → i < length xs
     → test (name (get_or xs i d)) ≡ b

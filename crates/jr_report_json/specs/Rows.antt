@@ -5,19 +5,36 @@ use Rattle.std.specs.Borrow.{Bor}
 use Rattle.std.specs.Option.{option_map}
 use Rattle.std.specs.declared.alloc.Global.{Global}
 use Rattle.json.specs.Print.{quoted}
-use Rattle.serde_json.specs.Data.{Data, array, boolean, string}
+use Rattle.serde_json.specs.Data.{Data, null, boolean, string, array, object, Members, member, no_members, put}
 use Rattle.serde_json.specs.View.{items_of}
 use Rattle.serde_json.specs.Written.{comma_if, compact_text, items_text}
 use Rattle.jr_model.specs.declared.totals.Totals.{Totals}
 use Rattle.jr_model.specs.Plan.{Plan}
-use Rattle.jr_model.specs.Report.{Miscompare}
+use Rattle.jr_model.specs.Report.{Miscompare, file_name}
 use Rattle.jr_diagnosis.specs.Rulings.{Told, told}
 use Rattle.jr_report_faults.specs.Faults.{NamedFault}
 use Rattle.jr_report_json.specs.declared.endings.KnownFile.{KnownFile}
 use Rattle.jr_report_json.specs.declared.endings.RunNotes.{RunNotes}
 use Rattle.jr_report_json.specs.declared.endings.RunSetting.{RunSetting}
 use Rattle.jr_report_json.specs.declared.endings.RunStatus.{RunStatus}
-use Rattle.jr_report_json.specs.Json.{FileFacts, Notes, RunEnd, Setting, asked_json, clones_json, count_json, faults_json, file_json, flag_json, is_bad_read, miscompare_json, natural, setting_json}
+use Rattle.jr_report_json.specs.declared.objects.Scalar.{Scalar}
+use Rattle.jr_report_json.specs.declared.objects.Scalar.TheVariants.{Null, Flag, Count, Text}
+use Rattle.jr_report_json.specs.Json.{FileFacts, Notes, RunEnd, Setting, asked_json, clones_json, count_json, faults_json, file_json, flag_json, is_bad_read, miscompare_json, natural, setting_json, text_json}
+
+abbrev pub scalar_json : Scalar → Data
+scalar_json Null = null
+scalar_json (Flag flag) = boolean flag
+scalar_json (Count n) = natural n
+scalar_json (Text text) = string text.now
+
+-- the members of an object, with those of a table
+abbrev pub with_members : List (Bor (List ℕ) × Scalar) → Members → Members
+with_members [] before = before
+with_members (first ∷ rest) before = with_members rest (put first.0.now (scalar_json first.1) before)
+
+-- the object that has the members of a table
+abbrev pub object_of : List (Bor (List ℕ) × Scalar) → Data
+object_of members = object (with_members members no_members)
 
 abbrev pub text_of : Option (Bor (String Global)) → Option (List ℕ)
 text_of None = None
@@ -60,6 +77,18 @@ array_text ds = compact_text (array (items_of ds))
 abbrev pub is_wanted : Plan → Bool → Miscompare → Bool
 is_wanted plan true m = is_bad_read plan m
 is_wanted plan false m = not (is_bad_read plan m)
+
+-- the object of a bad verdict, with the text of what stands there, and of what was refused
+abbrev pub bad_json : Plan → Miscompare → Option (List ℕ) → List ℕ → Data
+bad_json plan m found what = object
+    (member (codes "clone") (natural m.write.clone)
+    (member (codes "file") (string (file_name plan m.piece.file))
+    (member (codes "found") (text_json found)
+    (member (codes "length") (natural m.piece.len)
+    (member (codes "number") (natural m.write.number)
+    (member (codes "offset") (natural m.piece.offset)
+    (member (codes "pass") (natural m.write.pass)
+    (member (codes "what") (string what) no_members))))))))
 
 -- the bad reads, or the other bad verdicts
 abbrev pub bads_json : Plan → List Told → Bool → List Miscompare → List Data

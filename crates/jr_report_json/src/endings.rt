@@ -1,7 +1,7 @@
 use jr_diagnosis::Diagnosed;
 
 /// How a run ended.
-#[derive(Clone, Copy, Debug)]
+#[derive(Clone, Copy)]
 pub struct RunStatus<'a> {
     /// The version of the program that ran.
     pub version: &'a str,
@@ -20,7 +20,7 @@ pub struct RunStatus<'a> {
 }
 
 /// What is known of a file of a run, and of the device that it is, or is on.
-#[derive(Debug, Drop)]
+#[derive(Drop)]
 pub struct KnownFile {
     /// Its name in the plan.
     pub name: String,
@@ -31,7 +31,7 @@ pub struct KnownFile {
 }
 
 /// When, where and by what text a run was.
-#[derive(Debug, Drop)]
+#[derive(Drop)]
 pub struct RunSetting {
     /// When it began and ended: in UTC, as RFC 3339 writes it.
     pub began: Option<String>,

@@ -3,6 +3,7 @@
 
 mod asked;
 mod endings;
+mod objects;
 mod rows;
 mod texts;
 

@@ -8,38 +8,40 @@ ghost use Rattle.jr_diagnosis.specs.Rulings.{told};
 ghost use Rattle.jr_diagnosis.specs.Texts.{told_of_write, told_text};
 ghost use Rattle.jr_report_json.specs.Json.{clone_json, count_json, fault_json, file_json, is_bad_read, miscompare_json, moved_json, outcome_word, setting_json};
 ghost use Rattle.jr_report_json.specs.Json.{text_json, unchecked};
-ghost use Rattle.jr_report_json.specs.Rows.{facts_of, setting_of, text_of};
+ghost use Rattle.jr_report_json.specs.Rows.{bad_json, facts_of, scalar_json, setting_of, text_of};
 ghost use Rattle.jr_desk_totals.specs.Bads.{miscompare_of};
 ghost use Rattle.serde_json.specs.View.{view};
 
 use crate::endings::{KnownFile, RunSetting};
+use crate::objects::{Scalar, object_of};
 use jr_desk_totals::Bad;
 use jr_diagnosis::{Diagnosed, found_of, text_of};
 use jr_model::{Outcome, Totals};
 use jr_plan::{Plan, SubJob};
 use jr_report_faults::{FaultNote, kind_word};
-use serde_json::{Value, json};
+use serde_json::Value;
 use std::alloc::{AllocError, Global};
 
 // The object of a clone.
 pub(crate) fn clone_row(alloc: Global, job: &SubJob, totals: &Totals) -> Result<Value, AllocError>
     ensures { IfOk result (λ value. view value ≡ clone_json job.now totals.now) }
 {
-    json!(in alloc; {
-        "bad": totals.bad,
-        "checks": totals.checks,
-        "clone": job.clone_number(),
-        "faults": totals.faults,
-        "good": totals.good,
-        "job": job.job(),
-        "rbytes": totals.rbytes,
-        "reads": totals.reads,
-        "skipped": totals.skipped,
-        "unchecked": unchecked(totals),
-        "void": totals.void,
-        "wbytes": totals.wbytes,
-        "writes": totals.writes
-    })
+    let members = [
+        ("bad", Scalar::Count(totals.bad)),
+        ("checks", Scalar::Count(totals.checks)),
+        ("clone", Scalar::Count(u64::from(job.clone_number()))),
+        ("faults", Scalar::Count(totals.faults)),
+        ("good", Scalar::Count(totals.good)),
+        ("job", Scalar::Text(job.job())),
+        ("rbytes", Scalar::Count(totals.rbytes)),
+        ("reads", Scalar::Count(totals.reads)),
+        ("skipped", Scalar::Count(totals.skipped)),
+        ("unchecked", Scalar::Count(unchecked(totals))),
+        ("void", Scalar::Count(totals.void)),
+        ("wbytes", Scalar::Count(totals.wbytes)),
+        ("writes", Scalar::Count(totals.writes)),
+    ];
+    object_of(alloc, &members)
 }
 
 // How many writes ended whole and were neither checked nor skipped.
@@ -71,79 +73,84 @@ pub(crate) fn miscompare_row(
 ) -> Result<Value, AllocError>
     ensures { IfOk result (λ value. view value ≡ miscompare_json plan.now (map told found.now) (miscompare_of bad.now)) }
 {
-    json!(in alloc; {
-        "clone": bad.write.clone,
-        "file": plan.file_name(bad.piece.file),
-        "found": found_value(alloc, found_of(found, &bad.write))?,
-        "length": bad.piece.len,
-        "number": bad.write.number,
-        "offset": bad.piece.offset,
-        "pass": bad.write.pass,
-        "what": format!(in alloc; "{}", bad.what)?
-    })
+    let what = format!(in alloc; "{}", bad.what)?;
+    let found = found_text(alloc, found_of(found, &bad.write))?;
+    bad_object(alloc, plan, bad, found.as_ref(), what.as_str())
+}
+
+// Its object, with the text of what stands there, and of what was refused.
+fn bad_object<'a>(
+    alloc: Global,
+    plan: &'a Plan,
+    bad: &Bad,
+    found: Option<&'a String>,
+    what: &'a str,
+) -> Result<Value, AllocError>
+    ensures { IfOk result (λ value. view value ≡ bad_json plan.now (miscompare_of bad.now) (text_of found.entry) what.now) }
+{
+    let members = [
+        ("clone", Scalar::Count(u64::from(bad.write.clone))),
+        ("file", Scalar::Text(plan.file_name(bad.piece.file))),
+        ("found", text_or_null(found)),
+        ("length", Scalar::Count(u64::from(bad.piece.len))),
+        ("number", Scalar::Count(u64::from(bad.write.number))),
+        ("offset", Scalar::Count(bad.piece.offset)),
+        ("pass", Scalar::Count(u64::from(bad.write.pass))),
+        ("what", Scalar::Text(what)),
+    ];
+    object_of(alloc, &members)
 }
 
 // What stands in a bad block, where that was looked into.
-fn found_value(alloc: Global, found: Option<&Diagnosed>) -> Result<Value, AllocError>
-    ensures { IfOk result (λ value. view value ≡ text_json (option_map told_text (option_map (λ one. told one.now) found.entry))) }
+fn found_text(alloc: Global, found: Option<&Diagnosed>) -> Result<Option<String>, AllocError>
+    ensures { IfOk result (λ text. option_map string_bytes text ≡ option_map told_text (option_map (λ one. told one.now) found.entry)) }
 {
     match found {
-        None => Ok(Value::Null),
-        Some(found) => {
-            let text = text_of(alloc, found)?;
-            Value::try_from_str(alloc, text.as_str())
-        }
+        None => Ok(None),
+        Some(found) => Ok(Some(text_of(alloc, found)?)),
     }
 }
 
 // The object of a fault, with the system's reason where there is one.
-pub(crate) fn fault_row(
+pub(crate) fn fault_row<'a>(
     alloc: Global,
-    note: &FaultNote,
-    reason: Option<&String>,
+    note: &'a FaultNote,
+    reason: Option<&'a String>,
 ) -> Result<Value, AllocError>
     ensures { IfOk result (λ value. view value ≡ fault_json (named note.now) (text_of reason.entry)) }
 {
     let fault = &note.fault;
-    json!(in alloc; {
-        "clone": fault.write.clone,
-        "file": &note.name,
-        "kind": kind_word(fault.kind),
-        "length": fault.piece.len,
-        "moved": moved_value(fault.outcome),
-        "number": fault.write.number,
-        "offset": fault.piece.offset,
-        "outcome": outcome_word(fault.outcome),
-        "pass": fault.write.pass,
-        "reason": text_value(alloc, reason)?
-    })
-}
-
-fn text_value(alloc: Global, text: Option<&String>) -> Result<Value, AllocError>
-    ensures { IfOk result (λ value. view value ≡ text_json (text_of text.entry)) }
-{
-    match text {
-        None => Ok(Value::Null),
-        Some(text) => Value::try_from_str(alloc, text.as_str()),
-    }
+    let members = [
+        ("clone", Scalar::Count(u64::from(fault.write.clone))),
+        ("file", Scalar::Text(note.name.as_str())),
+        ("kind", Scalar::Text(kind_word(fault.kind))),
+        ("length", Scalar::Count(u64::from(fault.piece.len))),
+        ("moved", moved(fault.outcome)),
+        ("number", Scalar::Count(u64::from(fault.write.number))),
+        ("offset", Scalar::Count(fault.piece.offset)),
+        ("outcome", Scalar::Text(outcome_word(fault.outcome))),
+        ("pass", Scalar::Count(u64::from(fault.write.pass))),
+        ("reason", text_or_null(reason)),
+    ];
+    object_of(alloc, &members)
 }
 
 // A text that may not be there.
-fn own_text_value(alloc: Global, text: &Option<String>) -> Result<Value, AllocError>
-    ensures { IfOk result (λ value. view value ≡ text_json (option_map string_bytes text.now)) }
+fn text_or_null(text: Option<&String>) -> Scalar<'_>
+    ensures { scalar_json result ≡ text_json (text_of text.entry) }
 {
     match text {
-        None => Ok(Value::Null),
-        Some(text) => Value::try_from_str(alloc, text.as_str()),
+        None => Scalar::Null,
+        Some(text) => Scalar::Text(text.as_str()),
     }
 }
 
-fn count_value(count: Option<u64>) -> Value
-    ensures { view result ≡ count_json count }
+fn count_or_null(count: Option<u64>) -> Scalar<'static>
+    ensures { scalar_json result ≡ count_json count }
 {
     match count {
-        None => Value::Null,
-        Some(count) => Value::from(count),
+        None => Scalar::Null,
+        Some(count) => Scalar::Count(count),
     }
 }
 
@@ -151,33 +158,36 @@ fn count_value(count: Option<u64>) -> Value
 pub(crate) fn file_row(alloc: Global, file: &KnownFile) -> Result<Value, AllocError>
     ensures { IfOk result (λ value. view value ≡ file_json (facts_of file.now)) }
 {
-    json!(in alloc; {
-        "device_size": count_value(file.size),
-        "model": own_text_value(alloc, &file.model)?,
-        "name": &file.name,
-        "serial": own_text_value(alloc, &file.serial)?
-    })
+    let members = [
+        ("device_size", count_or_null(file.size)),
+        ("model", text_or_null(file.model.as_ref())),
+        ("name", Scalar::Text(file.name.as_str())),
+        ("serial", text_or_null(file.serial.as_ref())),
+    ];
+    object_of(alloc, &members)
 }
 
 // The object of a run's setting.
 pub(crate) fn setting_row(alloc: Global, setting: &RunSetting) -> Result<Value, AllocError>
     ensures { IfOk result (λ value. view value ≡ setting_json (setting_of setting.now)) }
 {
-    json!(in alloc; {
-        "began": own_text_value(alloc, &setting.began)?,
-        "ended": own_text_value(alloc, &setting.ended)?,
-        "host": own_text_value(alloc, &setting.host)?,
-        "job": own_text_value(alloc, &setting.job)?,
-        "milliseconds": count_value(setting.milliseconds)
-    })
+    let members = [
+        ("began", text_or_null(setting.began.as_ref())),
+        ("ended", text_or_null(setting.ended.as_ref())),
+        ("host", text_or_null(setting.host.as_ref())),
+        ("job", text_or_null(setting.job.as_ref())),
+        ("milliseconds", count_or_null(setting.milliseconds)),
+    ];
+    object_of(alloc, &members)
 }
 
-fn moved_value(outcome: Outcome) -> Value
-    ensures { view result ≡ moved_json outcome }
+// After how many bytes an I/O ended, where it ended short.
+fn moved(outcome: Outcome) -> Scalar<'static>
+    ensures { scalar_json result ≡ moved_json outcome }
 {
     match outcome {
-        Outcome::Whole | Outcome::Failed => Value::Null,
-        Outcome::Short(moved) => Value::from(moved),
+        Outcome::Whole | Outcome::Failed => Scalar::Null,
+        Outcome::Short(moved) => Scalar::Count(u64::from(moved)),
     }
 }
 

@@ -344,8 +344,8 @@ fn reason_at(reasons: &[Option<String>], place: usize) -> Option<&String>
     ensures { text_of result ≡ told_by (slice_get reasons.now place) }
 {
     match reasons.get(place) {
-        Some(Some(reason)) => Some(reason),
-        _ => None,
+        Some(reason) => reason.as_ref(),
+        None => None,
     }
 }
 

@@ -2,7 +2,7 @@ ghost use Rattle.std.specs.Prelude.{◌≡◌};
 ghost use Rattle.jr_report_maps.specs.Maps.{rank, worse};
 
 /// What happened to the bytes of a part of a file, the worst last.
-#[derive(Clone, Copy, Debug, PartialEq, Eq)]
+#[derive(Clone, Copy, PartialEq, Eq)]
 pub enum Fate {
     /// Nothing, or nothing that has ended.
     Untouched,

@@ -16,7 +16,7 @@ use jr_model::{LARGEST_END, Memory, SECTOR};
 use std::alloc::Global;
 
 /// A map of a file, from its start on: what happened to the bytes of each of its cells.
-#[derive(Debug, Drop)]
+#[derive(Drop)]
 pub struct FileMap {
     /// How many bytes a cell has, a multiple of 512.
     pub size: u64,

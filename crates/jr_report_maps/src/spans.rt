@@ -9,7 +9,7 @@ use jr_plan::Plan;
 
 // Some adjacent bytes of a file: so many bytes, `skip` bytes behind `offset`. A chunk of a piece may begin past the last offset that
 // is a number of 64 bits; it is still said exactly where.
-#[derive(Clone, Copy, Debug)]
+#[derive(Clone, Copy)]
 pub(crate) struct Span {
     pub file: u32,
     pub offset: u64,

@@ -5,7 +5,7 @@ ghost use Rattle.jr_report_outputs.specs.Spots.{IsFirstMet, IsOne, MeetsNone};
 use jr_io_devices::Identity;
 
 /// A place that a file has or may get, whatever its names.
-#[derive(Debug, Drop)]
+#[derive(Drop)]
 pub enum Spot {
     /// A file that is there.
     File(Identity),

@@ -19,7 +19,7 @@ const MOST_FOLDERS: u32 = 4096;
 const NULL: u64 = 0x103;
 
 /// Why an output can't go where its path leads.
-#[derive(Clone, Copy, Debug, PartialEq, Eq)]
+#[derive(Clone, Copy, PartialEq, Eq)]
 pub enum Unfit {
     /// There is the job file.
     Job,
@@ -42,14 +42,14 @@ pub enum Unfit {
 impl fmt::Display for Unfit {
     fn fmt<W: fmt::Write>(&self, f: &mut fmt::Formatter<W>) -> fmt::Result {
         match self {
-            Unfit::Job => write!(f, "that of the job file"),
-            Unfit::File => write!(f, "that of a file of a job"),
-            Unfit::Trace => write!(f, "that of the trace that is checked"),
-            Unfit::Ledger => write!(f, "that of the ledger by which files are judged"),
-            Unfit::Stream => write!(f, "that of a stream of the program"),
-            Unfit::Output => write!(f, "that of another output"),
-            Unfit::System => write!(f, "in /dev, /proc or /sys"),
-            Unfit::NoFile => write!(f, "that of no file"),
+            Unfit::Job => f.write_str("that of the job file"),
+            Unfit::File => f.write_str("that of a file of a job"),
+            Unfit::Trace => f.write_str("that of the trace that is checked"),
+            Unfit::Ledger => f.write_str("that of the ledger by which files are judged"),
+            Unfit::Stream => f.write_str("that of a stream of the program"),
+            Unfit::Output => f.write_str("that of another output"),
+            Unfit::System => f.write_str("in /dev, /proc or /sys"),
+            Unfit::NoFile => f.write_str("that of no file"),
         }
     }
 }

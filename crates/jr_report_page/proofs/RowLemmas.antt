@@ -20,10 +20,18 @@ totals_none = none_of_both totals_rows [] (λ totals. refl) without
     without [] = refl
     without (job ∷ jobs) = refl
 
+-- six of them
+pub added_six : (t0 t1 t2 t3 t4 t5 t6 a b c d e f : List ℕ) → t1 ≡ t0 ++ a → t2 ≡ t1 ++ b → t3 ≡ t2 ++ c → t4 ≡ t3 ++ d → t5 ≡ t4 ++ e
+    → t6 ≡ t5 ++ f → t6 ≡ t0 ++ (a ++ b ++ c ++ d ++ e ++ f)
+added_six t0 t1 t2 t3 t4 t5 t6 a b c d e f e1 e2 e3 e4 e5 e6 =
+    e6
+    ∙ ap (λ (t : List ℕ). t ++ f) (five_more t0 t1 t2 t3 t4 t5 a b c d e e1 e2 e3 e4 e5)
+    ∙ simp append_assoc
+
 -- seven of them
 pub added_seven : (t0 t1 t2 t3 t4 t5 t6 t7 a b c d e f g : List ℕ) → t1 ≡ t0 ++ a → t2 ≡ t1 ++ b → t3 ≡ t2 ++ c → t4 ≡ t3 ++ d → t5 ≡ t4 ++ e
     → t6 ≡ t5 ++ f → t7 ≡ t6 ++ g → t7 ≡ t0 ++ (a ++ b ++ c ++ d ++ e ++ f ++ g)
 added_seven t0 t1 t2 t3 t4 t5 t6 t7 a b c d e f g e1 e2 e3 e4 e5 e6 e7 =
     e7
-    ∙ ap (λ (t : List ℕ). t ++ g) (e6 ∙ ap (λ (t : List ℕ). t ++ f) (five_more t0 t1 t2 t3 t4 t5 a b c d e e1 e2 e3 e4 e5))
+    ∙ ap (λ (t : List ℕ). t ++ g) (added_six t0 t1 t2 t3 t4 t5 t6 a b c d e f e1 e2 e3 e4 e5 e6)
     ∙ simp append_assoc

@@ -12,7 +12,7 @@ use std::alloc::Global;
 
 // A cell of a map as a page shows it: where it stands, which bytes it has (from `begin` on up to `end`), the worst that happened to one of
 // them, and the first bad verdict over one of them.
-#[derive(Clone, Copy, Debug)]
+#[derive(Clone, Copy)]
 pub(crate) struct Cell {
     pub place: u64,
     pub begin: u64,

@@ -9,9 +9,9 @@ use std::alloc::AllocError;
 pub fn push_head(page: &mut String, title: &str, has_found: bool) -> Result<(), AllocError>
     ensures { OnOk result (string_bytes page.new ≡ string_bytes page.old ++ head_text title.now has_found) }
 {
-    page.push_str("<!DOCTYPE html>\n<html lang=\"en\">\n<head>\n<meta charset=\"utf-8\">\n")?;
     page.push_str(
-        "<meta name=\"viewport\" content=\"width=device-width, initial-scale=1\">\n<title>",
+        "<!DOCTYPE html>\n<html lang=\"en\">\n<head>\n<meta charset=\"utf-8\">\n\
+        <meta name=\"viewport\" content=\"width=device-width, initial-scale=1\">\n<title>",
     )?;
     push_escaped(page, title)?;
     page.push_str(" - fiorun</title>\n<style>")?;

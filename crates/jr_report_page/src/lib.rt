@@ -19,6 +19,6 @@ pub use heads::{push_head, push_tail};
 pub use laws::{nothing_comes_raw, page_hides_nothing};
 pub use pages::{PageFindings, page};
 pub use plans::push_plan_table;
-pub use rows::{push_file, push_number, push_piece, push_text};
+pub use rows::{push_file, push_number_cell, push_piece, push_text_cell};
 pub use settings::{push_setting, push_surroundings};
 pub use tables::{MOST_ROWS, push_more};

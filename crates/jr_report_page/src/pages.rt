@@ -1,6 +1,6 @@
 ghost use Rattle.std.specs.Prelude.{◌≤◌};
 
-use crate::cells::cells_of;
+use crate::cells::{Cell, cells_of};
 use crate::escapes::push_escaped;
 use crate::heads::{push_head, push_tail};
 use crate::maps::{push_legend, push_map};
@@ -46,17 +46,18 @@ pub struct PageFindings<'a> {
 /// A page that shows a run. Of its text no more is said than its parts' contracts say.
 pub fn page(alloc: Global, found: &PageFindings<'_>) -> Result<Vec<u8>, Memory> {
     let mut page = String::new(alloc);
-    push_title(
-        alloc,
-        &mut page,
-        &Status::of(found.totals, found.is_interrupted),
-    )?;
-    push_setting(&mut page, found.setting)?;
-    push_maps(alloc, &mut page, found)?;
-    push_tables(alloc, &mut page, found)?;
-    push_surroundings(&mut page, found.files, found.setting)?;
-    push_tail(&mut page)?;
+    push_all(alloc, &mut page, found)?;
     Ok(page.into_bytes())
+}
+
+fn push_all(alloc: Global, page: &mut String, found: &PageFindings<'_>) -> Result<(), Memory> {
+    push_title(alloc, page, &Status::of(found.totals, found.is_interrupted))?;
+    push_setting(page, found.setting)?;
+    push_maps(alloc, page, found)?;
+    push_tables(alloc, page, found)?;
+    push_surroundings(page, found.files, found.setting)?;
+    push_tail(page)?;
+    Ok(())
 }
 
 // What the page begins with, up to where the maps are.
@@ -117,10 +118,21 @@ fn push_file(
     // (no region of a plan ends behind that)
     let end = file.high().min(LARGEST_END);
     let cells = cells_of(alloc, plan, marks, bads, index, end, most)?;
+    push_named_map(page, file.name(), end, cells.as_slice())?;
+    Ok(())
+}
+
+// The map of these cells, under the name of the file, of which so many bytes are shown.
+fn push_named_map(
+    page: &mut String,
+    name: &str,
+    end: u64,
+    cells: &[Cell],
+) -> Result<(), AllocError> {
     page.push_str("<h2>")?;
-    push_escaped(page, file.name())?;
+    push_escaped(page, name)?;
     page.push_str("</h2>\n")?;
-    push_map(page, cells.as_slice())?;
+    push_map(page, cells)?;
     if let Some(cell) = cells.first() {
         let bytes = cell.end.saturating_sub(cell.begin);
         write!(page, "<p>{end} bytes, {bytes} a cell</p>\n")?;
@@ -145,12 +157,10 @@ fn push_tables(
 
 fn push_totals_table(page: &mut String, found: &PageFindings<'_>) -> Result<(), AllocError> {
     page.push_str(
-        "<h2>Totals</h2>\n<div class=\"table\"><table class=\"totals\">\n<tr><th>job</th><th>clone</th><th>reads</th>",
+        "<h2>Totals</h2>\n<div class=\"table\"><table class=\"totals\">\n<tr><th>job</th><th>clone</th><th>reads</th>\
+        <th>rbytes</th><th>writes</th><th>wbytes</th><th>checks</th><th>good</th><th>bad</th><th>skipped</th>\
+        <th>void</th><th>faults</th></tr>\n",
     )?;
-    page.push_str(
-        "<th>rbytes</th><th>writes</th><th>wbytes</th><th>checks</th><th>good</th><th>bad</th><th>skipped</th>",
-    )?;
-    page.push_str("<th>void</th><th>faults</th></tr>\n")?;
     push_all_totals(page, found.plan, found.totals)?;
     page.push_str("</table></div>\n")
 }
@@ -161,10 +171,8 @@ fn push_bads_table(
     found: &PageFindings<'_>,
 ) -> Result<(), AllocError> {
     page.push_str(
-        "<h2>Miscompares and bad reads</h2>\n<div class=\"table\"><table class=\"miscompares\">\n<tr><th>clone</th><th>pass</th>",
-    )?;
-    page.push_str(
-        "<th>number</th><th>file</th><th>offset</th><th>length</th><th>what</th><th>found</th></tr>\n",
+        "<h2>Miscompares and bad reads</h2>\n<div class=\"table\"><table class=\"miscompares\">\n<tr><th>clone</th><th>pass</th>\
+        <th>number</th><th>file</th><th>offset</th><th>length</th><th>what</th><th>found</th></tr>\n",
     )?;
     push_first(alloc, page, found.plan, found.found, found.bads)?;
     page.push_str("</table></div>\n")?;
@@ -173,9 +181,9 @@ fn push_bads_table(
 
 fn push_faults_table(page: &mut String, faults: &Faults) -> Result<(), AllocError> {
     page.push_str(
-        "<h2>Faults</h2>\n<div class=\"table\"><table class=\"faults\">\n<tr><th>what</th><th>clone</th><th>pass</th>",
+        "<h2>Faults</h2>\n<div class=\"table\"><table class=\"faults\">\n<tr><th>what</th><th>clone</th><th>pass</th>\
+        <th>number</th><th>file</th><th>offset</th><th>length</th></tr>\n",
     )?;
-    page.push_str("<th>number</th><th>file</th><th>offset</th><th>length</th></tr>\n")?;
     push_faults(page, faults.first.as_slice())?;
     page.push_str("</table></div>\n")?;
     push_more(page, faults.more)

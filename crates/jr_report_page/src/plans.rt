@@ -2,7 +2,7 @@ ghost use Rattle.std.specs.Prelude.{◌≡◌, ◌++◌, ◌<◌, flat_map, leng
 ghost use Rattle.jr_report_page.specs.Rows.{clone_row, place_cells, plan_table, size_cells, work_cells};
 ghost use Rattle.jr_plan.specs.PlanText.{name_of};
 
-use crate::rows::{push_number, push_text};
+use crate::rows::{push_number_cell, push_text_cell};
 use jr_plan::{FileSpec, Plan, SubJob, io_type_word, verify_word};
 use std::alloc::AllocError;
 
@@ -12,12 +12,10 @@ pub fn push_plan_table(page: &mut String, plan: &Plan) -> Result<(), AllocError>
     ensures { OnOk result (string_bytes page.new ≡ string_bytes page.old ++ plan_table plan.now) }
 {
     page.push_str(
-        "<h2>Plan</h2>\n<div class=\"table\"><table class=\"plan\">\n<tr><th>job</th><th>clone</th><th>phase</th>",
+        "<h2>Plan</h2>\n<div class=\"table\"><table class=\"plan\">\n<tr><th>job</th><th>clone</th><th>phase</th>\
+        <th>file</th><th>start</th><th>size</th><th>cell</th><th>cells</th><th>rw</th><th>iodepth</th><th>loops</th>\
+        <th>verify</th></tr>\n",
     )?;
-    page.push_str(
-        "<th>file</th><th>start</th><th>size</th><th>cell</th><th>cells</th><th>rw</th><th>iodepth</th><th>loops</th>",
-    )?;
-    page.push_str("<th>verify</th></tr>\n")?;
     push_clones(page, plan)?;
     page.push_str("</table></div>\n")
 }
@@ -48,11 +46,11 @@ fn push_place(page: &mut String, files: &[FileSpec], job: &SubJob) -> Result<(),
     requires { job.now.file < length files.now }
     ensures { OnOk result (string_bytes page.new ≡ string_bytes page.old ++ place_cells files.now job.now) }
 {
-    push_text(page, job.job())?;
-    push_number(page, u64::from(job.clone_number()))?;
-    push_number(page, u64::from(job.phase()))?;
-    push_text(page, file_name(files, job))?;
-    push_number(page, job.start())
+    push_text_cell(page, job.job())?;
+    push_number_cell(page, u64::from(job.clone_number()))?;
+    push_number_cell(page, u64::from(job.phase()))?;
+    push_text_cell(page, file_name(files, job))?;
+    push_number_cell(page, job.start())
 }
 
 // The name of its file.
@@ -70,17 +68,17 @@ fn push_size(page: &mut String, job: &SubJob) -> Result<(), AllocError>
     job.facts();
     let cell = job.cell();
     let cells = job.cells();
-    push_number(page, u64::from(cells) * u64::from(cell))?;
-    push_number(page, u64::from(cell))?;
-    push_number(page, u64::from(cells))
+    push_number_cell(page, u64::from(cells) * u64::from(cell))?;
+    push_number_cell(page, u64::from(cell))?;
+    push_number_cell(page, u64::from(cells))
 }
 
 // What the clone does there.
 fn push_work(page: &mut String, job: &SubJob) -> Result<(), AllocError>
     ensures { OnOk result (string_bytes page.new ≡ string_bytes page.old ++ work_cells job.now) }
 {
-    push_text(page, io_type_word(job.io_type()))?;
-    push_number(page, u64::from(job.depth()))?;
-    push_number(page, u64::from(job.passes()))?;
-    push_text(page, verify_word(job.method().kind))
+    push_text_cell(page, io_type_word(job.io_type()))?;
+    push_number_cell(page, u64::from(job.depth()))?;
+    push_number_cell(page, u64::from(job.passes()))?;
+    push_text_cell(page, verify_word(job.method().kind))
 }

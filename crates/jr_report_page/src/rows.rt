@@ -23,8 +23,8 @@ pub(crate) fn push_totals(
     ensures { OnOk result (string_bytes page.new ≡ string_bytes page.old ++ totals_row job.now totals.now) }
 {
     page.push_str("<tr>")?;
-    push_text(page, job.job())?;
-    push_number(page, u64::from(job.clone_number()))?;
+    push_text_cell(page, job.job())?;
+    push_number_cell(page, u64::from(job.clone_number()))?;
     push_moved(page, totals)?;
     push_judged(page, totals)?;
     page.push_str("</tr>\n")
@@ -33,21 +33,21 @@ pub(crate) fn push_totals(
 fn push_moved(page: &mut String, totals: &Totals) -> Result<(), AllocError>
     ensures { OnOk result (string_bytes page.new ≡ string_bytes page.old ++ moved_cells totals.now) }
 {
-    push_number(page, totals.reads)?;
-    push_number(page, totals.rbytes)?;
-    push_number(page, totals.writes)?;
-    push_number(page, totals.wbytes)
+    push_number_cell(page, totals.reads)?;
+    push_number_cell(page, totals.rbytes)?;
+    push_number_cell(page, totals.writes)?;
+    push_number_cell(page, totals.wbytes)
 }
 
 fn push_judged(page: &mut String, totals: &Totals) -> Result<(), AllocError>
     ensures { OnOk result (string_bytes page.new ≡ string_bytes page.old ++ judged_cells totals.now) }
 {
-    push_number(page, totals.checks)?;
-    push_number(page, totals.good)?;
-    push_number(page, totals.bad)?;
-    push_number(page, totals.skipped)?;
-    push_number(page, totals.void)?;
-    push_number(page, totals.faults)
+    push_number_cell(page, totals.checks)?;
+    push_number_cell(page, totals.good)?;
+    push_number_cell(page, totals.bad)?;
+    push_number_cell(page, totals.skipped)?;
+    push_number_cell(page, totals.void)?;
+    push_number_cell(page, totals.faults)
 }
 
 // The row of a bad verdict.
@@ -79,10 +79,10 @@ fn push_found(
     ensures { OnOk result (string_bytes page.new ≡ string_bytes page.old ++ found_cell (told_of_write (map told found.now) write.now)) }
 {
     match found_of(found, write) {
-        None => push_text(page, ""),
+        None => push_text_cell(page, ""),
         Some(one) => {
             let text = text_of(alloc, one)?;
-            push_text(page, text.as_str())
+            push_text_cell(page, text.as_str())
         }
     }
 }
@@ -94,7 +94,7 @@ pub(crate) fn push_fault(page: &mut String, note: &FaultNote) -> Result<(), Allo
     page.push_str("<tr>")?;
     push_end(page, note.fault.kind, note.fault.outcome)?;
     push_write(page, &note.fault.write)?;
-    push_text(page, note.name.as_str())?;
+    push_text_cell(page, note.name.as_str())?;
     push_piece(page, &note.fault.piece)?;
     page.push_str("</tr>\n")
 }
@@ -103,24 +103,24 @@ pub(crate) fn push_fault(page: &mut String, note: &FaultNote) -> Result<(), Allo
 fn push_write(page: &mut String, write: &WriteId) -> Result<(), AllocError>
     ensures { OnOk result (string_bytes page.new ≡ string_bytes page.old ++ write_cells write.now) }
 {
-    push_number(page, u64::from(write.clone))?;
-    push_number(page, u64::from(write.pass))?;
-    push_number(page, u64::from(write.number))
+    push_number_cell(page, u64::from(write.clone))?;
+    push_number_cell(page, u64::from(write.pass))?;
+    push_number_cell(page, u64::from(write.number))
 }
 
 /// Appends two cells with which bytes of its file a piece is.
 pub fn push_piece(page: &mut String, piece: &Piece) -> Result<(), AllocError>
     ensures { OnOk result (string_bytes page.new ≡ string_bytes page.old ++ piece_cells piece.now) }
 {
-    push_number(page, piece.offset)?;
-    push_number(page, u64::from(piece.len))
+    push_number_cell(page, piece.offset)?;
+    push_number_cell(page, u64::from(piece.len))
 }
 
 /// Appends a cell with the name of the file of this place in the plan.
 pub fn push_file(page: &mut String, plan: &Plan, file: u32) -> Result<(), AllocError>
     ensures { OnOk result (string_bytes page.new ≡ string_bytes page.old ++ text_cell (file_name plan.now file)) }
 {
-    push_text(page, plan.file_name(file))
+    push_text_cell(page, plan.file_name(file))
 }
 
 fn push_what_cell(page: &mut String, what: What) -> Result<(), AllocError>
@@ -152,14 +152,14 @@ fn push_end(page: &mut String, kind: TicketKind, outcome: Outcome) -> Result<(),
 
 /// Appends a cell with a number.
 #[tactic(auto, unfolding(crate::specs::Rows::number_cell))]
-pub fn push_number(page: &mut String, n: u64) -> Result<(), AllocError>
+pub fn push_number_cell(page: &mut String, n: u64) -> Result<(), AllocError>
     ensures { OnOk result (string_bytes page.new ≡ string_bytes page.old ++ number_cell n) }
 {
     write!(page, "<td>{n}</td>")
 }
 
 /// Appends a cell with a text, which may be of a job file.
-pub fn push_text(page: &mut String, text: &str) -> Result<(), AllocError>
+pub fn push_text_cell(page: &mut String, text: &str) -> Result<(), AllocError>
     ensures { OnOk result (string_bytes page.new ≡ string_bytes page.old ++ text_cell text.now) }
 {
     page.push_str("<td>")?;

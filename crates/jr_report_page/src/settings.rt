@@ -7,7 +7,7 @@ ghost use Rattle.jr_report_page.specs.Settings.{known_job_text, said_cell, setti
 ghost use Rattle.jr_report_page.specs.Settings.{surroundings_text, times_text, took_text};
 
 use crate::escapes::{push_char, push_escaped};
-use crate::rows::{push_number, push_text};
+use crate::rows::{push_number_cell, push_text_cell};
 use jr_report_json::{KnownFile, RunSetting};
 use std::alloc::AllocError;
 
@@ -97,9 +97,9 @@ fn push_files(page: &mut String, files: &[KnownFile]) -> Result<(), AllocError>
     ensures { OnOk result (string_bytes page.new ≡ string_bytes page.old ++ files_table (map facts_of files.now)) }
 {
     page.push_str(
-        "<h2>Files</h2>\n<div class=\"table\"><table class=\"files\">\n<tr><th>file</th>",
+        "<h2>Files</h2>\n<div class=\"table\"><table class=\"files\">\n<tr><th>file</th>\
+        <th>model</th><th>serial</th><th>device size</th></tr>\n",
     )?;
-    page.push_str("<th>model</th><th>serial</th><th>device size</th></tr>\n")?;
     push_file_rows(page, files)?;
     page.push_str("</table></div>\n")?;
     Ok(())
@@ -118,7 +118,7 @@ fn push_known_file(page: &mut String, file: &KnownFile) -> Result<(), AllocError
     ensures { OnOk result (string_bytes page.new ≡ string_bytes page.old ++ file_row (facts_of file.now)) }
 {
     page.push_str("<tr>")?;
-    push_text(page, file.name.as_str())?;
+    push_text_cell(page, file.name.as_str())?;
     push_said(page, &file.model)?;
     push_said(page, &file.serial)?;
     push_size(page, file.size)?;
@@ -129,8 +129,8 @@ fn push_said(page: &mut String, text: &Option<String>) -> Result<(), AllocError>
     ensures { OnOk result (string_bytes page.new ≡ string_bytes page.old ++ said_cell (option_map string_bytes text.now)) }
 {
     match text {
-        None => push_text(page, ""),
-        Some(text) => push_text(page, text.as_str()),
+        None => push_text_cell(page, ""),
+        Some(text) => push_text_cell(page, text.as_str()),
     }
 }
 
@@ -138,8 +138,8 @@ fn push_size(page: &mut String, size: Option<u64>) -> Result<(), AllocError>
     ensures { OnOk result (string_bytes page.new ≡ string_bytes page.old ++ size_cell size) }
 {
     match size {
-        None => push_text(page, ""),
-        Some(size) => push_number(page, size),
+        None => push_text_cell(page, ""),
+        Some(size) => push_number_cell(page, size),
     }
 }
 

@@ -5,7 +5,7 @@ use jr_model::Totals;
 use std::alloc::AllocError;
 
 // How a run ended, in numbers.
-#[derive(Clone, Copy, Debug)]
+#[derive(Clone, Copy)]
 pub(crate) struct Status {
     pub checks: u64,
     pub bad: u64,

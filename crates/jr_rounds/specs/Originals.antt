@@ -12,5 +12,5 @@ of_original c (original ∷ originals) (t ∷ totals) =
     if original == c then t ∷ of_original c originals totals else of_original c originals totals
 
 -- the sums of each of so many clones
-abbrev pub gathered : ℕ → List ℕ → List Totals → List Totals
-gathered clones originals totals = map (λ c. sum_of (of_original c originals totals)) (range_with_len 0 clones)
+abbrev pub totals_by_original : ℕ → List ℕ → List Totals → List Totals
+totals_by_original clones originals totals = map (λ c. sum_of (of_original c originals totals)) (range_with_len 0 clones)

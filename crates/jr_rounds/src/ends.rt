@@ -2,7 +2,7 @@ use crate::sums::Sums;
 use jr_cli_ends::RunEnd;
 
 /// How rounds ended.
-#[derive(Debug, Drop)]
+#[derive(Drop)]
 pub struct RoundsEnd {
     /// How many there were.
     pub rounds: u32,

@@ -4,7 +4,7 @@ use jr_cli_words::CliFault;
 use jr_model::Memory;
 
 /// Why rounds end without a last one.
-#[derive(Debug, Drop)]
+#[derive(Drop)]
 pub enum RoundsFault<E> {
     /// A round couldn't be run, for this reason. The rounds before it are printed, and their sums if there were any.
     Round(E),

@@ -23,7 +23,7 @@ pub use faults::RoundsFault;
 pub use json::{round_json, round_line, sums_json};
 pub use laws::{first_round_is_the_plan, no_seed_twice, rounds_differ_in_seeds};
 pub use limits::Limits;
-pub use originals::gathered;
+pub use originals::totals_by_original;
 pub use repeats::run_rounds;
 pub use runner::RoundRunner;
 pub use seeds::{SEED_STEP, plan_of_round, seed_offset};

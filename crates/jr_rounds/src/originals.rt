@@ -1,6 +1,6 @@
 ghost use Rattle.std.specs.Prelude.{◌≡◌, ◌==◌, length, IfOk, if◌then◌else◌};
 ghost use Rattle.jr_rounds.specs.Adding.{added};
-ghost use Rattle.jr_rounds.specs.Originals.{gathered, of_original};
+ghost use Rattle.jr_rounds.specs.Originals.{totals_by_original, of_original};
 ghost use Rattle.jr_rounds.specs.Sums.{sum_of};
 
 use crate::sums::{added, nothing};
@@ -9,14 +9,14 @@ use std::alloc::Global;
 
 /// What each clone of a job did in a round whose clones are parts of the job's clones: `originals` says of which each is. A count of 64 bits
 /// stays at the last one.
-pub fn gathered(
+pub fn totals_by_original(
     alloc: Global,
     clones: usize,
     originals: &[u32],
     totals: &[Totals],
 ) -> Result<Vec<Totals>, Memory>
     requires { length originals.now ≡ length totals.now }
-    ensures { IfOk result (λ sums. sums.items ≡ gathered clones originals.now totals.now) }
+    ensures { IfOk result (λ sums. sums.items ≡ totals_by_original clones originals.now totals.now) }
 {
     let mut sums = Vec::new(alloc);
     for clone in 0..clones {

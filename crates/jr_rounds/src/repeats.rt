@@ -22,14 +22,14 @@ use std::alloc::Global;
 use std::io::Write;
 
 // When rounds end: how many they may be at most, and whether one that is bad doesn't end them.
-#[derive(Clone, Copy, Debug)]
+#[derive(Clone, Copy)]
 struct Until {
     limit: u32,
     is_keeping_going: bool,
 }
 
 // What a round was found to be: whether the runner said that no other is to begin, and whether it is the last.
-#[derive(Clone, Copy, Debug)]
+#[derive(Clone, Copy)]
 struct Turn {
     is_over: bool,
     is_last: bool,

@@ -9,7 +9,7 @@ use std::alloc::{AllocError, Global};
 use std::marker::Model;
 
 /// What each clone did over all rounds so far, and how many rounds these were. A count of 64 bits stays at the last one.
-#[derive(Debug, Drop)]
+#[derive(Drop)]
 pub struct Sums {
     rounds: u64,
     totals: Vec<Totals>,

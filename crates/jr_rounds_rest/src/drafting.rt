@@ -7,7 +7,7 @@ use jr_plan::{Draft, Plan, Split, SubJob, Workload};
 use std::alloc::Global;
 
 // A plan while tasks are put into it, and whether one didn't fit.
-#[derive(Debug, Drop)]
+#[derive(Drop)]
 pub(crate) struct Drafting {
     draft: Draft,
     is_full: bool,

@@ -6,7 +6,7 @@ use jr_plan::{Plan, SubJob};
 use std::alloc::Global;
 
 /// A part of the region of a clone of a job: it is still to be tried, or to be read back and checked.
-#[derive(Clone, Copy, Debug, PartialEq, Eq)]
+#[derive(Clone, Copy, PartialEq, Eq)]
 pub struct Task {
     /// The clone of the job that it is of.
     pub original: u32,

@@ -25,10 +25,10 @@ impl fmt::Display for RunFault {
 
     fn fmt<W: fmt::Write>(&self, f: &mut fmt::Formatter<W>) -> fmt::Result {
         match self {
-            RunFault::Memory => write!(f, "out of memory"),
-            RunFault::NoEngine => write!(f, "no engine"),
-            RunFault::Thread => write!(f, "cannot start a thread"),
-            RunFault::Books => write!(f, "books differ"),
+            RunFault::Memory => f.write_str("out of memory"),
+            RunFault::NoEngine => f.write_str("no engine"),
+            RunFault::Thread => f.write_str("cannot start a thread"),
+            RunFault::Books => f.write_str("books differ"),
         }
     }
 }

@@ -28,8 +28,8 @@ impl fmt::Display for TraceFault {
         match self {
             TraceFault::Line(line) => write!(f, "trace: line {line}: not a trace line"),
             TraceFault::Illegal(line) => write!(f, "trace: line {line}: not legal here"),
-            TraceFault::Unfinished => write!(f, "trace: not complete"),
-            TraceFault::Memory => write!(f, "out of memory"),
+            TraceFault::Unfinished => f.write_str("trace: not complete"),
+            TraceFault::Memory => f.write_str("out of memory"),
         }
     }
 }

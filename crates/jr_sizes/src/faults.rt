@@ -24,11 +24,11 @@ impl fmt::Display for SplitFault {
 
     fn fmt<W: fmt::Write>(&self, f: &mut fmt::Formatter<W>) -> fmt::Result {
         match self {
-            SplitFault::TooMany => write!(f, "more than 64 entries"),
-            SplitFault::BadSize => write!(f, "bad size"),
-            SplitFault::BadPercent => write!(f, "bad percent"),
-            SplitFault::Over => write!(f, "more than 100 percent"),
-            SplitFault::Under => write!(f, "less than 100 percent"),
+            SplitFault::TooMany => f.write_str("more than 64 entries"),
+            SplitFault::BadSize => f.write_str("bad size"),
+            SplitFault::BadPercent => f.write_str("bad percent"),
+            SplitFault::Over => f.write_str("more than 100 percent"),
+            SplitFault::Under => f.write_str("less than 100 percent"),
         }
     }
 }

@@ -185,30 +185,61 @@ pub fn asked_by<R: Files<File = File> + AllocGlobal + Threads>(
     ensures unasked { pipe.entry ≡ None → IfErr result (λ fault. fault ≡ CliFault.Memory) }
     ensures failed { IfErr result (λ fault. (fault ≡ CliFault.Open) ⊎ (fault ≡ CliFault.Memory)) }
 {
-    let Ok(asked) = Arc::new(
-        rt.alloc(),
-        Asked::new(rt.alloc(), pace, pipe.is_some(), has_limit),
-    ) else {
+    let asked = shared(rt.alloc(), pace, pipe.is_some(), has_limit)?;
+    if let Some(number) = pipe {
+        begin_to_listen(rt, &asked, number)?;
+    }
+    Ok(asked)
+}
+
+// What is asked of a run, for two threads.
+fn shared(
+    alloc: Global,
+    pace: Pace,
+    has_pipe: bool,
+    has_limit: bool,
+) -> Result<Arc<Asked, Global>, Stop>
+    ensures pace { IfOk result (λ asked. pace_of (arc_value asked) ≡ pace) }
+    ensures pipe { IfOk result (λ asked. can_be_asked (arc_value asked) ≡ has_pipe) }
+    ensures limit { IfOk result (λ asked. can_be_stopped (arc_value asked) ≡ has_pipe || has_limit) }
+    ensures failed { IfErr result (λ fault. fault ≡ CliFault.Memory) }
+{
+    match Arc::new(alloc, Asked::new(alloc, pace, has_pipe, has_limit)) {
+        Ok(asked) => Ok(asked),
+        Err(_) => Err(Stop::from(CliFault::Memory)),
+    }
+}
+
+// Has a thread take in what comes by the pipe of this number.
+fn begin_to_listen<R: Files<File = File> + AllocGlobal + Threads>(
+    rt: &R,
+    asked: &Arc<Asked, Global>,
+    number: &str,
+) -> Result<(), Stop>
+    ensures failed { IfErr result (λ fault. (fault ≡ CliFault.Open) ⊎ (fault ≡ CliFault.Memory)) }
+{
+    let file = pipe_of(rt, number)?;
+    let Ok(theirs) = Arc::try_clone(asked) else {
         return Err(Stop::from(CliFault::Memory));
     };
-    let Some(number) = pipe else {
-        return Ok(asked);
-    };
+    // (it is never joined: where the pipe stays open, the program's end cuts it off; and a run that can't be asked goes on)
+    let _listens = thread::spawn(rt, move || listen(file, &theirs));
+    Ok(())
+}
+
+fn pipe_of<R: Files<File = File> + AllocGlobal>(rt: &R, number: &str) -> Result<File, Stop>
+    ensures failed { IfErr result (λ fault. (fault ≡ CliFault.Open) ⊎ (fault ≡ CliFault.Memory)) }
+{
     if number.parse::<u32>().is_err() {
         return Err(Stop::pipe());
     }
     let Ok(path) = format!(in rt.alloc(); "/proc/self/fd/{number}") else {
         return Err(Stop::from(CliFault::Memory));
     };
-    let Ok(theirs) = Arc::try_clone(&asked) else {
-        return Err(Stop::from(CliFault::Memory));
-    };
-    let Ok(file) = File::open(rt, path.as_str()) else {
-        return Err(Stop::pipe());
-    };
-    // (it is never joined: where the pipe stays open, the program's end cuts it off; and a run that can't be asked goes on)
-    let _listens = thread::spawn(rt, move || listen(file, &theirs));
-    Ok(asked)
+    match File::open(rt, path.as_str()) {
+        Ok(file) => Ok(file),
+        Err(_) => Err(Stop::pipe()),
+    }
 }
 
 // Takes in what comes by the pipe. Once it has no other end any more, the run is to stop.
@@ -238,7 +269,10 @@ pub fn stop_after<R: Machine>(
 {
     let begun = Instant::now(rt).ok();
     let own: Result<R, AllocError> = rt.clone();
-    let (Ok(theirs), Ok(own)) = (Arc::try_clone(asked), own) else {
+    let Ok(own) = own else {
+        return Err(CliFault::Memory);
+    };
+    let Ok(theirs) = Arc::try_clone(asked) else {
         return Err(CliFault::Memory);
     };
     // (it is never joined: the program's end cuts it off)
@@ -276,7 +310,10 @@ pub fn stop_when_short<R: Machine>(
 {
     let alloc = rt.alloc();
     let own: Result<R, AllocError> = rt.clone();
-    let (Ok(theirs), Ok(own)) = (Arc::try_clone(asked), own) else {
+    let Ok(own) = own else {
+        return Err(CliFault::Memory);
+    };
+    let Ok(theirs) = Arc::try_clone(asked) else {
         return Err(CliFault::Memory);
     };
     // (it is never joined: the program's end cuts it off)

@@ -66,10 +66,18 @@ impl MemoryFiles {
     /// Opens them; none where the system hasn't got them.
     pub fn open<R: Files<File = File> + AllocGlobal>(rt: &R) -> Option<MemoryFiles> {
         let limits = text_at(rt, "/proc/self/limits")?;
+        MemoryFiles::open_with(rt, number_in(limits.as_str(), "Max address space"))
+    }
+
+    // Those of a program that may have so many addresses.
+    fn open_with<R: Files<File = File> + AllocGlobal>(
+        rt: &R,
+        most_addresses: Option<u64>,
+    ) -> Option<MemoryFiles> {
         Some(MemoryFiles {
             status: fs::open(rt, "/proc/self/status").ok()?,
             all: fs::open(rt, "/proc/meminfo").ok()?,
-            most_addresses: number_in(limits.as_str(), "Max address space"),
+            most_addresses,
             groups: groups_of(rt)?,
         })
     }
@@ -77,23 +85,34 @@ impl MemoryFiles {
     /// What they say now; nothing where they can't be read.
     pub fn now(&mut self, alloc: Global) -> Option<MemoryState> {
         let status = text_of(alloc, &mut self.status)?;
-        let all = text_of(alloc, &mut self.all)?;
-        let mut free = kib_in(all.as_str(), "MemAvailable:")?;
-        for group in self.groups.iter_mut() {
-            if let Some(left) = group.left(alloc) {
-                free = free.min(left);
-            }
-        }
         let addresses = match self.most_addresses {
             Some(most) => Some(most.saturating_sub(kib_in(status.as_str(), "VmSize:")?)),
             None => None,
         };
         Some(MemoryState {
             used: kib_in(status.as_str(), "RssAnon:")?,
-            free,
+            free: self.free(alloc)?,
             addresses,
         })
     }
+
+    // How much more the program can get, of the system and of its groups.
+    fn free(&mut self, alloc: Global) -> Option<u64> {
+        let all = text_of(alloc, &mut self.all)?;
+        let free = kib_in(all.as_str(), "MemAvailable:")?;
+        Some(least_left(alloc, self.groups.as_mut_slice(), free))
+    }
+}
+
+// How much more each of these groups can get, or this much if that is less.
+fn least_left(alloc: Global, groups: &mut [GroupFiles], free: u64) -> u64 {
+    let mut least = free;
+    for group in groups.iter_mut() {
+        if let Some(left) = group.left(alloc) {
+            least = least.min(left);
+        }
+    }
+    least
 }
 
 impl GroupFiles {
@@ -103,16 +122,10 @@ impl GroupFiles {
         names: &GroupNames,
         path: &str,
     ) -> Option<GroupFiles> {
-        let limit = text_at(
-            rt,
-            group_path(rt.alloc(), names, path, names.limit)?.as_str(),
-        )?;
-        let used = group_path(rt.alloc(), names, path, names.used)?;
-        let counts = group_path(rt.alloc(), names, path, "memory.stat")?;
         Some(GroupFiles {
-            limit: first_number(limit.as_str())?,
-            used: fs::open(rt, used.as_str()).ok()?,
-            counts: fs::open(rt, counts.as_str()).ok()?,
+            limit: limit_of(rt, names, path)?,
+            used: group_file(rt, names, path, names.used)?,
+            counts: group_file(rt, names, path, "memory.stat")?,
             pages: names.pages,
         })
     }
@@ -141,6 +154,28 @@ fn text_of(alloc: Global, file: &mut File) -> Option<String> {
     Some(text)
 }
 
+// The limit of a group, if it has one.
+fn limit_of<R: Files<File = File> + AllocGlobal>(
+    rt: &R,
+    names: &GroupNames,
+    path: &str,
+) -> Option<u64> {
+    let path = group_path(rt.alloc(), names, path, names.limit)?;
+    let text = text_at(rt, path.as_str())?;
+    first_number(text.as_str())
+}
+
+// A file of a group, open.
+fn group_file<R: Files<File = File> + AllocGlobal>(
+    rt: &R,
+    names: &GroupNames,
+    path: &str,
+    name: &str,
+) -> Option<File> {
+    let path = group_path(rt.alloc(), names, path, name)?;
+    fs::open(rt, path.as_str()).ok()
+}
+
 fn group_path(alloc: Global, names: &GroupNames, path: &str, name: &str) -> Option<String> {
     format!(in alloc; "{}{path}/{name}", names.root).ok()
 }
@@ -151,25 +186,41 @@ fn groups_of<R: Files<File = File> + AllocGlobal>(rt: &R) -> Option<Vec<GroupFil
     let Some(text) = text_at(rt, "/proc/self/cgroup") else {
         return Some(groups);
     };
-    for line in text.as_str().split('\n') {
-        add_groups(rt, &mut groups, line)?;
-    }
+    add_all(rt, &mut groups, text.as_str())?;
     Some(groups)
 }
 
-// Adds those of a line: a number, the controllers and the path of a group.
+// Adds those of all lines.
+fn add_all<R: Files<File = File> + AllocGlobal>(
+    rt: &R,
+    groups: &mut Vec<GroupFiles>,
+    text: &str,
+) -> Option<()> {
+    for line in text.split('\n') {
+        add_groups(rt, groups, line)?;
+    }
+    Some(())
+}
+
+// Adds those of a line.
 fn add_groups<R: Files<File = File> + AllocGlobal>(
     rt: &R,
     groups: &mut Vec<GroupFiles>,
     line: &str,
 ) -> Option<()> {
-    let Some((_, rest)) = line.split_once(':') else {
-        return Some(());
-    };
-    match rest.split_once(':') {
-        Some(("", path)) => add_upwards(rt, groups, &SECOND, path),
-        Some(("memory", path)) => add_upwards(rt, groups, &FIRST, path),
-        _ => Some(()),
+    match group_in(line) {
+        Some((names, path)) => add_upwards(rt, groups, &names, path),
+        None => Some(()),
+    }
+}
+
+// The path of the group that a line says, behind a number and the controllers, where memory is one of these.
+fn group_in(line: &str) -> Option<(GroupNames, &str)> {
+    let (_, rest) = line.split_once(':')?;
+    match rest.split_once(':')? {
+        ("", path) => Some((SECOND, path)),
+        ("memory", path) => Some((FIRST, path)),
+        _ => None,
     }
 }
 
@@ -217,10 +268,7 @@ fn first_number(text: &str) -> Option<u64> {
 /// Says on standard error how much memory the history of a run of the plan with so many workers may take: of a run if that may be too much, and
 /// of a plan that isn't run if it is much.
 pub fn tell_history<R: Outlet>(rt: &R, plan: &Plan, workers: u32, is_run: bool) {
-    let Some(mut files) = MemoryFiles::open(rt) else {
-        return;
-    };
-    let Some(state) = files.now(rt.alloc()) else {
+    let Some(state) = memory_now(rt) else {
         return;
     };
     let (history, left) = (history_bytes(plan, workers), state.left());
@@ -234,4 +282,10 @@ pub fn tell_history<R: Outlet>(rt: &R, plan: &Plan, workers: u32, is_run: bool) 
             "fiorun: note: the history may take {most} MiB, and {free} MiB of memory are free: the run stops if they don't suffice (--for and --repeat run it in rounds)"
         );
     }
+}
+
+// What the system says of memory now.
+fn memory_now<R: Files<File = File> + AllocGlobal>(rt: &R) -> Option<MemoryState> {
+    let mut files = MemoryFiles::open(rt)?;
+    files.now(rt.alloc())
 }

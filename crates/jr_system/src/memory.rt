@@ -40,7 +40,7 @@ fn bytes_an_io(workers: u32) -> u64
 }
 
 /// What the program has of the machine's memory, and what is left for it, in bytes.
-#[derive(Clone, Copy, Debug, PartialEq, Eq)]
+#[derive(Clone, Copy, PartialEq, Eq)]
 pub struct MemoryState {
     /// How much it has.
     pub used: u64,

@@ -94,7 +94,7 @@ pub fn shown<R: Machine, T, F: for<'p> FnOnce(Watch<'p>, &'p Meter) -> T>(
 ) -> T
     requires { F.IsAlwaysCallable f }
 {
-    let ended = watched(rt, extent, asked, f);
+    let ended = with_watch(rt, extent, asked, f);
     if let Some(ledger) = asked.ledger() {
         ledger.write_out();
     }
@@ -102,7 +102,7 @@ pub fn shown<R: Machine, T, F: for<'p> FnOnce(Watch<'p>, &'p Meter) -> T>(
 }
 
 // Calls `f`, and shows meanwhile how far the run is.
-fn watched<R: Machine, T, F: for<'p> FnOnce(Watch<'p>, &'p Meter) -> T>(
+fn with_watch<R: Machine, T, F: for<'p> FnOnce(Watch<'p>, &'p Meter) -> T>(
     rt: &R,
     extent: PlanBytes,
     asked: &Arc<Asked, Global>,
@@ -140,21 +140,28 @@ fn watched<R: Machine, T, F: for<'p> FnOnce(Watch<'p>, &'p Meter) -> T>(
 // Has a thread show the run, unless that of an earlier run still does. It is never joined: who reads what it says may have stopped to, and
 // the run's end doesn't wait for that.
 fn begin_to_show<R: Machine>(rt: &R, meter: &Arc<Meter, Global>, asked: &Arc<Asked, Global>) {
-    let own: Result<R, AllocError> = rt.clone();
-    let (Ok(meter), Ok(theirs), Ok(own)) = (Arc::try_clone(meter), Arc::try_clone(asked), own)
-    else {
-        return;
-    };
-    if !asked.move_in() {
-        return;
+    if asked.move_in() && !has_begun(rt, meter, asked) {
+        asked.move_out();
     }
+}
+
+// Starts that thread. False if it can't be had.
+fn has_begun<R: Machine>(rt: &R, meter: &Arc<Meter, Global>, asked: &Arc<Asked, Global>) -> bool {
+    let own: Result<R, AllocError> = rt.clone();
+    let Ok(own) = own else {
+        return false;
+    };
+    let Ok(meter) = Arc::try_clone(meter) else {
+        return false;
+    };
+    let Ok(theirs) = Arc::try_clone(asked) else {
+        return false;
+    };
     let begun = thread::spawn(rt, move || {
         show(&own, &meter, &theirs);
         theirs.move_out();
     });
-    if begun.is_err() {
-        asked.move_out();
-    }
+    begun.is_ok()
 }
 
 // Wakes the thread that shows the run, and waits a moment for its end, so that it doesn't take what wakes that of the next run.

@@ -35,7 +35,7 @@ fn record<R: Wait>(rt: &R, ledger: &RunLedger) {
             lines.write_ended(&write(number), &outcome);
             ledger.send(lines);
         }
-        if ledger.is_due(0) {
+        if ledger.count_write(0) {
             ledger.sync(0);
         }
     }
@@ -237,7 +237,7 @@ fn a_ledger_that_cant_be_written_is_cut(rt: HostRuntime) -> Result<(), Fail> {
         return Err(Fail::from("no reason"));
     };
     same(&rt, error.kind(), ErrorKind::StorageFull);
-    same(&rt, ledger.is_due(0), false);
+    same(&rt, ledger.count_write(0), false);
     Ok(())
 }
 
@@ -251,6 +251,6 @@ fn nothing_is_recorded_where_only_syncs_are_wanted(rt: HostRuntime) -> Result<()
     same(&rt, ledger.lines_alone().is_some(), false);
     same(&rt, ledger.sync_begins(0).is_some(), false);
     // (it has no files)
-    same(&rt, ledger.is_due(0), false);
+    same(&rt, ledger.count_write(0), false);
     Ok(())
 }

@@ -271,6 +271,6 @@ fn who_holds_every_part_can_settle(rt: HostRuntime) -> Result<(), Fail> {
     let parcel = handoff.take(&rt, &mut other);
     assert!(rt; matches!(&parcel, Parcel::Stop));
     handoff.join(&mut pass, other);
-    handoff.account(&mut pass);
+    handoff.facts(&mut pass);
     Ok(())
 }

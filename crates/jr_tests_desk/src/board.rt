@@ -3,7 +3,7 @@ use crate::plans::{checked, plan_of};
 use jr_desk::{Bad, Desk, Take};
 use jr_engines::{Engine, NullEngine};
 use jr_header::{Ruling, Served, rule, serve};
-use jr_model::{DeskFault, Piece, Ticket, Totals, What, WriteId, is_same};
+use jr_model::{DeskFault, Piece, Ticket, Totals, What, WriteId, is_same_ticket};
 use jr_plan::Plan;
 use std::alloc::Global;
 use std::process::Abort;
@@ -24,7 +24,7 @@ fn next_ticket(desk: &mut Desk, number: u32) -> Result<Ticket, Fail> {
     let Some(own) = desk.ticket_at(number) else {
         return Err(Fail::from("a ticket of this number"));
     };
-    if !is_same(&ticket, &own) {
+    if !is_same_ticket(&ticket, &own) {
         return Err(Fail::from("the same ticket"));
     }
     Ok(ticket)

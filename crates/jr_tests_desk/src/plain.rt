@@ -9,7 +9,7 @@ use jr_model::{DeskFault, Event, Outcome, Reply, StepReply, Ticket, Verdict};
 use jr_plan::Plan;
 use jr_replay::{choice, complete};
 use jr_replay_history::Past;
-use jr_replay_traces::check_part;
+use jr_replay_traces::check_stopped_trace;
 use jr_stats::trace;
 use std::alloc::Global;
 use std::process::Abort;
@@ -268,7 +268,7 @@ impl Pair {
     // How many verdicts are void. The trace is legal, and its totals are the desk's.
     fn void(&self, rt: &impl Abort) -> Result<u64, Fail> {
         let text = trace(self.alloc, &self.desk)?;
-        let totals = check_part(self.alloc, self.desk.plan(), text.as_slice())?;
+        let totals = check_stopped_trace(self.alloc, self.desk.plan(), text.as_slice())?;
         same(rt, self.desk.totals(), totals.as_slice());
         let mut void = 0u64;
         for found in totals.iter() {

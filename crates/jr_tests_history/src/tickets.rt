@@ -3,7 +3,7 @@ use crate::plans::plan_of;
 use jr_desk_tickets::{IoState, TicketTable};
 use jr_model::{
     Expected, IoType, Method, Outcome, Pattern, Piece, Ticket, TicketKind, VerifyKind, WriteId,
-    is_same,
+    is_same_ticket,
 };
 use jr_plan::{Plan, Workload};
 use std::alloc::Global;
@@ -104,7 +104,7 @@ fn assert_handed(
 ) -> Result<(), Fail> {
     for (number, ticket) in tickets.iter().enumerate().take(id as usize + 1) {
         let own = table.ticket(plan, number as u32).ok_or("not there")?;
-        same(rt, (number, is_same(&own, ticket)), (number, true));
+        same(rt, (number, is_same_ticket(&own, ticket)), (number, true));
         same(rt, (number, table.is_own(plan, ticket)), (number, true));
         same(rt, table.seed(number as u32), Some(1_000_000_007));
         same(rt, table.worker(number as u32), Some(ticket.worker));

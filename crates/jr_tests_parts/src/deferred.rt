@@ -25,7 +25,7 @@ fn same_draws(rt: &impl Abort, alloc: Global, plan: &Plan, clone: usize) -> Resu
             let draw = drawer.next();
             same(rt, draws.is_over(), draw.is_none());
             same(rt, draws.next(), draw);
-            draws.pass();
+            draws.skip_next();
         }
         assert!(rt; draws.is_over());
     }
@@ -75,12 +75,12 @@ fn is_over_behind_the_last_draw(rt: HostRuntime) -> Result<(), Fail> {
         same(&rt, draw.number, number);
         same(&rt, draw.piece.offset, offset);
         same(&rt, draws.next(), Some(draw));
-        draws.pass();
+        draws.skip_next();
     }
     for _ in 0..2 {
         assert!(rt; draws.is_over());
         same(&rt, draws.next(), None);
-        draws.pass();
+        draws.skip_next();
     }
     Ok(())
 }

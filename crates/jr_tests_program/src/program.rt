@@ -2,8 +2,8 @@ use crate::asserts::same;
 use crate::jobs::read_job;
 use crate::texts::assert_said;
 use jr_cli::{
-    CliFault, RunEnd, StopFlag, Watch, execute_serial, print_check, print_part, print_plan,
-    read_text, read_trace,
+    CliFault, RunEnd, StopFlag, Watch, execute_serial, print_check, print_plan,
+    print_stopped_totals, read_text, read_trace,
 };
 use jr_engines::MemoryEngine;
 use jr_stats::TraceFault;
@@ -284,7 +284,7 @@ fn a_trace_of_a_stopped_run_is_checked(rt: HostRuntime) -> Result<(), Fail> {
     let plan = read_job(rt.alloc(), CHECKED.as_bytes(), None)?;
     let mut out = Vec::new(rt.alloc());
     let begun = "I 0 0 0 0 0\nE 0 0 whole\n";
-    print_part(rt.alloc(), &plan, begun.as_bytes(), &mut out)?;
+    print_stopped_totals(rt.alloc(), &plan, begun.as_bytes(), &mut out)?;
     let totals =
         "w: clone=0 reads=0 rbytes=0 writes=1 wbytes=4096 checks=0 good=0 bad=0 skipped=0 void=0 faults=0\n";
     same(&rt, out.as_slice(), totals.as_bytes());

@@ -10,7 +10,7 @@ use std::alloc::{AllocError, AllocFailed, Global};
 use std::marker::Model;
 
 /// An option line of a section.
-#[derive(Debug, Drop)]
+#[derive(Drop)]
 pub struct Line {
     number: u32,
     key: String,
@@ -101,7 +101,7 @@ impl Line {
 }
 
 /// A section: `global`, or a job.
-#[derive(Debug, Drop)]
+#[derive(Drop)]
 pub struct Section {
     name: String,
     line: u32,

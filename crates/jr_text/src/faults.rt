@@ -25,10 +25,10 @@ impl fmt::Display for NumFault {
 
     fn fmt<W: fmt::Write>(&self, f: &mut fmt::Formatter<W>) -> fmt::Result {
         match self {
-            NumFault::NoDigits => write!(f, "no digits"),
-            NumFault::BadUnit => write!(f, "no such unit"),
-            NumFault::UnitOutOfScope => write!(f, "unit out of scope"),
-            NumFault::TooLarge => write!(f, "number too large"),
+            NumFault::NoDigits => f.write_str("no digits"),
+            NumFault::BadUnit => f.write_str("no such unit"),
+            NumFault::UnitOutOfScope => f.write_str("unit out of scope"),
+            NumFault::TooLarge => f.write_str("number too large"),
         }
     }
 }
@@ -60,8 +60,8 @@ impl fmt::Display for TextFault {
 
     fn fmt<W: fmt::Write>(&self, f: &mut fmt::Formatter<W>) -> fmt::Result {
         match self {
-            TextFault::TooLong => write!(f, "job file: longer than 1048576 bytes"),
-            TextFault::NotUtf8 => write!(f, "job file: not UTF-8"),
+            TextFault::TooLong => f.write_str("job file: longer than 1048576 bytes"),
+            TextFault::NotUtf8 => f.write_str("job file: not UTF-8"),
             TextFault::OpenBracket(line) => {
                 write!(f, "job file: line {line}: no closing bracket")
             }
@@ -69,7 +69,7 @@ impl fmt::Display for TextFault {
             TextFault::Outside(line) => {
                 write!(f, "job file: line {line}: option before any section")
             }
-            TextFault::Memory => write!(f, "out of memory"),
+            TextFault::Memory => f.write_str("out of memory"),
         }
     }
 }

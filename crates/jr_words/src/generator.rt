@@ -9,7 +9,7 @@ use std::marker::Model;
 
 /// The words of a seed in order: Xoshiro256++ (Blackman and Vigna), seeded through SplitMix64 as by
 /// `seed_from_u64`.
-#[derive(Debug, PartialEq, Eq, Drop)]
+#[derive(PartialEq, Eq, Drop)]
 pub struct Words {
     generator: Xoshiro256PlusPlus,
 }

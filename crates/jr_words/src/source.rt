@@ -22,7 +22,7 @@ impl WordSource for Words {
 }
 
 /// Words handed in, and zeros after the last of them: a source for tests and worked examples.
-#[derive(Clone, Copy, Debug)]
+#[derive(Clone, Copy)]
 pub struct WordList<'a> {
     /// The words still to come.
     pub rest: &'a [u64],

@@ -4,11 +4,10 @@ use crate::places::Places;
 use crate::spots::{put, take_out};
 use jr_model::{Expected, Memory, Piece, WriteId};
 use std::alloc::Global;
-use std::fmt;
 use std::marker::Model;
 
 /// What the log has of a write: where it lies, and what its checks compare with.
-#[derive(Clone, Copy, Debug, PartialEq, Eq)]
+#[derive(Clone, Copy, PartialEq, Eq)]
 pub struct Logged {
     pub piece: Piece,
     pub expected: Expected,
@@ -22,12 +21,6 @@ pub struct WriteLog {
     places: Places,
     // What checks compare with.
     known: Known,
-}
-
-impl fmt::Debug for WriteLog {
-    fn fmt<F: fmt::Write>(&self, f: &mut fmt::Formatter<F>) -> fmt::Result {
-        f.write_str("WriteLog { .. }")
-    }
 }
 
 // Clauses see the entries of the log, in the order of the writes.
@@ -97,7 +90,7 @@ impl WriteLog {
         take_out(&mut self.names, &mut self.places, piece, None);
     }
 
-    /// Whether the write is in the log. (The desk asks for `expected` alone.)
+    /// Whether the write is in the log. (The desk asks for `found` alone.)
     pub fn intact(&self, write: &WriteId) -> bool
         ensures { result ≡ is_some (logged self.now write.now) }
     {

@@ -1,20 +1,10 @@
-use Rattle.std.proofs.Common.{ℕ, length, sym, subst}
-use Rattle.jr_run_faults.specs.declared.runs.RunFault.{RunFault}
-use Rattle.jr_crew_threads.specs.declared.halts.Halt.{Halt}
-use Rattle.jr_crew_threads.specs.declared.halts.Halt.TheVariants as halt
-use Rattle.jr_run_faults.specs.Faults.{IsRefusal}
-use Rattle.jr_crew_threads.specs.Halts.{fault_of}
+use Rattle.std.proofs.Common.{length, rules}
 use Rattle.jr_crew.proofs.crew.run_manned.Goals as goal
-
--- a run that was halted is refused for nothing else than memory or books
-halt_refuses : (verifiers : ℕ) (halted : Halt) → IsRefusal verifiers (fault_of halted)
-halt_refuses verifiers halt.Memory = tt
-halt_refuses verifiers halt.Books = tt
-
-pub returns-in-Some-clause-failed : goal.returns-in-Some-clause-failed
-returns-in-Some-clause-failed g c =
-    let verifiers = length c.args.verifiers.all.items in
-    subst (λ (fault : RunFault). IsRefusal verifiers fault) (sym c.from.ensures) (halt_refuses verifiers c.in-Some.halt)
 
 pub returns-clause-each : goal.returns-clause-each
 returns-clause-each g c = rw c.judges_inline-inline.ensures at c.in_ok-ended.ensures.each
+
+-- what halted it says nothing of threads
+pub returns-in_err-desk-clause-failed : goal.returns-in_err-desk-clause-failed
+returns-in_err-desk-clause-failed g c =
+    let halted = c.in_err-desk.ensures.halted (length c.args.verifiers.all.items) in search (rules, halted)

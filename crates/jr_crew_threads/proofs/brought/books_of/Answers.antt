@@ -10,7 +10,7 @@ returns-clause-said g c =
     let put = flat_map (λ one. (pass_state one.1.part.pass).put) c.args.ended.items in
     let taken = flat_map (λ one. (pass_state one.part.pass).taken) judgements.all.items in
     let back = all_back n (length c.args.ended.items) n put taken (pass_state judgements.channel.pass) (pass_state c.worked_books.new.channel.pass)
-    (pass_state c.judged_books.new.channel.pass) (pass_state c.account.new.self.pass) judgements.put judgements.taken
-    c.in_ok-engines.ensures.more c.in_ok-said.ensures.more c.account.ensures.same in
-    taken_was_put (λ book. book.items) c.in_ok-said.said.items n taken c.account.ensures.left.0 put (pass_state c.account.new.self.pass)
-    c.in_ok-said.ensures.books c.account.ensures.left.1 back.0 back.1
+    (pass_state c.judged_books.new.channel.pass) (pass_state c.facts.new.self.pass) judgements.put judgements.taken
+    c.in_ok-engines.ensures.more c.in_ok-said.ensures.more c.facts.ensures.same in
+    taken_was_put (λ book. book.items) c.in_ok-said.said.items n taken c.facts.ensures.left.0 put (pass_state c.facts.new.self.pass)
+    c.in_ok-said.ensures.books c.facts.ensures.left.1 back.0 back.1

@@ -1,48 +1,22 @@
-use Rattle.std.proofs.Common.{◌≡◌, ◌+◌, List, ◌∷◌, [], ◌++◌, take, sym, ◌∙◌, ap, subst, arith}
-use Rattle.std.proofs.lemmas.List.{take_more}
-use Rattle.jr_model.specs.declared.steps.Step.{Step}
-use Rattle.jr_model.specs.declared.steps.StepReply.{StepReply}
-use Rattle.jr_desk.proofs.Running.{HasPlayed, ready_on, played_all, played_on, first_played}
+use Rattle.std.proofs.Common.{sym, ◌∙◌, ap, subst}
+use Rattle.jr_model.specs.Machine.{first_state, machine_run}
+use Rattle.jr_model.specs.Plan.{Plan}
+use Rattle.jr_model.specs.PlanFacts.{IsPlanned}
+use Rattle.jr_desk.specs.DeskOf.{desk_in}
 use Rattle.jr_desk.proofs.plays.play.Goals as goal
 
-pub answer-requires-clause-ready : goal.answer-requires-clause-ready
-answer-requires-clause-ready c =
-    let so = c.loop-step.invariant in
-    ready_on c.args.plan (take c.loop-step.step-index c.args.steps.now) c.loop-step.replies.items c.loop-step.player so.planned so.played
+pub answer_all-requires-clause-planned : goal.answer_all-requires-clause-planned
+answer_all-requires-clause-planned c = subst IsPlanned (sym c.in_ok-player.ensures.plan) c.facts.ensures
 
-pub loop-step-init : goal.loop-step-init
-loop-step-init c =
-    let new = c.in_ok-player.ensures in
-    let player = c.in_ok-player.player in record {
-      planned = c.facts.ensures;
-      played =
-          subst (λ (replies : List StepReply). HasPlayed c.args.plan [] replies player) (sym c.new-replies.ensures.items)
-          (first_played c.args.plan player c.facts.ensures new.first new.plan new.reads);
-      calls = omega (arith, new.calls);
-    }
-
-pub loop-step-preserved : goal.loop-step-preserved
-loop-step-preserved c =
-    let so = c.loop-step.invariant in
-    let i = c.loop-step.step-index in
-    let steps = c.args.steps.now in
-    let goes = c.in_ok-reply.ensures in
-    let more : take (i + 1) steps ≡ take i steps ++ c.step-item.result ∷ [] =
-    take_more steps i c.step-item.result c.loop-step-test.true
-    ∙ ap (λ (step : Step). take i steps ++ step ∷ []) (sym c.step-item.is) in record {
-      planned = so.planned;
-      played =
-          subst (λ (done : List Step). HasPlayed c.args.plan done c.push.new.self.items c.answer.new.self)
-          (sym more)
-          (subst (λ (replies : List StepReply). HasPlayed c.args.plan (take i steps ++ c.step-item.result ∷ []) replies c.answer.new.self) (sym c.in_ok-push.ensures.items)
-          (played_on c.args.plan (take i steps) c.loop-step.replies.items c.loop-step.player c.answer.new.self c.step-item.result c.in_ok-reply.reply so.played goes));
-      calls = omega (arith, so.calls, goes.calls);
-    }
+pub answer_all-requires-clause-first : goal.answer_all-requires-clause-first
+answer_all-requires-clause-first c = c.in_ok-player.ensures.first ∙ ap first_state (sym c.in_ok-player.ensures.plan)
 
 pub returns-clause-replies : goal.returns-clause-replies
 returns-clause-replies c =
-    (played_all c.args.plan c.args.steps.now c.loop-step.step-index c.loop-step.replies.items c.loop-step.player c.loop-step-test.false c.loop-step.invariant.played).0
+    ap (λ replies. replies.items) c.into_played.ensures.replies ∙ c.in_ok-replies.ensures.replies
+    ∙ ap (λ (plan : Plan). (machine_run plan (first_state plan) c.args.steps.now).replies) c.in_ok-player.ensures.plan
 
 pub returns-clause-desk : goal.returns-clause-desk
 returns-clause-desk c =
-    (played_all c.args.plan c.args.steps.now c.loop-step.step-index c.loop-step.replies.items c.loop-step.player c.loop-step-test.false c.loop-step.invariant.played).1
+    c.into_played.ensures.desk ∙ c.in_ok-replies.ensures.desk
+    ∙ ap (λ (plan : Plan). desk_in plan (machine_run plan (first_state plan) c.args.steps.now).state) c.in_ok-player.ensures.plan

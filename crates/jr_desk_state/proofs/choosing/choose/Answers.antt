@@ -26,12 +26,12 @@ loop-clone-init c =
     let plan = c.args.plan.now in
     let board = c.args.board.now in
     let is = c.requires.board in
-    given_between (choice_of_clone plan board.history.items c.args.worker) plan.clones board.rested.leading c.next-clone.result
-    c.next-clone.ensures.start
+    given_between (choice_of_clone plan board.history.items c.args.worker) plan.clones board.rested.leading c.next_unmarked-clone.result
+    c.next_unmarked-clone.ensures.start
     (given_past (choice_of_clone plan board.history.items c.args.worker) plan.clones board.rested.leading
     (λ clone job before there.
     none_at_rest plan is.planned clone job there board.history.items is.legal c.args.worker (is.rested.leading clone job there before)))
-    (gone_past plan board c.args.worker board.rested.leading c.next-clone.result is c.next-clone.ensures.passed)
+    (gone_past plan board c.args.worker board.rested.leading c.next_unmarked-clone.result is c.next_unmarked-clone.ensures.passed)
 
 pub returns-then-is_some-clause-step : goal.returns-then-is_some-clause-step
 returns-then-is_some-clause-step c =
@@ -55,7 +55,7 @@ loop-clone-preserved c =
     let some = some_mapped (λ (chosen : Chosen). chosen.event) c.step_of_clone-step.result ∙ sym c.is_some.ensures in
     let behind = given_behind choose plan.clones c.loop-clone.clone found.0 found.1 c.loop-clone.invariant
     (ap is_some (sym given) ∙ some ∙ c.if-is_some.false) in
-    given_between choose plan.clones (c.loop-clone.clone + 1) c.next-clone-in-loop-clone.result c.next-clone-in-loop-clone.ensures.start
+    given_between choose plan.clones (c.loop-clone.clone + 1) c.next_unmarked-clone-in-loop-clone.result c.next_unmarked-clone-in-loop-clone.ensures.start
     (rw add-one behind)
-    (gone_past plan board c.args.worker (c.loop-clone.clone + 1) c.next-clone-in-loop-clone.result c.requires.board
-    c.next-clone-in-loop-clone.ensures.passed)
+    (gone_past plan board c.args.worker (c.loop-clone.clone + 1) c.next_unmarked-clone-in-loop-clone.result c.requires.board
+    c.next_unmarked-clone-in-loop-clone.ensures.passed)

@@ -1,4 +1,4 @@
-use Rattle.std.proofs.Common.{◌≡◌, true, false, length, sym, ◌∙◌, ap, arith}
+use Rattle.std.proofs.Common.{◌≡◌, true, false, length, sym, ◌∙◌, ap, arith, refl}
 use Rattle.std.specs.Prelude.{Option, Some, None, is_some}
 use Rattle.jr_model.specs.declared.blocks.Piece.{Piece}
 use Rattle.jr_desk_state.proofs.ChoiceBoards.{barred_gives, clear_gives, entry, entry_there, found_is, handed_fits, left_here}
@@ -64,3 +64,12 @@ returns-in-None-clause-step c clone job there at rounds declines runs left =
     clear_gives its plan c.args.worker c.in_ok-piece.piece (c.in_ok-piece.ensures plan history c.requires.board.tickets)
     c.if-issued.false (c.if-not-is_clear.ensures plan history job c.requires.board.flying declines) false
     (ap is_some c.in-None.ensures ∙ found_is here its.draw its.drawn)
+
+pub is_clear-requires-clause-settled : goal.is_clear-requires-clause-settled
+is_clear-requires-clause-settled c = c.requires.ready.flying
+
+pub returns-in-Some-clause-judged : goal.returns-in-Some-clause-judged
+returns-in-Some-clause-judged c = sym c.found.ensures ∙ c.in-Some.is
+
+pub returns-in-None-clause-judged : goal.returns-in-None-clause-judged
+returns-in-None-clause-judged c = refl

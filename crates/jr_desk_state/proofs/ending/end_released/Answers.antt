@@ -1,5 +1,5 @@
 -- The index of each part takes the step that the end is.
-use Rattle.std.proofs.Common.{◌≡◌, ℕ, List, length, get_or, refl, sym, ◌∙◌, ap, subst, arith}
+use Rattle.std.proofs.Common.{◌≡◌, ℕ, List, length, get_or, refl, sym, ◌∙◌, ap, subst, arith, ◌∷◌, ◌++◌, []}
 use Rattle.std.proofs.Math.ListN.{set}
 use Rattle.std.specs.Prelude.{Some, slice_get}
 use Rattle.std.proofs.lemmas.Bool.{and_parts}
@@ -33,6 +33,7 @@ use Rattle.jr_desk_state.proofs.StandingStays.{standings_ended}
 use Rattle.jr_desk_state.proofs.StartingBoards.{board_grows, next_of}
 use Rattle.jr_desk_state.proofs.StartingStandings.{left_same, others_moved}
 use Rattle.jr_desk_state.proofs.WaitingMoves.{ends_free, waiting_grows}
+use Rattle.jr_model.proofs.OptionLemmas.{on_error}
 use Rattle.jr_desk_state.proofs.ending.end_released.Goals as goal
 
 -- what is read at a clone's place tells whether it is halted
@@ -280,3 +281,17 @@ returns-clause-board c =
           c.check_off-passed.ensures.left,
     ))
     (omega (arith, is.few))
+
+pub log_end-requires-clause-expected : goal.log_end-requires-clause-expected
+log_end-requires-clause-expected c = c.requires.expected
+
+pub push_reserved-requires : goal.push_reserved-requires
+push_reserved-requires c = omega (arith, c.in_ok-reserve.ensures.ok)
+
+pub returns-clause-ok : goal.returns-clause-ok
+returns-clause-ok c =
+    c.push_reserved.ensures.items
+    ∙ ap (λ (history : List Event). history ++ End c.args.ticket.now.worker c.args.ticket.now.id c.args.outcome ∷ []) c.reserve.ensures.items
+
+pub returns-in_err-log_end-clause-err : goal.returns-in_err-log_end-clause-err
+returns-in_err-log_end-clause-err c = on_error _ _ c.reserve.ensures.items

@@ -1,11 +1,12 @@
 use Rattle.std.proofs.Common.{◌≡◌, true, length, refl, arith}
+use Rattle.std.proofs.lemmas.Option.{slice_get_within}
 use Rattle.jr_model.specs.declared.events.Event.TheVariants.{Issue}
 use Rattle.jr_model.specs.declared.events.Started.{Started}
 use Rattle.jr_model.specs.History.{kind_for, started}
 use Rattle.jr_model.specs.Rounds.{has_rounds}
 use Rattle.jr_backlog.specs.Rounds.{comes_last, takes_writes}
-use Rattle.jr_laws_steps.specs.Nexts.{grown}
 use Rattle.jr_laws_steps.proofs.DrawnLaws.{start_fits}
+use Rattle.jr_laws_steps.proofs.StepLaws.{may_issue_of}
 use Rattle.jr_desk_state.proofs.LogMoves.{log_issue}
 use Rattle.jr_desk_state.proofs.IssueMoves.{issue_fills}
 use Rattle.jr_desk_state.proofs.StandingHere.{clone_stands, prepared, stands, stands_here}
@@ -111,3 +112,17 @@ start-requires-clause-fits c =
     let next = next_of c.args.plan.now c.args.board.now (Issue c.args.worker c.args.kind c.args.write c.args.piece) c.requires.board c.requires.may in
     start_fits c.args.plan.now c.args.board.now.history.items (Issue c.args.worker c.args.kind c.args.write c.args.piece)
     (record { worker = c.args.worker; kind = kind_for c.args.kind; write = c.args.write; piece = c.args.piece }) next refl
+
+pub push_reserved-requires : goal.push_reserved-requires
+push_reserved-requires c = omega (arith, c.requires.ready.history)
+
+pub overflow_add-board : goal.overflow_add-board
+overflow_add-board c =
+    omega (arith, c.requires.board.few, c.requires.ready.history, c.args.board.now.history.ok.0, c.added_by.ensures, added_few c.clone_at-job.result.now c.args.kind)
+
+pub clone_at-job-requires : goal.clone_at-job-requires
+clone_at-job-requires c =
+    let plan = c.args.plan.now in
+    let write = c.args.write in
+    let step = may_issue_of plan c.args.board.now.history.items c.args.worker c.args.kind write c.args.piece c.requires.may in
+    slice_get_within plan.clones write.clone step.job step.named.planned

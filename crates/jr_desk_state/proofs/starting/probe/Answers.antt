@@ -9,7 +9,6 @@ use Rattle.jr_model.specs.declared.events.Started.{Started}
 use Rattle.jr_model.specs.declared.tickets.TicketKind.TheVariants as kind
 use Rattle.jr_model.specs.History.{started}
 use Rattle.jr_laws_steps.proofs.StepLaws.{may_probe_of}
-use Rattle.jr_laws_steps.specs.Nexts.{grown}
 use Rattle.jr_laws_steps.proofs.DrawnLaws.{start_fits}
 use Rattle.jr_desk_state.proofs.LogMoves.{log_probe}
 use Rattle.jr_desk_state.proofs.StandingHere.{clone_stands, stands, stands_here}

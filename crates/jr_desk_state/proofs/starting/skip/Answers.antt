@@ -1,7 +1,6 @@
 use Rattle.std.proofs.Common.{refl, arith}
 use Rattle.jr_model.specs.declared.events.Event.TheVariants.{Skip}
 use Rattle.jr_laws_steps.proofs.StepLaws.{may_skip_of}
-use Rattle.jr_laws_steps.specs.Nexts.{grown}
 use Rattle.jr_desk_tickets.proofs.HandingMoves.{handed_skip}
 use Rattle.jr_desk_state.proofs.FlyingMoves.{flying_skip}
 use Rattle.jr_desk_state.proofs.LogMoves.{log_skip}

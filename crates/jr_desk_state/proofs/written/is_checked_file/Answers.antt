@@ -1,5 +1,5 @@
 -- No clone before this one does, or this one does.
-use Rattle.std.proofs.Common.{false, sym, ◌∙◌}
+use Rattle.std.proofs.Common.{sym, ◌∙◌}
 use Rattle.jr_model.proofs.PlaceLemmas.{any_at}
 use Rattle.jr_model.proofs.ListLemmas.{none_more}
 use Rattle.jr_desk_state.specs.WriteLogs.{checks_in}

@@ -31,3 +31,14 @@ loop-preserved g c =
           (omega (arith, most))
           (λ known. of_the_rest _ _ (c.args.offset + c.loop.done) c.loop.done 0 c.args.buf.now (w.in-Err.ensures.part known))
     ]
+
+-- what stands there after an error is what was written before it
+pub returns-in-Err-2-clause-bytes : goal.returns-in-Err-2-clause-bytes
+returns-in-Err-2-clause-bytes g c = λ known inside.
+    let most : c.loop.done ≤ length c.args.buf.now = c.loop.invariant.most in
+    let so_far =
+    written_more _ _ (g.F.Positioned.view c.write.new.file) c.args.offset c.loop.counter c.loop.done 0 c.loop.done c.args.buf.now c.loop.invariant c.write.ensures.known c.write.ensures.stays c.write.ensures.named (omega arith)
+    (λ sound. absurd (false≢true (c.in-Err-2.ensures.sound sound)))
+    (omega (arith, most))
+    (λ told. of_the_rest _ _ (c.args.offset + c.loop.done) c.loop.done 0 c.args.buf.now (c.in-Err-2.ensures.part told)) in
+    record { count = c.loop.done; most = most; answered = tt; stored = so_far.stored known inside }

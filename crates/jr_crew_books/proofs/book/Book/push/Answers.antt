@@ -1,5 +1,6 @@
 use Rattle.std.proofs.Common.{ap, ◌∙◌, ◌++◌, ◌∷◌, []}
 use Rattle.std.proofs.lemmas.List.Elements.{All-same}
+use Rattle.std.proofs.lemmas.Result.{IfOk-from_err}
 use Rattle.jr_model.proofs.OptionLemmas.{on_error}
 use Rattle.jr_crew_books.specs.declared.books.Done.{Done}
 use Rattle.jr_crew_books.specs.BookEntries.{IsKnown, dones_as}
@@ -40,3 +41,17 @@ returns-clause-ok c =
     dones_next old.known c.note.new.self c.in_ok-entry.ensures.grown old.entries.items c.push.new.self.items c.in_ok-entry.entry
     c.in_ok-push.ensures.items c.self.invariant done c.in_ok-entry.ensures.entry
     ∙ ap (λ dones. dones ++ done ∷ []) c.self.view_is
+
+pub invariant_of-self : goal.invariant_of-self
+invariant_of-self c =
+    let old = c.self.inside in
+    known_more old.known c.note.new.self c.in_err-entry.ensures.grown old.entries.items c.self.invariant
+
+pub returns-in_err-entry-clause-ok : goal.returns-in_err-entry-clause-ok
+returns-in_err-entry-clause-ok c = IfOk-from_err c.from_residual.result _ c.from_residual.ensures.0
+
+pub returns-in_err-push-clause-ok : goal.returns-in_err-push-clause-ok
+returns-in_err-push-clause-ok c = IfOk-from_err c.from_residual-in_err-push.result _ c.from_residual-in_err-push.ensures.0
+
+pub returns-clause-err : goal.returns-clause-err
+returns-clause-err c = tt

@@ -1,10 +1,13 @@
 -- A check that has just ended whole is still the desk's own, and has no verdict.
-use Rattle.std.proofs.Common.{rules, ◌≡◌, List, [], ◌∷◌, ◌++◌, true, false, refl, sym, ◌∙◌, ap, subst}
-use Rattle.std.specs.Prelude.{Option, Some, None, is_some, slice_get}
-use Rattle.jr_model.specs.declared.events.Event.TheVariants.{End}
+use Rattle.std.proofs.Common.{rules, ◌≡◌, List, [], ◌∷◌, ◌++◌, true, false, inr, refl, sym, ◌∙◌, ap, subst}
+use Rattle.std.specs.Prelude.{◌⊎◌, Option, Some, None, Result, Ok, Err, IfOk, IfErr, OnErr, is_some, slice_get}
+use Rattle.jr_model.specs.declared.events.Event.TheVariants.{End, Verdict}
 use Rattle.jr_model.specs.declared.events.Outcome.{Outcome}
 use Rattle.jr_model.specs.declared.events.Outcome.TheVariants.{Whole, Failed, Short}
+use Rattle.jr_model.specs.declared.steps.DeskFault.{DeskFault}
 use Rattle.jr_model.specs.declared.steps.DeskFault.TheVariants.{Memory}
+use Rattle.jr_model.specs.Machine.{said_of}
+use Rattle.jr_model.specs.Races.{has_raced}
 use Rattle.jr_model.specs.declared.tickets.Ticket.{Ticket}
 use Rattle.jr_model.specs.declared.tickets.TicketKind.{TicketKind}
 use Rattle.jr_model.specs.declared.tickets.TicketKind.TheVariants as ticket
@@ -12,7 +15,7 @@ use Rattle.jr_model.specs.History.{outcome_of, is_judged, ended_whole}
 use Rattle.jr_model.specs.Legal.{is_legal}
 use Rattle.jr_model.proofs.HistoryLemmas.{outcome_of-end}
 use Rattle.jr_engines.specs.Answers.{AnswerParts}
-use Rattle.jr_header.specs.Served.{is_to_judge, is_whole_check}
+use Rattle.jr_header.specs.Served.{answer_verdict, is_to_judge, is_whole_check}
 use Rattle.jr_laws_steps.proofs.Grown.{is_judged-stays}
 use Rattle.jr_laws_steps.proofs.JudgedEnded.{flying_unjudged}
 use Rattle.jr_desk_tickets.specs.Kept.{IsOwn}
@@ -82,3 +85,36 @@ returns-in_err-end_own-clause-taken_in c own none =
     (subst (λ (a : AnswerParts). IsOwn c.args.self.now.plan c.args.self.now.history a.ticket) (sym c.served.ensures.value) own)
     (subst (λ (a : AnswerParts). end_fault c.args.self.now a.ticket.id true ≡ None) (sym c.served.ensures.value) none) in
     search rules
+
+-- the desk with the end alone
+abbrev with_end : DeskState → AnswerParts → DeskState
+with_end desk served = record desk { history = desk.history ++ End served.ticket.worker served.ticket.id served.outcome ∷ [] }
+
+if_both : {T E : Type 0} (r : Result T E) (P Q : T → Type 0) → IfOk r P → IfOk r Q → IfOk r (λ x. P x × Q x)
+if_both (Ok x) P Q p q = (p, q)
+if_both (Err e) P Q p q = tt
+
+pub returns-clause-ok : goal.returns-clause-ok
+returns-clause-ok c =
+    let desk = c.args.self.now in
+    let check = c.args.ruling.now.ticket in
+    let ended : c.end_own.new.self ≡ with_end desk c.args.ruling.now = c.in_ok-end_own.ensures.ok ∙ ap (with_end desk) c.served.ensures.value in
+    subst (λ (d : DeskState).
+    IfOk c.judge_own.result (λ said. (c.judge_own.new.self ≡ record d { history = d.history ++ Verdict c.args.by check.id said ∷ [] })
+    × (said ≡ said_of (has_raced d.history check.id) (answer_verdict c.args.ruling.now)))) ended
+    (if_both c.judge_own.result _ _ c.judge_own.ensures.ok c.judge_own.ensures.said)
+
+pub returns-clause-says : goal.returns-clause-says
+returns-clause-says c = c.judge_own.ensures.says
+
+-- what is wanting is memory, and the end alone was taken in
+only_end : {T : Type 0} (r : Result T DeskFault) (A P Q : Type 0) → IfErr r (λ fault. fault ≡ Memory) → OnErr r P → (P → Q)
+    → IfErr r (λ fault. A ⊎ ((fault ≡ Memory) × Q))
+only_end (Ok x) A P Q memory as_it_was ended = tt
+only_end (Err fault) A P Q memory as_it_was ended = inr (memory, ended as_it_was)
+
+pub returns-clause-kept : goal.returns-clause-kept
+returns-clause-kept c =
+    let desk = c.args.self.now in
+    let ended : c.end_own.new.self ≡ with_end desk c.args.ruling.now = c.in_ok-end_own.ensures.ok ∙ ap (with_end desk) c.served.ensures.value in
+    only_end c.judge_own.result _ _ _ c.judge_own.ensures.memory c.judge_own.ensures.err (λ same. same ∙ ended)

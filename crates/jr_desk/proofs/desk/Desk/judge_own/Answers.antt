@@ -1,4 +1,5 @@
-use Rattle.std.proofs.Common.{◌≡◌, length, true, false, arith, refl, sym, ◌∙◌, ap, subst}
+use Rattle.std.proofs.Common.{◌≡◌, List, ◌∷◌, [], ◌++◌, length, true, false, arith, refl, sym, ◌∙◌, ap, subst}
+use Rattle.jr_model.specs.declared.events.Event.{Event}
 use Rattle.jr_model.specs.declared.events.Event.TheVariants.{Verdict}
 use Rattle.jr_model.specs.declared.events.Verdict.{Verdict as GivenVerdict}
 use Rattle.jr_model.specs.declared.tickets.Ticket.{Ticket}
@@ -12,7 +13,10 @@ use Rattle.jr_header.specs.Served.{answer_verdict}
 use Rattle.jr_engines.specs.Answers.{AnswerParts}
 use Rattle.jr_desk_tickets.specs.Kept.{IsOwn}
 use Rattle.jr_desk.specs.DeskState.{DeskState}
+use Rattle.jr_model.proofs.OptionLemmas.{on_error}
+use Rattle.jr_desk_state.specs.declared.board.Board.{Board}
 use Rattle.jr_desk_state.proofs.Keeping.{may_judge}
+use Rattle.jr_desk.proofs.Boxed.{lent_may}
 use Rattle.jr_desk.proofs.Refusing.{judged_probe}
 use Rattle.jr_desk.proofs.desk.Desk.judge_own.Goals as goal
 
@@ -35,6 +39,33 @@ judge-requires-clause-may c =
     let raced = has_raced desk.history t.id in
     let said : said_of raced (verdict_of t.method t.write t.piece t.expected ruling.bytes) ≡ c.said_of-said.result =
     ap (λ (x : Ticket). said_of (has_raced desk.history x.id) (verdict_of x.method x.write x.piece x.expected ruling.bytes)) same ∙ sym given in
-    subst (λ (d : DeskState). may_happen d.plan d.history (Verdict c.args.by t.id c.said_of-said.result) ≡ true) (sym c.self.view_is)
+    let event = Verdict c.args.by t.id c.said_of-said.result in
+    lent_may c.self.inside.plan c.self.inside.board.value c.deref_mut.result.now event c.deref_mut.ensures.value
+    (subst (λ (d : DeskState). may_happen d.plan d.history event ≡ true) (sym c.self.view_is)
     (subst (λ (v : GivenVerdict). may_happen desk.plan desk.history (Verdict c.args.by t.id v) ≡ true) said
-    (may_judge desk.plan desk.history t c.args.by ruling.bytes raced refl planned legal own unjudged whole probe (omega (arith, len))))
+    (may_judge desk.plan desk.history t c.args.by ruling.bytes raced refl planned legal own unjudged whole probe (omega (arith, len)))))
+
+pub returns-clause-ok : goal.returns-clause-ok
+returns-clause-ok c =
+    let inside = c.self.inside in
+    let said = c.said_of-said.result in
+    let same = c.ticket-ticket.ensures.value ∙ ap (λ (a : AnswerParts). a.ticket) c.served.ensures.value in
+    ap (λ (history : List Event). record { plan = inside.plan; history = history; is_stopped = inside.is_stopped })
+    (c.in_ok-judge.ensures.ok
+    ∙ ap (λ (b : Board). b.history.items ++ Verdict c.args.by c.ticket-ticket.result.now.id said ∷ []) c.deref_mut.ensures.value)
+    ∙ ap (λ (d : DeskState). record d { history = d.history ++ Verdict c.args.by c.ticket-ticket.result.now.id said ∷ [] }) c.self.view_is
+    ∙ ap (λ (t : Ticket). record c.args.self.now { history = c.args.self.now.history ++ Verdict c.args.by t.id said ∷ [] }) same
+
+pub returns-clause-said : goal.returns-clause-said
+returns-clause-said c = c.said_of-said.ensures.verdict c.requires.whole c.requires.unjudged
+
+pub returns-clause-says : goal.returns-clause-says
+returns-clause-says c = c.said_of-said.ensures.says
+
+pub returns-in_err-judge-clause-err : goal.returns-in_err-judge-clause-err
+returns-in_err-judge-clause-err c =
+    let inside = c.self.inside in
+    on_error _ _
+    (ap (λ (history : List Event). record { plan = inside.plan; history = history; is_stopped = inside.is_stopped })
+    (c.in_err-judge.ensures.err ∙ ap (λ (b : Board). b.history.items) c.deref_mut.ensures.value)
+    ∙ c.self.view_is)

@@ -8,6 +8,7 @@ use Rattle.jr_model.specs.Races.{has_raced}
 use Rattle.jr_engines.specs.Answers.{AnswerParts}
 use Rattle.jr_header.specs.Served.{answer_verdict}
 use Rattle.jr_desk.specs.DeskState.{DeskState}
+use Rattle.jr_desk.proofs.Boxed.{handed}
 use Rattle.jr_desk.proofs.desk.Desk.said_of.Goals as goal
 
 -- a check that ended whole and has no verdict has raced or not, as this says
@@ -23,8 +24,8 @@ pub returns-then-has_raced-clause-verdict : goal.returns-then-has_raced-clause-v
 returns-then-has_raced-clause-verdict c whole unjudged =
     let inside = c.self.inside in
     let same : c.ticket.result.now ≡ c.args.ruling.now.ticket = c.ticket.ensures.value ∙ ap (λ (a : AnswerParts). a.ticket) c.served.ensures.value in
-    let race = says_race c.has_raced.result inside.board.history.items c.args.self.now.history c.ticket.result.now c.args.ruling.now.ticket
-    (c.has_raced.ensures inside.plan inside.board.history.items c.self.invariant.legal c.self.invariant.tickets)
+    let race = says_race c.has_raced.result inside.board.value.history.items c.args.self.now.history c.ticket.result.now c.args.ruling.now.ticket
+    (c.has_raced.ensures inside.plan inside.board.value.history.items c.self.invariant.legal (handed inside.plan inside.board.value c.deref.result.now c.deref.ensures c.self.invariant.tickets))
     (ap (λ (d : DeskState). d.history) c.self.view_is) same whole unjudged in
     ap (λ (b : Bool). said_of b (answer_verdict c.args.ruling.now)) (sym c.if-has_raced.true ∙ race)
 
@@ -32,7 +33,7 @@ pub returns-else-has_raced-clause-verdict : goal.returns-else-has_raced-clause-v
 returns-else-has_raced-clause-verdict c whole unjudged =
     let inside = c.self.inside in
     let same : c.ticket.result.now ≡ c.args.ruling.now.ticket = c.ticket.ensures.value ∙ ap (λ (a : AnswerParts). a.ticket) c.served.ensures.value in
-    let race = says_race c.has_raced.result inside.board.history.items c.args.self.now.history c.ticket.result.now c.args.ruling.now.ticket
-    (c.has_raced.ensures inside.plan inside.board.history.items c.self.invariant.legal c.self.invariant.tickets)
+    let race = says_race c.has_raced.result inside.board.value.history.items c.args.self.now.history c.ticket.result.now c.args.ruling.now.ticket
+    (c.has_raced.ensures inside.plan inside.board.value.history.items c.self.invariant.legal (handed inside.plan inside.board.value c.deref.result.now c.deref.ensures c.self.invariant.tickets))
     (ap (λ (d : DeskState). d.history) c.self.view_is) same whole unjudged in
     c.verdict.ensures.value ∙ ap (λ (b : Bool). said_of b (answer_verdict c.args.ruling.now)) (sym c.if-has_raced.false ∙ race)

@@ -1,8 +1,11 @@
-use Rattle.std.proofs.Common.{◌≡◌, Bool, false, ◌||◌, sym, ◌∙◌, ap, subst}
+use Rattle.std.proofs.Common.{◌≡◌, Bool, true, false, ◌||◌, List, sym, ◌∙◌, ap, subst}
 use Rattle.std.specs.Prelude.{Option, length}
 use Rattle.jr_model.specs.History.{started}
 use Rattle.jr_model.specs.declared.tickets.Ticket.{Ticket}
+use Rattle.jr_model.specs.declared.events.Event.{Event}
 use Rattle.jr_model.specs.Legal.{is_complete}
+use Rattle.jr_model.proofs.OptionLemmas.{on_error}
+use Rattle.jr_desk_state.specs.declared.board.Board.{Board}
 use Rattle.jr_desk_state.specs.declared.takes.Take.{Take}
 use Rattle.jr_desk.specs.DeskState.{DeskState}
 use Rattle.jr_desk_state.specs.Takes.{HandsOutOwn, answer_with, is_fitting, is_finished, WaitsRightly}
@@ -50,3 +53,22 @@ returns-clause-finished c =
     ∙ answer_finished plan c.args.worker before history taken.0 c.prepare.ensures.board.planned c.prepare.ensures.board.legal taken.1
     ∙ ap (λ (d : DeskState). is_complete d.plan history) c.self.view_is
     ∙ ap (λ (b : Bool). b || is_complete c.args.self.now.plan history) (sym going)
+
+pub returns-then-self-clause-finished : goal.returns-then-self-clause-finished
+returns-then-self-clause-finished c =
+    let desk = c.args.self.now in
+    let stopped : desk.is_stopped ≡ true = ap (λ (d : DeskState). d.is_stopped) (sym c.self.view_is) ∙ c.if-self.true in
+    sym (ap (λ (b : Bool). b || is_complete desk.plan desk.history) stopped)
+
+pub returns-in_err-prepare-clause-err : goal.returns-in_err-prepare-clause-err
+returns-in_err-prepare-clause-err c =
+    on_error _ _ (ap (λ (history : List Event). record { plan = c.self.inside.plan; history = history; is_stopped = c.self.inside.is_stopped }) (c.prepare.ensures.history ∙ ap (λ (b : Board). b.history.items) c.deref_mut-board.ensures.value) ∙ c.self.view_is)
+
+pub returns-clause-plan : goal.returns-clause-plan
+returns-clause-plan c = ap (λ (d : DeskState). d.plan) c.self.view_is
+
+pub returns-clause-stop : goal.returns-clause-stop
+returns-clause-stop c = ap (λ (d : DeskState). d.is_stopped) c.self.view_is
+
+pub start_next-ticket-requires-clause-ready : goal.start_next-ticket-requires-clause-ready
+start_next-ticket-requires-clause-ready c = c.in_ok-prepare.ensures.ready

@@ -62,7 +62,7 @@ returns-then-has_rounds-clause-kept c =
     let here = at_draw plan history worker c.args.kind c.args.write piece c.args.job.now next there c.args.self.now is c.requires.prepared.later c.if-is_over.self ready in
     stands_after plan history worker c.args.kind c.args.write piece c.args.job.now next there
     c.args.self.now c.if-is_over.self _ c.args.id is c.requires.prepared.settled here place
-    refl c.pass.ensures refl c.push_reserved.ensures.items
+    refl c.skip_next.ensures refl c.push_reserved.ensures.items
     (λ has.
     c.issued.ensures
     ∙ ap (λ (d : Deferred). with_draw d c.written.result c.is_over-then-has_rounds.result) (ready_rounds c.args.self.now c.if-is_over.self ready)
@@ -75,7 +75,7 @@ returns-else-has_rounds-clause-kept c =
     let here = at_draw plan history worker c.args.kind c.args.write piece c.args.job.now next there c.args.self.now is c.requires.prepared.later c.if-is_over.self (ready_else c) in
     stands_after plan history worker c.args.kind c.args.write piece c.args.job.now next there
     c.args.self.now c.if-is_over.self _ c.args.id is c.requires.prepared.settled here place
-    refl c.pass.ensures refl c.push_reserved.ensures.items
+    refl c.skip_next.ensures refl c.push_reserved.ensures.items
     (λ has. absurd (false≢true (sym c.if-has_rounds.false ∙ c.has_rounds.ensures ∙ has)))
 
 pub returns-then-has_rounds-clause-left : goal.returns-then-has_rounds-clause-left

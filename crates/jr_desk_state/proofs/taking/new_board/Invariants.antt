@@ -1,6 +1,0 @@
-use Rattle.std.proofs.Common.{[]}
-use Rattle.jr_desk_state.proofs.Preparing.{StandTo}
-use Rattle.jr_desk_state.proofs.taking.new_board.Given as goal
-
-abbrev pub invariant-loop-clone : goal.invariant-loop-clone
-invariant-loop-clone l = StandTo l.fn.plan [] l.clone l.standings.items
